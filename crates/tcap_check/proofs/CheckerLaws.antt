@@ -3,7 +3,6 @@ use Rattle.std.proofs.Common.{◌≡◌, ℕ, ◌+◌, ◌-◌, Bool, true, fals
 use Rattle.std.specs.Prelude.{not}
 use Rattle.tcap_record.specs.declared.entry.End.{End as Side}
 use Rattle.tcap_record.specs.declared.entry.End.TheVariants as sides
-use Rattle.tcap_end.specs.End.{nothing}
 use Rattle.tcap_end.specs.Table.{Table}
 use Rattle.tcap_end.specs.Step.{◌>>◌, ◌>>=◌}
 use Rattle.tcap_check.specs.declared.certificate.Fate.{Fate}
@@ -17,14 +16,13 @@ use Rattle.tcap_model.specs.Run.{Event}
 use Rattle.tcap_check.specs.Certificate.{Certificate}
 use Rattle.tcap_check.specs.Hearing.{nothing_heard}
 use Rattle.tcap_check.specs.Replayed.{Replay, certificate_fits, entries_by, lost_from_both, lost_from_front, lost_last, nothing_replayed, run_by}
-use Rattle.tcap_check.specs.Checking.{Checking, Kept, Took, count_ahead, count_losses, count_lost, count_waiting, hearing_by, hearing_of, kept_ended, kept_next, kept_of, map_ok, progress_of, report_of, reported, so_far_of, taken}
+use Rattle.tcap_check.specs.Checking.{Checking, Kept, Took, count_ahead, count_losses, count_lost, count_waiting, hearing_by, kept_ended, kept_next, kept_of, map_ok, progress_of, report_of, reported, so_far_of, taken}
 use Rattle.tcap_check.specs.Unheard.{is_lost_from, steps_of}
 use Rattle.tcap_check.proofs.EntryLaws.{took_end, took_next}
-use Rattle.tcap_check.proofs.HeardMessages.{each_of_both}
-use Rattle.tcap_check.proofs.HeardPending.{nothing_waits}
-use Rattle.tcap_check.proofs.HeardSteps.{losing_heard}
+use Rattle.tcap_check.proofs.KeptTaken.{each_of_both}
+use Rattle.tcap_check.proofs.KeptHearing.{losing_heard}
 use Rattle.tcap_check.proofs.KeptBasics.{front_none}
-use Rattle.tcap_check.proofs.KeptPending.{moves_are, pending_is}
+use Rattle.tcap_check.proofs.KeptPending.{moves_are, nothing_waits, pending_is}
 
 -- a checker with what it keeps, or why there is none
 abbrev pub checking : Option Side → Table → Certificate → Option CheckFault → Kept → Checking
@@ -73,7 +71,7 @@ steps_and_losses side (event ∷ events) = by (is_lost_from side event) (steps_a
 
 -- The steps of both ends, without the losses of what the end sent, where nothing of its peer is on its way.
 counted_steps : (c : Certificate) (side : Side) (r : Replay) → channel_from (other side) r.world ≡ []
-    → (hearing_of side c r).progress.moves - (hearing_of side c r).own ≡ steps_of side r.events
+    → (hearing_by (Some side) c r).progress.moves - (hearing_by (Some side) c r).own ≡ steps_of side r.events
 counted_steps c sides.A r empty =
     let each = each_of_both c.fates r.world.from_a in
     let all = steps_and_losses sides.A r.events in
@@ -88,12 +86,12 @@ counted_steps c sides.B r empty =
 -- What is counted at the end is what is said of the run.
 report_of_one : (side : Side) (table : Table) (c : Certificate) (entries : List (Result Item Reason)) (r : Replay)
     → (certificate_fits c >> entries_by (Some side) table c entries nothing_replayed) ≡ Ok r
-    → report_of (hearing_of side c r) ≡ reported (Some side) (lost_from_front c (other side) r).events
+    → report_of (hearing_by (Some side) c r) ≡ reported (Some side) (lost_from_front c (other side) r).events
 report_of_one side table c entries r is =
     let last = lost_from_front c (other side) r in
     let empty = front_none c (other side) r (nothing_waits side table c entries r is) in
     let none : count_lost c.fates (channel_from (other side) last.world) ≡ 0 = ap (count_lost c.fates) empty in
-    let unheard : (hearing_of side c last).unheard ≡ count_losses (other side) last.events = omega (arith, none) in
+    let unheard : (hearing_by (Some side) c last).unheard ≡ count_losses (other side) last.events = omega (arith, none) in
     ap report_of (sym (losing_heard side c r))
     ∙ ap₂ (λ (m n : ℕ). let report : Report = record { moves = m; unheard = n } in report) (counted_steps c side last empty) unheard
 

@@ -9,46 +9,29 @@ use Rattle.tcap_check.specs.declared.fault.CheckFault.{CheckFault}
 use Rattle.tcap_model.specs.declared.reason.Reason.{Reason}
 use Rattle.tcap_model.specs.declared.reason.Reason.TheVariants.{FateCount}
 use Rattle.tcap_check.specs.declared.outline.Outline.{Outline}
-use Rattle.tcap_model.specs.World.{Item, channel_from}
+use Rattle.tcap_model.specs.World.{Item}
 use Rattle.tcap_check.specs.Certificate.{Certificate}
 use Rattle.tcap_check.specs.Replayed.{Replay, certificate_fits, entries_by, entry_by, fault_at, gap_by, item_by, next_entry, nothing_replayed}
 use Rattle.tcap_check.specs.Outlines.{is_named, outline_of, outlines_from, since_from}
-use Rattle.tcap_check.specs.Checking.{Checking, Kept, Took, ended, entry_kept, gap_before, hearing_by, item_kept, kept_ended, kept_next, kept_of, kept_with, map_ok, taken, taken_from, taken_next}
-use Rattle.tcap_check.proofs.AloneReplays.{item_leads}
-use Rattle.tcap_check.proofs.HeardEntries.{item_of_one}
-use Rattle.tcap_check.proofs.HeardGaps.{gap_is as gap_of_one}
-use Rattle.tcap_check.proofs.HeardOwn.{heard_empty}
-use Rattle.tcap_check.proofs.KeptEntries.{gap_of_both, item_of_both, item_sends, map_both, ok_behind, outlines_more, since_more, then_same, then_then}
+use Rattle.tcap_check.specs.Checking.{Checking, Kept, Took, ended, entry_kept, gap_before, hearing_by, kept_ended, kept_next, kept_of, kept_with, map_ok, taken, taken_from, taken_next}
+use Rattle.tcap_check.proofs.KeptBasics.{map_both, ok_behind, then_same, then_then}
+use Rattle.tcap_check.proofs.KeptEntries.{item_is, item_sends, outlines_more, since_more}
+use Rattle.tcap_check.proofs.KeptGaps.{gap_is}
 use Rattle.tcap_check.proofs.KeptHidden.{outlines_count}
-
--- Nothing is on its way from the end that is judged alone.
-abbrev pub IsHeard : Option Side → Replay → Type 0
-IsHeard None r = Unit {0}
-IsHeard (Some judged) r = channel_from judged r.world ≡ []
+use Rattle.tcap_check.proofs.KeptMarks.{IsHeard}
+use Rattle.tcap_check.proofs.KeptOwn.{gap_keeps, heard_empty}
 
 pub taken_is_heard : (judged : Option Side) (table : Table) (c : Certificate) (entries : List (Result Item Reason)) (r : Replay)
     → taken judged table c entries ≡ Ok r → IsHeard judged r
 taken_is_heard None table c entries r is = tt
 taken_is_heard (Some judged) table c entries r is = heard_empty judged table c entries r is
 
+gap_is_heard : (judged : Option Side) (table : Table) (c : Certificate) (r next : Replay) → IsHeard judged r
+    → gap_by judged table c r ≡ Ok next → IsHeard judged next
+gap_is_heard None table c r next empty is = tt
+gap_is_heard (Some judged) table c r next empty is = gap_keeps judged table c r next is ∙ empty
+
 -- ---- the parts of an entry
-
-gap_kept_is : (judged : Option Side) (table : Table) (c : Certificate) (r : Replay)
-    → gap_before judged table c (kept_of judged c r) ≡ map_ok (hearing_by judged c) (gap_by judged table c r)
-gap_kept_is None table c r = gap_of_both table c r
-gap_kept_is (Some judged) table c r = gap_of_one table c judged r
-
-item_kept_is : (judged : Option Side) (table : Table) (c : Certificate) (fate : Fate) (item : Item) (r : Replay)
-    → slice_get c.fates (next_entry r) ≡ Some fate → IsHeard judged r
-    → item_kept judged table c fate item (kept_of judged c r) ≡ map_ok (hearing_by judged c) (item_by judged table c fate item r)
-item_kept_is None table c fate item r has empty = item_of_both table c fate item r has
-item_kept_is (Some judged) table c fate item r has empty = item_of_one table c judged r fate item has empty
-
-sends_it : (judged : Option Side) (table : Table) (c : Certificate) (fate : Fate) (item : Item) (r next : Replay)
-    → slice_get c.fates (next_entry r) ≡ Some fate
-    → item_by judged table c fate item r ≡ Ok next → next.world.sent ≡ r.world.sent ++ item ∷ []
-sends_it None table c fate item r next has is = item_sends table c fate item r next has is
-sends_it (Some judged) table c fate item r next has is = (item_leads judged table c fate item r next is).sent
 
 -- What is kept of an entry more.
 kept_more : (judged : Option Side) (c : Certificate) (item : Item) (r next : Replay) → next.world.sent ≡ r.world.sent ++ item ∷ []
@@ -80,9 +63,9 @@ module _ (judged : Option Side) (table : Table) (c : Certificate) where
   entry_is : (fate : Fate) (entry : Result Item Reason) (r : Replay) → slice_get c.fates (next_entry r) ≡ Some fate → IsHeard judged r
       → entry_kept judged table c fate entry (kept_of judged c r) ≡ map_ok (kept_of judged c) (entry_by judged table c fate entry r)
   entry_is fate (Ok item) r has empty =
-      ap (map_ok (kept_with c item (kept_of judged c r))) (item_kept_is judged table c fate item r has empty)
+      ap (map_ok (kept_with c item (kept_of judged c r))) (item_is judged table c fate item r has (λ next. gap_is_heard judged table c r next empty))
       ∙ map_both (hearing_by judged c) (kept_with c item (kept_of judged c r)) (kept_of judged c) (item_by judged table c fate item r)
-      (λ next is. kept_more judged c item r next (sends_it judged table c fate item r next has is))
+      (λ next is. kept_more judged c item r next (item_sends judged table c fate item r next has is))
   entry_is fate (Err reason) r has empty = rw (outlines_count c 0 r.world.sent) refl
 
   next_is : (entry : Result Item Reason) (r : Replay) → IsHeard judged r
@@ -106,7 +89,7 @@ module _ (judged : Option Side) (table : Table) (c : Certificate) where
     where
       by : (b : Bool) → (needs b (fault_at FateCount (next_entry r)) >> gap_before judged table c (kept_of judged c r))
           ≡ map_ok (hearing_by judged c) (needs b (fault_at FateCount (next_entry r)) >> gap_by judged table c r)
-      by true = gap_kept_is judged table c r
+      by true = gap_is judged table c r
       by false = refl
 
   -- ---- entries, one after the other

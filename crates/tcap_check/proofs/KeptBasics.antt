@@ -1,36 +1,23 @@
 -- What is kept of a replay, and its single steps.
-use Rattle.std.proofs.Common.{◌≡◌, ℕ, ◌+◌, ◌==◌, Bool, true, false, Result, Ok, Err, List, [], ◌∷◌, ◌++◌, map, length, drop, Option, Some, None, refl, sym, ap, ap₂, ◌∙◌, arith, zero-add}
-use Rattle.std.specs.Prelude.{ok_or, slice_get}
+use Rattle.std.proofs.Common.{◌≡◌, ℕ, ◌+◌, Result, Ok, Err, List, [], ◌∷◌, ◌++◌, map, length, drop, Option, Some, None, refl, ap, ap₂, ◌∙◌, arith, zero-add}
+use Rattle.std.specs.Prelude.{slice_get}
 use Rattle.tcap_record.specs.declared.entry.End.{End as Side}
 use Rattle.tcap_record.specs.declared.entry.End.TheVariants as sides
 use Rattle.tcap_end.specs.End.{End}
 use Rattle.tcap_check.specs.declared.certificate.Fate.{Fate}
 use Rattle.tcap_check.specs.declared.certificate.Fate.TheVariants.{Gap, Lost, By}
 use Rattle.tcap_check.specs.declared.progress.Progress.{Progress}
-use Rattle.tcap_check.specs.declared.progress.Seat.{Seat}
 use Rattle.tcap_check.specs.declared.progress.Waiting.{Waiting}
-use Rattle.tcap_record.specs.Ends.{other}
 use Rattle.tcap_model.specs.World.{OnItsWay, channel_from, end_at, with_channel, with_end}
-use Rattle.tcap_model.specs.Run.{Event, Loses, Receives}
-use Rattle.tcap_check.specs.declared.fault.CheckFault.{CheckFault}
-use Rattle.tcap_model.specs.declared.reason.Reason.TheVariants.{BadReply}
-use Rattle.tcap_end.specs.declared.fault.EndFault.{EndFault}
-use Rattle.tcap_end.specs.Message.{receive}
-use Rattle.tcap_end.specs.Step.{needs, ◌>>◌, ◌>>=◌}
-use Rattle.tcap_end.specs.Table.{Table}
+use Rattle.tcap_model.specs.Run.{Event, Loses}
+use Rattle.tcap_end.specs.Step.{◌>>=◌}
 use Rattle.tcap_check.specs.Certificate.{Certificate}
-use Rattle.tcap_check.specs.Replayed.{Replay, fault_at, happens, stepped, lost_from_front, lost_from_both, if_lost, lost_front, with_step}
-use Rattle.tcap_check.specs.Progress.{end_moved, first_delivered, moved, seat_at, with_seat_end, with_waiting}
-use Rattle.tcap_check.specs.Checking.{count_lost, latest_of, lost_by, map_ok, progress_of, waiting, waiting_by}
+use Rattle.tcap_check.specs.Replayed.{Replay, lost_from_front, lost_from_both, if_lost, lost_front, with_step}
+use Rattle.tcap_check.specs.Progress.{moved, seat_at, with_seat_end, with_waiting}
+use Rattle.tcap_check.specs.Checking.{count_lost, lost_by, map_ok, progress_of, waiting, waiting_by}
 use Rattle.std.proofs.lemmas.List.{length-append, length-map}
 use Rattle.tcap_check.proofs.ReplaySteps.{channel_with}
 use Rattle.tcap_check.proofs.KeptCounts.{front_waits}
-
--- What is kept of an end.
-pub seat_is : (c : Certificate) (side : Side) (r : Replay) → seat_at side (progress_of c r)
-    ≡ (let s : Seat = record { end = end_at side r.world; waiting = waiting c.fates (channel_from side r.world); latest = latest_of side c.fates r.world.sent } in s)
-seat_is c sides.A r = refl
-seat_is c sides.B r = refl
 
 one_event_more : (events : List Event) (event : Event) → length (events ++ event ∷ []) ≡ length events + 1
 one_event_more events event = length-append events (event ∷ [])
@@ -49,6 +36,12 @@ end_step_is c side event e r = by side
     by : (side : Side) → progress_of c (with_step event r (with_end side e r.world)) ≡ moved (with_seat_end side e (progress_of c r))
     by sides.A = ap (λ (n : ℕ). let p : Progress = record (progress_of c (with_step event r (with_end sides.A e r.world))) { moves = n } in p) counted
     by sides.B = ap (λ (n : ℕ). let p : Progress = record (progress_of c (with_step event r (with_end sides.B e r.world))) { moves = n } in p) counted
+
+pub end_put : (c : Certificate) (side : Side) (e : End) (r : Replay)
+    → (let x : Replay = record { events = r.events; world = with_end side e r.world } in progress_of c x)
+    ≡ with_seat_end side e (progress_of c r)
+end_put c sides.A e r = refl
+end_put c sides.B e r = refl
 
 -- ---- the front of a channel
 
@@ -206,57 +199,23 @@ pub then_is : {F A : Type 0} (f : Replay → A) (step : Result Replay F) (kept :
 then_is f (Ok next) kept on rest = rest next refl
 then_is f (Err reason) kept on rest = refl
 
--- A message is delivered from an end,
-pub delivered_is : (table : Table) (c : Certificate) (side : Side) (number : ℕ) (r : Replay)
-    → first_delivered table side number (seat_at side (progress_of c r)).waiting (progress_of c r)
-    ≡ map_ok (progress_of c) (happens table c (Receives (other side) number) BadReply number r)
-delivered_is table c side number r =
-    ap (λ (messages : List Waiting). first_delivered table side number messages (progress_of c r)) (waiting_kept c side r)
-    ∙ by side (waiting c.fates (channel_from side r.world)) refl
-  where
-    fault : CheckFault
-    fault = fault_at BadReply number
+pub then_then : {A B C F : Type 0} (first : Result A F) (second : A → Result B F) (third : B → Result C F)
+    → (first >>= second >>= third) ≡ (first >>= λ x. second x >>= third)
+then_then (Ok x) second third = refl
+then_then (Err reason) second third = refl
 
-    -- what the event does where its message is the head
-    goes : (side : Side) → Replay → Option Replay
-    goes side x = stepped table (Receives (other side) number) (lost_from_front c side x)
+pub ok_behind : {A F : Type 0} (step : Result A F) → (step >>= λ x. Ok x) ≡ step
+ok_behind (Ok x) = refl
+ok_behind (Err reason) = refl
 
-    none : (side : Side) → channel_from side (lost_from_front c side r).world ≡ [] → goes side r ≡ None
-    none sides.A is = rw is refl
-    none sides.B is = rw is refl
+-- The same goes on behind a step.
+pub then_same : {A B F : Type 0} (step : Result A F) (on more : A → Result B F) → ((x : A) → on x ≡ more x)
+    → (step >>= on) ≡ (step >>= more)
+then_same (Ok x) on more same = same x
+then_same (Err reason) on more same = refl
 
-    some : (side : Side) (first : Waiting) (more : List Waiting) (front : HasFront c side first more r) (so : Bool)
-        (o : Result End EndFault) → (first.number == number) ≡ so
-        → receive table (end_at (other side) r.world) first.message ≡ o
-        → (needs so fault >> end_moved (other side) fault (with_waiting side more (progress_of c r)) o)
-        ≡ map_ok (progress_of c) (ok_or (goes side r) fault)
-    some sides.A first more front false o is step = rw (front.channel, front.number, is) refl
-    some sides.B first more front false o is step = rw (front.channel, front.number, is) refl
-    some sides.A first more front true (Err reason) is step = rw (front.channel, front.number, is, front.message, step) refl
-    some sides.B first more front true (Err reason) is step = rw (front.channel, front.number, is, front.message, step) refl
-    some sides.A first more front true (Ok e) is step =
-        let before = lost_from_front c sides.A r in
-        let left : Replay = record { events = before.events; world = with_channel sides.A front.left before.world } in
-        rw (front.channel, front.number, is, front.message, step)
-        (ap (λ (p : Progress). let x : Result Progress CheckFault = Ok (moved (with_seat_end sides.B e p)) in x)
-        (sym (head_taken_is c sides.A first more r front))
-        ∙ ap (λ (p : Progress). let x : Result Progress CheckFault = Ok p in x) (sym (end_step_is c sides.B (Receives sides.B number) e left)))
-    some sides.B first more front true (Ok e) is step =
-        let before = lost_from_front c sides.B r in
-        let left : Replay = record { events = before.events; world = with_channel sides.B front.left before.world } in
-        rw (front.channel, front.number, is, front.message, step)
-        (ap (λ (p : Progress). let x : Result Progress CheckFault = Ok (moved (with_seat_end sides.A e p)) in x)
-        (sym (head_taken_is c sides.B first more r front))
-        ∙ ap (λ (p : Progress). let x : Result Progress CheckFault = Ok p in x) (sym (end_step_is c sides.A (Receives sides.A number) e left)))
-
-    by : (side : Side) (messages : List Waiting) → waiting c.fates (channel_from side r.world) ≡ messages
-        → first_delivered table side number messages (progress_of c r)
-        ≡ map_ok (progress_of c) (happens table c (Receives (other side) number) BadReply number r)
-    by sides.A [] is = rw (none sides.A (front_none c sides.A r is)) refl
-    by sides.B [] is = rw (none sides.B (front_none c sides.B r is)) refl
-    by sides.A (first ∷ more) is =
-        some sides.A first more (front_is c sides.A first more r is) (first.number == number)
-        (receive table r.world.b first.message) refl refl
-    by sides.B (first ∷ more) is =
-        some sides.B first more (front_is c sides.B first more r is) (first.number == number)
-        (receive table r.world.a first.message) refl refl
+-- What is kept of what is kept of a step.
+pub map_both : {A B C F : Type 0} (f : A → B) (g : B → C) (h : A → C) (step : Result A F)
+    → ((x : A) → step ≡ Ok x → g (f x) ≡ h x) → map_ok g (map_ok f step) ≡ map_ok h step
+map_both f g h (Ok x) same = ap Ok (same x refl)
+map_both f g h (Err reason) same = refl

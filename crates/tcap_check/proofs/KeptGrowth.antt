@@ -1,6 +1,6 @@
 -- By how much a checker's count of steps grows.
-use Rattle.std.proofs.Common.{◌≡◌, ℕ, ℤ, suc, ◌+◌, ◌≤◌, Bool, true, false, List, [], ◌∷◌, length, filter, ◌==◌, cond, Option, Some, None, Result, Ok, Err, refl, sym, ap, ◌∙◌, arith}
-use Rattle.std.specs.Prelude.{OnOk, slice_get, ok_or}
+use Rattle.std.proofs.Common.{◌≡◌, ℕ, ℤ, suc, ◌+◌, ◌≤◌, Bool, true, false, List, [], ◌∷◌, length, filter, ◌==◌, cond, Option, Some, None, Result, Ok, Err, refl, sym, ap, arith}
+use Rattle.std.specs.Prelude.{ok_or}
 use Rattle.tcap_record.specs.declared.entry.End.{End as Side}
 use Rattle.tcap_record.specs.declared.entry.End.TheVariants as sides
 use Rattle.tcap_end.specs.declared.fault.EndFault.{EndFault}
@@ -8,25 +8,21 @@ use Rattle.tcap_end.specs.declared.fault.EndFault.TheVariants as faults
 use Rattle.tcap_end.specs.declared.half.HalfName.{HalfName}
 use Rattle.tcap_end.specs.End.{End}
 use Rattle.tcap_end.specs.Hidden.{close, expire}
-use Rattle.tcap_end.specs.Message.{receive}
-use Rattle.tcap_end.specs.Step.{◌>>◌, ◌>>=◌}
+use Rattle.tcap_end.specs.Step.{◌>>=◌}
 use Rattle.tcap_end.specs.Table.{Table}
-use Rattle.tcap_end.proofs.AnsweringLaws.{needs_ok, ok_same, then_ok}
+use Rattle.tcap_end.proofs.AnsweringLaws.{ok_same, then_ok}
 use Rattle.tcap_check.specs.declared.certificate.Closing.{Closing}
 use Rattle.tcap_check.specs.declared.certificate.Expiry.{Expiry}
 use Rattle.tcap_check.specs.declared.certificate.Fate.{Fate}
 use Rattle.tcap_check.specs.declared.certificate.Fate.TheVariants.{Gap, Lost, By}
-use Rattle.tcap_check.specs.declared.fault.CheckFault.{CheckFault}
-use Rattle.tcap_model.specs.declared.reason.Reason.TheVariants.{BadReply, FateRange, HiddenRefused}
+use Rattle.tcap_model.specs.declared.reason.Reason.TheVariants.{FateRange, HiddenRefused}
 use Rattle.tcap_check.specs.declared.outline.Outline.{Outline}
-use Rattle.tcap_check.specs.declared.outline.Outline.TheVariants as outlines
 use Rattle.tcap_check.specs.declared.progress.Progress.{Progress}
 use Rattle.tcap_check.specs.declared.progress.Waiting.{Waiting}
-use Rattle.tcap_record.specs.Ends.{other}
-use Rattle.tcap_model.specs.World.{Sent}
+use Rattle.tcap_model.specs.World.{is_side}
 use Rattle.tcap_check.specs.Outlines.{half_closed, invocation_ended}
-use Rattle.tcap_check.specs.Progress.{YieldsInMemory, closing_kept, closings_kept, deliveries_kept, delivery_kept, due_in, end_moved, expiries_kept, expiry_kept, first_delivered, half_closes, invocation_ends, seat_at, with_waiting}
-use Rattle.tcap_check.specs.Replayed.{fault_at}
+use Rattle.tcap_check.specs.Progress.{closing_kept, closings_kept, due_in, end_moved, expiries_kept, expiry_kept, half_closes, invocation_ends, seat_at, with_waiting}
+use Rattle.tcap_check.specs.Replayed.{closings_judged, expiries_judged, fault_at}
 
 -- ---- one step
 
@@ -64,24 +60,6 @@ pub waiting_moves : (side : Side) (messages : List Waiting) (p : Progress) → (
 waiting_moves sides.A messages p = refl
 waiting_moves sides.B messages p = refl
 
-pub first_grows : (table : Table) (side : Side) (number : ℕ) (messages : List Waiting) (p next : Progress)
-    → first_delivered table side number messages p ≡ Ok next → next.moves ≡ p.moves + 1
-first_grows table side number [] p next is = cc
-first_grows table side number (first ∷ more) p next is =
-    let so = needs_ok _ _ _ next is in
-    let answer = receive table (seat_at (other side) p).end first.message in
-    end_moves (other side) (fault_at BadReply number) (with_waiting side more p) next answer so.1
-    ∙ ap (λ n. n + 1) (waiting_moves side more p)
-
-pub delivery_grows : (table : Table) (number : ℕ) (entry : Option Outline) (p next : Progress)
-    → delivery_kept table number entry p ≡ Ok next → next.moves ≤ p.moves + 1
-delivery_grows table number (Some (outlines.Sent side kept)) p next is =
-    let grows = first_grows table side number (seat_at side p).waiting p next is in omega arith
-delivery_grows table number (Some outlines.Mark) p next is =
-    let same : p.moves ≡ next.moves = ap (λ (x : Progress). x.moves) (ok_same p next is) in omega arith
-delivery_grows table number None p next is =
-    let same : p.moves ≡ next.moves = ap (λ (x : Progress). x.moves) (ok_same p next is) in omega arith
-
 -- ---- a gap
 
 pub closings_grow : (table : Table) (entries : List Outline) (since : ℕ) (xs : List Closing) (p next : Progress)
@@ -104,18 +82,8 @@ expiries_grow table entries since (x ∷ xs) p next is =
     let rest = expiries_grow table entries since xs found.0 next found.2 in
     omega arith
 
-pub deliveries_grow : (table : Table) (entries : List Outline) (numbers : List ℕ) (p next : Progress)
-    → deliveries_kept table entries numbers p ≡ Ok next → next.moves ≤ p.moves + length numbers
-deliveries_grow table entries [] p next is =
-    let same : p.moves ≡ next.moves = ap (λ (x : Progress). x.moves) (ok_same p next is) in omega arith
-deliveries_grow table entries (number ∷ numbers) p next is =
-    let found = then_ok _ _ next is in
-    let one = delivery_grows table number (slice_get entries number) p found.0 found.1 in
-    let rest = deliveries_grow table entries numbers found.0 next found.2 in
-    omega arith
-
 -- what is listed for a gap is no more than all that is listed
-pub some_listed : {X : Type 0} (so : X → Bool) (xs : List X) → length (filter so xs) ≤ length xs
+some_listed : {X : Type 0} (so : X → Bool) (xs : List X) → length (filter so xs) ≤ length xs
 some_listed so [] = omega arith
 some_listed so (x ∷ xs) = by (so x) (some_listed so xs)
   where
@@ -135,9 +103,11 @@ some_due gap n (Gap g ∷ fates) = by (g == gap) (some_due gap (n + 1) fates)
 some_due gap n (Lost ∷ fates) = let less = some_due gap (n + 1) fates in omega arith
 some_due gap n (By reply ∷ fates) = let less = some_due gap (n + 1) fates in omega arith
 
--- By how much it grows where a call yields a step.
-pub grown : (bound : ℕ) (step : Result Progress CheckFault) (result : Result (Unit {0}) CheckFault) (left : Progress)
-    → YieldsInMemory step result left → ((next : Progress) → step ≡ Ok next → next.moves ≤ bound)
-    → OnOk result (left.moves ≤ bound)
-grown bound step (Ok done) left is most = most left is
-grown bound step (Err fault) left is most = tt
+-- nor is what is listed of the ends that are judged.
+pub some_closings : (judged : Option Side) (xs : List Closing) → length (closings_judged judged xs) ≤ length xs
+some_closings None xs = omega arith
+some_closings (Some judged) xs = some_listed (λ (x : Closing). is_side judged x.side) xs
+
+pub some_expiries : (judged : Option Side) (xs : List Expiry) → length (expiries_judged judged xs) ≤ length xs
+some_expiries None xs = omega arith
+some_expiries (Some judged) xs = some_listed (λ (x : Expiry). is_side judged x.side) xs

@@ -31,11 +31,12 @@ use Rattle.tcap_check.specs.declared.outline.Outline.TheVariants as outlines
 use Rattle.tcap_model.specs.World.{has_quiet}
 use Rattle.tcap_model.specs.Since.{originating}
 use Rattle.tcap_check.specs.Follows.{closing_by, closing_event, expiry_by, expiry_event, invoke_id, named_entry}
-use Rattle.tcap_check.specs.Replayed.{Replay, closings_replayed, expiries_replayed, fault_at, happens, next_entry, with_step}
+use Rattle.tcap_check.specs.Replayed.{Replay, closings_judged, closings_replayed, expiries_judged, expiries_replayed, fault_at, happens, with_step}
 use Rattle.tcap_check.specs.Outlines.{begins, half_closed, half_closed_by, invocation_ended, invocation_ended_by, is_named, outline_named, outline_of, outlines_from, since_from}
 use Rattle.tcap_check.specs.Progress.{closing_kept, closings_kept, end_moved, expiries_kept, expiry_kept, half_closes, invocation_ends}
-use Rattle.tcap_check.specs.Checking.{map_ok, progress_of}
-use Rattle.tcap_check.proofs.KeptBasics.{end_kept, end_step_is, then_is}
+use Rattle.tcap_check.specs.Checking.{map_ok}
+use Rattle.tcap_check.proofs.KeptBasics.{ok_behind, then_is, then_then}
+use Rattle.tcap_check.proofs.KeptLost.{end_of, end_stepped, ends_of}
 use Rattle.tcap_model.proofs.ListLaws.{all_weaker}
 use Rattle.tcap_check.proofs.ReplayLaws.{closings_replay, expiries_replay}
 
@@ -122,7 +123,7 @@ named_is c items gap entry last named =
 -- ---- what is listed names an entry
 
 -- What holds of each holds of each that passes a test, and that it passes.
-pub each_passing : {A : Type 0} (P : A → Type 0) (p : A → Bool) (xs : List A) → AllByRecursion P xs
+each_passing : {A : Type 0} (P : A → Type 0) (p : A → Bool) (xs : List A) → AllByRecursion P xs
     → AllByRecursion (λ x. (p x ≡ true) × P x) (filter p xs)
 each_passing P p [] all = tt
 each_passing P p (x ∷ xs) all = by (p x) refl (each_passing P p xs all.1)
@@ -131,6 +132,11 @@ each_passing P p (x ∷ xs) all = by (p x) refl (each_passing P p xs all.1)
         → AllByRecursion (λ y. (p y ≡ true) × P y) (cond b (x ∷ filter p xs) (filter p xs))
     by true e rest = ((e, all.0), rest)
     by false e rest = rest
+
+-- What holds of each holds of those that pass.
+some_hold : {A : Type 0} (P : A → Type 0) (p : A → Bool) (xs : List A) → AllByRecursion P xs → AllByRecursion P (filter p xs)
+some_hold P p xs all =
+    all_weaker (λ x. (p x ≡ true) × P x) P (filter p xs) (λ x both. both.1) (each_passing P p xs all)
 
 -- One of two that is so is enough.
 so_or : (a b : Bool) → b ≡ true → (a || b) ≡ true
@@ -153,11 +159,11 @@ each_any entry (x ∷ xs) = (
 )
 
 -- in that gap, and of an entry that is named
-abbrev pub IsListed : Certificate → ℕ → ℕ → ℕ → Type 0
+abbrev IsListed : Certificate → ℕ → ℕ → ℕ → Type 0
 IsListed c count gap entry = (gap ≡ count) × (is_named c entry ≡ true)
 
 -- What is listed for a gap is so.
-pub closings_listed : (c : Certificate) (count : ℕ)
+closings_listed : (c : Certificate) (count : ℕ)
     → AllByRecursion (λ (x : Closing). IsListed c count x.gap x.entry) (filter (λ x. x.gap == count) c.close)
 closings_listed c count =
     all_weaker (λ (x : Closing). ((x.gap == count) ≡ true)
@@ -172,7 +178,7 @@ closings_listed c count =
     (λ (x : Closing). x.gap == count) c.close
     (each_any (λ (x : Closing). x.entry) c.close))
 
-pub expiries_listed : (c : Certificate) (count : ℕ)
+expiries_listed : (c : Certificate) (count : ℕ)
     → AllByRecursion (λ (x : Expiry). IsListed c count x.gap x.entry) (filter (λ x. x.gap == count) c.expire)
 expiries_listed c count =
     all_weaker (λ (x : Expiry). ((x.gap == count) ≡ true)
@@ -190,22 +196,12 @@ expiries_listed c count =
 -- ---- steps
 
 -- A step of an end alone.
-end_is : (c : Certificate) (side : Side) (event : Event) (fault : CheckFault) (r : Replay) (step : Result End EndFault)
-    → end_moved side fault (progress_of c r) step
-    ≡ map_ok (progress_of c) (ok_or (option_map (with_step event r)
+end_is : (judged : Option Side) (c : Certificate) (side : Side) (event : Event) (fault : CheckFault) (r : Replay) (step : Result End EndFault)
+    → end_moved side fault (ends_of judged c r) step
+    ≡ map_ok (ends_of judged c) (ok_or (option_map (with_step event r)
     (option_map (λ e. with_end side e r.world) (result_ok step))) fault)
-end_is c side event fault r (Ok e) = ap Ok (sym (end_step_is c side event e r))
-end_is c side event fault r (Err reason) = refl
-
--- What is kept of an end is the end.
-then_then : {A F : Type 0} (first : Result A F) (second : A → Result Replay F) (third : Replay → Result Replay F)
-    → (first >>= λ x. second x >>= third) ≡ ((first >>= second) >>= third)
-then_then (Ok x) second third = refl
-then_then (Err reason) second third = refl
-
-ok_behind : {F : Type 0} (step : Result Replay F) → (step >>= λ next. Ok next) ≡ step
-ok_behind (Ok next) = refl
-ok_behind (Err reason) = refl
+end_is judged c side event fault r (Ok e) = ap Ok (sym (end_stepped judged c event side e r))
+end_is judged c side event fault r (Err reason) = refl
 
 -- ---- closings
 
@@ -237,22 +233,22 @@ abbrev closing_replayed : Table → Certificate → Closing → Replay → Resul
 closing_replayed table c x r = ok_or (closing_event r.world.sent x) (fault_at FateRange x.entry)
     >>= λ event. happens table c event (HiddenRefused faults.CannotClose) x.entry r
 
-half_closes_is : (table : Table) (c : Certificate) (x : Closing) (name : HalfName) (r : Replay)
-    → half_closes table x name (progress_of c r)
-    ≡ map_ok (progress_of c) (happens table c (Closes x.side name) (HiddenRefused faults.CannotClose) x.entry r)
-half_closes_is table c x name r =
+half_closes_is : (judged : Option Side) (table : Table) (c : Certificate) (x : Closing) (name : HalfName) (r : Replay)
+    → half_closes table x name (ends_of judged c r)
+    ≡ map_ok (ends_of judged c) (happens table c (Closes x.side name) (HiddenRefused faults.CannotClose) x.entry r)
+half_closes_is judged table c x name r =
     let fault = fault_at (HiddenRefused faults.CannotClose) x.entry in
-    ap (λ (e : End). end_moved x.side fault (progress_of c r) (close table e name)) (end_kept c x.side r)
-    ∙ end_is c x.side (Closes x.side name) fault r (close table (end_at x.side r.world) name)
+    ap (λ (e : End). end_moved x.side fault (ends_of judged c r) (close table e name)) (end_of judged c x.side r)
+    ∙ end_is judged c x.side (Closes x.side name) fault r (close table (end_at x.side r.world) name)
 
-closing_is : (table : Table) (c : Certificate) (items : List Item) (x : Closing) (r : Replay)
+closing_is : (judged : Option Side) (table : Table) (c : Certificate) (items : List Item) (x : Closing) (r : Replay)
     → IsListed c (length items) x.gap x.entry
     → r.world.sent ≡ items
-    → closing_kept table (outlines_from c 0 items) (since_from 0 0 items) x (progress_of c r)
-    ≡ map_ok (progress_of c) (closing_replayed table c x r)
-closing_is table c items x r is sent =
+    → closing_kept table (outlines_from c 0 items) (since_from 0 0 items) x (ends_of judged c r)
+    ≡ map_ok (ends_of judged c) (closing_replayed table c x r)
+closing_is judged table c items x r is sent =
     by (half_closed (outlines_from c 0 items) (since_from 0 0 items) x)
-    ∙ ap (λ o. map_ok (progress_of c) (ok_or o none >>= step))
+    ∙ ap (λ o. map_ok (ends_of judged c) (ok_or o none >>= step))
     (sym (ap (λ s. closing_event s x) sent ∙ closing_named c items x is))
   where
     none : CheckFault
@@ -261,42 +257,49 @@ closing_is table c items x r is sent =
     step : Event → Result Replay CheckFault
     step event = happens table c event (HiddenRefused faults.CannotClose) x.entry r
 
-    by : (o : Option HalfName) → (ok_or o none >>= λ name. half_closes table x name (progress_of c r))
-        ≡ map_ok (progress_of c) (ok_or (option_map (Closes x.side) o) none >>= step)
+    by : (o : Option HalfName) → (ok_or o none >>= λ name. half_closes table x name (ends_of judged c r))
+        ≡ map_ok (ends_of judged c) (ok_or (option_map (Closes x.side) o) none >>= step)
     by None = refl
-    by (Some name) = half_closes_is table c x name r
+    by (Some name) = half_closes_is judged table c x name r
 
 -- Closings that are listed for the gap behind these items.
-pub closings_from : (table : Table) (c : Certificate) (items : List Item) (listed : List Closing) (r : Replay)
+closings_from : (judged : Option Side) (table : Table) (c : Certificate) (items : List Item) (listed : List Closing) (r : Replay)
     → AllByRecursion (λ (x : Closing). IsListed c (length items) x.gap x.entry) listed → r.world.sent ≡ items
-    → closings_kept table (outlines_from c 0 items) (since_from 0 0 items) listed (progress_of c r)
-    ≡ map_ok (progress_of c) (closings_replayed table c listed r)
-closings_from table c items [] r all sent = refl
-closings_from table c items (x ∷ more) r all sent =
+    → closings_kept table (outlines_from c 0 items) (since_from 0 0 items) listed (ends_of judged c r)
+    ≡ map_ok (ends_of judged c) (closings_replayed table c listed r)
+closings_from judged table c items [] r all sent = refl
+closings_from judged table c items (x ∷ more) r all sent =
     ap (λ s. s >>= closings_kept table (outlines_from c 0 items) (since_from 0 0 items) more)
-    (closing_is table c items x r all.0 sent)
-    ∙ then_is (progress_of c) (closing_replayed table c x r)
+    (closing_is judged table c items x r all.0 sent)
+    ∙ then_is (ends_of judged c) (closing_replayed table c x r)
     (closings_kept table (outlines_from c 0 items) (since_from 0 0 items) more)
-    (closings_replayed table c more) (λ next is. closings_from table c items more next all.1 (still next is ∙ sent))
-    ∙ ap (map_ok (progress_of c))
-    (sym (then_then (ok_or (closing_event r.world.sent x) (fault_at FateRange x.entry))
-    (λ event. happens table c event (HiddenRefused faults.CannotClose) x.entry r) (closings_replayed table c more)))
+    (closings_replayed table c more) (λ next is. closings_from judged table c items more next all.1 (still next is ∙ sent))
+    ∙ ap (map_ok (ends_of judged c))
+    (then_then (ok_or (closing_event r.world.sent x) (fault_at FateRange x.entry))
+    (λ event. happens table c event (HiddenRefused faults.CannotClose) x.entry r) (closings_replayed table c more))
   where
     alone : closings_replayed table c (x ∷ []) r ≡ closing_replayed table c x r
-    alone = then_then (ok_or (closing_event r.world.sent x) (fault_at FateRange x.entry))
-        (λ event. happens table c event (HiddenRefused faults.CannotClose) x.entry r) (λ next. Ok next)
+    alone = sym (then_then (ok_or (closing_event r.world.sent x) (fault_at FateRange x.entry))
+        (λ event. happens table c event (HiddenRefused faults.CannotClose) x.entry r) (λ next. Ok next))
         ∙ ok_behind (closing_replayed table c x r)
 
     still : (next : Replay) → closing_replayed table c x r ≡ Ok next → next.world.sent ≡ r.world.sent
     still next is =
         (closings_replay table c (x ∷ []) r.world.sent r next refl (alone ∙ is)).2.sent ∙ append-nil r.world.sent
 
-pub closings_are : (table : Table) (c : Certificate) (r : Replay)
-    → closings_kept table (outlines_from c 0 r.world.sent) (since_from 0 0 r.world.sent) (filter (λ x. x.gap == next_entry r) c.close) (progress_of c r)
-    ≡ map_ok (progress_of c) (closings_replayed table c (filter (λ x. x.gap == next_entry r) c.close) r)
-closings_are table c r =
-    closings_from table c r.world.sent (filter (λ x. x.gap == next_entry r) c.close) r
-    (closings_listed c (next_entry r)) refl
+pub closings_are : (judged : Option Side) (table : Table) (c : Certificate) (items : List Item) (r : Replay) → r.world.sent ≡ items
+    → closings_kept table (outlines_from c 0 items) (since_from 0 0 items)
+    (closings_judged judged (filter (λ x. x.gap == length items) c.close)) (ends_of judged c r)
+    ≡ map_ok (ends_of judged c) (closings_replayed table c (closings_judged judged (filter (λ x. x.gap == length items) c.close)) r)
+closings_are judged table c items r sent =
+    closings_from judged table c items (closings_judged judged (filter (λ x. x.gap == length items) c.close)) r (by judged) sent
+  where
+    by : (judged : Option Side) → AllByRecursion (λ (x : Closing). IsListed c (length items) x.gap x.entry)
+        (closings_judged judged (filter (λ x. x.gap == length items) c.close))
+    by None = closings_listed c (length items)
+    by (Some judged) =
+        some_hold (λ (x : Closing). IsListed c (length items) x.gap x.entry) (λ x. is_side judged x.side)
+        (filter (λ x. x.gap == length items) c.close) (closings_listed c (length items))
 
 -- ---- expiries
 
@@ -360,23 +363,23 @@ abbrev expiry_replayed : Table → Certificate → Expiry → Replay → Result 
 expiry_replayed table c x r = ok_or (expiry_event r.world.sent x) (fault_at FateRange x.entry)
     >>= λ event. happens table c event (HiddenRefused faults.CannotExpire) x.entry r
 
-invocation_ends_is : (table : Table) (c : Certificate) (x : Expiry) (invocation : HalfName × ℤ) (r : Replay)
-    → invocation_ends table x invocation (progress_of c r)
-    ≡ map_ok (progress_of c) (happens table c (expires_by x invocation) (HiddenRefused faults.CannotExpire) x.entry r)
-invocation_ends_is table c x invocation r =
+invocation_ends_is : (judged : Option Side) (table : Table) (c : Certificate) (x : Expiry) (invocation : HalfName × ℤ) (r : Replay)
+    → invocation_ends table x invocation (ends_of judged c r)
+    ≡ map_ok (ends_of judged c) (happens table c (expires_by x invocation) (HiddenRefused faults.CannotExpire) x.entry r)
+invocation_ends_is judged table c x invocation r =
     let fault = fault_at (HiddenRefused faults.CannotExpire) x.entry in
-    ap (λ (e : End). end_moved x.side fault (progress_of c r) (expire table e invocation.0 invocation.1))
-    (end_kept c x.side r)
-    ∙ end_is c x.side (expires_by x invocation) fault r (expire table (end_at x.side r.world) invocation.0 invocation.1)
+    ap (λ (e : End). end_moved x.side fault (ends_of judged c r) (expire table e invocation.0 invocation.1))
+    (end_of judged c x.side r)
+    ∙ end_is judged c x.side (expires_by x invocation) fault r (expire table (end_at x.side r.world) invocation.0 invocation.1)
 
-expiry_is : (table : Table) (c : Certificate) (items : List Item) (x : Expiry) (r : Replay)
+expiry_is : (judged : Option Side) (table : Table) (c : Certificate) (items : List Item) (x : Expiry) (r : Replay)
     → IsListed c (length items) x.gap x.entry
     → r.world.sent ≡ items
-    → expiry_kept table (outlines_from c 0 items) (since_from 0 0 items) x (progress_of c r)
-    ≡ map_ok (progress_of c) (expiry_replayed table c x r)
-expiry_is table c items x r is sent =
+    → expiry_kept table (outlines_from c 0 items) (since_from 0 0 items) x (ends_of judged c r)
+    ≡ map_ok (ends_of judged c) (expiry_replayed table c x r)
+expiry_is judged table c items x r is sent =
     by (invocation_ended (outlines_from c 0 items) (since_from 0 0 items) x)
-    ∙ ap (λ o. map_ok (progress_of c) (ok_or o none >>= step))
+    ∙ ap (λ o. map_ok (ends_of judged c) (ok_or o none >>= step))
     (sym (ap (λ s. expiry_event s x) sent ∙ expiry_named c items x is))
   where
     none : CheckFault
@@ -386,52 +389,46 @@ expiry_is table c items x r is sent =
     step event = happens table c event (HiddenRefused faults.CannotExpire) x.entry r
 
     by : (o : Option (HalfName × ℤ))
-        → (ok_or o none >>= λ invocation. invocation_ends table x invocation (progress_of c r))
-        ≡ map_ok (progress_of c) (ok_or (option_map (expires_by x) o) none >>= step)
+        → (ok_or o none >>= λ invocation. invocation_ends table x invocation (ends_of judged c r))
+        ≡ map_ok (ends_of judged c) (ok_or (option_map (expires_by x) o) none >>= step)
     by None = refl
-    by (Some invocation) = invocation_ends_is table c x invocation r
+    by (Some invocation) = invocation_ends_is judged table c x invocation r
 
 -- Expiries that are listed for it.
-pub expiries_from : (table : Table) (c : Certificate) (items : List Item) (listed : List Expiry) (r : Replay)
+expiries_from : (judged : Option Side) (table : Table) (c : Certificate) (items : List Item) (listed : List Expiry) (r : Replay)
     → AllByRecursion (λ (x : Expiry). IsListed c (length items) x.gap x.entry) listed → r.world.sent ≡ items
-    → expiries_kept table (outlines_from c 0 items) (since_from 0 0 items) listed (progress_of c r)
-    ≡ map_ok (progress_of c) (expiries_replayed table c listed r)
-expiries_from table c items [] r all sent = refl
-expiries_from table c items (x ∷ more) r all sent =
+    → expiries_kept table (outlines_from c 0 items) (since_from 0 0 items) listed (ends_of judged c r)
+    ≡ map_ok (ends_of judged c) (expiries_replayed table c listed r)
+expiries_from judged table c items [] r all sent = refl
+expiries_from judged table c items (x ∷ more) r all sent =
     ap (λ s. s >>= expiries_kept table (outlines_from c 0 items) (since_from 0 0 items) more)
-    (expiry_is table c items x r all.0 sent)
-    ∙ then_is (progress_of c) (expiry_replayed table c x r)
+    (expiry_is judged table c items x r all.0 sent)
+    ∙ then_is (ends_of judged c) (expiry_replayed table c x r)
     (expiries_kept table (outlines_from c 0 items) (since_from 0 0 items) more)
-    (expiries_replayed table c more) (λ next is. expiries_from table c items more next all.1 (still next is ∙ sent))
-    ∙ ap (map_ok (progress_of c))
-    (sym (then_then (ok_or (expiry_event r.world.sent x) (fault_at FateRange x.entry))
-    (λ event. happens table c event (HiddenRefused faults.CannotExpire) x.entry r) (expiries_replayed table c more)))
+    (expiries_replayed table c more) (λ next is. expiries_from judged table c items more next all.1 (still next is ∙ sent))
+    ∙ ap (map_ok (ends_of judged c))
+    (then_then (ok_or (expiry_event r.world.sent x) (fault_at FateRange x.entry))
+    (λ event. happens table c event (HiddenRefused faults.CannotExpire) x.entry r) (expiries_replayed table c more))
   where
     alone : expiries_replayed table c (x ∷ []) r ≡ expiry_replayed table c x r
-    alone = then_then (ok_or (expiry_event r.world.sent x) (fault_at FateRange x.entry))
-        (λ event. happens table c event (HiddenRefused faults.CannotExpire) x.entry r) (λ next. Ok next)
+    alone = sym (then_then (ok_or (expiry_event r.world.sent x) (fault_at FateRange x.entry))
+        (λ event. happens table c event (HiddenRefused faults.CannotExpire) x.entry r) (λ next. Ok next))
         ∙ ok_behind (expiry_replayed table c x r)
 
     still : (next : Replay) → expiry_replayed table c x r ≡ Ok next → next.world.sent ≡ r.world.sent
     still next is =
         (expiries_replay table c (x ∷ []) r.world.sent r next refl (alone ∙ is)).2.sent ∙ append-nil r.world.sent
 
-pub expiries_are : (table : Table) (c : Certificate) (r : Replay)
-    → expiries_kept table (outlines_from c 0 r.world.sent) (since_from 0 0 r.world.sent) (filter (λ x. x.gap == next_entry r) c.expire) (progress_of c r)
-    ≡ map_ok (progress_of c) (expiries_replayed table c (filter (λ x. x.gap == next_entry r) c.expire) r)
-expiries_are table c r =
-    expiries_from table c r.world.sent (filter (λ x. x.gap == next_entry r) c.expire) r
-    (expiries_listed c (next_entry r)) refl
-
--- They send nothing.
-pub closings_send_nothing : (table : Table) (c : Certificate) (r next : Replay)
-    → closings_replayed table c (filter (λ x. x.gap == next_entry r) c.close) r ≡ Ok next → next.world.sent ≡ r.world.sent
-closings_send_nothing table c r next is =
-    (closings_replay table c (filter (λ x. x.gap == next_entry r) c.close) r.world.sent r next refl is).2.sent
-    ∙ append-nil r.world.sent
-
-pub expiries_send_nothing : (table : Table) (c : Certificate) (gap : ℕ) (r next : Replay)
-    → expiries_replayed table c (filter (λ x. x.gap == gap) c.expire) r ≡ Ok next → next.world.sent ≡ r.world.sent
-expiries_send_nothing table c gap r next is =
-    (expiries_replay table c (filter (λ x. x.gap == gap) c.expire) r.world.sent r next refl is).2.sent
-    ∙ append-nil r.world.sent
+pub expiries_are : (judged : Option Side) (table : Table) (c : Certificate) (items : List Item) (r : Replay) → r.world.sent ≡ items
+    → expiries_kept table (outlines_from c 0 items) (since_from 0 0 items)
+    (expiries_judged judged (filter (λ x. x.gap == length items) c.expire)) (ends_of judged c r)
+    ≡ map_ok (ends_of judged c) (expiries_replayed table c (expiries_judged judged (filter (λ x. x.gap == length items) c.expire)) r)
+expiries_are judged table c items r sent =
+    expiries_from judged table c items (expiries_judged judged (filter (λ x. x.gap == length items) c.expire)) r (by judged) sent
+  where
+    by : (judged : Option Side) → AllByRecursion (λ (x : Expiry). IsListed c (length items) x.gap x.entry)
+        (expiries_judged judged (filter (λ x. x.gap == length items) c.expire))
+    by None = expiries_listed c (length items)
+    by (Some judged) =
+        some_hold (λ (x : Expiry). IsListed c (length items) x.gap x.entry) (λ x. is_side judged x.side)
+        (filter (λ x. x.gap == length items) c.expire) (expiries_listed c (length items))

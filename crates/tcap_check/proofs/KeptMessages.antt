@@ -20,35 +20,36 @@ use Rattle.tcap_end.specs.Reply.{aborts, is_open}
 use Rattle.tcap_end.specs.Step.{needs, ◌>>◌}
 use Rattle.tcap_check.specs.declared.certificate.Fate.{Fate}
 use Rattle.tcap_check.specs.declared.fault.CheckFault.{CheckFault}
-use Rattle.tcap_model.specs.declared.reason.Reason.TheVariants.{SendRefused}
+use Rattle.tcap_model.specs.declared.reason.Reason.TheVariants.{BadReply, SendRefused}
 use Rattle.tcap_check.specs.declared.progress.Progress.{Progress}
 use Rattle.tcap_check.specs.declared.progress.Waiting.{Waiting}
 use Rattle.tcap_record.specs.Ends.{other}
-use Rattle.tcap_model.specs.World.{OnItsWay, Sent, World, channel_from, end_at, with_channel, with_end}
+use Rattle.tcap_model.specs.World.{Sent, World, channel_from, end_at, with_channel, with_end}
 use Rattle.tcap_model.specs.Run.{Sends, Replies, Expires, joined, may_refuse, provider_abort, reply_to, where_so}
 use Rattle.tcap_check.specs.Certificate.{Certificate}
-use Rattle.tcap_check.specs.Follows.{invoke_id, invoking_half, sending_by, taken_by}
-use Rattle.tcap_check.specs.Replayed.{Replay, implied, implied_over, lost_from_front, message_by, message_replayed, next_entry, or_same, refused, reply_replayed, send_replayed, sent_or_refused, stepped}
-use Rattle.tcap_check.specs.Progress.{end_tried, first_answered, ids_ended, ids_ended_over, message_kept, or_still, seat_at, send_kept, sent_by, sent_or_not, with_seat_end}
-use Rattle.tcap_check.specs.Checking.{map_ok, progress_of, waiting}
+use Rattle.tcap_check.specs.Follows.{invoke_id, invoking_half, sending_by}
+use Rattle.tcap_check.specs.Replayed.{Replay, fault_at, implied, implied_over, lost_from_front, message_by, next_entry, or_same, refused, reply_replayed, send_replayed, sent_or_refused, stepped}
+use Rattle.tcap_check.specs.Progress.{end_tried, first_answered, ids_ended, ids_ended_over, message_kept, or_still, seat_at, send_kept, sent_by, sent_or_not, with_waiting}
+use Rattle.tcap_check.specs.Hearing.{is_heard, own_fate}
+use Rattle.tcap_check.specs.Checking.{map_ok, waiting}
 use Rattle.tcap_model.proofs.ChannelLaws.{get_new}
 use Rattle.tcap_check.proofs.ReplayLaws.{abort_of}
-use Rattle.tcap_check.proofs.KeptBasics.{HasFront, end_kept, end_step_is, front_is, front_none, head_taken_is, waiting_kept}
-use Rattle.tcap_check.proofs.KeptSends.{joined_is}
+use Rattle.tcap_check.proofs.KeptBasics.{HasFront, front_is, front_none}
+use Rattle.tcap_check.proofs.KeptLost.{end_of, end_put_of, end_stepped, ends_of, head_taken_of, own_joined, waiting_of}
 use Rattle.tcap_check.proofs.WorldLaws.{sent_with_end}
 
 -- ---- expiries that a message implies
 
-one_implied : (table : Table) (c : Certificate) (side : Side) (name : HalfName) (id : ℤ) (r : Replay)
-    → end_tried table side name id (progress_of c r)
-    ≡ progress_of c (or_same r (stepped table (Expires side name id) r))
-one_implied table c side name id r =
-    ap (λ (e : End). or_still side (progress_of c r) (expire table e name id)) (end_kept c side r)
+one_implied : (table : Table) (judged : Option Side) (c : Certificate) (side : Side) (name : HalfName) (id : ℤ) (r : Replay)
+    → end_tried table side name id (ends_of judged c r)
+    ≡ ends_of judged c (or_same r (stepped table (Expires side name id) r))
+one_implied table judged c side name id r =
+    ap (λ (e : End). or_still side (ends_of judged c r) (expire table e name id)) (end_of judged c side r)
     ∙ by (expire table (end_at side r.world) name id) refl
   where
     by : (o : Result End EndFault) → expire table (end_at side r.world) name id ≡ o
-        → or_still side (progress_of c r) o ≡ progress_of c (or_same r (stepped table (Expires side name id) r))
-    by (Ok e) is = rw is (sym (end_step_is c side (Expires side name id) e r))
+        → or_still side (ends_of judged c r) o ≡ ends_of judged c (or_same r (stepped table (Expires side name id) r))
+    by (Ok e) is = rw is (sym (end_stepped judged c (Expires side name id) side e r))
     by (Err reason) is = rw is refl
 
 one_sends_nothing : (table : Table) (side : Side) (name : HalfName) (id : ℤ) (r : Replay)
@@ -62,12 +63,12 @@ one_sends_nothing table side name id r = by side (expire table (end_at side r.wo
     by sides.A (Err reason) is = rw is refl
     by sides.B (Err reason) is = rw is refl
 
-implied_is : (table : Table) (c : Certificate) (side : Side) (name : HalfName) (ids : List ℤ) (r : Replay)
-    → ids_ended table side name ids (progress_of c r) ≡ progress_of c (implied table side name ids r)
-implied_is table c side name [] r = refl
-implied_is table c side name (id ∷ ids) r =
-    ap (ids_ended table side name ids) (one_implied table c side name id r)
-    ∙ implied_is table c side name ids (or_same r (stepped table (Expires side name id) r))
+implied_is : (table : Table) (judged : Option Side) (c : Certificate) (side : Side) (name : HalfName) (ids : List ℤ) (r : Replay)
+    → ids_ended table side name ids (ends_of judged c r) ≡ ends_of judged c (implied table side name ids r)
+implied_is table judged c side name [] r = refl
+implied_is table judged c side name (id ∷ ids) r =
+    ap (ids_ended table side name ids) (one_implied table judged c side name id r)
+    ∙ implied_is table judged c side name ids (or_same r (stepped table (Expires side name id) r))
 
 implied_sends_nothing : (table : Table) (side : Side) (name : HalfName) (ids : List ℤ) (r : Replay)
     → (implied table side name ids r).world.sent ≡ r.world.sent
@@ -76,11 +77,11 @@ implied_sends_nothing table side name (id ∷ ids) r =
     implied_sends_nothing table side name ids (or_same r (stepped table (Expires side name id) r))
     ∙ one_sends_nothing table side name id r
 
-over_is : (table : Table) (c : Certificate) (side : Side) (message : Message) (half : Option HalfName) (r : Replay)
-    → ids_ended_over table side half (filter_map invoke_id (components_in message)) (progress_of c r)
-    ≡ progress_of c (implied_over table side message half r)
-over_is table c side message None r = refl
-over_is table c side message (Some name) r = implied_is table c side name (filter_map invoke_id (components_in message)) r
+over_is : (table : Table) (judged : Option Side) (c : Certificate) (side : Side) (message : Message) (half : Option HalfName) (r : Replay)
+    → ids_ended_over table side half (filter_map invoke_id (components_in message)) (ends_of judged c r)
+    ≡ ends_of judged c (implied_over table side message half r)
+over_is table judged c side message None r = refl
+over_is table judged c side message (Some name) r = implied_is table judged c side name (filter_map invoke_id (components_in message)) r
 
 over_sends_nothing : (table : Table) (side : Side) (message : Message) (half : Option HalfName) (r : Replay)
     → (implied_over table side message half r).world.sent ≡ r.world.sent
@@ -90,35 +91,31 @@ over_sends_nothing table side message (Some name) r =
 
 -- ---- a send
 
-end_put : (c : Certificate) (side : Side) (e : End) (r : Replay)
-    → (let x : Replay = record { events = r.events; world = with_end side e r.world } in progress_of c x)
-    ≡ with_seat_end side e (progress_of c r)
-end_put c sides.A e r = refl
-end_put c sides.B e r = refl
-
-sent_is : (c : Certificate) (fate : Fate) (side : Side) (message : Message) (number : ℕ) (r : Replay) (o : Result End EndFault)
-    → next_entry r ≡ number → slice_get c.fates number ≡ Some fate
-    → sent_or_not side fate number message (progress_of c r) o ≡ map_ok (progress_of c) (sent_or_refused side message r o)
-sent_is c fate side message number r (Err reason) is has =
+sent_is : (judged : Option Side) (c : Certificate) (fate : Fate) (side : Side) (message : Message) (number : ℕ) (r : Replay)
+    (o : Result End EndFault) → is_heard judged (other side) ≡ true → next_entry r ≡ number → slice_get c.fates number ≡ Some fate
+    → sent_or_not side (own_fate judged fate) number message (ends_of judged c r) o
+    ≡ map_ok (ends_of judged c) (sent_or_refused side message r o)
+sent_is judged c fate side message number r (Err reason) so is has =
     ap (λ (n : ℕ). let x : Result Progress CheckFault = refused (SendRefused reason) n in x) (sym is)
-sent_is c fate side message number r (Ok e) is has =
+sent_is judged c fate side message number r (Ok e) so is has =
     let x : Replay = record { events = r.events; world = with_end side e r.world } in
     let count : next_entry x ≡ number = ap length (sent_with_end side e r.world) ∙ is in
-    let joins = joined_is c side (Sends side message) message fate x (ap (slice_get c.fates) count ∙ has) in
+    let joins = own_joined judged c side (Sends side message) message fate x so (ap (slice_get c.fates) count ∙ has) in
     ap (λ (p : Progress). let z : Result Progress CheckFault = Ok p in z)
-    (sym (joins ∙ ap₂ (λ (n : ℕ) (p : Progress). sent_by side fate n message p) count (end_put c side e r)))
+    (sym (joins ∙ ap₂ (λ (n : ℕ) (p : Progress). sent_by side (own_fate judged fate) n message p) count (end_put_of judged c side e r)))
 
-send_is : (table : Table) (c : Certificate) (fate : Fate) (side : Side) (message : Message) (r : Replay)
-    → slice_get c.fates (next_entry r) ≡ Some fate
-    → send_kept table side fate (next_entry r) message (progress_of c r)
-    ≡ map_ok (progress_of c) (send_replayed table side message (implied_over table side message (invoking_half message) r))
-send_is table c fate side message r has =
+send_is : (table : Table) (judged : Option Side) (c : Certificate) (fate : Fate) (side : Side) (message : Message) (r : Replay)
+    → is_heard judged (other side) ≡ true → slice_get c.fates (next_entry r) ≡ Some fate
+    → send_kept table side (own_fate judged fate) (next_entry r) message (ends_of judged c r)
+    ≡ map_ok (ends_of judged c) (send_replayed table side message (implied_over table side message (invoking_half message) r))
+send_is table judged c fate side message r so has =
     let before = implied_over table side message (invoking_half message) r in
     let number : next_entry before ≡ next_entry r = ap length (over_sends_nothing table side message (invoking_half message) r) in
-    ap (λ (p : Progress). sent_or_not side fate (next_entry r) message p (send table (seat_at side p).end message))
-    (over_is table c side message (invoking_half message) r)
-    ∙ ap (λ (e : End). sent_or_not side fate (next_entry r) message (progress_of c before) (send table e message)) (end_kept c side before)
-    ∙ sent_is c fate side message (next_entry r) before (send table (end_at side before.world) message) number has
+    ap (λ (p : Progress). sent_or_not side (own_fate judged fate) (next_entry r) message p (send table (seat_at side p).end message))
+    (over_is table judged c side message (invoking_half message) r)
+    ∙ ap (λ (e : End). sent_or_not side (own_fate judged fate) (next_entry r) message (ends_of judged c before) (send table e message))
+    (end_of judged c side before)
+    ∙ sent_is judged c fate side message (next_entry r) before (send table (end_at side before.world) message) so number has
 
 -- ---- a reply
 
@@ -177,44 +174,36 @@ answerable e (EndMessage dtid dialogue components) abort =
 answerable e (Abort dtid reason) abort =
     record { cause = 1; id = []; so = false; reply = refl; may = not_both (aborts 1 [] abort) }
 
-sent_stays : (side : Side) (left : List OnItsWay) (c : Certificate) (r : Replay)
-    → (with_channel side left (lost_from_front c side r).world).sent ≡ r.world.sent
-sent_stays sides.A left c r = refl
-sent_stays sides.B left c r = refl
-
-end_stays : (side : Side) (left : List OnItsWay) (c : Certificate) (r : Replay)
-    → end_at side (lost_from_front c (other side) r).world ≡ end_at side r.world
-end_stays sides.A left c r = refl
-end_stays sides.B left c r = refl
-
 -- the newest item of a list that an Abort joined
 joined_last : (side : Side) (abort : Message) (w : World) → slice_get (joined side abort w).sent (length w.sent) ≡ Some (Sent side abort)
 joined_last sides.A abort w = get_new w.sent (Sent sides.A abort)
 joined_last sides.B abort w = get_new w.sent (Sent sides.B abort)
 
--- The head is there, and it is that of the number, or not.
-answers_head : (table : Table) (c : Certificate) (fate : Fate) (side : Side) (dtid : List ℕ) (n : ℕ) (taken : ℕ) (r : Replay)
-    (first : Waiting) (more : List Waiting) (front : HasFront c (other side) first more r) (b : Bool)
-    → (first.number == taken) ≡ b → slice_get c.fates (next_entry r) ≡ Some fate
-    → IsAnswerable (end_at side r.world) first.message (Abort dtid (Some (Cause n)))
-    → first_answered side fate (next_entry r) (Abort dtid (Some (Cause n))) taken (first ∷ more) (progress_of c r)
-    ≡ map_ok (progress_of c) (reply_replayed table c side (Abort dtid (Some (Cause n))) taken r)
-answers_head table c fate sides.A dtid n taken r first more front false is has can = rw (front.channel, front.number, is) refl
-answers_head table c fate sides.A dtid n taken r first more front true is has can = by can.so (aborts can.cause can.id abort) can.reply can.may refl
-  where
-    abort : Message
-    abort = Abort dtid (Some (Cause n))
+-- what is kept of the answer to the first message, where that is the one that is taken
+abbrev answered : Option Side → Certificate → Fate → Side → Message → ℕ → Replay → Waiting → List Waiting → Result Progress CheckFault
+answered judged c fate side abort taken r first more =
+    needs ((first.number == taken) && may_refuse (end_at side r.world) first.message abort) (fault_at BadReply (next_entry r))
+    >> Ok (sent_by side (own_fate judged fate) (next_entry r) abort (with_waiting (other side) more (ends_of judged c r)))
 
+-- The head is there, and it is that of the number, or not.
+answers_head : (table : Table) (judged : Option Side) (c : Certificate) (fate : Fate) (side : Side) (abort : Message) (taken : ℕ) (r : Replay)
+    (first : Waiting) (more : List Waiting) (front : HasFront c (other side) first more r) (b : Bool) → is_heard judged (other side) ≡ true
+    → (first.number == taken) ≡ b → slice_get c.fates (next_entry r) ≡ Some fate
+    → IsAnswerable (end_at side r.world) first.message abort
+    → answered judged c fate side abort taken r first more
+    ≡ map_ok (ends_of judged c) (reply_replayed table c side abort taken r)
+answers_head table judged c fate sides.A abort taken r first more front false so is has can = rw (front.channel, front.number, is) refl
+answers_head table judged c fate sides.A abort taken r first more front true so is has can = by can.so (aborts can.cause can.id abort) can.reply can.may refl
+  where
     made : Message
     made = provider_abort can.id can.cause
 
     left : Replay
     left = record { events = (lost_from_front c sides.B r).events; world = with_channel sides.B front.left (lost_from_front c sides.B r).world }
 
-    by : (so x : Bool) → reply_to r.world.a first.message ≡ where_so so (Some made)
-        → may_refuse r.world.a first.message abort ≡ (aborts can.cause can.id abort && so) → aborts can.cause can.id abort ≡ x
-        → first_answered sides.A fate (next_entry r) abort taken (first ∷ more) (progress_of c r)
-        ≡ map_ok (progress_of c) (reply_replayed table c sides.A abort taken r)
+    by : (made_so x : Bool) → reply_to r.world.a first.message ≡ where_so made_so (Some made)
+        → may_refuse r.world.a first.message abort ≡ (aborts can.cause can.id abort && made_so) → aborts can.cause can.id abort ≡ x
+        → answered judged c fate sides.A abort taken r first more ≡ map_ok (ends_of judged c) (reply_replayed table c sides.A abort taken r)
     by false false reply may e = rw (front.channel, front.number, is, front.message, reply, may, e) refl
     by false true reply may e = rw (front.channel, front.number, is, front.message, reply, may, e) refl
     by true false reply may e =
@@ -222,25 +211,21 @@ answers_head table c fate sides.A dtid n taken r first more front true is has ca
     by true true reply may e =
         rw (front.channel, front.number, is, front.message, reply, may, e, joined_last sides.A made left.world, e)
         (ap (λ (p : Progress). let z : Result Progress CheckFault = Ok p in z)
-        (sym (joined_is c sides.A (Replies sides.A taken) made fate left has
-        ∙ ap₂ (λ (m : Message) (p : Progress). sent_by sides.A fate (next_entry r) m p) (abort_of abort made sides.A e)
-        (head_taken_is c sides.B first more r front))))
-answers_head table c fate sides.B dtid n taken r first more front false is has can = rw (front.channel, front.number, is) refl
-answers_head table c fate sides.B dtid n taken r first more front true is has can = by can.so (aborts can.cause can.id abort) can.reply can.may refl
+        (sym (own_joined judged c sides.A (Replies sides.A taken) made fate left so has
+        ∙ ap₂ (λ (m : Message) (p : Progress). sent_by sides.A (own_fate judged fate) (next_entry r) m p) (abort_of abort made sides.A e)
+        (head_taken_of judged c sides.B first more r front so))))
+answers_head table judged c fate sides.B abort taken r first more front false so is has can = rw (front.channel, front.number, is) refl
+answers_head table judged c fate sides.B abort taken r first more front true so is has can = by can.so (aborts can.cause can.id abort) can.reply can.may refl
   where
-    abort : Message
-    abort = Abort dtid (Some (Cause n))
-
     made : Message
     made = provider_abort can.id can.cause
 
     left : Replay
     left = record { events = (lost_from_front c sides.A r).events; world = with_channel sides.A front.left (lost_from_front c sides.A r).world }
 
-    by : (so x : Bool) → reply_to r.world.b first.message ≡ where_so so (Some made)
-        → may_refuse r.world.b first.message abort ≡ (aborts can.cause can.id abort && so) → aborts can.cause can.id abort ≡ x
-        → first_answered sides.B fate (next_entry r) abort taken (first ∷ more) (progress_of c r)
-        ≡ map_ok (progress_of c) (reply_replayed table c sides.B abort taken r)
+    by : (made_so x : Bool) → reply_to r.world.b first.message ≡ where_so made_so (Some made)
+        → may_refuse r.world.b first.message abort ≡ (aborts can.cause can.id abort && made_so) → aborts can.cause can.id abort ≡ x
+        → answered judged c fate sides.B abort taken r first more ≡ map_ok (ends_of judged c) (reply_replayed table c sides.B abort taken r)
     by false false reply may e = rw (front.channel, front.number, is, front.message, reply, may, e) refl
     by false true reply may e = rw (front.channel, front.number, is, front.message, reply, may, e) refl
     by true false reply may e =
@@ -248,63 +233,67 @@ answers_head table c fate sides.B dtid n taken r first more front true is has ca
     by true true reply may e =
         rw (front.channel, front.number, is, front.message, reply, may, e, joined_last sides.B made left.world, e)
         (ap (λ (p : Progress). let z : Result Progress CheckFault = Ok p in z)
-        (sym (joined_is c sides.B (Replies sides.B taken) made fate left has
-        ∙ ap₂ (λ (m : Message) (p : Progress). sent_by sides.B fate (next_entry r) m p) (abort_of abort made sides.B e)
-        (head_taken_is c sides.A first more r front))))
+        (sym (own_joined judged c sides.B (Replies sides.B taken) made fate left so has
+        ∙ ap₂ (λ (m : Message) (p : Progress). sent_by sides.B (own_fate judged fate) (next_entry r) m p) (abort_of abort made sides.B e)
+        (head_taken_of judged c sides.A first more r front so))))
 
 -- A provider's answer.
-reply_is : (table : Table) (c : Certificate) (fate : Fate) (side : Side) (dtid : List ℕ) (n : ℕ) (taken : ℕ) (r : Replay)
-    → slice_get c.fates (next_entry r) ≡ Some fate
-    → first_answered side fate (next_entry r) (Abort dtid (Some (Cause n))) taken (seat_at (other side) (progress_of c r)).waiting (progress_of c r)
-    ≡ map_ok (progress_of c) (reply_replayed table c side (Abort dtid (Some (Cause n))) taken r)
-reply_is table c fate side dtid n taken r has =
-    ap (λ (messages : List Waiting). first_answered side fate (next_entry r) (Abort dtid (Some (Cause n))) taken messages (progress_of c r))
-    (waiting_kept c (other side) r)
-    ∙ by side (waiting c.fates (channel_from (other side) r.world)) refl
+reply_is : (table : Table) (judged : Option Side) (c : Certificate) (fate : Fate) (side : Side) (abort : Message) (taken : ℕ) (r : Replay)
+    → is_heard judged (other side) ≡ true → slice_get c.fates (next_entry r) ≡ Some fate
+    → first_answered side (own_fate judged fate) (next_entry r) abort taken (seat_at (other side) (ends_of judged c r)).waiting (ends_of judged c r)
+    ≡ map_ok (ends_of judged c) (reply_replayed table c side abort taken r)
+reply_is table judged c fate side abort taken r so has =
+    ap (λ (messages : List Waiting). first_answered side (own_fate judged fate) (next_entry r) abort taken messages (ends_of judged c r))
+    (waiting_of judged c (other side) r so)
+    ∙ by (waiting c.fates (channel_from (other side) r.world)) refl
   where
-    abort : Message
-    abort = Abort dtid (Some (Cause n))
+    none : (side : Side) → channel_from (other side) (lost_from_front c (other side) r).world ≡ []
+        → (let x : Result Progress CheckFault = refused BadReply (next_entry r) in x)
+        ≡ map_ok (ends_of judged c) (reply_replayed table c side abort taken r)
+    none sides.A is = rw is refl
+    none sides.B is = rw is refl
 
-    by : (side : Side) (messages : List Waiting) → waiting c.fates (channel_from (other side) r.world) ≡ messages
-        → first_answered side fate (next_entry r) abort taken messages (progress_of c r)
-        ≡ map_ok (progress_of c) (reply_replayed table c side abort taken r)
-    by sides.A [] is = rw (front_none c sides.B r is) refl
-    by sides.B [] is = rw (front_none c sides.A r is) refl
-    by sides.A (first ∷ more) is =
-        answers_head table c fate sides.A dtid n taken r first more (front_is c sides.B first more r is) (first.number == taken) refl has
-        (answerable r.world.a first.message abort)
-    by sides.B (first ∷ more) is =
-        answers_head table c fate sides.B dtid n taken r first more (front_is c sides.A first more r is) (first.number == taken) refl has
-        (answerable r.world.b first.message abort)
+    by : (messages : List Waiting) → waiting c.fates (channel_from (other side) r.world) ≡ messages
+        → first_answered side (own_fate judged fate) (next_entry r) abort taken messages (ends_of judged c r)
+        ≡ map_ok (ends_of judged c) (reply_replayed table c side abort taken r)
+    by [] is = none side (front_none c (other side) r is)
+    by (first ∷ more) is =
+        ap (λ (e : End). needs ((first.number == taken) && may_refuse e first.message abort) (fault_at BadReply (next_entry r))
+        >> sent_so (sent_by side (own_fate judged fate) (next_entry r) abort (with_waiting (other side) more (ends_of judged c r))))
+        (end_of judged c side r)
+        ∙ answers_head table judged c fate side abort taken r first more (front_is c (other side) first more r is) (first.number == taken) so refl has
+        (answerable (end_at side r.world) first.message abort)
+      where
+        sent_so : Progress → Result Progress CheckFault
+        sent_so p = Ok p
 
 -- A message that takes these.
-pub message_by_is : (table : Table) (c : Certificate) (fate : Fate) (side : Side) (message : Message) (takes : List ℕ) (r : Replay)
-    → slice_get c.fates (next_entry r) ≡ Some fate
-    → message_kept table side fate (next_entry r) message takes (progress_of c r)
-    ≡ map_ok (progress_of c) (message_by table c side message (sending_by c (next_entry r) (Sent side message) takes) r)
-message_by_is table c fate side message takes r has = by message takes
+pub message_by_is : (table : Table) (judged : Option Side) (c : Certificate) (fate : Fate) (side : Side) (message : Message) (takes : List ℕ)
+    (r : Replay) → is_heard judged (other side) ≡ true → slice_get c.fates (next_entry r) ≡ Some fate
+    → message_kept table side (own_fate judged fate) (next_entry r) message takes (ends_of judged c r)
+    ≡ map_ok (ends_of judged c) (message_by table c side message (sending_by c (next_entry r) (Sent side message) takes) r)
+message_by_is table judged c fate side message takes r so has = by message takes
   where
-    by : (message : Message) (taken : List ℕ)
-        → message_kept table side fate (next_entry r) message taken (progress_of c r)
-        ≡ map_ok (progress_of c) (message_by table c side message (sending_by c (next_entry r) (Sent side message) taken) r)
-    by (Abort dtid (Some (Cause n))) [] = refl
-    by (Abort dtid (Some (Cause n))) (taken ∷ []) = reply_is table c fate side dtid n taken r has
-    by (Abort dtid (Some (Cause n))) (taken ∷ second ∷ more) = refl
-    by (Abort dtid (Some (ByDialogue d))) [] = send_is table c fate side (Abort dtid (Some (ByDialogue d))) r has
-    by (Abort dtid (Some (ByDialogue d))) (taken ∷ more) = refl
-    by (Abort dtid None) [] = send_is table c fate side (Abort dtid None) r has
-    by (Abort dtid None) (taken ∷ more) = refl
-    by (Unidirectional dialogue components) [] = send_is table c fate side (Unidirectional dialogue components) r has
-    by (Unidirectional dialogue components) (taken ∷ more) = refl
-    by (Begin otid dialogue components) [] = send_is table c fate side (Begin otid dialogue components) r has
-    by (Begin otid dialogue components) (taken ∷ more) = refl
-    by (Continue otid dtid dialogue components) [] = send_is table c fate side (Continue otid dtid dialogue components) r has
-    by (Continue otid dtid dialogue components) (taken ∷ more) = refl
-    by (EndMessage dtid dialogue components) [] = send_is table c fate side (EndMessage dtid dialogue components) r has
-    by (EndMessage dtid dialogue components) (taken ∷ more) = refl
+    sends : (message : Message)
+        → send_kept table side (own_fate judged fate) (next_entry r) message (ends_of judged c r)
+        ≡ map_ok (ends_of judged c) (send_replayed table side message (implied_over table side message (invoking_half message) r))
+    sends message = send_is table judged c fate side message r so has
 
-pub message_is : (table : Table) (c : Certificate) (fate : Fate) (side : Side) (message : Message) (r : Replay)
-    → slice_get c.fates (next_entry r) ≡ Some fate
-    → message_kept table side fate (next_entry r) message (taken_by (next_entry r) 0 c.fates) (progress_of c r)
-    ≡ map_ok (progress_of c) (message_replayed table c side message r)
-message_is table c fate side message r has = message_by_is table c fate side message (taken_by (next_entry r) 0 c.fates) r has
+    by : (message : Message) (taken : List ℕ)
+        → message_kept table side (own_fate judged fate) (next_entry r) message taken (ends_of judged c r)
+        ≡ map_ok (ends_of judged c) (message_by table c side message (sending_by c (next_entry r) (Sent side message) taken) r)
+    by (Abort dtid (Some (Cause n))) [] = refl
+    by (Abort dtid (Some (Cause n))) (taken ∷ []) = reply_is table judged c fate side (Abort dtid (Some (Cause n))) taken r so has
+    by (Abort dtid (Some (Cause n))) (taken ∷ second ∷ more) = refl
+    by (Abort dtid (Some (ByDialogue d))) [] = sends (Abort dtid (Some (ByDialogue d)))
+    by (Abort dtid (Some (ByDialogue d))) (taken ∷ more) = refl
+    by (Abort dtid None) [] = sends (Abort dtid None)
+    by (Abort dtid None) (taken ∷ more) = refl
+    by (Unidirectional dialogue components) [] = sends (Unidirectional dialogue components)
+    by (Unidirectional dialogue components) (taken ∷ more) = refl
+    by (Begin otid dialogue components) [] = sends (Begin otid dialogue components)
+    by (Begin otid dialogue components) (taken ∷ more) = refl
+    by (Continue otid dtid dialogue components) [] = sends (Continue otid dtid dialogue components)
+    by (Continue otid dtid dialogue components) (taken ∷ more) = refl
+    by (EndMessage dtid dialogue components) [] = sends (EndMessage dtid dialogue components)
+    by (EndMessage dtid dialogue components) (taken ∷ more) = refl

@@ -1,7 +1,7 @@
--- What waits behind entries is what is delivered, or taken, behind them; at the end nothing does.
-use Rattle.std.proofs.Common.{◌≡◌, ℕ, suc, ◌+◌, arith, true, List, [], ◌∷◌, ◌++◌, map, length, Option, Some, None, Result, Ok, Err, refl, sym, ap, subst, ◌∙◌, append_assoc, append-nil}
+-- What waits behind entries for the ends that are judged is what is delivered to them, or taken, behind them; at the end nothing does.
+use Rattle.std.proofs.Common.{◌≡◌, ℕ, ◌+◌, ◌==◌, arith, true, cond, List, [], ◌∷◌, ◌++◌, map, length, Option, Some, None, Result, Ok, Err, refl, sym, ap, subst, ◌∙◌, append_assoc, append-nil}
 use Rattle.std.specs.Prelude.{ok_or, not, slice_get}
-use Rattle.std.specs.List.{AllByRecursion}
+use Rattle.std.proofs.lemmas.Bool.{eqb-true}
 use Rattle.std.proofs.lemmas.List.{length-append, length-map, map-append}
 use Rattle.tcap_msg.specs.declared.message.Message.{Message}
 use Rattle.tcap_record.specs.declared.entry.End.{End as Side}
@@ -11,24 +11,27 @@ use Rattle.tcap_end.specs.Step.{◌>>◌}
 use Rattle.tcap_end.proofs.AnsweringLaws.{needs_ok, ok_same, some_ok, then_ok}
 use Rattle.tcap_check.specs.declared.fault.CheckFault.{CheckFault}
 use Rattle.tcap_model.specs.declared.reason.Reason.{Reason}
-use Rattle.tcap_model.specs.declared.reason.Reason.TheVariants.{FateCount, FateRange, NotQuiet, OutOfOrder}
+use Rattle.tcap_model.specs.declared.reason.Reason.TheVariants.{BadReply, FateCount, FateRange, NotQuiet, OutOfOrder}
 use Rattle.tcap_check.specs.declared.certificate.Fate.{Fate}
-use Rattle.tcap_check.specs.declared.certificate.Fate.TheVariants.{Gap, Lost, By}
-use Rattle.tcap_model.specs.World.{Item, OnItsWay, Sent, channel_from}
-use Rattle.tcap_model.specs.Run.{Loses}
+use Rattle.tcap_check.specs.declared.certificate.Fate.TheVariants.{By}
+use Rattle.tcap_check.specs.declared.progress.Progress.{Progress}
+use Rattle.tcap_check.specs.declared.progress.Waiting.{Waiting}
+use Rattle.tcap_record.specs.Ends.{other}
+use Rattle.tcap_model.specs.World.{Item, Sent, channel_from}
+use Rattle.tcap_model.specs.Run.{Tells, joined}
 use Rattle.tcap_check.specs.Certificate.{Certificate}
-use Rattle.tcap_check.specs.Follows.{FatesFit, FollowsFrom, taken_by, without_losses}
-use Rattle.tcap_check.specs.Replayed.{Replay, certificate_fits, entries_replayed, entry_replayed, fates_fit, fault_at, gap_replayed, if_lost, is_gap, is_nothing, is_overtaking, lost_from_both, lost_front, next_entry, nothing_replayed, quiet_replayed, sent_replayed}
-use Rattle.tcap_check.specs.Checking.{count_ahead, count_lost, lost_by, progress_of, taken, taken_from, taken_next, waiting}
-use Rattle.tcap_check.proofs.NumberLaws.{among_plain}
-use Rattle.tcap_check.proofs.GivenLosses.{is_lost, left_lost, says_lost, taken_sent}
-use Rattle.tcap_check.proofs.GivenRuns.{settled_by}
+use Rattle.tcap_check.specs.Follows.{FatesFit, taken_by}
+use Rattle.tcap_check.specs.Replayed.{Replay, certificate_fits, comes_in_order, entries_by, entry_by, fates_fit, fault_at, gap_by, is_gap, is_nothing, is_overtaking, item_by, lost_from_both, lost_from_front, mark_judged, next_entry, nothing_replayed, own_judged, own_message, tied, told_replayed, with_step}
+use Rattle.tcap_check.specs.Checking.{count_ahead, count_lost, ended, progress_of, taken, taken_from, taken_next, waiting}
+use Rattle.tcap_check.specs.Hearing.{is_heard}
 use Rattle.tcap_check.proofs.PendingLaws.{IsAhead, ahead}
-use Rattle.tcap_check.proofs.ReplayLaws.{gap_replays, message_replays}
-use Rattle.tcap_check.proofs.ReplayEntries.{entries_replay, nothing_is, quiet_happens}
+use Rattle.tcap_check.proofs.ReplayEntries.{nothing_is}
 use Rattle.tcap_check.proofs.ReplayGaps.{fates_ok}
-use Rattle.tcap_check.proofs.KeptCounts.{ahead_is, replies_behind, one_behind, new_behind, mark_behind, marks_sent, marks_quiet, count_waiting, new_by, count_behind, ok_item, AreMarks}
-use Rattle.tcap_check.proofs.KeptSteps.{marks_wait, gap_waits, message_waits}
+use Rattle.tcap_check.proofs.KeptBasics.{front_none, losing_both_is}
+use Rattle.tcap_check.proofs.KeptCounts.{AreMarks, ahead_is, count_behind, count_for, heard_among, joined_waits, mark_behind, marks_quiet, marks_sent, new_behind, new_by, none_behind, ok_item, one_behind, replies_behind}
+use Rattle.tcap_check.proofs.KeptSteps.{gap_waits, mark_waits, message_waits, sent_waits}
+use Rattle.tcap_check.proofs.EntryLaws.{replayed_is}
+use Rattle.tcap_check.proofs.KeptEntries.{gap_sends, item_sends, tied_still}
 
 -- ---- a certificate that fits
 
@@ -45,142 +48,171 @@ fit_by c is = fates_ok (length c.fates) 0 c.fates (both_ok (fates_fit (length c.
 -- ---- entries, one after the other
 
 -- Behind entries those wait that lie behind them, and no mark is taken by a reply.
-record Waits (c : Certificate) (r : Replay) : Type 0 where
-  waits : count_waiting c.fates r.world ≡ count_behind (next_entry r) (next_entry r) c.fates r.world.sent
+record Waits (judged : Option Side) (c : Certificate) (r : Replay) : Type 0 where
+  waits : count_for judged c.fates r.world ≡ count_behind judged (next_entry r) (next_entry r) c.fates r.world.sent
   marks : AreMarks c.fates r.world.sent
 
--- One item more: what it takes waited, and it waits unless it is lost.
-item_waits : (c : Certificate) (r next : Replay) (side : Side) (message : Message) (fate : Fate)
-    → FatesFit (length c.fates) 0 c.fates → slice_get c.fates (next_entry r) ≡ Some fate
-    → AreMarks c.fates r.world.sent → next.world.sent ≡ r.world.sent ++ Sent side message ∷ []
-    → count_waiting c.fates next.world + length (taken_by (next_entry r) 0 c.fates)
-    ≡ count_behind (next_entry r + 1) (next_entry r) c.fates r.world.sent + new_by (Some fate)
-    → Waits c next
-item_waits c r next side message fate fit has marks sent waits =
-    let items = r.world.sent in
-    let number = next_entry r in
-    let zero_n : 0 + number ≡ number = omega arith in
-    let later : IsAhead number fate =
-    subst (λ (n : ℕ). IsAhead n fate) zero_n (ahead (length c.fates) 0 number c.fates fate fit has) in
-    let more : next_entry next ≡ number + 1 = ap length sent ∙ length-append items (Sent side message ∷ []) in
-    let replies = replies_behind (length c.fates) (number + 1) number 0 c.fates items fit marks (omega arith) in
-    let one = one_behind (number + 1) (number + 1) c.fates items side message fate has in
-    let new = new_behind number fate later in
-    let behind : count_behind (next_entry next) (next_entry next) c.fates next.world.sent
-    ≡ count_behind (number + 1) (number + 1) c.fates (items ++ Sent side message ∷ []) =
-    ap (λ (n : ℕ). count_behind n n c.fates next.world.sent) more
-    ∙ ap (count_behind (number + 1) (number + 1) c.fates) sent in
-    record {
-      waits = omega (arith, waits, replies, one, new, behind);
-      marks = subst (AreMarks c.fates) (sym sent) (marks_sent c.fates items side message marks);
-    }
+-- What is taken by the next entry of what comes to an end that is judged.
+tied_is : (judged : Option Side) (c : Certificate) (r : Replay)
+    → tied judged c r ≡ heard_among judged r.world.sent (taken_by (next_entry r) 0 c.fates)
+tied_is None c r = refl
+tied_is (Some judged) c r = refl
 
--- Behind a gap what lies behind it waits.
-behind_gap : (table : Table) (c : Certificate) (r mid : Replay) → Waits c r → gap_replayed table c r ≡ Ok mid
-    → (count_waiting c.fates mid.world ≡ count_behind (next_entry r + 1) (next_entry r) c.fates r.world.sent)
-    × (mid.world.sent ≡ r.world.sent)
-behind_gap table c r mid old goes =
-    let here = gap_replays table c r mid goes in
-    let gap = gap_waits table c r mid goes in
-    let waits = old.waits in
-    (omega (arith, gap, waits), here.2.sent ∙ append-nil r.world.sent)
+module _ (judged : Option Side) (table : Table) (c : Certificate) (r next : Replay) (fate : Fate) (fit : FatesFit (length c.fates) 0 c.fates)
+    (has : slice_get c.fates (next_entry r) ≡ Some fate) (old : Waits judged c r) where
+  abbrev n : ℕ
+  n = next_entry r
 
--- Behind a message,
-sent_waits : (table : Table) (c : Certificate) (fate : Fate) (side : Side) (message : Message) (r next : Replay)
-    → FatesFit (length c.fates) 0 c.fates → slice_get c.fates (next_entry r) ≡ Some fate → Waits c r
-    → sent_replayed table c fate side message r ≡ Ok next
-    → Waits c next × (next.world.sent ≡ r.world.sent ++ Sent side message ∷ [])
-sent_waits table c fate side message r next fit has old goes =
-    let number = next_entry r in
-    let so = needs_ok (not (is_overtaking side fate c.fates r.world.sent)) (fault_at OutOfOrder number) _ next goes in
-    let gap = then_ok (gap_replayed table c r) _ next so.1 in
-    let mid = behind_gap table c r gap.0 old gap.1 in
-    let sent : next.world.sent ≡ r.world.sent ++ Sent side message ∷ [] =
-    (message_replays table c side message gap.0 next gap.2).replays.sent
-    ∙ ap (λ (x : List Item). x ++ Sent side message ∷ []) mid.1 in
-    let joins : count_waiting c.fates next.world + length (taken_by number 0 c.fates)
-    ≡ count_waiting c.fates gap.0.world + new_by (slice_get c.fates number) =
-    subst (λ (n : ℕ). count_waiting c.fates next.world + length (taken_by n 0 c.fates)
-    ≡ count_waiting c.fates gap.0.world + new_by (slice_get c.fates n)) (ap length mid.1)
-    (message_waits table c side message gap.0 next gap.2) in
-    let fate_is : new_by (slice_get c.fates number) ≡ new_by (Some fate) = ap new_by has in
-    let waits = mid.0 in
-    (item_waits c r next side message fate fit has old.marks sent (omega (arith, joins, fate_is, waits)), sent)
+  abbrev new : Side → ℕ
+  new side = cond (is_heard judged side) (new_by (Some fate)) 0
 
--- and behind a mark.
-quiet_waits : (table : Table) (c : Certificate) (fate : Fate) (r next : Replay)
-    → FatesFit (length c.fates) 0 c.fates → slice_get c.fates (next_entry r) ≡ Some fate → Waits c r
-    → quiet_replayed table c fate r ≡ Ok next
-    → Waits c next × (next.world.sent ≡ r.world.sent ++ Item.Quiet ∷ [])
-quiet_waits table c fate r next fit has old goes =
-    let items = r.world.sent in
-    let number = next_entry r in
-    let so = needs_ok (is_gap (number + 1) fate) (fault_at FateRange number) _ next goes in
-    let gap = then_ok (gap_replayed table c r) _ next so.1 in
-    let free = needs_ok (is_nothing (taken_by number 0 c.fates)) (fault_at NotQuiet number) _ next gap.2 in
-    let mid = behind_gap table c r gap.0 old gap.1 in
-    let sent : next.world.sent ≡ items ++ Item.Quiet ∷ [] =
-    (quiet_happens table c number gap.0 next free.1).sent ∙ ap (λ (x : List Item). x ++ Item.Quiet ∷ []) mid.1 in
-    let more : next_entry next ≡ number + 1 = ap length sent ∙ length-append items (Item.Quiet ∷ []) in
-    let replies = replies_behind (length c.fates) (number + 1) number 0 c.fates items fit old.marks (omega arith) in
-    let nothing : length (taken_by number 0 c.fates) ≡ 0 = ap length (nothing_is (taken_by number 0 c.fates) free.0) in
-    let mark = mark_behind (number + 1) (number + 1) c.fates items in
-    let still = marks_wait table c NotQuiet number gap.0 next free.1 in
-    let waits = mid.0 in
-    let behind : count_behind (next_entry next) (next_entry next) c.fates next.world.sent
-    ≡ count_behind (number + 1) (number + 1) c.fates (items ++ Item.Quiet ∷ []) =
-    ap (λ (n : ℕ). count_behind n n c.fates next.world.sent) more
-    ∙ ap (count_behind (number + 1) (number + 1) c.fates) sent in (
+  -- Behind the gap, without what the entry takes.
+  behind_gap : (mid : Replay) → gap_by judged table c r ≡ Ok mid
+      → count_for judged c.fates mid.world ≡ count_behind judged (n + 1) (n + 1) c.fates r.world.sent + length (tied judged c r)
+  behind_gap mid is =
+      let gap = gap_waits judged table c r mid is in
+      let replies = replies_behind judged r.world.sent (length c.fates) (n + 1) n 0 c.fates r.world.sent fit old.marks
+      (λ i. let same : 0 + i ≡ i = omega arith in ap (slice_get r.world.sent) same) (omega arith) in
+      let takes = ap (length {A = ℕ}) (tied_is judged c r) in
+      let waits = old.waits in
+      omega (arith, gap, replies, waits, takes)
+
+  -- One message more: it waits unless it is lost.
+  one_more : (side : Side) (message : Message) → next.world.sent ≡ r.world.sent ++ Sent side message ∷ []
+      → count_for judged c.fates next.world ≡ count_behind judged (n + 1) (n + 1) c.fates r.world.sent + new side → Waits judged c next
+  one_more side message sent waits =
+      let zero_n : 0 + n ≡ n = omega arith in
+      let later : IsAhead n fate = subst (λ (k : ℕ). IsAhead k fate) zero_n (ahead (length c.fates) 0 n c.fates fate fit has) in
+      let number : next_entry next ≡ n + 1 = ap length sent ∙ length-append r.world.sent (Sent side message ∷ []) in
+      let one = one_behind judged (n + 1) (n + 1) c.fates r.world.sent side message fate has in
+      let joins = new_behind (is_heard judged side) n fate later in
+      let behind : count_behind judged (next_entry next) (next_entry next) c.fates next.world.sent
+      ≡ count_behind judged (n + 1) (n + 1) c.fates (r.world.sent ++ Sent side message ∷ []) =
+      ap (λ (k : ℕ). count_behind judged k k c.fates next.world.sent) number
+      ∙ ap (count_behind judged (n + 1) (n + 1) c.fates) sent in
       record {
-        waits = omega (arith, waits, replies, nothing, mark, still, behind);
-        marks = subst (AreMarks c.fates) (sym sent) (marks_quiet c.fates items fate old.marks has (no_reply so.0));
-      },
-      sent,
-    )
+        waits = omega (arith, waits, one, joins, behind);
+        marks = subst (AreMarks c.fates) (sym sent) (marks_sent c.fates r.world.sent side message old.marks);
+      }
+
+  -- Behind a message of an end that is judged,
+  own_waits : (side : Side) (message : Message) → is_heard judged (other side) ≡ true
+      → own_judged judged table c fate side message r ≡ Ok next
+      → next.world.sent ≡ r.world.sent ++ Sent side message ∷ [] → Waits judged c next
+  own_waits side message so is sent =
+      let order = both_ok (comes_in_order judged side fate c r) _ is in
+      let gap = then_ok (gap_by judged table c r) _ next order.1 in
+      let made = sent_waits judged c (own_message judged table c side message gap.0) next gap.2 in
+      let waits = behind_gap gap.0 gap.1 in
+      let still = gap_sends judged table c r gap.0 gap.1 in
+      let took = message_waits judged table c side message (tied judged c gap.0) gap.0 made.0 so made.1 in
+      let takes = ap (length {A = ℕ}) (tied_still judged c r gap.0 still) in
+      let fate_is : cond (is_heard judged side) (new_by (slice_get c.fates (next_entry gap.0))) 0 ≡ new side =
+      ap (λ (o : Option Fate). cond (is_heard judged side) (new_by o) 0) (ap (λ (items : List Item). slice_get c.fates (length items)) still ∙ has) in
+      let left = made.2 in
+      one_more side message sent (omega (arith, waits, took, takes, fate_is, left))
+
+  -- behind one that the peer tells of the end that alone is,
+  told_waits : (side : Side) (message : Message) → judged ≡ Some side → told_replayed table c fate side message r ≡ Ok next
+      → next.world.sent ≡ r.world.sent ++ Sent (other side) message ∷ [] → Waits judged c next
+  told_waits side message one is sent =
+      let so = needs_ok (not (is_overtaking (other side) fate c.fates r.world.sent)) (fault_at OutOfOrder n) _ next is in
+      let gap = then_ok (gap_by (Some side) table c r) _ next so.1 in
+      let free = needs_ok (is_nothing (tied (Some side) c r)) (fault_at BadReply n) _ next gap.2 in
+      let told = with_step (Tells (other side) message) gap.0 (joined (other side) message gap.0.world) in
+      let goes : gap_by judged table c r ≡ Ok gap.0 = ap (λ (o : Option Side). gap_by o table c r) one ∙ gap.1 in
+      let waits = behind_gap gap.0 goes in
+      let none : length (tied judged c r) ≡ 0 =
+      ap (λ (o : Option Side). length (tied o c r)) one ∙ ap length (nothing_is (tied (Some side) c r) free.0) in
+      let number : slice_get c.fates (length gap.0.world.sent) ≡ Some fate =
+      ap (λ (items : List Item). slice_get c.fates (length items)) (gap_sends judged table c r gap.0 goes) ∙ has in
+      let joins : count_for judged c.fates next.world ≡ count_for judged c.fates gap.0.world + new (other side) =
+      ap (λ (x : Replay). count_for judged c.fates x.world) (sym (ok_same {F = CheckFault} told next free.1))
+      ∙ joined_waits judged c.fates (other side) message gap.0.world
+      ∙ ap (λ (o : Option Fate). count_for judged c.fates gap.0.world + cond (is_heard judged (other side)) (new_by o) 0) number in
+      one_more (other side) message sent (omega (arith, waits, none, joins))
+
+  -- and behind a mark.
+  quiet_waits : mark_judged judged table c fate r ≡ Ok next → next.world.sent ≡ r.world.sent ++ Item.Quiet ∷ [] → Waits judged c next
+  quiet_waits is sent =
+      let so = needs_ok (is_gap (n + 1) fate) (fault_at FateRange n) _ next is in
+      let gap = then_ok (gap_by judged table c r) _ next so.1 in
+      let free = needs_ok (is_nothing (tied judged c r)) (fault_at NotQuiet n) _ next gap.2 in
+      let waits = behind_gap gap.0 gap.1 in
+      let none : length (tied judged c r) ≡ 0 = ap length (nothing_is (tied judged c r) free.0) in
+      let both = mark_waits judged table c n gap.0 next free.1 in
+      let before = both.0 in
+      let now = both.1 in
+      let number : next_entry next ≡ n + 1 = ap length sent ∙ length-append r.world.sent (Item.Quiet ∷ []) in
+      let marked = mark_behind judged (n + 1) (n + 1) c.fates r.world.sent in
+      let behind : count_behind judged (next_entry next) (next_entry next) c.fates next.world.sent
+      ≡ count_behind judged (n + 1) (n + 1) c.fates (r.world.sent ++ Item.Quiet ∷ []) =
+      ap (λ (k : ℕ). count_behind judged k k c.fates next.world.sent) number
+      ∙ ap (count_behind judged (n + 1) (n + 1) c.fates) sent in
+      record {
+        waits = omega (arith, waits, none, before, now, marked, behind);
+        marks = subst (AreMarks c.fates) (sym sent) (marks_quiet c.fates r.world.sent fate old.marks has (no_reply so.0));
+      }
+    where
+      no_reply : is_gap (next_entry r + 1) fate ≡ true → (k : ℕ) → fate ≡ By k → ⊥
+      no_reply is k e = let here = ap (is_gap (next_entry r + 1)) (sym e) ∙ is in cc
+
+-- One item more.
+item_waits : (judged : Option Side) (table : Table) (c : Certificate) (fate : Fate) (item : Item) (r next : Replay)
+    → FatesFit (length c.fates) 0 c.fates → slice_get c.fates (next_entry r) ≡ Some fate → Waits judged c r
+    → item_by judged table c fate item r ≡ Ok next → next.world.sent ≡ r.world.sent ++ item ∷ [] → Waits judged c next
+item_waits judged table c fate Item.Quiet r next fit has old is sent = quiet_waits judged table c r next fate fit has old is sent
+item_waits None table c fate (Sent side message) r next fit has old is sent =
+    own_waits None table c r next fate fit has old side message refl is sent
+item_waits (Some judged) table c fate (Sent sender message) r next fit has old is sent = by judged sender old is sent
   where
-    no_reply : is_gap (next_entry r + 1) fate ≡ true → (k : ℕ) → fate ≡ By k → ⊥
-    no_reply is k e = let here = ap (is_gap (next_entry r + 1)) (sym e) ∙ is in cc
+    by : (judged sender : Side) → Waits (Some judged) c r → item_by (Some judged) table c fate (Sent sender message) r ≡ Ok next
+        → next.world.sent ≡ r.world.sent ++ Sent sender message ∷ [] → Waits (Some judged) c next
+    by sides.A sides.A old is sent = own_waits (Some sides.A) table c r next fate fit has old sides.A message refl is sent
+    by sides.A sides.B old is sent = told_waits (Some sides.A) table c r next fate fit has old sides.A message refl is sent
+    by sides.B sides.A old is sent = told_waits (Some sides.B) table c r next fate fit has old sides.B message refl is sent
+    by sides.B sides.B old is sent = own_waits (Some sides.B) table c r next fate fit has old sides.B message refl is sent
 
 -- Behind entries.
-entries_wait : (table : Table) (c : Certificate) (entries : List (Result Item Reason)) (r next : Replay)
-    → FatesFit (length c.fates) 0 c.fates → Waits c r → taken_from None table c entries r ≡ Ok next
-    → Waits c next × (map ok_item next.world.sent ≡ map ok_item r.world.sent ++ entries)
-entries_wait table c [] r next fit old is =
+entries_wait : (judged : Option Side) (table : Table) (c : Certificate) (entries : List (Result Item Reason)) (r next : Replay)
+    → FatesFit (length c.fates) 0 c.fates → Waits judged c r → taken_from judged table c entries r ≡ Ok next
+    → Waits judged c next × (map ok_item next.world.sent ≡ map ok_item r.world.sent ++ entries)
+entries_wait judged table c [] r next fit old is =
     let same = ok_same {F = CheckFault} r next is in
     let are = ap (λ (x : Replay). map ok_item x.world.sent) (sym same) in
-    (subst (Waits c) same old, are ∙ sym (append-nil (map ok_item r.world.sent)))
-entries_wait table c (entry ∷ entries) r next fit old is =
-    let one = then_ok (taken_next None table c entry r) (taken_from None table c entries) next is in
+    (subst (Waits judged c) same old, are ∙ sym (append-nil (map ok_item r.world.sent)))
+entries_wait judged table c (entry ∷ entries) r next fit old is =
+    let one = then_ok (taken_next judged table c entry r) (taken_from judged table c entries) next is in
     let fate = then_ok (ok_or (slice_get c.fates (next_entry r)) (fault_at FateCount (next_entry r))) _ one.0 one.1 in
     let has = some_ok (slice_get c.fates (next_entry r)) (fault_at FateCount (next_entry r)) fate.0 fate.1 in
     let here = by entry fate.0 one.0 has fate.2 in
-    let rest = entries_wait table c entries one.0 next fit here.0 one.2 in (
+    let rest = entries_wait judged table c entries one.0 next fit here.0 one.2 in (
       rest.0,
       rest.1 ∙ ap (λ (x : List (Result Item Reason)). x ++ entries) here.1
           ∙ append_assoc (map ok_item r.world.sent) (entry ∷ []) entries,
     )
   where
-    joined_by : (item : Item) (mid : Replay) → mid.world.sent ≡ r.world.sent ++ item ∷ []
-        → map ok_item mid.world.sent ≡ map ok_item r.world.sent ++ ok_item item ∷ []
-    joined_by item mid sent = ap (map ok_item) sent ∙ map-append ok_item r.world.sent (item ∷ [])
-
     by : (x : Result Item Reason) (fate : Fate) (mid : Replay) → slice_get c.fates (next_entry r) ≡ Some fate
-        → entry_replayed table c fate x r ≡ Ok mid
-        → Waits c mid × (map ok_item mid.world.sent ≡ map ok_item r.world.sent ++ x ∷ [])
-    by (Ok (Sent side message)) fate mid has goes =
-        let s = sent_waits table c fate side message r mid fit has old goes in
-        (s.0, joined_by (Sent side message) mid s.1)
-    by (Ok Item.Quiet) fate mid has goes =
-        let s = quiet_waits table c fate r mid fit has old goes in (s.0, joined_by Item.Quiet mid s.1)
+        → entry_by judged table c fate x r ≡ Ok mid
+        → Waits judged c mid × (map ok_item mid.world.sent ≡ map ok_item r.world.sent ++ x ∷ [])
+    by (Ok item) fate mid has goes =
+        let sent = item_sends judged table c fate item r mid has goes in (
+          item_waits judged table c fate item r mid fit has old goes sent,
+          ap (map ok_item) sent ∙ map-append ok_item r.world.sent (item ∷ []),
+        )
     by (Err reason) fate mid has goes = cc
 
 -- In the beginning nothing waits.
-nothing_waits : (c : Certificate) → Waits c nothing_replayed
-nothing_waits c = record { waits = none c.fates; marks = no_marks c.fates }
+none_yet : (judged : Option Side) (c : Certificate) → Waits judged c nothing_replayed
+none_yet judged c = record { waits = none judged c.fates; marks = no_marks c.fates }
   where
-    none : (fates : List Fate) → 0 ≡ count_behind 0 0 fates []
-    none [] = refl
-    none (fate ∷ fates) = refl
+    none : (judged : Option Side) (fates : List Fate) → count_for judged fates nothing_replayed.world ≡ count_behind judged 0 0 fates []
+    none None [] = refl
+    none None (fate ∷ fates) = refl
+    none (Some sides.A) [] = refl
+    none (Some sides.A) (fate ∷ fates) = refl
+    none (Some sides.B) [] = refl
+    none (Some sides.B) (fate ∷ fates) = refl
 
     no_marks : (fates : List Fate) → AreMarks fates []
     no_marks [] = tt
@@ -192,7 +224,7 @@ pub pending_is : (table : Table) (c : Certificate) (entries : List (Result Item 
     → length (waiting c.fates r.world.from_a) + length (waiting c.fates r.world.from_b) ≡ count_ahead (length entries) c.fates entries
 pending_is table c entries r is =
     let both = both_ok (certificate_fits c) (taken_from None table c entries nothing_replayed) is in
-    let behind = entries_wait table c entries nothing_replayed r (fit_by c both.0) (nothing_waits c) both.1 in
+    let behind = entries_wait None table c entries nothing_replayed r (fit_by c both.0) (none_yet None c) both.1 in
     let are : map ok_item r.world.sent ≡ entries = behind.1 in
     let number : next_entry r ≡ length entries = sym (length-map r.world.sent ok_item) ∙ ap length are in
     behind.0.waits ∙ ahead_is (next_entry r) c.fates r.world.sent
@@ -201,50 +233,45 @@ pending_is table c entries r is =
 
 -- ---- the end
 
--- Where all on a channel is lost, the lost front of it is all.
-all_front : (fates : List Fate) (channel : List OnItsWay) → AllByRecursion (λ m. is_lost fates m.number ≡ true) channel
-    → count_lost fates channel ≡ length (lost_front fates channel)
-all_front fates [] all = refl
-all_front fates (first ∷ more) all = by (slice_get fates first.number) all.0 (all_front fates more all.1)
-  where
-    by : (o : Option Fate) → says_lost o ≡ true → count_lost fates more ≡ length (lost_front fates more)
-        → lost_by o (count_lost fates more) ≡ length (if_lost o (first.number ∷ lost_front fates more))
-    by None says rest = cc
-    by (Some (Gap g)) says rest = cc
-    by (Some (By k)) says rest = cc
-    by (Some Lost) says rest = omega (arith, rest)
+-- Behind the last gap nothing waits.
+none_waits : (judged : Option Side) (table : Table) (c : Certificate) (entries : List (Result Item Reason)) (r : Replay)
+    → (certificate_fits c >> entries_by judged table c entries nothing_replayed) ≡ Ok r → count_for judged c.fates r.world ≡ 0
+none_waits judged table c entries r is =
+    let all = then_ok (taken judged table c entries) (ended judged table c) r (sym (replayed_is judged table c entries) ∙ is) in
+    let both = both_ok (certificate_fits c) (taken_from judged table c entries nothing_replayed) all.1 in
+    let fit = fit_by c both.0 in
+    let before = all.0 in
+    let old = (entries_wait judged table c entries nothing_replayed before fit (none_yet judged c) both.1).0 in
+    let waits = old.waits in
+    let last = needs_ok (next_entry before == length c.fates) (fault_at FateCount (next_entry before)) (gap_by judged table c before) r all.2 in
+    let count = eqb-true (next_entry before) (length c.fates) last.0 in
+    let gap = gap_waits judged table c before r last.1 in
+    let none : count_behind judged (next_entry before + 1) (next_entry before) c.fates before.world.sent ≡ 0 =
+    ap (λ (k : ℕ). count_behind judged (k + 1) k c.fates before.world.sent) count
+    ∙ none_behind judged (length c.fates) 0 c.fates before.world.sent fit in
+    omega (arith, waits, gap, none)
 
--- As many steps as losses.
-as_many : (side : Side) (numbers : List ℕ) → length (map (Loses side) numbers) ≡ length numbers
-as_many side [] = refl
-as_many side (n ∷ numbers) = ap suc (as_many side numbers)
+no_messages : (messages : List Waiting) → length messages ≡ 0 → messages ≡ []
+no_messages [] is = refl
+no_messages (m ∷ more) is = cc
 
--- What is replayed up to the last gap leaves only what is lost.
-lost_left : (table : Table) (c : Certificate) (entries : List (Result Item Reason)) (r : Replay)
-    → FatesFit (length c.fates) 0 c.fates → entries_replayed table c entries nothing_replayed ≡ Ok r
-    → (side : Side) → AllByRecursion (λ m. is_lost c.fates m.number ≡ true) (channel_from side r.world)
-lost_left table c entries r fit is =
-    let done = entries_replay table c entries nothing_replayed r (length c.fates) fit is in
-    let sent : done.items ≡ r.world.sent = sym done.sent in
-    let follows = subst (λ (x : List Item). FollowsFrom c x 0 x (without_losses done.steps)) sent done.follows in
-    let fits = subst (λ (n : ℕ). FatesFit n 0 c.fates) (sym done.counted) fit in
-    left_lost table c.fates done.steps r.world done.extends.plays
-    (settled_by c r.world (without_losses done.steps) (sym done.counted) fits follows
-    (λ side n at. taken_sent table done.steps r.world side n done.extends.plays (among_plain side n done.steps at)))
+pub nothing_waits : (side : Side) (table : Table) (c : Certificate) (entries : List (Result Item Reason)) (r : Replay)
+    → (certificate_fits c >> entries_by (Some side) table c entries nothing_replayed) ≡ Ok r
+    → waiting c.fates (channel_from (other side) r.world) ≡ []
+nothing_waits side table c entries r is =
+    no_messages (waiting c.fates (channel_from (other side) r.world)) (none_waits (Some side) table c entries r is)
 
--- The steps that are counted are those of the run: at the end only what is lost is on its way.
+-- So the steps that are counted are those of the run, where both ends are judged: what is on its way is lost.
 pub moves_are : (table : Table) (c : Certificate) (entries : List (Result Item Reason)) (r : Replay)
-    → (certificate_fits c >> entries_replayed table c entries nothing_replayed) ≡ Ok r
+    → (certificate_fits c >> entries_by None table c entries nothing_replayed) ≡ Ok r
     → (progress_of c r).moves ≡ length (lost_from_both c r).events
 moves_are table c entries r is =
-    let both = both_ok (certificate_fits c) _ is in
-    let lost = lost_left table c entries r (fit_by c both.0) both.1 in
-    let front_a = lost_front c.fates r.world.from_a in
-    let front_b = lost_front c.fates r.world.from_b in
-    let a = all_front c.fates r.world.from_a (lost sides.A) in
-    let b = all_front c.fates r.world.from_b (lost sides.B) in
-    let many_a = as_many sides.A front_a in
-    let many_b = as_many sides.B front_b in
-    let first = length-append r.events (map (Loses sides.A) front_a) in
-    let second = length-append (r.events ++ map (Loses sides.A) front_a) (map (Loses sides.B) front_b) in
-    omega (arith, a, b, many_a, many_b, first, second)
+    let none = none_waits None table c entries r is in
+    let first = lost_from_front c sides.A r in
+    let from_a = no_messages (waiting c.fates r.world.from_a) (omega (arith, none)) in
+    let from_b = no_messages (waiting c.fates r.world.from_b) (omega (arith, none)) in
+    let a : count_lost c.fates (lost_from_both c r).world.from_a ≡ 0 = ap (count_lost c.fates) (front_none c sides.A r from_a) in
+    let b : count_lost c.fates (lost_from_both c r).world.from_b ≡ 0 = ap (count_lost c.fates) (front_none c sides.B first from_b) in
+    let moves : (progress_of c r).moves ≡ (progress_of c (lost_from_both c r)).moves =
+    ap (λ (p : Progress). p.moves) (sym (losing_both_is c r)) in
+    omega (arith, moves, a, b)

@@ -1,342 +1,327 @@
--- What waits behind each step of a replay, behind a gap, and behind a message.
-use Rattle.std.proofs.Common.{◌≡◌, inl, inr, ℕ, ℤ, ◌+◌, ◌==◌, arith, Bool, true, false, cond, nat_le, List, [], ◌∷◌, filter, filter_map, length, Option, Some, None, Result, Ok, Err, refl, sym, ap, ◌∙◌}
-use Rattle.std.specs.Prelude.{ok_or, slice_get}
+-- How many messages wait for the ends that are judged behind each step of a replay, behind a gap, and behind what an item is.
+use Rattle.std.proofs.Common.{◌≡◌, ℕ, ◌+◌, ◌==◌, arith, Bool, true, false, cond, nat_le, List, [], ◌∷◌, filter, length, Option, Some, None, Result, Ok, Err, refl, sym, ap, ap₂, ◌∙◌}
+use Rattle.std.specs.Prelude.{◌&&◌, ok_or, slice_get}
 use Rattle.std.proofs.lemmas.Bool.{eqb-false}
+use Rattle.tcap_msg.specs.declared.message.AbortReason.TheVariants.{Cause, Dialogue as ByDialogue}
 use Rattle.tcap_msg.specs.declared.message.Message.{Message}
-use Rattle.tcap_msg.specs.Parts.{components_in}
+use Rattle.tcap_msg.specs.declared.message.Message.TheVariants.{Unidirectional, Begin, Continue, End as EndMessage, Abort}
 use Rattle.tcap_record.specs.declared.entry.End.{End as Side}
 use Rattle.tcap_record.specs.declared.entry.End.TheVariants as sides
 use Rattle.tcap_end.specs.declared.fault.EndFault.{EndFault}
-use Rattle.tcap_end.specs.declared.fault.EndFault.TheVariants as faults
 use Rattle.tcap_end.specs.declared.half.HalfName.{HalfName}
 use Rattle.tcap_end.specs.Table.{Table}
 use Rattle.tcap_end.specs.End.{End}
+use Rattle.tcap_end.specs.Hidden.{open_halves}
 use Rattle.tcap_end.specs.Message.{send}
 use Rattle.tcap_end.specs.Step.{◌>>=◌}
 use Rattle.tcap_end.proofs.AnsweringLaws.{needs_ok, ok_same, some_ok, then_ok}
 use Rattle.tcap_check.specs.declared.fault.CheckFault.{CheckFault}
-use Rattle.tcap_model.specs.declared.reason.Reason.{Reason}
-use Rattle.tcap_model.specs.declared.reason.Reason.TheVariants.{BadReply, FateRange, HiddenRefused}
+use Rattle.tcap_model.specs.declared.reason.Reason.TheVariants.{BadReply, NotQuiet}
 use Rattle.tcap_check.specs.declared.certificate.Closing.{Closing}
 use Rattle.tcap_check.specs.declared.certificate.Expiry.{Expiry}
 use Rattle.tcap_check.specs.declared.certificate.Fate.{Fate}
 use Rattle.tcap_check.specs.declared.certificate.Fate.TheVariants.{Gap, Lost, By}
 use Rattle.tcap_record.specs.Ends.{other}
-use Rattle.tcap_model.specs.World.{Item, OnItsWay, Sent, World, end_at, with_channel, with_end}
-use Rattle.tcap_model.specs.Run.{Event, Sends, Receives, Replies, Loses, Expires, Closes, Quiet, Tells, after, joined}
+use Rattle.tcap_model.specs.World.{Item, OnItsWay, Sent, World, channel_from, end_at, with_channel, with_end}
+use Rattle.tcap_model.specs.Run.{Sends, Receives, Replies, Loses, Closes, Quiet, after, joined}
 use Rattle.tcap_check.specs.Certificate.{Certificate}
-use Rattle.tcap_check.specs.Follows.{closing_event, expiry_event, invoke_id, invoking_half, sending, taken_by}
-use Rattle.tcap_check.specs.Replayed.{Replay, closings_replayed, deliveries_replayed, expiries_replayed, fault_at, gap_replayed, happens, implied, implied_over, is_abort, lost_from_both, lost_from_front, message_by, message_replayed, next_entry, or_same, reply_replayed, send_replayed, sent_or_refused, stepped, with_step}
+use Rattle.tcap_check.specs.Follows.{invoking_half, sending_by}
+use Rattle.tcap_check.specs.Replayed.{Replay, all_lost_from, behind_sending, closed_at_mark, closed_before, closings_judged, closings_replayed, deliveries_by, expiries_judged, expiries_replayed, fault_at, gap_by, happens, heard, implied_over, is_abort, lost_from_front, lost_last, message_by, next_entry, or_else, received, send_replayed, sent_or_refused, stepped, with_step}
 use Rattle.tcap_check.specs.Checking.{waiting}
-use Rattle.tcap_model.proofs.RunLaws.{closing, delivery, expiry, map_some, quiet, reply}
-use Rattle.tcap_check.proofs.TakenLaws.{takes_replied}
-use Rattle.tcap_check.proofs.OrderLaws.{Takes, sending_takes}
-use Rattle.tcap_check.proofs.KeptCounts.{end_waits, joined_waits, losses_wait, taken_waits, not_next, is_next, count_waiting, new_by, count_behind}
-use Rattle.tcap_check.proofs.WorldLaws.{sent_with_channel, sent_with_end}
-use Rattle.tcap_check.proofs.HeardStays.{of_closing, of_expiry}
+use Rattle.tcap_check.specs.Hearing.{is_heard}
+use Rattle.tcap_model.proofs.RunLaws.{delivery, loss, map_some, quiet as quiet_step, reply}
+use Rattle.tcap_check.proofs.KeptCounts.{count_behind, count_for, counts_same, is_next, joined_waits, losses_wait, new_by, not_next, taken_waits}
+use Rattle.tcap_check.proofs.KeptDeliveries.{due_is}
+use Rattle.tcap_check.proofs.KeptTaken.{peer_stays}
+use Rattle.tcap_check.proofs.KeptStays.{Stays, closes_stays, closings_stay, expiries_stay, implied_over_stays, stays_same, stays_then}
+use Rattle.tcap_check.proofs.WorldLaws.{itself, sent_with_channel, sent_with_end}
 
 -- ---- steps
 
--- As many wait as before, and nothing was sent.
-record IsAsBefore (c : Certificate) (r next : Replay) : Type 0 where
-  waits : count_waiting c.fates next.world ≡ count_waiting c.fates r.world
-  sent : next.world.sent ≡ r.world.sent
+-- As many wait where nothing is lost, sent or taken,
+stays_wait : (judged : Option Side) (c : Certificate) (r next : Replay) → Stays r next
+    → count_for judged c.fates next.world ≡ count_for judged c.fates r.world
+stays_wait judged c r next stays = counts_same judged c.fates r.world next.world (λ side. ap (waiting c.fates) (stays.channels side))
 
-as_itself : (c : Certificate) (r next : Replay) → r ≡ next → IsAsBefore c r next
-as_itself c r next same = record {
-  waits = ap (λ (x : Replay). count_waiting c.fates x.world) (sym same);
-  sent = ap (λ (x : Replay). x.world.sent) (sym same);
-}
+-- and where an end changes.
+end_waits : (judged : Option Side) (fates : List Fate) (side : Side) (e : End) (w : World)
+    → count_for judged fates (with_end side e w) ≡ count_for judged fates w
+end_waits judged fates side e w = counts_same judged fates w (with_end side e w) (by side)
+  where
+    by : (side at : Side) → waiting fates (channel_from at (with_end side e w)) ≡ waiting fates (channel_from at w)
+    by sides.A sides.A = refl
+    by sides.A sides.B = refl
+    by sides.B sides.A = refl
+    by sides.B sides.B = refl
 
-as_then : (c : Certificate) (r mid next : Replay) → IsAsBefore c r mid → IsAsBefore c mid next → IsAsBefore c r next
-as_then c r mid next a b = record { waits = b.waits ∙ a.waits; sent = b.sent ∙ a.sent }
+module _ (judged : Option Side) (table : Table) (c : Certificate) where
+  -- What is received waited,
+  receives_wait : (side : Side) (number : ℕ) (before next : Replay) (r : Replay) → is_heard judged (other side) ≡ true
+      → before ≡ lost_from_front c (other side) r → stepped table (Receives side number) before ≡ Some next
+      → count_for judged c.fates next.world + 1 ≡ count_for judged c.fates r.world
+  receives_wait side number before next r so same is =
+      let found = map_some _ (after table (Receives side number) before.world) next is in
+      let d = delivery table side number before.world found.0 found.1 in
+      ap (λ (x : Replay). count_for judged c.fates x.world + 1) (sym found.2)
+      ∙ ap (λ (x : World). count_for judged c.fates x + 1) d.next_is
+      ∙ ap (λ (n : ℕ). n + 1) (end_waits judged c.fates side d.made (with_channel (other side) d.more before.world))
+      ∙ ap (λ (x : Replay). count_for judged c.fates (with_channel (other side) d.more x.world) + 1) same
+      ∙ taken_waits judged c (other side) r d.head d.more so (ap (λ (x : Replay). channel_from (other side) x.world) (sym same) ∙ d.channel)
 
--- So it is where a step changes an end alone:
-as_hidden : (c : Certificate) (event : Event) (side : Side) (e : End) (r next : Replay) (w : World)
-    → w ≡ with_end side e r.world → with_step event r w ≡ next → IsAsBefore c r next
-as_hidden c event side e r next w w_is is = record {
-  waits =
-      ap (λ (x : Replay). count_waiting c.fates x.world) (sym is) ∙ ap (count_waiting c.fates) w_is
-      ∙ end_waits c.fates side e r.world;
-  sent = ap (λ (x : Replay). x.world.sent) (sym is) ∙ ap (λ (x : World). x.sent) w_is ∙ sent_with_end side e r.world;
-}
+  -- and so did what is answered; the answer joins.
+  replies_wait : (side : Side) (message : Message) (number : ℕ) (r next : Replay) → is_heard judged (other side) ≡ true
+      → message_by table c side message (Some (Replies side number)) r ≡ Ok next
+      → count_for judged c.fates next.world + 1
+      ≡ count_for judged c.fates r.world + cond (is_heard judged side) (new_by (slice_get c.fates (next_entry r))) 0
+  replies_wait side message number r next so is =
+      let event = Replies side number in
+      let before = lost_from_front c (other side) r in
+      let happened = then_ok (happens table c event BadReply (next_entry r) r) _ next is in
+      let is_it = needs_ok (is_abort message (slice_get happened.0.world.sent (next_entry r))) (fault_at BadReply (next_entry r)) _ next happened.2 in
+      let last : happened.0 ≡ next = ok_same {F = CheckFault} happened.0 next is_it.1 in
+      let step = some_ok (stepped table event before) (fault_at BadReply (next_entry r)) happened.0 happened.1 in
+      let found = map_some _ (after table event before.world) happened.0 step in
+      let a = reply table side number before.world found.0 found.1 in
+      let left = with_channel (other side) a.more before.world in
+      let sent : left.sent ≡ r.world.sent =
+      sent_with_channel (other side) a.more before.world ∙ sent_with_channel (other side) _ r.world in
+      let next_is : count_for judged c.fates next.world
+      ≡ count_for judged c.fates left + cond (is_heard judged side) (new_by (slice_get c.fates (next_entry r))) 0 =
+      ap (λ (x : Replay). count_for judged c.fates x.world) (sym (found.2 ∙ last))
+      ∙ ap (count_for judged c.fates) a.next_is
+      ∙ joined_waits judged c.fates side a.abort left
+      ∙ ap (λ (x : List Item). count_for judged c.fates left + cond (is_heard judged side) (new_by (slice_get c.fates (length x))) 0) sent in
+      let was = taken_waits judged c (other side) r a.head a.more so a.channel in
+      omega (arith, next_is, was)
 
--- a half closes, or an invocation ends.
-abbrev IsUnseen : Event → Type 0
-IsUnseen event = (table : Table) (c : Certificate) (reason : Reason) (entry : ℕ) (r next : Replay)
-    → happens table c event reason entry r ≡ Ok next → IsAsBefore c r next
+  -- Before a quiet mark nothing waits, nor behind it.
+  quiet_waits : (r next : Replay) → stepped table Quiet r ≡ Some next
+      → (count_for judged c.fates r.world ≡ 0) × (count_for judged c.fates next.world ≡ 0)
+  quiet_waits r next is =
+      let found = map_some _ (after table Quiet r.world) next is in
+      let q = quiet_step table r.world found.0 found.1 in (
+        none judged r.world q.from_a q.from_b,
+        ap (λ (x : Replay). count_for judged c.fates x.world) (sym found.2) ∙ ap (count_for judged c.fates) q.next_is
+            ∙ none judged _ refl refl,
+      )
+    where
+      none : (judged : Option Side) (w : World) → w.from_a ≡ [] → w.from_b ≡ [] → count_for judged c.fates w ≡ 0
+      none None w a b = ap₂ (λ (x y : List OnItsWay). length (waiting c.fates x) + length (waiting c.fates y)) a b
+      none (Some sides.A) w a b = ap (λ (x : List OnItsWay). length (waiting c.fates x)) b
+      none (Some sides.B) w a b = ap (λ (x : List OnItsWay). length (waiting c.fates x)) a
 
-closes_unseen : (side : Side) (name : HalfName) → IsUnseen (Closes side name)
-closes_unseen side name table c reason entry r next is =
-    let event = Closes side name in
-    let step = some_ok (stepped table event r) (fault_at reason entry) next is in
-    let found = map_some _ (after table event r.world) next step in
-    let hidden = closing table side name r.world found.0 found.1 in
-    as_hidden c event side hidden.made r next found.0 hidden.next_is found.2
+-- What an end that is judged receives waited, and where it alone is judged, what it can't receive.
+heard_waits : (table : Table) (c : Certificate) (side : Side) (n : ℕ) (r next : Replay) → heard table c side n r ≡ Ok next
+    → count_for (Some side) c.fates next.world + 1 ≡ count_for (Some side) c.fates r.world
+heard_waits table c side n r next is =
+    by (stepped table (Receives side n) before) refl
+    (some_ok (or_else (stepped table (Receives side n) before) (stepped table (Loses (other side) n) before)) (fault_at BadReply n) next is)
+  where
+    before : Replay
+    before = lost_from_front c (other side) r
 
-expires_as : (table : Table) (c : Certificate) (side : Side) (name : HalfName) (id : ℤ) (r next : Replay)
-    → stepped table (Expires side name id) r ≡ Some next → IsAsBefore c r next
-expires_as table c side name id r next is =
-    let event = Expires side name id in
-    let found = map_some _ (after table event r.world) next is in
-    let hidden = expiry table side name id r.world found.0 found.1 in
-    as_hidden c event side hidden.made r next found.0 hidden.next_is found.2
+    by : (o : Option Replay) → stepped table (Receives side n) before ≡ o
+        → or_else o (stepped table (Loses (other side) n) before) ≡ Some next
+        → count_for (Some side) c.fates next.world + 1 ≡ count_for (Some side) c.fates r.world
+    by (Some x) at found = receives_wait (Some side) table c side n before next r (itself (other side)) refl (at ∙ found)
+    by None at found =
+        let event = Loses (other side) n in
+        let step = map_some _ (after table event before.world) next found in
+        let l = loss table (other side) n before.world step.0 step.1 in
+        ap (λ (x : Replay). count_for (Some side) c.fates x.world + 1) (sym step.2)
+        ∙ ap (λ (x : World). count_for (Some side) c.fates x + 1) l.next_is
+        ∙ taken_waits (Some side) c (other side) r l.head l.more (itself (other side)) l.channel
 
-expires_unseen : (side : Side) (name : HalfName) (id : ℤ) → IsUnseen (Expires side name id)
-expires_unseen side name id table c reason entry r next is =
-    expires_as table c side name id r next
-    (some_ok (stepped table (Expires side name id) r) (fault_at reason entry) next is)
-
--- What is received waited,
-receives_wait : (table : Table) (c : Certificate) (side : Side) (number : ℕ) (reason : Reason) (entry : ℕ)
-    (r next : Replay) → happens table c (Receives side number) reason entry r ≡ Ok next
-    → count_waiting c.fates next.world + 1 ≡ count_waiting c.fates r.world
-receives_wait table c side number reason entry r next is =
-    let event = Receives side number in
-    let before = lost_from_front c (other side) r in
-    let step = some_ok (stepped table event before) (fault_at reason entry) next is in
-    let found = map_some _ (after table event before.world) next step in
-    let d = delivery table side number before.world found.0 found.1 in
-    ap (λ (x : Replay). count_waiting c.fates x.world + 1) (sym found.2)
-    ∙ ap (λ (x : World). count_waiting c.fates x + 1) d.next_is
-    ∙ ap (λ (n : ℕ). n + 1) (end_waits c.fates side d.made (with_channel (other side) d.more before.world))
-    ∙ taken_waits c (other side) r d.head d.more d.channel
-
--- and so did what is answered; the answer joins.
-replies_wait : (table : Table) (c : Certificate) (side : Side) (number : ℕ) (reason : Reason) (entry : ℕ)
-    (r next : Replay) → happens table c (Replies side number) reason entry r ≡ Ok next
-    → count_waiting c.fates next.world + 1 ≡ count_waiting c.fates r.world + new_by (slice_get c.fates (next_entry r))
-replies_wait table c side number reason entry r next is =
-    let event = Replies side number in
-    let before = lost_from_front c (other side) r in
-    let step = some_ok (stepped table event before) (fault_at reason entry) next is in
-    let found = map_some _ (after table event before.world) next step in
-    let a = reply table side number before.world found.0 found.1 in
-    let left = with_channel (other side) a.more before.world in
-    let sent : left.sent ≡ r.world.sent =
-    sent_with_channel (other side) a.more before.world ∙ sent_with_channel (other side) _ r.world in
-    let next_is : count_waiting c.fates next.world
-    ≡ count_waiting c.fates left + new_by (slice_get c.fates (next_entry r)) =
-    ap (λ (x : Replay). count_waiting c.fates x.world) (sym found.2)
-    ∙ ap (count_waiting c.fates) a.next_is
-    ∙ joined_waits c.fates side a.abort left
-    ∙ ap (λ (x : List Item). count_waiting c.fates left + new_by (slice_get c.fates (length x))) sent in
-    let was = taken_waits c (other side) r a.head a.more a.channel in
-    omega (arith, next_is, was)
-
--- Nothing waits before a quiet mark, nor behind it.
-pub marks_wait : (table : Table) (c : Certificate) (reason : Reason) (entry : ℕ) (r next : Replay)
-    → happens table c Quiet reason entry r ≡ Ok next → count_waiting c.fates next.world ≡ count_waiting c.fates r.world
-marks_wait table c reason entry r next is =
-    let first = lost_from_front c sides.A r in
-    let before = lost_from_both c r in
-    let step = some_ok (stepped table Quiet before) (fault_at reason entry) next is in
-    let found = map_some _ (after table Quiet before.world) next step in
-    let q = quiet table before.world found.0 found.1 in
-    let none : count_waiting c.fates before.world ≡ 0 =
-    ap (λ (x : List OnItsWay). length (waiting c.fates x) + length (waiting c.fates before.world.from_b)) q.from_a
-    ∙ ap (λ (x : List OnItsWay). 0 + length (waiting c.fates x)) q.from_b in
-    ap (λ (x : Replay). count_waiting c.fates x.world) (sym found.2)
-    ∙ ap (count_waiting c.fates) q.next_is ∙ sym none
-    ∙ losses_wait c sides.B first ∙ losses_wait c sides.A r
+received_waits : (judged : Option Side) (table : Table) (c : Certificate) (sender : Side) (n : ℕ) (r next : Replay)
+    → received judged table c sender n r ≡ Ok next
+    → count_for judged c.fates next.world + 1 ≡ count_for judged c.fates r.world
+received_waits None table c sides.A n r next is =
+    receives_wait None table c sides.B n (lost_from_front c sides.A r) next r refl refl (some_ok _ (fault_at BadReply n) next is)
+received_waits None table c sides.B n r next is =
+    receives_wait None table c sides.A n (lost_from_front c sides.B r) next r refl refl (some_ok _ (fault_at BadReply n) next is)
+received_waits (Some judged) table c sender n r next is = heard_waits table c judged n r next is
 
 -- ---- a gap
 
-closings_wait : (table : Table) (c : Certificate) (listed : List Closing) (r next : Replay)
-    → closings_replayed table c listed r ≡ Ok next → IsAsBefore c r next
-closings_wait table c [] r next is = as_itself c r next (ok_same {F = CheckFault} r next is)
-closings_wait table c (x ∷ more) r next is =
-    let found = then_ok (ok_or (closing_event r.world.sent x) (fault_at FateRange x.entry)) _ next is in
-    let named = some_ok (closing_event r.world.sent x) (fault_at FateRange x.entry) found.0 found.1 in
-    let then = then_ok (happens table c found.0 (HiddenRefused faults.CannotClose) x.entry r) _ next found.2 in
-    as_then c r then.0 next
-    (of_closing IsUnseen closes_unseen r.world.sent x found.0 named table c (HiddenRefused faults.CannotClose) x.entry r then.0 then.1)
-    (closings_wait table c more then.0 next then.2)
-
-expiries_wait : (table : Table) (c : Certificate) (listed : List Expiry) (r next : Replay)
-    → expiries_replayed table c listed r ≡ Ok next → IsAsBefore c r next
-expiries_wait table c [] r next is = as_itself c r next (ok_same {F = CheckFault} r next is)
-expiries_wait table c (x ∷ more) r next is =
-    let found = then_ok (ok_or (expiry_event r.world.sent x) (fault_at FateRange x.entry)) _ next is in
-    let named = some_ok (expiry_event r.world.sent x) (fault_at FateRange x.entry) found.0 found.1 in
-    let then = then_ok (happens table c found.0 (HiddenRefused faults.CannotExpire) x.entry r) _ next found.2 in
-    as_then c r then.0 next
-    (of_expiry IsUnseen expires_unseen r.world.sent x found.0 named table c (HiddenRefused faults.CannotExpire) x.entry r then.0 then.1)
-    (expiries_wait table c more then.0 next then.2)
-
 -- What is delivered in a gap does not lie behind it any more.
-deliveries_wait : (table : Table) (c : Certificate) (gap number : ℕ) (fates : List Fate) (items : List Item)
-    (r next : Replay) → deliveries_replayed table c gap number fates items r ≡ Ok next
-    → count_waiting c.fates next.world + count_behind gap gap fates items
-    ≡ count_waiting c.fates r.world + count_behind (gap + 1) gap fates items
-deliveries_wait table c gap number [] items r next is =
-    ap (λ (x : Replay). count_waiting c.fates x.world + 0) (sym (ok_same {F = CheckFault} r next is))
-deliveries_wait table c gap number (fate ∷ fates) [] r next is =
-    ap (λ (x : Replay). count_waiting c.fates x.world + count_behind gap gap (fate ∷ fates) [])
+deliveries_wait : (judged : Option Side) (table : Table) (c : Certificate) (gap n : ℕ) (fates : List Fate) (items : List Item)
+    (r next : Replay) → deliveries_by judged table c gap n fates items r ≡ Ok next
+    → count_for judged c.fates next.world + count_behind judged gap gap fates items
+    ≡ count_for judged c.fates r.world + count_behind judged (gap + 1) gap fates items
+deliveries_wait judged table c gap n [] items r next is =
+    ap (λ (x : Replay). count_for judged c.fates x.world + 0) (sym (ok_same {F = CheckFault} r next is))
+deliveries_wait judged table c gap n (fate ∷ fates) [] r next is =
+    ap (λ (x : Replay). count_for judged c.fates x.world + count_behind judged gap gap (fate ∷ fates) [])
     (sym (ok_same {F = CheckFault} r next is))
-deliveries_wait table c gap number (Gap g ∷ fates) (Sent side message ∷ items) r next is =
-    by (g == gap) refl (λ mid. deliveries_wait table c gap (number + 1) fates items mid next) is
+deliveries_wait judged table c gap n (Gap g ∷ fates) (Item.Quiet ∷ items) r next is =
+    deliveries_wait judged table c gap (n + 1) fates items r next is
+deliveries_wait judged table c gap n (By k ∷ fates) (Item.Quiet ∷ items) r next is =
+    deliveries_wait judged table c gap (n + 1) fates items r next is
+deliveries_wait judged table c gap n (Lost ∷ fates) (Item.Quiet ∷ items) r next is =
+    deliveries_wait judged table c gap (n + 1) fates items r next is
+deliveries_wait judged table c gap n (fate ∷ fates) (Sent sender message ∷ items) r next is =
+    by fate (λ mid. deliveries_wait judged table c gap (n + 1) fates items mid next) is
   where
     old : ℕ
-    old = count_behind gap gap fates items
+    old = count_behind judged gap gap fates items
 
     new : ℕ
-    new = count_behind (gap + 1) gap fates items
+    new = count_behind judged (gap + 1) gap fates items
 
     last : ℕ
-    last = count_waiting c.fates next.world
+    last = count_for judged c.fates next.world
 
     Rest : Replay → Type 0
-    Rest mid =
-        deliveries_replayed table c gap (number + 1) fates items mid ≡ Ok next
-        → last + old ≡ count_waiting c.fates mid.world + new
+    Rest mid = deliveries_by judged table c gap (n + 1) fates items mid ≡ Ok next → last + old ≡ count_for judged c.fates mid.world + new
 
-    still : (b : Bool) → last + old ≡ count_waiting c.fates r.world + new
-        → last + cond b (old + 1) old ≡ count_waiting c.fates r.world + cond b (new + 1) new
+    still : (b : Bool) → last + old ≡ count_for judged c.fates r.world + new
+        → last + cond b (old + 1) old ≡ count_for judged c.fates r.world + cond b (new + 1) new
     still true rest = omega (arith, rest)
     still false rest = rest
 
-    by : (b : Bool) → (g == gap) ≡ b → ((mid : Replay) → Rest mid)
-        → (cond b (happens table c (Receives (other side) number) BadReply number r) (Ok r)
-        >>= deliveries_replayed table c gap (number + 1) fates items) ≡ Ok next
-        → last + cond (nat_le gap g) (old + 1) old
-        ≡ count_waiting c.fates r.world + cond (nat_le (gap + 1) g) (new + 1) new
-    by true e on goes =
-        let one = then_ok (happens table c (Receives (other side) number) BadReply number r) _ next goes in
-        let took = receives_wait table c (other side) number BadReply number r one.0 one.1 in
+    due : (g : ℕ) (b : Bool) → (g == gap) ≡ b → (so : Bool) → is_heard judged sender ≡ so → ((mid : Replay) → Rest mid)
+        → (cond (b && so) (received judged table c sender n r) (Ok r) >>= deliveries_by judged table c gap (n + 1) fates items) ≡ Ok next
+        → last + cond (is_heard judged sender && nat_le gap g) (old + 1) old
+        ≡ count_for judged c.fates r.world + cond (is_heard judged sender && nat_le (gap + 1) g) (new + 1) new
+    due g true e true told on goes =
+        let one = then_ok (received judged table c sender n r) _ next goes in
+        let took = received_waits judged table c sender n r one.0 one.1 in
         let rest = on one.0 one.2 in
         let at = is_next gap g e in
-        rw (at.0, at.1) (omega (arith, took, rest))
-    by false e on goes = rw (not_next gap g (eqb-false g gap e)) (still (nat_le (gap + 1) g) (on r goes))
-deliveries_wait table c gap number (By k ∷ fates) (Sent side message ∷ items) r next is =
-    by (nat_le gap k) (deliveries_wait table c gap (number + 1) fates items r next is)
-  where
-    by : (b : Bool)
-        → count_waiting c.fates next.world + count_behind gap gap fates items
-        ≡ count_waiting c.fates r.world + count_behind (gap + 1) gap fates items
-        → count_waiting c.fates next.world
-        + cond b (count_behind gap gap fates items + 1) (count_behind gap gap fates items)
-        ≡ count_waiting c.fates r.world
-        + cond b (count_behind (gap + 1) gap fates items + 1) (count_behind (gap + 1) gap fates items)
-    by true rest = omega (arith, rest)
-    by false rest = rest
-deliveries_wait table c gap number (Lost ∷ fates) (Sent side message ∷ items) r next is =
-    deliveries_wait table c gap (number + 1) fates items r next is
-deliveries_wait table c gap number (Gap g ∷ fates) (Item.Quiet ∷ items) r next is =
-    deliveries_wait table c gap (number + 1) fates items r next is
-deliveries_wait table c gap number (By k ∷ fates) (Item.Quiet ∷ items) r next is =
-    deliveries_wait table c gap (number + 1) fates items r next is
-deliveries_wait table c gap number (Lost ∷ fates) (Item.Quiet ∷ items) r next is =
-    deliveries_wait table c gap (number + 1) fates items r next is
+        rw (told, at.0, at.1) (omega (arith, took, rest))
+    due g true e false told on goes = rw told (on r goes)
+    due g false e true told on goes = rw (told, not_next gap g (eqb-false g gap e)) (still (nat_le (gap + 1) g) (on r goes))
+    due g false e false told on goes = rw told (on r goes)
+
+    by : (fate : Fate) → ((mid : Replay) → Rest mid)
+        → deliveries_by judged table c gap n (fate ∷ fates) (Sent sender message ∷ items) r ≡ Ok next
+        → last + count_behind judged gap gap (fate ∷ fates) (Sent sender message ∷ items)
+        ≡ count_for judged c.fates r.world + count_behind judged (gap + 1) gap (fate ∷ fates) (Sent sender message ∷ items)
+    by (Gap g) on e =
+        due g (g == gap) refl (is_heard judged sender) refl on
+        (ap (λ (x : Bool). cond x (received judged table c sender n r) (Ok r) >>= deliveries_by judged table c gap (n + 1) fates items)
+        (sym (due_is judged gap g sender)) ∙ e)
+    by (By k) on e = still (is_heard judged sender && nat_le gap k) (on r e)
+    by Lost on e = still (is_heard judged sender && false) (on r e)
 
 -- The gap before the next entry.
-pub gap_waits : (table : Table) (c : Certificate) (r next : Replay) → gap_replayed table c r ≡ Ok next
-    → count_waiting c.fates next.world + count_behind (next_entry r) (next_entry r) c.fates r.world.sent
-    ≡ count_waiting c.fates r.world + count_behind (next_entry r + 1) (next_entry r) c.fates r.world.sent
-gap_waits table c r next is =
+pub gap_waits : (judged : Option Side) (table : Table) (c : Certificate) (r next : Replay) → gap_by judged table c r ≡ Ok next
+    → count_for judged c.fates next.world + count_behind judged (next_entry r) (next_entry r) c.fates r.world.sent
+    ≡ count_for judged c.fates r.world + count_behind judged (next_entry r + 1) (next_entry r) c.fates r.world.sent
+gap_waits judged table c r next is =
     let gap = next_entry r in
-    let closings = filter (λ (x : Closing). x.gap == gap) c.close in
-    let expiries = filter (λ (x : Expiry). x.gap == gap) c.expire in
+    let closings : List Closing = closings_judged judged (filter (λ x. x.gap == gap) c.close) in
+    let expiries : List Expiry = expiries_judged judged (filter (λ x. x.gap == gap) c.expire) in
     let a = then_ok (closings_replayed table c closings r) _ next is in
     let b = then_ok (expiries_replayed table c expiries a.0) _ next a.2 in
-    let closed = closings_wait table c closings r a.0 a.1 in
-    let expired = expiries_wait table c expiries a.0 b.0 b.1 in
-    deliveries_wait table c gap 0 c.fates r.world.sent b.0 next b.2
-    ∙ ap (λ (n : ℕ). n + count_behind (gap + 1) gap c.fates r.world.sent) (expired.waits ∙ closed.waits)
+    let closed = stays_wait judged c r a.0 (closings_stay table c closings r a.0 a.1) in
+    let expired = stays_wait judged c a.0 b.0 (expiries_stay table c expiries a.0 b.0 b.1) in
+    deliveries_wait judged table c gap 0 c.fates r.world.sent b.0 next b.2
+    ∙ ap (λ (n : ℕ). n + count_behind judged (gap + 1) gap c.fates r.world.sent) (expired ∙ closed)
 
 -- ---- an item
 
-implied_wait : (table : Table) (c : Certificate) (side : Side) (name : HalfName) (ids : List ℤ) (r : Replay)
-    → IsAsBefore c r (implied table side name ids r)
-implied_wait table c side name [] r = as_itself c r r refl
-implied_wait table c side name (id ∷ ids) r =
-    by (stepped table (Expires side name id) r) refl (λ mid. implied_wait table c side name ids mid)
-  where
-    by : (o : Option Replay) → stepped table (Expires side name id) r ≡ o
-        → ((mid : Replay) → IsAsBefore c mid (implied table side name ids mid))
-        → IsAsBefore c r (implied table side name ids (or_same r o))
-    by None is on = on r
-    by (Some mid) is on =
-        as_then c r mid (implied table side name ids mid) (expires_as table c side name id r mid is) (on mid)
-
-implied_before : (table : Table) (c : Certificate) (side : Side) (message : Message) (name : Option HalfName)
-    (r : Replay) → IsAsBefore c r (implied_over table side message name r)
-implied_before table c side message None r = as_itself c r r refl
-implied_before table c side message (Some name) r =
-    implied_wait table c side name (filter_map invoke_id (components_in message)) r
-
 -- What is sent joins.
-sends_wait : (table : Table) (c : Certificate) (side : Side) (message : Message) (r next : Replay)
-    → send_replayed table side message r ≡ Ok next
-    → count_waiting c.fates next.world ≡ count_waiting c.fates r.world + new_by (slice_get c.fates (next_entry r))
-sends_wait table c side message r next is = by (send table (end_at side r.world) message) is
+sends_wait : (judged : Option Side) (table : Table) (c : Certificate) (side : Side) (message : Message) (r next : Replay)
+    → send_replayed table side message (implied_over table side message (invoking_half message) r) ≡ Ok next
+    → count_for judged c.fates next.world
+    ≡ count_for judged c.fates r.world + cond (is_heard judged side) (new_by (slice_get c.fates (next_entry r))) 0
+sends_wait judged table c side message r next is = by (send table (end_at side mid.world) message) is
   where
-    by : (sent : Result End EndFault) → sent_or_refused side message r sent ≡ Ok next
-        → count_waiting c.fates next.world ≡ count_waiting c.fates r.world + new_by (slice_get c.fates (next_entry r))
+    mid : Replay
+    mid = implied_over table side message (invoking_half message) r
+
+    new_at : List Item → ℕ
+    new_at items = cond (is_heard judged side) (new_by (slice_get c.fates (length items))) 0
+
+    by : (o : Result End EndFault) → sent_or_refused side message mid o ≡ Ok next
+        → count_for judged c.fates next.world ≡ count_for judged c.fates r.world + new_at r.world.sent
     by (Err reason) e = cc
     by (Ok made) e =
-        let world = with_end side made r.world in
-        let same = ok_same {F = CheckFault} (with_step (Sends side message) r (joined side message world)) next e in
-        ap (λ (x : Replay). count_waiting c.fates x.world) (sym same)
-        ∙ joined_waits c.fates side message world
-        ∙ ap (λ (x : List Item). count_waiting c.fates world + new_by (slice_get c.fates (length x)))
-        (sent_with_end side made r.world)
-        ∙ ap (λ (n : ℕ). n + new_by (slice_get c.fates (next_entry r))) (end_waits c.fates side made r.world)
+        let stays = implied_over_stays table side message (invoking_half message) r in
+        let world = with_end side made mid.world in
+        let same = ok_same {F = CheckFault} (with_step (Sends side message) mid (joined side message world)) next e in
+        ap (λ (x : Replay). count_for judged c.fates x.world) (sym same)
+        ∙ joined_waits judged c.fates side message world
+        ∙ ap₂ (λ (n : ℕ) (x : List Item). n + new_at x)
+        (end_waits judged c.fates side made mid.world ∙ stays_wait judged c r mid stays)
+        (sent_with_end side made mid.world ∙ stays.sent)
 
--- A message joins, and what it takes waited.
-pub message_waits : (table : Table) (c : Certificate) (side : Side) (message : Message) (r next : Replay)
-    → message_replayed table c side message r ≡ Ok next
-    → count_waiting c.fates next.world + length (taken_by (next_entry r) 0 c.fates)
-    ≡ count_waiting c.fates r.world + new_by (slice_get c.fates (next_entry r))
-message_waits table c side message r next is = by (sending c (next_entry r) (Sent side message)) refl is
+-- A message of an end that is judged joins, and what it takes waited.
+pub message_waits : (judged : Option Side) (table : Table) (c : Certificate) (side : Side) (message : Message) (takes : List ℕ)
+    (r next : Replay) → is_heard judged (other side) ≡ true
+    → message_by table c side message (sending_by c (next_entry r) (Sent side message) takes) r ≡ Ok next
+    → count_for judged c.fates next.world + length takes
+    ≡ count_for judged c.fates r.world + cond (is_heard judged side) (new_by (slice_get c.fates (next_entry r))) 0
+message_waits judged table c side message takes r next so is = by message takes is
   where
-    number : ℕ
-    number = next_entry r
+    joins : ℕ
+    joins = count_for judged c.fates r.world + cond (is_heard judged side) (new_by (slice_get c.fates (next_entry r))) 0
 
-    taken_here : List ℕ
-    taken_here = taken_by number 0 c.fates
+    sends : (message : Message)
+        → send_replayed table side message (implied_over table side message (invoking_half message) r) ≡ Ok next
+        → count_for judged c.fates next.world + 0 ≡ joins
+    sends message e = let same = sends_wait judged table c side message r next e in omega (arith, same)
 
-    Waits : Type 0
-    Waits =
-        count_waiting c.fates next.world + length taken_here
-        ≡ count_waiting c.fates r.world + new_by (slice_get c.fates number)
+    by : (message : Message) (takes : List ℕ)
+        → message_by table c side message (sending_by c (next_entry r) (Sent side message) takes) r ≡ Ok next
+        → count_for judged c.fates next.world + length takes ≡ joins
+    by (Abort dtid (Some (Cause n))) [] e = cc
+    by (Abort dtid (Some (Cause n))) (taken ∷ []) e = replies_wait judged table c side (Abort dtid (Some (Cause n))) taken r next so e
+    by (Abort dtid (Some (Cause n))) (taken ∷ second ∷ more) e = cc
+    by (Abort dtid (Some (ByDialogue d))) [] e = sends (Abort dtid (Some (ByDialogue d))) e
+    by (Abort dtid (Some (ByDialogue d))) (taken ∷ more) e = cc
+    by (Abort dtid None) [] e = sends (Abort dtid None) e
+    by (Abort dtid None) (taken ∷ more) e = cc
+    by (Unidirectional dialogue components) [] e = sends (Unidirectional dialogue components) e
+    by (Unidirectional dialogue components) (taken ∷ more) e = cc
+    by (Begin otid dialogue components) [] e = sends (Begin otid dialogue components) e
+    by (Begin otid dialogue components) (taken ∷ more) e = cc
+    by (Continue otid dtid dialogue components) [] e = sends (Continue otid dtid dialogue components) e
+    by (Continue otid dtid dialogue components) (taken ∷ more) e = cc
+    by (EndMessage dtid dialogue components) [] e = sends (EndMessage dtid dialogue components) e
+    by (EndMessage dtid dialogue components) (taken ∷ more) e = cc
 
-    by_send : (sender : Side) (sent : Message) → Takes taken_here (Sends sender sent)
-        → send_replayed table side message (implied_over table side message (invoking_half message) r) ≡ Ok next → Waits
-    by_send sender sent (inl none) goes =
-        let mid = implied_over table side message (invoking_half message) r in
-        let before = implied_before table c side message (invoking_half message) r in
-        let sends = sends_wait table c side message mid next goes
-        ∙ ap (λ (x : List Item). count_waiting c.fates mid.world + new_by (slice_get c.fates (length x))) before.sent in
-        let waits = before.waits in
-        let nothing : length taken_here ≡ 0 = ap length none.1 in
-        omega (arith, sends, waits, nothing)
-    by_send sender sent (inr one) goes = let differ = one.3 in cc
+-- What the end sent that alone is judged comes to nobody: as many wait where it is lost.
+pub sent_waits : (judged : Option Side) (c : Certificate) (step : Result Replay CheckFault) (next : Replay)
+    → behind_sending judged step ≡ Ok next
+    → (made : Replay) × (step ≡ Ok made) × (count_for judged c.fates next.world ≡ count_for judged c.fates made.world)
+sent_waits None c step next is = (next, is, refl)
+sent_waits (Some judged) c step next is =
+    let made = then_ok step _ next is in (
+      made.0,
+      made.1,
+      ap (λ (x : Replay). count_for (Some judged) c.fates x.world) (sym (ok_same {F = CheckFault} (all_lost_from judged made.0) next made.2))
+          ∙ ap (λ (x : List OnItsWay). length (waiting c.fates x)) (peer_stays judged _ made.0.world),
+    )
 
-    by_reply : (replier : Side) (n : ℕ) → Takes taken_here (Replies replier n)
-        → reply_replayed table c side message n r ≡ Ok next → Waits
-    by_reply replier n (inl none) goes = let some = sym (takes_replied replier n) ∙ none.0 (other replier) in cc
-    by_reply replier n (inr one) goes =
-        let step = then_ok (happens table c (Replies side n) BadReply number r) _ next goes in
-        let is_reply = is_abort message (slice_get step.0.world.sent number) in
-        let so = needs_ok is_reply (fault_at BadReply number) _ next step.2 in
-        let last : step.0 ≡ next = ok_same {F = CheckFault} step.0 next so.1 in
-        let waits = replies_wait table c side n BadReply number r step.0 step.1 in
-        let same : count_waiting c.fates step.0.world ≡ count_waiting c.fates next.world =
-        ap (λ (x : Replay). count_waiting c.fates x.world) last in
-        let alone : length taken_here ≡ 1 = ap length one.2 in
-        omega (arith, waits, same, alone)
+-- ---- a mark
 
-    by : (o : Option Event) → sending c number (Sent side message) ≡ o
-        → message_by table c side message o r ≡ Ok next → Waits
-    by None found e = cc
-    by (Some (Sends sender sent)) found e =
-        by_send sender sent (sending_takes c number (Sent side message) taken_here (Sends sender sent) found) e
-    by (Some (Replies replier n)) found e =
-        by_reply replier n (sending_takes c number (Sent side message) taken_here (Replies replier n) found) e
-    by (Some (Receives receiver n)) found e = cc
-    by (Some (Loses sender n)) found e = cc
-    by (Some (Expires sender name id)) found e = cc
-    by (Some (Closes sender name)) found e = cc
-    by (Some Quiet) found e = cc
-    by (Some (Tells sender m)) found e = cc
+closed_stay : (table : Table) (side : Side) (mark : ℕ) (names : List HalfName) (r next : Replay)
+    → closed_at_mark table side mark names r ≡ Ok next → Stays r next
+closed_stay table side mark [] r next is = stays_same r next (ok_same {F = CheckFault} r next is)
+closed_stay table side mark (name ∷ more) r next is =
+    let one = then_ok (ok_or (stepped table (Closes side name) r) (fault_at NotQuiet mark)) (closed_at_mark table side mark more) next is in
+    let step = some_ok (stepped table (Closes side name) r) (fault_at NotQuiet mark) one.0 one.1 in
+    stays_then r one.0 next (closes_stays table side name r one.0 step) (closed_stay table side mark more one.0 next one.2)
+
+before_stays : (judged : Option Side) (table : Table) (mark : ℕ) (r next : Replay) → closed_before judged table mark r ≡ Ok next → Stays r next
+before_stays None table mark r next is = stays_same r next (ok_same {F = CheckFault} r next is)
+before_stays (Some judged) table mark r next is = closed_stay table judged mark (open_halves (end_at judged r.world)) r next is
+
+last_waits : (judged : Option Side) (c : Certificate) (r : Replay)
+    → count_for judged c.fates (lost_last judged c r).world ≡ count_for judged c.fates r.world
+last_waits None c r = losses_wait None c sides.B (lost_from_front c sides.A r) ∙ losses_wait None c sides.A r
+last_waits (Some judged) c r = losses_wait (Some judged) c (other judged) r
+
+-- Behind the gap before a mark nothing waits, nor behind the mark.
+pub mark_waits : (judged : Option Side) (table : Table) (c : Certificate) (mark : ℕ) (r next : Replay)
+    → (closed_before judged table mark r >>= λ closed. ok_or (stepped table Quiet (lost_last judged c closed)) (fault_at NotQuiet mark)) ≡ Ok next
+    → (count_for judged c.fates r.world ≡ 0) × (count_for judged c.fates next.world ≡ 0)
+mark_waits judged table c mark r next is =
+    let closed = then_ok (closed_before judged table mark r) _ next is in
+    let before = lost_last judged c closed.0 in
+    let step = some_ok (stepped table Quiet before) (fault_at NotQuiet mark) next closed.2 in
+    let none = quiet_waits judged table c before next step in
+    let stays = stays_wait judged c r closed.0 (before_stays judged table mark r closed.0 closed.1) in
+    (sym stays ∙ sym (last_waits judged c closed.0) ∙ none.0, none.1)

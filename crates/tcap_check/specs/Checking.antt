@@ -21,10 +21,10 @@ use Rattle.tcap_model.specs.Run.{Event}
 use Rattle.tcap_model.specs.World.{Item, OnItsWay, Sent, channel_from, is_side}
 use Rattle.tcap_check.specs.Certificate.{Certificate}
 use Rattle.tcap_check.specs.Follows.{taken_by}
-use Rattle.tcap_check.specs.Hearing.{gap_passed, mark_taken, own_taken, told_among, told_taken, with_progress}
+use Rattle.tcap_check.specs.Hearing.{gap_kept, mark_taken, message_taken, told_among}
 use Rattle.tcap_check.specs.Outlines.{is_named, outline_of, outlines_from, since_from}
 pub use Rattle.tcap_check.specs.Progress.{map_ok}
-use Rattle.tcap_check.specs.Progress.{gap_kept, greater, mark_kept, message_kept, overtakes, seat_at, time_or_zero, with_seat}
+use Rattle.tcap_check.specs.Progress.{greater, overtakes, seat_at, time_or_zero, with_seat}
 use Rattle.tcap_check.specs.Replayed.{Replay, certificate_fits, entry_by, fault_at, gap_by, is_gap, next_entry, nothing_replayed, refused}
 use Rattle.tcap_check.specs.Unheard.{is_lost_from, steps_of, unheard_of}
 
@@ -96,22 +96,32 @@ all_lost side p =
       moves = p.moves + length (seat_at side p).waiting;
     }
 
+-- so it is where that end alone is judged
+abbrev pub lost_at_once : Option Side → Progress → Progress
+lost_at_once None p = p
+lost_at_once (Some judged) p = all_lost judged p
+
 -- how many of an end's messages are lost in these events
 abbrev pub count_losses : Side → List Event → ℕ
 count_losses side events = length (filter (is_lost_from side) events)
 
--- the end that is judged, what is on its way to it and not lost, and the steps and losses, with those that are still to come
-abbrev pub hearing_of : Side → Certificate → Replay → Hearing
-hearing_of side c r = record {
-  progress = all_lost side (progress_of c r);
-  own = count_losses side r.events + length (channel_from side r.world);
-  unheard = count_losses (other side) r.events + count_lost c.fates (channel_from (other side) r.world);
-}
+-- where one end is judged, how many messages it sent: the steps have a loss for each
+abbrev pub own_of : Option Side → Replay → ℕ
+own_of None r = 0
+own_of (Some judged) r = count_losses judged r.events + length (channel_from judged r.world)
 
--- the same of both ends, where nothing has to be counted beside the steps
+-- and how many of its peer's are lost, with those that are still to come
+abbrev pub unheard_by : Option Side → Certificate → Replay → ℕ
+unheard_by None c r = 0
+unheard_by (Some judged) c r = count_losses (other judged) r.events + count_lost c.fates (channel_from (other judged) r.world)
+
+-- the ends, what is on its way to one that is judged, the steps, and these counts
 abbrev pub hearing_by : Option Side → Certificate → Replay → Hearing
-hearing_by None c r = record { progress = progress_of c r; own = 0; unheard = 0 }
-hearing_by (Some judged) c r = hearing_of judged c r
+hearing_by judged c r = record {
+  progress = lost_at_once judged (progress_of c r);
+  own = own_of judged r;
+  unheard = unheard_by judged c r;
+}
 
 abbrev pub kept_of : Option Side → Certificate → Replay → Kept
 kept_of judged c r = record {
@@ -161,8 +171,7 @@ kept_with c item k h = record {
 
 -- the gap before the next entry
 abbrev pub gap_before : Option Side → Table → Certificate → Kept → Result Hearing CheckFault
-gap_before None table c k = map_ok (with_progress k.hearing) (gap_kept table c k.entries k.since k.hearing.progress)
-gap_before (Some judged) table c k = gap_passed table c judged k.entries k.since k.hearing
+gap_before judged table c k = gap_kept judged table c k.entries k.since k.hearing
 
 -- the messages that the next entry takes: of both ends, or of the peer alone
 abbrev pub tied_now : Option Side → Certificate → Kept → List ℕ
@@ -174,18 +183,6 @@ abbrev pub is_alone : Option Side → Side → Bool
 is_alone None side = false
 is_alone (Some judged) side = is_side judged side
 
--- a message that an end sends, or that the peer of the judged one tells
-abbrev pub message_taken : Option Side → Table → Side → Fate → ℕ → Message → List ℕ → Hearing → Result Hearing CheckFault
-message_taken None table side fate number message takes h =
-    map_ok (with_progress h) (message_kept table side fate number message takes h.progress)
-message_taken (Some judged) table side fate number message takes h =
-    cond (is_side judged side) (own_taken table judged number message takes h) (told_taken judged fate number message takes h)
-
--- a quiet mark, at which both ends are quiet, or the judged one, whose open halves close unseen
-abbrev pub quiet_by : Option Side → Table → ℕ → List ℕ → Hearing → Result Hearing CheckFault
-quiet_by None table number takes h = map_ok (with_progress h) (mark_kept number takes h.progress)
-quiet_by (Some judged) table number takes h = mark_taken table judged number takes h
-
 abbrev pub item_kept : Option Side → Table → Certificate → Fate → Item → Kept → Result Hearing CheckFault
 item_kept judged table c fate (Sent side message) k =
     needs (is_alone judged side || not (overtakes fate (seat_at side k.hearing.progress))) (fault_at OutOfOrder (length k.entries))
@@ -194,7 +191,7 @@ item_kept judged table c fate (Sent side message) k =
 item_kept judged table c fate Item.Quiet k =
     needs (is_gap (length k.entries + 1) fate) (fault_at FateRange (length k.entries))
     >> gap_before judged table c k
-    >>= quiet_by judged table (length k.entries) (tied_now judged c k)
+    >>= mark_taken judged table (length k.entries) (tied_now judged c k)
 
 abbrev pub entry_kept : Option Side → Table → Certificate → Fate → Result Item Reason → Kept → Result Kept CheckFault
 entry_kept judged table c fate (Ok item) k = map_ok (kept_with c item k) (item_kept judged table c fate item k)

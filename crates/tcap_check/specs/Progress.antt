@@ -1,5 +1,5 @@
 -- What a checker keeps of two ends and two channels, and its steps: those of `Replayed`, over what is kept.
-use Rattle.std.specs.Prelude.{◌≡◌, ◌≢◌, ℕ, ℤ, ◌+◌, ◌*◌, Bool, true, false, List, [], ◌∷◌, ◌++◌, filter, filter_map, slice_get, length, Option, Some, None, Result, Ok, Err, ok_or, ◌==◌, ◌&&◌, nat_lt, cond}
+use Rattle.std.specs.Prelude.{◌≡◌, ◌≢◌, ℕ, ℤ, ◌+◌, ◌*◌, Bool, true, false, List, [], ◌∷◌, ◌++◌, filter_map, Option, Some, None, Result, Ok, Err, ok_or, ◌==◌, ◌&&◌, nat_lt, cond}
 use Rattle.tcap_msg.specs.declared.message.AbortReason.TheVariants.{Cause}
 use Rattle.tcap_msg.specs.declared.message.Message.{Message}
 use Rattle.tcap_msg.specs.declared.message.Message.TheVariants.{Abort}
@@ -12,7 +12,7 @@ use Rattle.tcap_end.specs.declared.half.HalfName.{HalfName}
 use Rattle.tcap_end.specs.Table.{Table}
 use Rattle.tcap_end.specs.End.{End, nothing, quiet}
 use Rattle.tcap_end.specs.Hidden.{close, expire}
-use Rattle.tcap_end.specs.Message.{receive, send}
+use Rattle.tcap_end.specs.Message.{send}
 use Rattle.tcap_end.specs.Step.{needs, ◌>>◌, ◌>>=◌}
 use Rattle.tcap_check.specs.declared.certificate.Closing.{Closing}
 use Rattle.tcap_check.specs.declared.certificate.Expiry.{Expiry}
@@ -21,13 +21,11 @@ use Rattle.tcap_check.specs.declared.certificate.Fate.TheVariants.{Gap, Lost, By
 use Rattle.tcap_check.specs.declared.fault.CheckFault.{CheckFault}
 use Rattle.tcap_model.specs.declared.reason.Reason.TheVariants.{FateRange, BadReply, SendRefused, HiddenRefused, NotQuiet, Memory}
 use Rattle.tcap_check.specs.declared.outline.Outline.{Outline}
-use Rattle.tcap_check.specs.declared.outline.Outline.TheVariants as outlines
 use Rattle.tcap_check.specs.declared.progress.Progress.{Progress}
 use Rattle.tcap_check.specs.declared.progress.Seat.{Seat}
 use Rattle.tcap_check.specs.declared.progress.Waiting.{Waiting}
 use Rattle.tcap_record.specs.Ends.{other}
 use Rattle.tcap_model.specs.Run.{may_refuse}
-use Rattle.tcap_check.specs.Certificate.{Certificate}
 use Rattle.tcap_check.specs.Follows.{invoke_id, invoking_half}
 use Rattle.tcap_check.specs.Replayed.{fault_at, refused}
 use Rattle.tcap_check.specs.Outlines.{half_closed, invocation_ended}
@@ -118,35 +116,11 @@ expiries_kept table entries since [] p = Ok p
 expiries_kept table entries since (x ∷ more) p =
     expiry_kept table entries since x p >>= expiries_kept table entries since more
 
--- The first message on its way from an end is that of the number, and it is delivered.
-abbrev pub first_delivered : Table → Side → ℕ → List Waiting → Progress → Result Progress CheckFault
-first_delivered table side number [] p = refused BadReply number
-first_delivered table side number (first ∷ more) p =
-    needs (first.number == number) (fault_at BadReply number)
-    >> end_moved (other side) (fault_at BadReply number) (with_waiting side more p)
-    (receive table (seat_at (other side) p).end first.message)
-
--- the message of that number, if the entry is one
-abbrev pub delivery_kept : Table → ℕ → Option Outline → Progress → Result Progress CheckFault
-delivery_kept table number (Some (outlines.Sent side kept)) p = first_delivered table side number (seat_at side p).waiting p
-delivery_kept table number _ p = Ok p
-
-abbrev pub deliveries_kept : Table → List Outline → List ℕ → Progress → Result Progress CheckFault
-deliveries_kept table entries [] p = Ok p
-deliveries_kept table entries (number ∷ numbers) p =
-    delivery_kept table number (slice_get entries number) p >>= deliveries_kept table entries numbers
-
 -- the numbers of the entries that have this gap; the first of these fates has number n
 abbrev pub due_in : ℕ → ℕ → List Fate → List ℕ
 due_in gap n [] = []
 due_in gap n (Gap g ∷ fates) = cond (g == gap) (n ∷ due_in gap (n + 1) fates) (due_in gap (n + 1) fates)
 due_in gap n (_ ∷ fates) = due_in gap (n + 1) fates
-
-abbrev pub gap_kept : Table → Certificate → List Outline → ℕ → Progress → Result Progress CheckFault
-gap_kept table c entries since p =
-    closings_kept table entries since (filter (λ x. x.gap == length entries) c.close) p
-    >>= expiries_kept table entries since (filter (λ x. x.gap == length entries) c.expire)
-    >>= deliveries_kept table entries (due_in (length entries) 0 c.fates)
 
 -- ---- a message
 

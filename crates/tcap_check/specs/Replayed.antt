@@ -71,6 +71,18 @@ certificate_fits c = do
   all_fit (length c.fates) (map (λ x. (x.entry, x.gap)) c.close)
   all_fit (length c.fates) (map (λ x. (x.entry, x.gap)) c.expire)
 
+-- ---- who is judged: both ends, or one alone
+
+-- whether an end is
+abbrev pub is_judged : Option Side → Side → Bool
+is_judged None side = true
+is_judged (Some judged) side = is_side judged side
+
+-- whether what an end sends comes to one that is
+abbrev pub is_heard : Option Side → Side → Bool
+is_heard None sender = true
+is_heard (Some judged) sender = is_side (other judged) sender
+
 -- ---- steps
 
 -- What was built so far: the steps, and the world behind them.

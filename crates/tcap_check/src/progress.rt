@@ -1,22 +1,18 @@
 //! What a checker keeps of two ends and two channels between them, and the steps of both (Q.774 3.2 and 3.3).
 
-ghost use Rattle.std.specs.Prelude.{◌≡◌, ◌<◌, ◌≤◌, ◌+◌, ◌^◌, IsSome, OnErr, OnOk, length};
+ghost use Rattle.std.specs.Prelude.{◌≡◌, ◌<◌, ◌+◌, ◌^◌, IsSome, OnErr, OnOk, length};
 ghost use Rattle.tcap_msg.specs.Parts.{otid_in};
 ghost use Rattle.tcap_end.specs.Step.{AnswersInMemory};
 ghost use Rattle.tcap_end.specs.Message.{receive};
-ghost use Rattle.tcap_model.specs.declared.reason.Reason.TheVariants.{BadReply};
-ghost use Rattle.tcap_record.specs.Ends.{other};
-ghost use Rattle.tcap_check.specs.Replayed.{fault_at};
-ghost use Rattle.tcap_check.specs.Plan.{IsPlan};
-ghost use Rattle.tcap_check.specs.Progress.{IsTakenFrom, Yields, YieldsInMemory, closing_kept, closings_kept, deliveries_kept};
-ghost use Rattle.tcap_check.specs.Progress.{empty_seat, end_moved, expiries_kept, expiry_kept, first_delivered, gap_kept, half_closes, invocation_ends};
-ghost use Rattle.tcap_check.specs.Progress.{nothing_kept, seat_at};
+ghost use Rattle.tcap_check.specs.Hearing.{is_judged};
+ghost use Rattle.tcap_check.specs.Replayed.{closings_judged, expiries_judged};
+ghost use Rattle.tcap_check.specs.Progress.{IsTakenFrom, Yields, closing_kept, closings_kept, empty_seat, expiries_kept};
+ghost use Rattle.tcap_check.specs.Progress.{expiry_kept, half_closes, invocation_ends, nothing_kept, seat_at};
 
-use crate::certificate::{Certificate, Closing, Expiry};
+use crate::certificate::{Closing, Expiry};
 use crate::fault::CheckFault;
 use crate::held::Held;
 use crate::outline::{Outline, half_closed, invocation_ended};
-use crate::plan::Plan;
 use std::alloc::Global;
 use std::collections::LinkedList;
 use tcap_end::{EndFault, EndState, HalfName, Table};
@@ -56,6 +52,16 @@ impl<'r> Seat<'r> {
             waiting: LinkedList::new(alloc),
             latest: 0,
         }
+    }
+}
+
+/// Whether an end is judged: both are, or that one alone.
+pub(crate) fn is_judged(judged: Option<End>, side: End) -> bool
+    ensures { result ≡ is_judged judged side }
+{
+    match judged {
+        None => true,
+        Some(judged) => judged == side,
     }
 }
 
@@ -132,7 +138,7 @@ impl<'r> Progress<'r> {
     }
 
     /// Closes the half that a closing names unseen.
-    pub(crate) fn close_listed(
+    fn close_listed(
         &mut self,
         table: &Table,
         entries: &[Outline],
@@ -153,7 +159,7 @@ impl<'r> Progress<'r> {
     }
 
     /// Ends the invocation that an expiry names unseen.
-    pub(crate) fn expire_listed(
+    fn expire_listed(
         &mut self,
         table: &Table,
         entries: &[Outline],
@@ -173,36 +179,48 @@ impl<'r> Progress<'r> {
         self.expire(table, x, name, id)
     }
 
-    /// Closes halves unseen, in the order in which they are listed.
-    fn close_all(
+    /// Closes halves of the ends that are judged unseen, in the order in which they are listed. What is listed of a peer that is not is
+    /// passed over.
+    #[tactic(auto, using(crate::proofs::HearingLaws::closes_first, crate::proofs::HearingLaws::closes_none))]
+    pub(crate) fn close_all(
         &mut self,
         table: &Table,
+        judged: Option<End>,
         entries: &[Outline],
         since: usize,
         closings: &[Closing],
     ) -> Result<(), CheckFault>
         requires room { self.old.moves + length closings.now < 2 ^ 128 }
-        ensures { Yields (closings_kept table.now entries.now since closings.now self.old) result self.new }
+        ensures { Yields (closings_kept table.now entries.now since (closings_judged judged closings.now) self.old) result
+            self.new }
     {
         for x in closings {
-            self.close_listed(table, entries, since, x)?;
+            if is_judged(judged, x.side) {
+                self.close_listed(table, entries, since, x)?;
+            }
         }
         Ok(())
     }
 
-    /// Ends invocations unseen, in the order in which they are listed.
-    fn expire_all(
+    /// Ends invocations of the ends that are judged unseen, in the order in which they are listed. What is listed of a peer that is not
+    /// is passed over.
+    #[tactic(auto, using(crate::proofs::HearingLaws::ends_first, crate::proofs::HearingLaws::ends_none))]
+    pub(crate) fn expire_all(
         &mut self,
         table: &Table,
+        judged: Option<End>,
         entries: &[Outline],
         since: usize,
         expiries: &[Expiry],
     ) -> Result<(), CheckFault>
         requires room { self.old.moves + length expiries.now < 2 ^ 128 }
-        ensures { Yields (expiries_kept table.now entries.now since expiries.now self.old) result self.new }
+        ensures { Yields (expiries_kept table.now entries.now since (expiries_judged judged expiries.now) self.old) result
+            self.new }
     {
         for x in expiries {
-            self.expire_listed(table, entries, since, x)?;
+            if is_judged(judged, x.side) {
+                self.expire_listed(table, entries, since, x)?;
+            }
         }
         Ok(())
     }
@@ -215,93 +233,5 @@ impl<'r> Progress<'r> {
             End::A => self.a.waiting.pop_front(),
             End::B => self.b.waiting.pop_front(),
         }
-    }
-
-    /// An end receives a message of its peer, that of the number, and may not refuse it.
-    fn hand_over(
-        &mut self,
-        table: &Table,
-        side: End,
-        number: u32,
-        message: &Held,
-    ) -> Result<(), CheckFault>
-        requires room { self.old.moves + 1 < 2 ^ 128 }
-        ensures { YieldsInMemory (end_moved (other side) (fault_at BadReply number) self.old
-            (receive table.now (seat_at (other side) self.old).end message.now)) result self.new }
-    {
-        let received = match side {
-            End::A => receive(&mut self.b.end, table, message),
-            End::B => receive(&mut self.a.end, table, message),
-        };
-        match received {
-            Ok(()) => {
-                self.moves += 1;
-                Ok(())
-            }
-            Err(EndFault::Memory) => Err(OUT_OF_MEMORY),
-            Err(_) => Err(CheckFault {
-                reason: Reason::BadReply,
-                entry: u64::from(number),
-            }),
-        }
-    }
-
-    /// Delivers the first message on its way from an end, which has to be that of the number.
-    #[tactic(auto, using(crate::proofs::DeliveringLaws::hands, crate::proofs::DeliveringLaws::hands_another))]
-    fn deliver(&mut self, table: &Table, side: End, number: u32) -> Result<(), CheckFault>
-        requires room { self.old.moves + 1 < 2 ^ 128 }
-        ensures { YieldsInMemory (first_delivered table.now side number (seat_at side self.old).waiting self.old)
-            result self.new }
-    {
-        let refused = CheckFault {
-            reason: Reason::BadReply,
-            entry: u64::from(number),
-        };
-        let Some(first) = self.take_first(side) else {
-            return Err(refused);
-        };
-        if first.number != u64::from(number) {
-            return Err(refused);
-        }
-        self.hand_over(table, side, number, &first.message)
-    }
-
-    /// Delivers messages, in the order of their numbers.
-    fn deliver_all(
-        &mut self,
-        table: &Table,
-        entries: &[Outline],
-        numbers: &[u32],
-    ) -> Result<(), CheckFault>
-        requires room { self.old.moves + length numbers.now < 2 ^ 128 }
-        ensures { YieldsInMemory (deliveries_kept table.now entries.now numbers.now self.old) result self.new }
-    {
-        for number in numbers {
-            if let Some(Outline::Sent(side, _)) = entries.get(*number as usize) {
-                self.deliver(table, *side, *number)?;
-            }
-        }
-        Ok(())
-    }
-
-    /// What happens in the gap before the next entry: its closings, its expiries and its deliveries.
-    pub(crate) fn pass_gap(
-        &mut self,
-        table: &Table,
-        certificate: &Certificate,
-        plan: &Plan,
-        entries: &[Outline],
-        since: usize,
-    ) -> Result<(), CheckFault>
-        requires plan { IsPlan certificate.now plan.now }
-        requires within { length entries.now ≤ length certificate.now.fates }
-        requires room { self.old.moves < 2 ^ 127 }
-        ensures passed { YieldsInMemory (gap_kept table.now certificate.now entries.now since self.old) result self.new }
-        ensures grows { OnOk result (self.new.moves ≤ self.old.moves + 2 ^ 66) }
-    {
-        let gap = entries.len();
-        self.close_all(table, entries, since, plan.closings.get(gap))?;
-        self.expire_all(table, entries, since, plan.expiries.get(gap))?;
-        self.deliver_all(table, entries, plan.due.get(gap))
     }
 }

@@ -8,8 +8,8 @@ ghost use Rattle.tcap_model.specs.World.{Item, Sent};
 ghost use Rattle.tcap_check.specs.Outlines.{outline_of};
 ghost use Rattle.tcap_check.specs.Progress.{YieldsInMemory, overtakes, seat_at};
 ghost use Rattle.tcap_check.specs.Replayed.{certificate_fits, fault_at, is_gap, run_by};
-ghost use Rattle.tcap_check.specs.Checking.{Took, gap_before, is_alone, kept_ended, kept_next, map_ok, message_taken};
-ghost use Rattle.tcap_check.specs.Checking.{quiet_by, reading, reported, tied_now};
+ghost use Rattle.tcap_check.specs.Checking.{Took, gap_before, is_alone, kept_ended, kept_next, map_ok, reading, reported, tied_now};
+ghost use Rattle.tcap_check.specs.Hearing.{mark_taken, message_taken};
 ghost use Rattle.tcap_check.specs.Plan.{IsPlan, flag_by};
 ghost use Rattle.tcap_check.specs.Ready.{IsReady, IsSameBesideEntries, IsSameBesideHearing, checking_of, kept_in};
 
@@ -136,23 +136,14 @@ impl<'a, 'r> Replaying<'a, 'r> {
         ensures unheard { OnOk result (self.new.hearing.unheard ≤ self.old.hearing.unheard + 100000) }
         ensures others { IsSameBesideHearing self.old self.new }
     {
-        match self.judged {
-            None => self.hearing.progress.pass_gap(
-                self.table,
-                self.certificate,
-                &self.plan,
-                &self.entries,
-                self.since,
-            ),
-            Some(judged) => self.hearing.pass_gap(
-                self.table,
-                self.certificate,
-                &self.plan,
-                judged,
-                &self.entries,
-                self.since,
-            ),
-        }
+        self.hearing.pass_gap(
+            self.table,
+            self.certificate,
+            &self.plan,
+            self.judged,
+            &self.entries,
+            self.since,
+        )
     }
 
     /// What is kept of the next entry.
@@ -181,40 +172,6 @@ impl<'a, 'r> Replaying<'a, 'r> {
         self.keep(outline)
     }
 
-    /// Behind the gap, where that end alone is judged: it sends a message, or its peer tells it.
-    fn join_alone<M: MessageParts>(
-        &mut self,
-        judged: End,
-        side: End,
-        fate: Fate,
-        message: &M,
-        lent: Option<&'r Message>,
-    ) -> Result<(), CheckFault>
-        requires plan { IsPlan self.old.certificate.now self.old.plan }
-        requires within { length self.old.entries.items ≤ length self.old.certificate.now.fates }
-        requires few { length self.old.certificate.now.fates ≤ 100000 }
-        requires room { self.old.hearing.progress.moves < 2 ^ 127 }
-        requires counts { self.old.hearing.own + self.old.hearing.unheard < 2 ^ 63 }
-        requires same { IfSome lent (λ lent. lent.now ≡ M.meaning message.now) }
-        ensures taken { YieldsInMemory (message_taken (Some judged) self.old.table.now side fate (length self.old.entries.items)
-            (M.meaning message.now) (tied_now (Some judged) self.old.certificate.now (kept_in self.old)) self.old.hearing) result
-            self.new.hearing }
-        ensures grows { OnOk result (self.new.hearing.progress.moves ≤ self.old.hearing.progress.moves + 2 ^ 65) }
-        ensures own { OnOk result (self.new.hearing.own ≤ self.old.hearing.own + 1) }
-        ensures unheard { OnOk result (self.new.hearing.unheard ≤ self.old.hearing.unheard + 1) }
-        ensures others { IsSameBesideHearing self.old self.new }
-    {
-        let tied = self.tied_to(judged)?;
-        let number = self.entries.len() as u64;
-        if side == judged {
-            self.hearing
-                .take_own(self.alloc, self.table, judged, number, message, &tied)
-        } else {
-            self.hearing
-                .take_told(self.alloc, judged, fate, number, message, lent, &tied)
-        }
-    }
-
     /// Behind the gap: an end sends a message, or the peer of the judged one tells it.
     fn join<M: MessageParts>(
         &mut self,
@@ -237,20 +194,19 @@ impl<'a, 'r> Replaying<'a, 'r> {
         ensures unheard { OnOk result (self.new.hearing.unheard ≤ self.old.hearing.unheard + 1) }
         ensures others { IsSameBesideHearing self.old self.new }
     {
+        let entry = self.entries.len();
+        let (alloc, table, number) = (self.alloc, self.table, entry as u64);
         let Some(judged) = self.judged else {
-            let entry = self.entries.len();
-            return self.hearing.progress.take_message(
-                self.alloc,
-                self.table,
-                side,
-                fate,
-                entry as u64,
-                message,
-                lent,
-                self.plan.taken.get(entry),
+            let takes = self.plan.taken.get(entry);
+            return self.hearing.take_message(
+                alloc, table, None, side, fate, number, message, lent, takes,
             );
         };
-        self.join_alone(judged, side, fate, message, lent)
+        let tied = self.tied_to(judged)?;
+        let judged = Some(judged);
+        self.hearing.take_message(
+            alloc, table, judged, side, fate, number, message, lent, &tied,
+        )
     }
 
     /// The next entry is a message that an end sent; it is lent, where it outlives the replay.
@@ -297,7 +253,7 @@ impl<'a, 'r> Replaying<'a, 'r> {
         requires within { length self.old.entries.items ≤ length self.old.certificate.now.fates }
         requires few { length self.old.certificate.now.fates ≤ 100000 }
         requires room { self.old.hearing.progress.moves < 2 ^ 126 }
-        ensures quiet { YieldsInMemory (quiet_by self.old.judged self.old.table.now (length self.old.entries.items)
+        ensures quiet { YieldsInMemory (mark_taken self.old.judged self.old.table.now (length self.old.entries.items)
             (tied_now self.old.judged self.old.certificate.now (kept_in self.old)) self.old.hearing) result self.new.hearing }
         ensures grows { OnOk result (self.new.hearing.progress.moves ≤ self.old.hearing.progress.moves + 2 ^ 66) }
         ensures own { OnOk result (self.new.hearing.own ≡ self.old.hearing.own) }
@@ -306,14 +262,14 @@ impl<'a, 'r> Replaying<'a, 'r> {
     {
         let entry = self.entries.len();
         let Some(judged) = self.judged else {
+            let takes = self.plan.taken.get(entry);
             return self
                 .hearing
-                .progress
-                .take_mark(entry as u64, self.plan.taken.get(entry));
+                .take_mark(self.table, None, entry as u64, takes);
         };
         let tied = self.tied_to(judged)?;
         self.hearing
-            .take_mark(self.table, judged, entry as u64, &tied)
+            .take_mark(self.table, Some(judged), entry as u64, &tied)
     }
 
     /// The next entry is a quiet mark.

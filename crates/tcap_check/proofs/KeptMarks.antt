@@ -1,5 +1,5 @@
--- A quiet mark, over what is kept for one end, is that of its replay.
-use Rattle.std.proofs.Common.{◌≡◌, ℕ, suc, ◌+◌, Bool, true, false, List, [], ◌∷◌, length, Option, Some, Result, Ok, Err, refl, sym, ap, ap₂, subst, ◌∙◌, arith, append-nil}
+-- A quiet mark, over what is kept, is that of the replay.
+use Rattle.std.proofs.Common.{◌≡◌, ℕ, suc, ◌+◌, Bool, true, false, List, [], ◌∷◌, length, Option, Some, None, Result, Ok, Err, refl, sym, ap, ap₂, subst, ◌∙◌, arith, append-nil}
 use Rattle.std.specs.Prelude.{◌&&◌, ok_or}
 use Rattle.tcap_record.specs.declared.entry.End.{End as Side}
 use Rattle.tcap_record.specs.declared.entry.End.TheVariants as sides
@@ -20,17 +20,16 @@ use Rattle.tcap_record.specs.Ends.{other}
 use Rattle.tcap_model.specs.World.{Item, OnItsWay, World, channel_from, end_at, with_end}
 use Rattle.tcap_model.specs.Run.{Event, Closes, Quiet, after}
 use Rattle.tcap_check.specs.Certificate.{Certificate}
-use Rattle.tcap_check.specs.Replayed.{Replay, closed_at_mark, fault_at, happens, is_nothing, lost_from_both, lost_from_front, next_entry, stepped, with_step}
+use Rattle.tcap_check.specs.Replayed.{Replay, closed_at_mark, closed_before, fault_at, happens, is_nothing, lost_from_both, lost_from_front, lost_last, next_entry, stepped, with_step}
 use Rattle.tcap_check.specs.Progress.{both_quiet, is_empty, mark_kept, moved, seat_at, with_seat_end}
-use Rattle.tcap_check.specs.Checking.{count_lost, map_ok, progress_of, waiting}
-use Rattle.tcap_check.specs.Hearing.{mark_by, mark_taken, quieted, with_progress}
-use Rattle.tcap_check.specs.Checking.{all_lost, count_losses, hearing_of}
+use Rattle.tcap_check.specs.Hearing.{closed_or_not, mark_taken, quieted, with_progress}
+use Rattle.tcap_check.specs.Checking.{all_lost, count_losses, count_lost, hearing_by, map_ok, progress_of, waiting}
 use Rattle.tcap_model.proofs.RunLaws.{map_some, quiet as quiet_step}
-use Rattle.tcap_check.proofs.KeptBasics.{end_kept, waiting_kept}
-use Rattle.tcap_check.proofs.KeptEntries.{mark_by_is}
-use Rattle.tcap_check.proofs.HeardLost.{end_is_moved, end_stays}
-use Rattle.tcap_check.proofs.HeardStays.{Stays, closes_stays, no_loss, stays_same, stays_then}
-use Rattle.tcap_check.proofs.HeardSteps.{end_step_heard, losing_heard, same_hearing}
+use Rattle.tcap_check.proofs.KeptBasics.{end_kept, map_both, waiting_kept}
+use Rattle.tcap_check.proofs.KeptLost.{end_is_moved, end_of, end_stays}
+use Rattle.tcap_check.proofs.KeptQuiet.{mark_by_is}
+use Rattle.tcap_check.proofs.KeptStays.{Stays, closes_stays, no_loss, stays_same, stays_then}
+use Rattle.tcap_check.proofs.KeptHearing.{end_step_heard, losing_heard, same_hearing}
 use Rattle.tcap_check.proofs.WorldLaws.{end_with}
 
 -- ---- the open halves close
@@ -44,7 +43,7 @@ record Closed (table : Table) (c : Certificate) (side : Side) (mark : ℕ) (name
   behind : Replay
   closes : closed_at_mark table side mark names r ≡ Ok behind
   end : end_at side behind.world ≡ e
-  kept : hearing_of side c behind ≡ with_progress (hearing_of side c r) (later side e (length names) (hearing_of side c r).progress)
+  kept : hearing_by (Some side) c behind ≡ with_progress (hearing_by (Some side) c r) (later side e (length names) (hearing_by (Some side) c r).progress)
   stays : Stays r behind
 
 -- They close, or one of them may not.
@@ -67,17 +66,14 @@ later_none : (side : Side) (p : Progress) → p ≡ later side (seat_at side p).
 later_none sides.A p = let same : p.moves ≡ p.moves + 0 = omega arith in ap (λ (m : ℕ). let x : Progress = record p { moves = m } in x) same
 later_none sides.B p = let same : p.moves ≡ p.moves + 0 = omega arith in ap (λ (m : ℕ). let x : Progress = record p { moves = m } in x) same
 
-end_heard : (side : Side) (c : Certificate) (r : Replay) → (seat_at side (hearing_of side c r).progress).end ≡ end_at side r.world
-end_heard side c r = end_stays side side (progress_of c r) ∙ end_kept c side r
-
 closings_are : (table : Table) (c : Certificate) (side : Side) (mark : ℕ) (names : List HalfName) (r : Replay)
     → Closings table c side mark names r (close_each table names (end_at side r.world))
 closings_are table c side mark [] r = record {
   behind = r;
   closes = refl;
   end = refl;
-  kept = ap (with_progress (hearing_of side c r)) (later_none side (hearing_of side c r).progress
-      ∙ ap (λ (e : End). later side e 0 (hearing_of side c r).progress) (end_heard side c r));
+  kept = ap (with_progress (hearing_by (Some side) c r)) (later_none side (hearing_by (Some side) c r).progress
+      ∙ ap (λ (e : End). later side e 0 (hearing_by (Some side) c r).progress) (end_of (Some side) c side r));
   stays = stays_same r r refl;
 }
 closings_are table c side mark (name ∷ more) r =
@@ -100,8 +96,8 @@ closings_are table c side mark (name ∷ more) r =
     then_closed e (Err reason) is rest = ap (λ (x : Option Replay). ok_or x fault >>= closed_at_mark table side mark more) (behind_one e is) ∙ rest
     then_closed e (Ok last) is rest =
         let next = with_step (Closes side name) r (with_end side e r.world) in
-        let h = hearing_of side c r in
-        let one = end_step_heard side c (Closes side name) e r (λ at. refl) in
+        let h = hearing_by (Some side) c r in
+        let one = end_step_heard (Some side) c (Closes side name) side e r (λ at. refl) in
         record {
           behind = rest.behind;
           closes = ap (λ (x : Option Replay). ok_or x fault >>= closed_at_mark table side mark more) (behind_one e is) ∙ rest.closes;
@@ -186,7 +182,7 @@ lost_mark sides.A number [] p none =
     by false own peer = refl
     by true (Err reason) peer = refl
     by true (Ok a) (Err reason) = refl
-    by true (Ok a) (Ok b) = ap Ok (end_is_moved sides.A sides.B b (with_seat_end sides.A a p))
+    by true (Ok a) (Ok b) = ap Ok (end_is_moved (Some sides.A) sides.B b (with_seat_end sides.A a p))
 lost_mark sides.B number [] p none =
     ap (λ (x : List Waiting). needs (is_empty p.a.waiting && is_empty x) (fault_at NotQuiet number)
     >> both_quiet number (all_lost sides.B p) (quiet p.a.end) (quiet p.b.end)) (sym none)
@@ -198,7 +194,7 @@ lost_mark sides.B number [] p none =
     by false peer own = refl
     by true (Err reason) own = refl
     by true (Ok a) (Err reason) = refl
-    by true (Ok a) (Ok b) = ap Ok (end_is_moved sides.B sides.B b (with_seat_end sides.A a p))
+    by true (Ok a) (Ok b) = ap Ok (end_is_moved (Some sides.B) sides.B b (with_seat_end sides.A a p))
 
 -- ---- losses before the mark
 
@@ -219,14 +215,14 @@ both_are c sides.B r is = none_lost c sides.B (lost_from_front c sides.A r) is
 -- Behind a mark what is kept besides the ends is the same.
 quiet_heard : (table : Table) (c : Certificate) (side : Side) (mark : ℕ) (r next : Replay) → channel_from side r.world ≡ []
     → happens table c Quiet NotQuiet mark r ≡ Ok next
-    → with_progress (hearing_of side c r) (all_lost side (progress_of c next)) ≡ hearing_of side c next
+    → with_progress (hearing_by (Some side) c r) (all_lost side (progress_of c next)) ≡ hearing_by (Some side) c next
 quiet_heard table c side mark r next empty is =
     let before = lost_from_both c r in
     let step = some_ok (stepped table Quiet before) (fault_at NotQuiet mark) next is in
     let found = map_some _ (after table Quiet before.world) next step in
     let q = quiet_step table before.world found.0 found.1 in
-    let was : hearing_of side c r ≡ hearing_of side c before =
-    sym (ap (hearing_of side c) (both_are c side r empty) ∙ losing_heard side c r) in
+    let was : hearing_by (Some side) c r ≡ hearing_by (Some side) c before =
+    sym (ap (hearing_by (Some side) c) (both_are c side r empty) ∙ losing_heard side c r) in
     let made : with_step Quiet before found.0 ≡ next = found.2 in
     same_hearing _ _ _ _ _ _ refl
     (ap (λ (h : Hearing). h.own) was ∙ own side before found.0 next q.from_a q.from_b (ap (channel_from side) q.next_is ∙ quiet_channel _ side) made)
@@ -272,7 +268,7 @@ quiet_empty table side r next is =
     by sent sides.B = refl
 
 -- the mark of a replay
-abbrev pub mark_heard : Table → Certificate → Side → ℕ → List ℕ → Replay → Result Replay CheckFault
+abbrev mark_heard : Table → Certificate → Side → ℕ → List ℕ → Replay → Result Replay CheckFault
 mark_heard table c side mark takes r =
     needs (is_nothing takes) (fault_at NotQuiet mark)
     >> (closed_at_mark table side mark (open_halves (end_at side r.world)) r
@@ -320,25 +316,25 @@ module _ (table : Table) (c : Certificate) (side : Side) (takes : List ℕ) (r :
   end_kept_is e closed = end_kept c side closed.behind ∙ closed.end
 
   behind_is : (e q : End) (closed : Closed table c side mark halves r e)
-      → quieted side q (hearing_of side c r).progress ≡ with_seat_end side q (all_lost side (progress_of c closed.behind))
+      → quieted side q (hearing_by (Some side) c r).progress ≡ with_seat_end side q (all_lost side (progress_of c closed.behind))
   behind_is e q closed =
-      let p = (hearing_of side c r).progress in
-      ap (λ (x : End). later side q (length (open_halves x)) p) (end_heard side c r)
+      let p = (hearing_by (Some side) c r).progress in
+      ap (λ (x : End). later side q (length (open_halves x)) p) (end_of (Some side) c side r)
       ∙ sym (put_later side e q (length halves) p)
       ∙ ap (λ (h : Hearing). with_seat_end side q h.progress) (sym closed.kept)
 
   quiet_is : (e q : End) (closed : Closed table c side mark halves r e) → quiet e ≡ Ok q
-      → mark_kept mark takes (quieted side q (hearing_of side c r).progress)
+      → mark_kept mark takes (quieted side q (hearing_by (Some side) c r).progress)
       ≡ map_ok (all_lost side) (map_ok (progress_of c) (last closed.behind))
   quiet_is e q closed is =
       let p = progress_of c closed.behind in
       ap (mark_kept mark takes) (behind_is e q closed)
-      ∙ quieted_is side mark takes (all_lost side p) q (ap quiet (end_stays side side p ∙ end_kept_is e closed) ∙ is)
+      ∙ quieted_is side mark takes (all_lost side p) q (ap quiet (end_stays (Some side) side p ∙ end_kept_is e closed) ∙ is)
       ∙ lost_mark side mark takes p (waiting_kept c side closed.behind ∙ ap (waiting c.fates) (closed.stays.channels side ∙ empty))
       ∙ ap (map_ok (all_lost side)) (kept_is e closed)
 
   heard_so : (e : End) (closed : Closed table c side mark halves r e) (s : Result Replay CheckFault) → last closed.behind ≡ s
-      → map_ok (with_progress (hearing_of side c r)) (map_ok (all_lost side) (map_ok (progress_of c) s)) ≡ map_ok (hearing_of side c) s
+      → map_ok (with_progress (hearing_by (Some side) c r)) (map_ok (all_lost side) (map_ok (progress_of c) s)) ≡ map_ok (hearing_by (Some side) c) s
   heard_so e closed (Err reason) is = refl
   heard_so e closed (Ok next) is =
       let so = needs_ok (is_nothing takes) fault (happens table c Quiet NotQuiet mark closed.behind) next is in
@@ -348,32 +344,53 @@ module _ (table : Table) (c : Certificate) (side : Side) (takes : List ℕ) (r :
       ∙ quiet_heard table c side mark closed.behind next (closed.stays.channels side ∙ empty) so.1)
 
   marked : (o : Result End EndFault) → Closings table c side mark halves r o
-      → map_ok (with_progress (hearing_of side c r)) (mark_by side mark takes (hearing_of side c r).progress (o >>= quiet))
-      ≡ map_ok (hearing_of side c) (mark_heard table c side mark takes r)
+      → map_ok (with_progress (hearing_by (Some side) c r)) (closed_or_not side mark (hearing_by (Some side) c r).progress (o >>= quiet) >>= mark_kept mark takes)
+      ≡ map_ok (hearing_by (Some side) c) (mark_heard table c side mark takes r)
   marked (Err reason) is = by (is_nothing takes)
     where
       by : (b : Bool) → (let x : Result Hearing CheckFault = Err fault in x)
-          ≡ map_ok (hearing_of side c) (needs b fault >> (closed_at_mark table side mark halves r
+          ≡ map_ok (hearing_by (Some side) c) (needs b fault >> (closed_at_mark table side mark halves r
           >>= λ closed. ok_or (stepped table Quiet (lost_from_front c (other side) closed)) fault))
       by true = rw is refl
       by false = refl
   marked (Ok e) closed = by (quiet e) refl
     where
       by : (o : Result End EndFault) → quiet e ≡ o
-          → map_ok (with_progress (hearing_of side c r)) (mark_by side mark takes (hearing_of side c r).progress o)
-          ≡ map_ok (hearing_of side c) (mark_heard table c side mark takes r)
+          → map_ok (with_progress (hearing_by (Some side) c r)) (closed_or_not side mark (hearing_by (Some side) c r).progress o >>= mark_kept mark takes)
+          ≡ map_ok (hearing_by (Some side) c) (mark_heard table c side mark takes r)
       by (Err reason) is =
           let none = open_is side mark takes (progress_of c closed.behind) reason (ap quiet (end_kept_is e closed) ∙ is) in
           let refused_here = refused_so (progress_of c) (last closed.behind) fault (sym (kept_is e closed) ∙ none) in
-          sym (ap (map_ok (hearing_of side c)) (heard_is e closed ∙ refused_here))
+          sym (ap (map_ok (hearing_by (Some side) c)) (heard_is e closed ∙ refused_here))
       by (Ok q) is =
-          ap (map_ok (with_progress (hearing_of side c r))) (quiet_is e q closed is)
+          ap (map_ok (with_progress (hearing_by (Some side) c r))) (quiet_is e q closed is)
           ∙ heard_so e closed (last closed.behind) refl
-          ∙ ap (map_ok (hearing_of side c)) (sym (heard_is e closed))
+          ∙ ap (map_ok (hearing_by (Some side) c)) (sym (heard_is e closed))
 
-  pub mark_is : mark_taken table side (next_entry r) takes (hearing_of side c r)
-      ≡ map_ok (hearing_of side c) (mark_heard table c side (next_entry r) takes r)
-  mark_is =
-      ap (λ (e : End). map_ok (with_progress (hearing_of side c r))
-      (mark_by side mark takes (hearing_of side c r).progress (quiet_unseen table e))) (end_heard side c r)
+  mark_of_one : mark_taken (Some side) table (next_entry r) takes (hearing_by (Some side) c r)
+      ≡ map_ok (hearing_by (Some side) c) (mark_heard table c side (next_entry r) takes r)
+  mark_of_one =
+      ap (λ (e : End). map_ok (with_progress (hearing_by (Some side) c r))
+      (closed_or_not side mark (hearing_by (Some side) c r).progress (quiet_unseen table e) >>= mark_kept mark takes)) (end_of (Some side) c side r)
       ∙ marked (close_each table halves (end_at side r.world)) (closings_are table c side mark halves r)
+
+-- The halves of the end that alone is judged close, and the mark takes no message.
+abbrev pub marked_by : Option Side → Table → Certificate → ℕ → List ℕ → Replay → Result Replay CheckFault
+marked_by judged table c mark takes r =
+    needs (is_nothing takes) (fault_at NotQuiet mark)
+    >> (closed_before judged table mark r
+    >>= λ closed. ok_or (stepped table Quiet (lost_last judged c closed)) (fault_at NotQuiet mark))
+
+-- Nothing is on its way from the end that is judged alone.
+abbrev pub IsHeard : Option Side → Replay → Type 0
+IsHeard None r = Unit {0}
+IsHeard (Some judged) r = channel_from judged r.world ≡ []
+
+pub mark_is : (judged : Option Side) (table : Table) (c : Certificate) (takes : List ℕ) (r : Replay) → IsHeard judged r
+    → mark_taken judged table (next_entry r) takes (hearing_by judged c r)
+    ≡ map_ok (hearing_by judged c) (marked_by judged table c (next_entry r) takes r)
+mark_is None table c takes r empty =
+    ap (map_ok (with_progress (hearing_by None c r))) (mark_by_is table c takes r)
+    ∙ map_both (progress_of c) (with_progress (hearing_by None c r)) (hearing_by None c)
+    (needs (is_nothing takes) (fault_at NotQuiet (next_entry r)) >> happens table c Quiet NotQuiet (next_entry r) r) (λ next is. refl)
+mark_is (Some judged) table c takes r empty = mark_of_one table c judged takes r empty

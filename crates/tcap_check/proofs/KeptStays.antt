@@ -81,7 +81,7 @@ sent_with_end sides.A e w = refl
 sent_with_end sides.B e w = refl
 
 -- A step that changes an end alone.
-end_step_stays : (event : Event) (at : Side) (e : End) (r next : Replay) (w : World)
+pub end_step_stays : (event : Event) (at : Side) (e : End) (r next : Replay) (w : World)
     → ((side : Side) → is_lost_from side event ≡ false) → w ≡ with_end at e r.world → with_step event r w ≡ next → Stays r next
 end_step_stays event at e r next w none w_is is = record {
   losses = λ side. ap (λ (x : Replay). count_losses side x.events) (sym is) ∙ no_loss side r.events event (none side);

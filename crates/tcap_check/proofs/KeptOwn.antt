@@ -24,9 +24,9 @@ use Rattle.tcap_check.specs.Alone.{deliveries_heard, delivery_heard, entry_heard
 use Rattle.tcap_check.specs.Replayed.{Replay, all_lost_from, certificate_fits, closed_at_mark, closings_replayed, expiries_replayed, fault_at, heard, is_gap, is_nothing, is_overtaking, lost_from_front, message_by, next_entry, nothing_replayed, or_else, stepped, told_replayed, with_step}
 use Rattle.tcap_check.specs.Checking.{taken, taken_from, taken_next}
 use Rattle.tcap_model.proofs.RunLaws.{delivery, loss, map_some}
-use Rattle.tcap_check.proofs.HeardStays.{closings_stay, expiries_stay}
-use Rattle.tcap_check.proofs.HeardMarks.{quiet_empty}
-use Rattle.tcap_check.proofs.HeardMessages.{nothing_left, own_told}
+use Rattle.tcap_check.proofs.KeptStays.{closings_stay, expiries_stay}
+use Rattle.tcap_check.proofs.KeptMarks.{quiet_empty}
+use Rattle.tcap_check.proofs.KeptTaken.{nothing_left, own_told}
 use Rattle.tcap_check.proofs.WorldLaws.{own_with_channel, own_with_end}
 
 -- ---- a gap

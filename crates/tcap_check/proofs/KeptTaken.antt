@@ -9,7 +9,7 @@ use Rattle.tcap_end.specs.declared.fault.EndFault.{EndFault}
 use Rattle.tcap_end.specs.End.{End}
 use Rattle.tcap_end.specs.Message.{send}
 use Rattle.tcap_end.specs.Table.{Table}
-use Rattle.tcap_end.specs.Step.{needs, ◌>>◌, ◌>>=◌}
+use Rattle.tcap_end.specs.Step.{needs, ◌>>◌}
 use Rattle.tcap_end.proofs.AnsweringLaws.{needs_ok, ok_same, some_ok, then_ok}
 use Rattle.tcap_check.specs.declared.certificate.Fate.{Fate}
 use Rattle.tcap_check.specs.declared.certificate.Fate.TheVariants.{Gap, Lost, By}
@@ -22,17 +22,18 @@ use Rattle.tcap_model.specs.World.{OnItsWay, Sent, World, channel_from, end_at, 
 use Rattle.tcap_model.specs.Run.{Event, Sends, Receives, Replies, Loses, Expires, Closes, Quiet, Tells, after, joined, numbers_of}
 use Rattle.tcap_check.specs.Certificate.{Certificate}
 use Rattle.tcap_check.specs.Follows.{invoking_half, sending_by}
-use Rattle.tcap_check.specs.Replayed.{Replay, all_lost_from, fault_at, happens, if_lost, implied_over, is_abort, is_nothing, lost_from_front, lost_front, message_by, next_entry, send_replayed, sent_or_refused, stepped, with_step}
+use Rattle.tcap_check.specs.Replayed.{Replay, all_lost_from, behind_sending, fault_at, happens, if_lost, implied_over, is_abort, is_nothing, lost_from_front, lost_front, message_by, next_entry, send_replayed, sent_or_refused, stepped, with_step}
 use Rattle.tcap_check.specs.Checking.{count_lost, lost_by, map_ok, progress_of, waiting, waiting_by}
-use Rattle.tcap_check.specs.Hearing.{own_counted, own_taken, told_taken, told_with, unheard_with}
-use Rattle.tcap_check.specs.Checking.{all_lost, count_losses, hearing_of}
+use Rattle.tcap_check.specs.Hearing.{is_heard, own_counted, own_taken, told_taken, told_with, unheard_with}
+use Rattle.tcap_check.specs.Checking.{all_lost, count_losses, hearing_by}
 use Rattle.tcap_model.proofs.RunLaws.{map_some, reply}
 use Rattle.tcap_check.proofs.ReplaySteps.{channel_with}
 use Rattle.tcap_check.proofs.KeptMessages.{message_by_is}
 use Rattle.tcap_check.proofs.KeptSends.{joined_is, lost_more, lost_one}
-use Rattle.tcap_check.proofs.HeardLost.{message_lost, told_joins}
-use Rattle.tcap_check.proofs.HeardStays.{implied_over_stays, losses_both, no_loss}
-use Rattle.tcap_check.proofs.HeardSteps.{all_are_losses, losing_heard, same_hearing}
+use Rattle.tcap_check.proofs.KeptBasics.{map_both}
+use Rattle.tcap_check.proofs.KeptLost.{ends_of, told_joins}
+use Rattle.tcap_check.proofs.KeptStays.{implied_over_stays, losses_both, no_loss}
+use Rattle.tcap_check.proofs.KeptHearing.{all_are_losses, losing_heard, same_hearing}
 use Rattle.tcap_check.proofs.WorldLaws.{own_with_channel, own_with_end}
 
 -- ---- what is on its way from the end is lost
@@ -94,7 +95,7 @@ ends_lost c side r = by side
         rw (drop_all channel) (ap (λ (k : ℕ). let p : Progress = record (all_lost sides.B (progress_of c r)) { moves = k } in p) moves)
 
 -- It was counted, and nothing of it is kept.
-pub lost_heard : (c : Certificate) (side : Side) (r : Replay) → hearing_of side c r ≡ hearing_of side c (all_lost_from side r)
+pub lost_heard : (c : Certificate) (side : Side) (r : Replay) → hearing_by (Some side) c r ≡ hearing_by (Some side) c (all_lost_from side r)
 lost_heard c side r =
     let channel = channel_from side r.world in
     let losses = map (Loses side) (numbers_of channel) in
@@ -120,8 +121,8 @@ nothing_left side r =
 
 -- One message more of the end is on its way, and of its peer's as many were not received as before.
 record OneMore (side : Side) (c : Certificate) (r next : Replay) : Type 0 where
-  own : (hearing_of side c next).own ≡ (hearing_of side c r).own + 1
-  unheard : (hearing_of side c next).unheard ≡ (hearing_of side c r).unheard
+  own : (hearing_by (Some side) c next).own ≡ (hearing_by (Some side) c r).own + 1
+  unheard : (hearing_by (Some side) c next).unheard ≡ (hearing_by (Some side) c r).unheard
 
 own_joined : (side : Side) (message : Message) (w : World) → length (channel_from side (joined side message w)) ≡ length (channel_from side w) + 1
 own_joined sides.A message w = length-append w.from_a _
@@ -138,17 +139,17 @@ peer_with_end sides.B e w = refl
 -- A step by which a message of the end joins, behind a world with the same channel of the end.
 one_more : (side : Side) (c : Certificate) (event : Event) (message : Message) (r mid next : Replay) (w : World)
     → ((at : Side) → count_losses at (mid.events ++ event ∷ []) ≡ count_losses at mid.events)
-    → (hearing_of side c mid).own ≡ (hearing_of side c r).own
+    → (hearing_by (Some side) c mid).own ≡ (hearing_by (Some side) c r).own
     → channel_from side w ≡ channel_from side mid.world
-    → count_losses (other side) mid.events + count_lost c.fates (channel_from (other side) w) ≡ (hearing_of side c r).unheard
+    → count_losses (other side) mid.events + count_lost c.fates (channel_from (other side) w) ≡ (hearing_by (Some side) c r).unheard
     → with_step event mid (joined side message w) ≡ next → OneMore side c r next
 one_more side c event message r mid next w none own same unheard is = record {
-  own = ap (λ (x : Replay). (hearing_of side c x).own) (sym is)
+  own = ap (λ (x : Replay). (hearing_by (Some side) c x).own) (sym is)
       ∙ (let events = none side in
       let more = own_joined side message w in
       let channel : length (channel_from side w) ≡ length (channel_from side mid.world) = ap length same in
       omega (arith, events, more, channel, own));
-  unheard = ap (λ (x : Replay). (hearing_of side c x).unheard) (sym is)
+  unheard = ap (λ (x : Replay). (hearing_by (Some side) c x).unheard) (sym is)
       ∙ ap₂ (λ (n : ℕ) (x : List OnItsWay). n + count_lost c.fates x) (none (other side)) (peer_joined side message w)
       ∙ unheard;
 }
@@ -226,8 +227,8 @@ message_one table c side message (Some (Replies replier n)) r next is =
     let last : step.0 ≡ next = ok_same {F = CheckFault} step.0 next so.1 in
     let one = replies_one table c side n (next_entry r) r step.0 step.1 in
     record {
-      own = ap (λ (x : Replay). (hearing_of side c x).own) (sym last) ∙ one.own;
-      unheard = ap (λ (x : Replay). (hearing_of side c x).unheard) (sym last) ∙ one.unheard;
+      own = ap (λ (x : Replay). (hearing_by (Some side) c x).own) (sym last) ∙ one.own;
+      unheard = ap (λ (x : Replay). (hearing_by (Some side) c x).unheard) (sym last) ∙ one.unheard;
     }
 message_one table c side message (Some (Receives receiver n)) r next is = cc
 message_one table c side message (Some (Loses sender n)) r next is = cc
@@ -236,24 +237,38 @@ message_one table c side message (Some (Closes sender name)) r next is = cc
 message_one table c side message (Some Quiet) r next is = cc
 message_one table c side message (Some (Tells sender m)) r next is = cc
 
-pub own_is : (table : Table) (c : Certificate) (fate : Fate) (side : Side) (message : Message) (takes : List ℕ) (r : Replay)
-    → slice_get c.fates (next_entry r) ≡ Some fate
-    → own_taken table side (next_entry r) message takes (hearing_of side c r)
-    ≡ map_ok (hearing_of side c) (message_by table c side message (sending_by c (next_entry r) (Sent side message) takes) r
-    >>= λ next. Ok (all_lost_from side next))
-own_is table c fate side message takes r has =
-    ap (map_ok (own_counted (hearing_of side c r))) (message_lost table side fate (next_entry r) message takes (progress_of c r)
-    ∙ ap (map_ok (all_lost side)) (message_by_is table c fate side message takes r has))
-    ∙ by (message_by table c side message (sending_by c (next_entry r) (Sent side message) takes) r) refl
+-- Where that end alone is judged, it is counted.
+counted_is : (table : Table) (c : Certificate) (side : Side) (message : Message) (event : Option Event) (r : Replay) (s : Result Replay CheckFault)
+    → message_by table c side message event r ≡ s
+    → map_ok (own_counted (Some side) (hearing_by (Some side) c r)) (map_ok (ends_of (Some side) c) s)
+    ≡ map_ok (hearing_by (Some side) c) (behind_sending (Some side) s)
+counted_is table c side message event r (Err fault) is = refl
+counted_is table c side message event r (Ok next) is =
+    let one = message_one table c side message event r next is in
+    ap (λ (h : Hearing). let x : Result Hearing CheckFault = Ok h in x)
+    (same_hearing _ _ _ _ _ _ refl (sym one.own) (sym one.unheard) ∙ lost_heard c side next)
+
+pub own_is : (judged : Option Side) (table : Table) (c : Certificate) (fate : Fate) (side : Side) (message : Message) (takes : List ℕ) (r : Replay)
+    → is_heard judged (other side) ≡ true → slice_get c.fates (next_entry r) ≡ Some fate
+    → own_taken judged table side fate (next_entry r) message takes (hearing_by judged c r)
+    ≡ map_ok (hearing_by judged c)
+    (behind_sending judged (message_by table c side message (sending_by c (next_entry r) (Sent side message) takes) r))
+own_is judged table c fate side message takes r so has =
+    ap (map_ok (own_counted judged (hearing_by judged c r))) (message_by_is table judged c fate side message takes r so has)
+    ∙ by judged side so
   where
-    by : (s : Result Replay CheckFault) → message_by table c side message (sending_by c (next_entry r) (Sent side message) takes) r ≡ s
-        → map_ok (own_counted (hearing_of side c r)) (map_ok (all_lost side) (map_ok (progress_of c) s))
-        ≡ map_ok (hearing_of side c) (s >>= λ next. Ok (all_lost_from side next))
-    by (Err fault) is = refl
-    by (Ok next) is =
-        let one = message_one table c side message (sending_by c (next_entry r) (Sent side message) takes) r next is in
-        ap (λ (h : Hearing). let x : Result Hearing CheckFault = Ok h in x)
-        (same_hearing _ _ _ _ _ _ refl (sym one.own) (sym one.unheard) ∙ lost_heard c side next)
+    by : (judged : Option Side) (side : Side) → is_heard judged (other side) ≡ true
+        → map_ok (own_counted judged (hearing_by judged c r))
+        (map_ok (ends_of judged c) (message_by table c side message (sending_by c (next_entry r) (Sent side message) takes) r))
+        ≡ map_ok (hearing_by judged c)
+        (behind_sending judged (message_by table c side message (sending_by c (next_entry r) (Sent side message) takes) r))
+    by None side so =
+        map_both (ends_of None c) (own_counted None (hearing_by None c r)) (hearing_by None c)
+        (message_by table c side message (sending_by c (next_entry r) (Sent side message) takes) r) (λ next is. refl)
+    by (Some sides.A) sides.A so = counted_is table c sides.A message (sending_by c (next_entry r) (Sent sides.A message) takes) r _ refl
+    by (Some sides.A) sides.B so = cc
+    by (Some sides.B) sides.A so = cc
+    by (Some sides.B) sides.B so = counted_is table c sides.B message (sending_by c (next_entry r) (Sent sides.B message) takes) r _ refl
 
 -- ---- a message of its peer
 
@@ -274,15 +289,15 @@ unheard_more Lost m n = omega arith
 
 pub told_is : (c : Certificate) (fate : Fate) (side : Side) (message : Message) (takes : List ℕ) (r : Replay)
     → slice_get c.fates (next_entry r) ≡ Some fate
-    → told_taken side fate (next_entry r) message takes (hearing_of side c r)
-    ≡ map_ok (hearing_of side c) (needs (is_nothing takes) (fault_at BadReply (next_entry r))
+    → told_taken (other side) fate (next_entry r) message takes (hearing_by (Some side) c r)
+    ≡ map_ok (hearing_by (Some side) c) (needs (is_nothing takes) (fault_at BadReply (next_entry r))
     >> Ok (with_step (Tells (other side) message) r (joined (other side) message r.world)))
 told_is c fate side message takes r has = by (is_nothing takes)
   where
     next : Replay
     next = with_step (Tells (other side) message) r (joined (other side) message r.world)
 
-    unheard : unheard_with fate (hearing_of side c r).unheard ≡ (hearing_of side c next).unheard
+    unheard : unheard_with fate (hearing_by (Some side) c r).unheard ≡ (hearing_by (Some side) c next).unheard
     unheard =
         let m : OnItsWay = record { number = next_entry r; message = message } in
         unheard_more fate (count_losses (other side) r.events) (count_lost c.fates (channel_from (other side) r.world))
@@ -290,7 +305,7 @@ told_is c fate side message takes r has = by (is_nothing takes)
         ∙ ap₂ (λ (n : ℕ) (x : List OnItsWay). n + count_lost c.fates x)
         (sym (no_loss (other side) r.events (Tells (other side) message) refl)) (sym (peer_told side message r.world))
 
-    told : told_with side fate (next_entry r) message (hearing_of side c r) ≡ hearing_of side c next
+    told : told_with (other side) fate (next_entry r) message (hearing_by (Some side) c r) ≡ hearing_by (Some side) c next
     told = same_hearing _ _ _ _ _ _
         (told_joins side fate (next_entry r) message (progress_of c r)
         ∙ ap (all_lost side) (sym (joined_is c (other side) (Tells (other side) message) message fate r has)))
@@ -299,7 +314,7 @@ told_is c fate side message takes r has = by (is_nothing takes)
         unheard
 
     by : (b : Bool)
-        → (needs b (fault_at BadReply (next_entry r)) >> Ok (told_with side fate (next_entry r) message (hearing_of side c r)))
-        ≡ map_ok (hearing_of side c) (needs b (fault_at BadReply (next_entry r)) >> Ok next)
+        → (needs b (fault_at BadReply (next_entry r)) >> Ok (told_with (other side) fate (next_entry r) message (hearing_by (Some side) c r)))
+        ≡ map_ok (hearing_by (Some side) c) (needs b (fault_at BadReply (next_entry r)) >> Ok next)
     by true = ap (λ (h : Hearing). let x : Result Hearing CheckFault = Ok h in x) told
     by false = refl
