@@ -243,7 +243,7 @@ peer_leads side table c fate m r next is =
 
 -- ---- a mark
 
-closed_leads : (side : Side) (table : Table) (mark : ℕ) (halves : List HalfName) (r next : Replay)
+pub closed_leads : (side : Side) (table : Table) (mark : ℕ) (halves : List HalfName) (r next : Replay)
     → closed_at_mark table side mark halves r ≡ Ok next → Leads side table r [] next
 closed_leads side table mark [] r next is =
     subst (Leads side table r []) (ok_same {F = CheckFault} r next is) (leads_nothing side table r)

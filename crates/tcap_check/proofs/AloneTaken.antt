@@ -109,7 +109,7 @@ deliveries_take side table c m gap n (suc i) (f ∷ fates) (x ∷ items) r next 
     subst (λ (k : ℕ). Took side k next)
     e (deliveries_take side table c m gap (n + 1) i fates items one.0 next one.2 fate item)
 
-gap_takes : (side : Side) (table : Table) (c : Certificate) (m : Message) (n : ℕ) (r next : Replay)
+pub gap_takes : (side : Side) (table : Table) (c : Certificate) (m : Message) (n : ℕ) (r next : Replay)
     → gap_heard table c side r ≡ Ok next
     → slice_get c.fates n ≡ Some (Gap (next_entry r)) → slice_get r.world.sent n ≡ Some (Sent (other side) m)
     → Took side n next
@@ -169,7 +169,7 @@ message_takes side table c m n k taken r next is tied = by (sending_by c k (Sent
 -- ---- entries
 
 -- The next gap or the next entry takes what has that fate.
-abbrev IsNext : Fate → ℕ → Type 0
+abbrev pub IsNext : Fate → ℕ → Type 0
 IsNext (Gap gap) k = gap ≡ k
 IsNext (By reply) k = reply ≡ k
 IsNext Lost k = ⊥
@@ -232,7 +232,7 @@ mark_takes side table c own m n f r next is fate now item =
     (mark_rest side table c none (fault_at NotQuiet entry) entry gap.0 next gap.2)
     (λ tied. absurd (not_tied (tied_to_next side c r) n free.0 tied)) fate now item
 
-item_takes : (side : Side) (table : Table) (c : Certificate) (own : Fate) (x : Item) (m : Message) (n : ℕ) (f : Fate)
+pub item_takes : (side : Side) (table : Table) (c : Certificate) (own : Fate) (x : Item) (m : Message) (n : ℕ) (f : Fate)
     (r next : Replay)
     → item_heard table c own side x r ≡ Ok next → slice_get c.fates n ≡ Some f → IsNext f (next_entry r)
     → slice_get r.world.sent n ≡ Some (Sent (other side) m) → Took side n next

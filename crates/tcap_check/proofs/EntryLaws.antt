@@ -26,7 +26,7 @@ pub taken_is_heard : (judged : Option Side) (table : Table) (c : Certificate) (e
 taken_is_heard None table c entries r is = tt
 taken_is_heard (Some judged) table c entries r is = heard_empty judged table c entries r is
 
-gap_is_heard : (judged : Option Side) (table : Table) (c : Certificate) (r next : Replay) → IsHeard judged r
+pub gap_is_heard : (judged : Option Side) (table : Table) (c : Certificate) (r next : Replay) → IsHeard judged r
     → gap_by judged table c r ≡ Ok next → IsHeard judged next
 gap_is_heard None table c r next empty is = tt
 gap_is_heard (Some judged) table c r next empty is = gap_keeps judged table c r next is ∙ empty

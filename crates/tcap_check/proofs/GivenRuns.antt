@@ -29,11 +29,10 @@ use Rattle.tcap_check.specs.Replayed.{Replay, all_fit, certificate_fits, entries
 use Rattle.tcap_check.proofs.GivenBound.{described_bound}
 use Rattle.tcap_check.proofs.NumberLaws.{IsAmong, among_plain, among_right, taken_right}
 use Rattle.tcap_check.proofs.GivenLosses.{IsFated, IsSettled, fated_keeps, fits_gap, fits_reply, is_lost, left_lost, losses_are, says_lost, taken_sent}
-use Rattle.tcap_check.proofs.ReplayEntries.{entries_replay}
+use Rattle.tcap_check.proofs.ReplayEntries.{entries_replay, item_is}
 use Rattle.tcap_check.proofs.ReplayGaps.{fates_ok, listed_ok}
 use Rattle.tcap_check.proofs.ReplaySteps.{Extends, both_replay, extends_then, without_both}
 use Rattle.tcap_check.proofs.GivenEvents.{follows_fated, gap_at, sender_at, sender_is, sender_takes, some_parts, unseen}
-use Rattle.tcap_check.proofs.ReasonLaws.{item_is}
 
 -- ---- each message is settled
 

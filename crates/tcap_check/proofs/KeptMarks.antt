@@ -35,19 +35,19 @@ use Rattle.tcap_check.proofs.WorldLaws.{end_with}
 -- ---- the open halves close
 
 -- the end, so many steps later
-abbrev later : Side → End → ℕ → Progress → Progress
+abbrev pub later : Side → End → ℕ → Progress → Progress
 later side e n p = record (with_seat_end side e p) { moves = p.moves + n }
 
 -- The halves of these names closed.
-record Closed (table : Table) (c : Certificate) (side : Side) (mark : ℕ) (names : List HalfName) (r : Replay) (e : End) : Type 0 where
-  behind : Replay
-  closes : closed_at_mark table side mark names r ≡ Ok behind
-  end : end_at side behind.world ≡ e
-  kept : hearing_by (Some side) c behind ≡ with_progress (hearing_by (Some side) c r) (later side e (length names) (hearing_by (Some side) c r).progress)
-  stays : Stays r behind
+pub record Closed (table : Table) (c : Certificate) (side : Side) (mark : ℕ) (names : List HalfName) (r : Replay) (e : End) : Type 0 where
+  pub behind : Replay
+  pub closes : closed_at_mark table side mark names r ≡ Ok behind
+  pub end : end_at side behind.world ≡ e
+  pub kept : hearing_by (Some side) c behind ≡ with_progress (hearing_by (Some side) c r) (later side e (length names) (hearing_by (Some side) c r).progress)
+  pub stays : Stays r behind
 
 -- They close, or one of them may not.
-abbrev Closings : Table → Certificate → Side → ℕ → List HalfName → Replay → Result End EndFault → Type 0
+abbrev pub Closings : Table → Certificate → Side → ℕ → List HalfName → Replay → Result End EndFault → Type 0
 Closings table c side mark names r (Ok e) = Closed table c side mark names r e
 Closings table c side mark names r (Err reason) = closed_at_mark table side mark names r ≡ Err (fault_at NotQuiet mark)
 
@@ -66,7 +66,7 @@ later_none : (side : Side) (p : Progress) → p ≡ later side (seat_at side p).
 later_none sides.A p = let same : p.moves ≡ p.moves + 0 = omega arith in ap (λ (m : ℕ). let x : Progress = record p { moves = m } in x) same
 later_none sides.B p = let same : p.moves ≡ p.moves + 0 = omega arith in ap (λ (m : ℕ). let x : Progress = record p { moves = m } in x) same
 
-closings_are : (table : Table) (c : Certificate) (side : Side) (mark : ℕ) (names : List HalfName) (r : Replay)
+pub closings_are : (table : Table) (c : Certificate) (side : Side) (mark : ℕ) (names : List HalfName) (r : Replay)
     → Closings table c side mark names r (close_each table names (end_at side r.world))
 closings_are table c side mark [] r = record {
   behind = r;

@@ -305,7 +305,7 @@ closed_stay table side mark (name ∷ more) r next is =
     let step = some_ok (stepped table (Closes side name) r) (fault_at NotQuiet mark) one.0 one.1 in
     stays_then r one.0 next (closes_stays table side name r one.0 step) (closed_stay table side mark more one.0 next one.2)
 
-before_stays : (judged : Option Side) (table : Table) (mark : ℕ) (r next : Replay) → closed_before judged table mark r ≡ Ok next → Stays r next
+pub before_stays : (judged : Option Side) (table : Table) (mark : ℕ) (r next : Replay) → closed_before judged table mark r ≡ Ok next → Stays r next
 before_stays None table mark r next is = stays_same r next (ok_same {F = CheckFault} r next is)
 before_stays (Some judged) table mark r next is = closed_stay table judged mark (open_halves (end_at judged r.world)) r next is
 

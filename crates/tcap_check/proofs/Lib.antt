@@ -29,8 +29,12 @@ pub mod AtOnceLaws
 pub mod FollowingLaws
 pub mod TakenLaws
 pub mod PendingLaws
+pub mod PendingBoth
+pub mod AlonePending
 pub mod ReasonGaps
 pub mod ReasonItems
+pub mod ReasonPending
+pub mod ReasonMarks
 pub mod ReasonLaws
 pub mod CertificateTextLaws
 pub mod SendingLaws

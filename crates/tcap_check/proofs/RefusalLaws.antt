@@ -4,7 +4,7 @@ use Rattle.std.specs.Prelude.{◌≢◌}
 use Rattle.std.proofs.lemmas.List.{map-append}
 use Rattle.tcap_record.specs.declared.entry.End.{End as Side}
 use Rattle.tcap_record.specs.declared.entry.Entry.{Entry}
-use Rattle.tcap_end.specs.Step.{◌>>◌, ◌>>=◌}
+use Rattle.tcap_end.specs.Step.{◌>>=◌}
 use Rattle.tcap_end.specs.Table.{Table}
 use Rattle.tcap_end.proofs.AnsweringLaws.{then_ok}
 use Rattle.tcap_model.specs.declared.reason.Reason.{Reason}
@@ -30,11 +30,6 @@ use Rattle.tcap_check.proofs.ReplayEntries.{entries_replay, ok_item}
 
 -- ---- refusals
 
-shows : (judged : Option Side) (table : Table) (c : Certificate) (entries : List Entry) (fault : CheckFault)
-    → replayed_by judged table c entries ≡ Err fault → ShowsReason judged table c entries fault
-shows None table c entries fault is = refusal_says table c entries fault is
-shows (Some judged) table c entries fault is = tt
-
 stays_refused : (s : Checking) (entries : List Entry) (fault : CheckFault) → Took s (map item_of entries) → s.so_far ≡ Err fault
     → IsRefused s.judged s.table s.certificate entries fault
 stays_refused s entries fault took is = λ more.
@@ -47,7 +42,7 @@ stays_refused s entries fault took is = λ more.
     let at : taken judged table c all ≡ Err fault = ap (taken judged table c) whole ∙ short in
     let behind = replayed_is judged table c all ∙ ap (λ (o : Result Replay CheckFault). o >>= ended judged table c) at in
     let run : replayed_by judged table c (entries ++ more) ≡ Err fault = ends_so judged table c all (Err fault) behind in
-    (run, shows judged table c (entries ++ more) fault run)
+    (run, refusal_says judged table c (entries ++ more) fault run)
 
 -- What is answered is what it keeps.
 answered : (kept : Result Kept CheckFault) (fault : CheckFault) → answer_of kept ≡ Err fault → kept ≡ Err fault
@@ -185,5 +180,5 @@ module _ (s : Checking) (result : Result Report CheckFault)
       → fault ≢ fault_at Memory 0 → ShowsReason s.judged s.table s.certificate entries fault
   ends_with_reason entries fault took is other =
       let said = finished (map item_of entries) took (λ memory. other (same_fault fault (fault_at Memory 0) (sym is ∙ memory))) in
-      shows s.judged s.table s.certificate entries fault
+      refusal_says s.judged s.table s.certificate entries fault
       (end_is_refused s.judged s.table s.certificate entries fault (sym is ∙ said))

@@ -1,12 +1,16 @@
 -- Entries that are replayed, one after the other, follow the certificate but for losses.
-use Rattle.std.proofs.Common.{◌≡◌, ℕ, ◌+◌, ◌==◌, true, List, [], ◌∷◌, ◌++◌, map, length, Some, Result, Ok, Err, refl, sym, ap, ap₂, subst, ◌∙◌, append_assoc, append-nil}
+use Rattle.std.proofs.Common.{◌≡◌, ℕ, ◌+◌, ◌==◌, true, List, [], ◌∷◌, ◌++◌, map, length, Option, Some, None, Result, Ok, Err, refl, sym, ap, ap₂, subst, ◌∙◌, append_assoc, append-nil}
 use Rattle.std.specs.Prelude.{not, ok_or, slice_get}
 use Rattle.std.proofs.lemmas.Bool.{eqb-true}
 use Rattle.std.proofs.lemmas.List.{length-append}
 use Rattle.tcap_msg.specs.declared.message.Message.{Message}
 use Rattle.tcap_record.specs.declared.entry.End.{End as Side}
+use Rattle.tcap_record.specs.declared.entry.Body.{Body}
+use Rattle.tcap_record.specs.declared.entry.Body.TheVariants.{Good, Bad, Quiet as QuietMark}
+use Rattle.tcap_record.specs.declared.entry.Entry.{Entry}
 use Rattle.tcap_end.specs.Table.{Table}
 use Rattle.tcap_end.proofs.AnsweringLaws.{needs_ok, some_ok, then_ok}
+use Rattle.tcap_model.specs.Entries.{IsItem, item_by, item_of}
 use Rattle.tcap_model.specs.World.{Item, Sent}
 use Rattle.tcap_model.specs.Run.{Event, Quiet, after}
 use Rattle.tcap_check.specs.declared.certificate.Fate.{Fate}
@@ -93,6 +97,18 @@ item_replays table c fate Item.Quiet r next has is = quiet_replays table c fate 
 
 abbrev pub ok_item : Item → Result Item Reason
 ok_item item = Ok item
+
+-- An entry that is an item is that item.
+pub item_is : (entry : Entry) (item : Item) → item_of entry ≡ Ok item → IsItem entry item
+item_is entry item is = by entry.side entry.body refl refl is
+  where
+    by : (side : Option Side) (body : Body) → entry.side ≡ side → entry.body ≡ body → item_by side body ≡ Ok item → IsItem entry item
+    by (Some side) (Good message) of at is = let same : Sent side message ≡ item = cc in subst (IsItem entry) same (of, at)
+    by (Some side) (Bad fault) of at is = cc
+    by (Some side) QuietMark of at is = cc
+    by None (Good message) of at is = cc
+    by None (Bad fault) of at is = cc
+    by None QuietMark of at is = let same : Item.Quiet ≡ item = cc in subst (IsItem entry) same (of, at)
 
 -- Entries that were replayed are these items, and the steps follow the certificate but for losses.
 pub record AreReplayed (table : Table) (c : Certificate) (entries : List (Result Item Reason)) (r next : Replay) : Type 0 where

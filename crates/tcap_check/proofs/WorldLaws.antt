@@ -22,6 +22,10 @@ pub end_with : (side : Side) (e : End) (w : World) → end_at side (with_end sid
 end_with sides.A e w = refl
 end_with sides.B e w = refl
 
+pub peer_with_end : (side : Side) (e : End) (w : World) → end_at (other side) (with_end side e w) ≡ end_at (other side) w
+peer_with_end sides.A e w = refl
+peer_with_end sides.B e w = refl
+
 pub own_with_end : (side : Side) (e : End) (w : World) → channel_from side (with_end side e w) ≡ channel_from side w
 own_with_end sides.A e w = refl
 own_with_end sides.B e w = refl
@@ -41,6 +45,12 @@ pub own_with_channel : (side : Side) (messages : List OnItsWay) (w : World)
 own_with_channel sides.A messages w = refl
 own_with_channel sides.B messages w = refl
 
+pub end_with_channel : (at side : Side) (messages : List OnItsWay) (w : World) → end_at at (with_channel side messages w) ≡ end_at at w
+end_with_channel sides.A sides.A messages w = refl
+end_with_channel sides.A sides.B messages w = refl
+end_with_channel sides.B sides.A messages w = refl
+end_with_channel sides.B sides.B messages w = refl
+
 pub sent_with_channel : (side : Side) (messages : List OnItsWay) (w : World) → (with_channel side messages w).sent ≡ w.sent
 sent_with_channel sides.A messages w = refl
 sent_with_channel sides.B messages w = refl
@@ -50,3 +60,9 @@ sent_with_channel sides.B messages w = refl
 pub sent_joined : (side : Side) (m : Message) (w : World) → (joined side m w).sent ≡ w.sent ++ Sent side m ∷ []
 sent_joined sides.A m w = refl
 sent_joined sides.B m w = refl
+
+pub end_joined : (at side : Side) (m : Message) (w : World) → end_at at (joined side m w) ≡ end_at at w
+end_joined sides.A sides.A m w = refl
+end_joined sides.A sides.B m w = refl
+end_joined sides.B sides.A m w = refl
+end_joined sides.B sides.B m w = refl

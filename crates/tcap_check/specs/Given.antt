@@ -1,5 +1,5 @@
 -- What a certificate gives: a run, or the reason why it gives none.
-use Rattle.std.specs.Prelude.{◌≡◌, ◌≢◌, ◌⊎◌, ℕ, ◌+◌, ◌*◌, ◌≤◌, ◌<◌, ℤ, Bool, true, false, List, [], ◌∷◌, ◌++◌, length, map, take, slice_get, Contains, Option, Some, None, Result, Err}
+use Rattle.std.specs.Prelude.{◌≡◌, ◌≢◌, ◌⊎◌, ℕ, ◌+◌, ◌*◌, ◌≤◌, ◌<◌, ℤ, Bool, true, false, List, [], ◌∷◌, ◌++◌, length, map, take, slice_get, Contains, Option, Some, None, Result, Ok, Err}
 use Rattle.tcap_msg.specs.declared.message.Message.{Message}
 use Rattle.tcap_record.specs.declared.entry.End.{End as Side}
 use Rattle.tcap_record.specs.declared.entry.Body.TheVariants.{Bad, Good, Quiet as QuietMark}
@@ -8,6 +8,8 @@ use Rattle.tcap_end.specs.declared.fault.EndFault.TheVariants as faults
 use Rattle.tcap_end.specs.declared.half.HalfName.{HalfName}
 use Rattle.tcap_end.specs.declared.outs.OwnInvocation.{OwnInvocation}
 use Rattle.tcap_end.specs.Component.{own_invocation}
+use Rattle.tcap_end.specs.declared.fault.EndFault.{EndFault}
+use Rattle.tcap_end.specs.Hidden.{quiet_unseen}
 use Rattle.tcap_end.specs.End.{End, KeptHalf, named, quiet}
 use Rattle.tcap_end.specs.Table.{Table}
 use Rattle.tcap_check.specs.declared.certificate.Closing.{Closing}
@@ -23,8 +25,8 @@ use Rattle.tcap_model.specs.Run.{BothKeepRules, Event, IsLawful, IsRunOf, Runs, 
 use Rattle.tcap_check.specs.Certificate.{Certificate}
 use Rattle.tcap_model.specs.Entries.{AreItems, IsItem, count_components, item_of}
 use Rattle.tcap_check.specs.Follows.{Follows, FollowsFrom, closing_event, expiry_event, without_losses}
-use Rattle.tcap_check.specs.Checking.{Checking, Took}
-use Rattle.tcap_check.specs.Replayed.{fate_fits, fault_at, is_later, replayed_by, time_of}
+use Rattle.tcap_check.specs.Checking.{Checking, Took, taken}
+use Rattle.tcap_check.specs.Replayed.{Replay, fate_fits, fault_at, gap_by, is_heard, is_judged, is_later, replayed_by, time_of}
 use Rattle.tcap_check.specs.Unheard.{IsLawfulUnheard}
 
 -- ---- a run
@@ -82,16 +84,16 @@ IsAt entries number item = (entry : Entry) × (slice_get entries number ≡ Some
 abbrev pub IsOutside : ℕ → ℕ → ℕ → Type 0
 IsOutside count entry gap = (gap ≤ entry) ⊎ (count < gap)
 
--- A closing lies outside, or, for the items before its gap, names no Begin, or one with a quiet mark between.
-abbrev pub IsNoClosing : ℕ → List Entry → Closing → Type 0
-IsNoClosing count entries x = IsOutside count x.entry x.gap
-    ⊎ ((items : List Item) × AreItems (take x.gap entries) items × (closing_event items x ≡ None))
+-- A closing lies outside, or, of an end that is judged, for the items before its gap, names no Begin, or one with a quiet mark between.
+abbrev pub IsNoClosing : Option Side → ℕ → List Entry → Closing → Type 0
+IsNoClosing judged count entries x = IsOutside count x.entry x.gap
+    ⊎ ((items : List Item) × AreItems (take x.gap entries) items × (is_judged judged x.side ≡ true) × (closing_event items x ≡ None))
 
--- An expiry lies outside, or, for the items before its gap, names no Invoke of a Begin or Continue of its end, or one
--- with a quiet mark between.
-abbrev pub IsNoExpiry : ℕ → List Entry → Expiry → Type 0
-IsNoExpiry count entries x = IsOutside count x.entry x.gap
-    ⊎ ((items : List Item) × AreItems (take x.gap entries) items × (expiry_event items x ≡ None))
+-- An expiry lies outside, or, of an end that is judged, for the items before its gap, names no Invoke of a Begin or Continue of its
+-- end, or one with a quiet mark between.
+abbrev pub IsNoExpiry : Option Side → ℕ → List Entry → Expiry → Type 0
+IsNoExpiry judged count entries x = IsOutside count x.entry x.gap
+    ⊎ ((items : List Item) × AreItems (take x.gap entries) items × (is_judged judged x.side ≡ true) × (expiry_event items x ≡ None))
 
 -- A fate lies outside its range, or is that of a quiet mark and not the next gap.
 abbrev pub IsNoFate : ℕ → List Entry → ℕ → Fate → Type 0
@@ -99,24 +101,25 @@ IsNoFate count entries number fate = (fate_fits count number fate ≡ false)
     ⊎ (IsAt entries number Item.Quiet × (fate ≡ Gap (number + 1) → ⊥))
 
 -- The fate of that entry, or something listed that names it, is none.
-abbrev pub IsOutOfRange : Certificate → List Entry → ℕ → Type 0
-IsOutOfRange c entries number =
+abbrev pub IsOutOfRange : Option Side → Certificate → List Entry → ℕ → Type 0
+IsOutOfRange judged c entries number =
     ((fate : Fate) × (slice_get c.fates number ≡ Some fate) × IsNoFate (length c.fates) entries number fate)
-    ⊎ ((x : Closing) × Contains c.close x × (x.entry ≡ number) × IsNoClosing (length c.fates) entries x)
-    ⊎ ((x : Expiry) × Contains c.expire x × (x.entry ≡ number) × IsNoExpiry (length c.fates) entries x)
+    ⊎ ((x : Closing) × Contains c.close x × (x.entry ≡ number) × IsNoClosing judged (length c.fates) entries x)
+    ⊎ ((x : Expiry) × Contains c.expire x × (x.entry ≡ number) × IsNoExpiry judged (length c.fates) entries x)
 
--- An earlier message of the same end has a later time.
-abbrev pub IsBeforeEarlier : Certificate → List Entry → ℕ → Type 0
-IsBeforeEarlier c entries number =
-    (side : Side) × (message before : Message) × (earlier : ℕ) × (fate later : Fate)
+-- An earlier message of the same end has a later time. What an end sends that alone is judged comes to nobody, so of its order nothing
+-- is asked.
+abbrev pub IsBeforeEarlier : Option Side → Certificate → List Entry → ℕ → Type 0
+IsBeforeEarlier judged c entries number =
+    (side : Side) × (message before : Message) × (earlier : ℕ) × (fate later : Fate) × (is_heard judged side ≡ true)
     × IsAt entries number (Sent side message) × IsAt entries earlier (Sent side before) × (earlier < number)
     × (slice_get c.fates number ≡ Some fate) × (slice_get c.fates earlier ≡ Some later)
     × (is_later (time_of fate) (time_of later) ≡ true)
 
--- A message before that entry is delivered behind it, or is taken by it or behind it.
-abbrev pub IsPending : Certificate → List Entry → ℕ → Type 0
-IsPending c entries number =
-    (side : Side) × (message : Message) × (earlier : ℕ) × (fate : Fate)
+-- A message before that entry, to an end that is judged, is delivered behind it, or is taken by it or behind it.
+abbrev pub IsPending : Option Side → Certificate → List Entry → ℕ → Type 0
+IsPending judged c entries number =
+    (side : Side) × (message : Message) × (earlier : ℕ) × (fate : Fate) × (is_heard judged side ≡ true)
     × IsAt entries earlier (Sent side message) × (earlier < number) × (slice_get c.fates earlier ≡ Some fate)
     × by_fate fate
   where
@@ -126,9 +129,13 @@ IsPending c entries number =
     by_fate Lost = ⊥
 
 -- A run that sends the entries before that one, and is up to the gap before it what the certificate says, leaves a half
--- open.
-abbrev pub IsStillOpen : Table → Certificate → List Entry → ℕ → Type 0
-IsStillOpen table c entries number =
+-- open; or, where one end alone is judged, what is replayed up to that gap leaves a half of it open that may not close unseen.
+abbrev pub IsStillOpen : Option Side → Table → Certificate → List Entry → ℕ → Type 0
+IsStillOpen (Some judged) table c entries number =
+    (before behind : Replay) × (taken (Some judged) table c (map item_of (take number entries)) ≡ Ok before)
+    × (gap_by (Some judged) table c before ≡ Ok behind)
+    × (reason : EndFault) × (quiet_unseen table (end_at judged behind.world) ≡ Err reason)
+IsStillOpen None table c entries number =
     (side : Side) × (events : List Event) × (w : World) × Runs table events w × AreItems (take number entries) w.sent
     × FollowsFrom c w.sent 0 w.sent (without_losses events)
     × (quiet (end_at side w) ≡ Err faults.StillOpen)
@@ -139,29 +146,27 @@ IsNoItem entry = ((message : Message) × (entry.side ≡ None) × (entry.body �
     ⊎ ((side : Side) × (entry.side ≡ Some side) × (entry.body ≡ QuietMark))
 
 -- What a refusal of that entry for that reason says of the certificate and the entries.
-abbrev pub IsReason : Table → Certificate → List Entry → ℕ → Reason → Type 0
-IsReason table c entries number reasons.FateCount =
+abbrev pub IsReason : Option Side → Table → Certificate → List Entry → ℕ → Reason → Type 0
+IsReason judged table c entries number reasons.FateCount =
     ((number < length entries) × (slice_get c.fates number ≡ None))
     ⊎ ((number ≡ length entries) × (number < length c.fates))
-IsReason table c entries number reasons.FateRange = IsOutOfRange c entries number
-IsReason table c entries number reasons.OutOfOrder = IsBeforeEarlier c entries number
-IsReason table c entries number reasons.NotQuiet =
-    IsAt entries number Item.Quiet × (IsPending c entries number ⊎ IsStillOpen table c entries number)
-IsReason table c entries number (reasons.BadMessage fault) =
+IsReason judged table c entries number reasons.FateRange = IsOutOfRange judged c entries number
+IsReason judged table c entries number reasons.OutOfOrder = IsBeforeEarlier judged c entries number
+IsReason judged table c entries number reasons.NotQuiet =
+    IsAt entries number Item.Quiet × (IsPending judged c entries number ⊎ IsStillOpen judged table c entries number)
+IsReason judged table c entries number (reasons.BadMessage fault) =
     (entry : Entry) × (slice_get entries number ≡ Some entry) × (entry.body ≡ Bad fault)
-IsReason table c entries number reasons.NoItem =
+IsReason judged table c entries number reasons.NoItem =
     (entry : Entry) × (slice_get entries number ≡ Some entry) × IsNoItem entry
-IsReason table c entries number reasons.CertificateShape = ⊥
-IsReason table c entries number reasons.Memory = ⊥
-IsReason table c entries number reason = Unit {0}
+IsReason judged table c entries number reasons.CertificateShape = ⊥
+IsReason judged table c entries number reasons.Memory = ⊥
+IsReason judged table c entries number reason = Unit {0}
 
--- What a refusal shows of the certificate and the entries. Where one end alone is judged nothing is said.
+-- what a refusal shows of the certificate and the entries
 abbrev pub ShowsReason : Option Side → Table → Certificate → List Entry → CheckFault → Type 0
-ShowsReason None table c entries fault = IsReason table c entries fault.entry fault.reason
-ShowsReason (Some judged) table c entries fault = Unit {0}
+ShowsReason judged table c entries fault = IsReason judged table c entries fault.entry fault.reason
 
--- These entries are refused with that fault whatever comes behind them; where both ends are judged, of each reason but 64, 65 and 66 the
--- certificate and they show it.
+-- These entries are refused with that fault whatever comes behind them; of each reason but 64, 65 and 66 the certificate and they show it.
 abbrev pub IsRefused : Option Side → Table → Certificate → List Entry → CheckFault → Type 0
 IsRefused judged table c entries fault = (more : List Entry)
     → (replayed_by judged table c (entries ++ more) ≡ Err fault) × ShowsReason judged table c (entries ++ more) fault

@@ -1,7 +1,7 @@
 //! What a certificate gives: a run of two ends that sends the items of a record, or the reason why it gives none. Each
 //! function says by its contract alone what holds of the definitions.
 
-ghost use Rattle.std.specs.Prelude.{◌≡◌, ℕ, ℤ, List, [], length, filter_map, Contains, Some, Ok, Err};
+ghost use Rattle.std.specs.Prelude.{◌≡◌, ℕ, ℤ, List, [], length, filter_map, Contains, Option, Some, Ok, Err};
 ghost use Rattle.std.specs.List.{AllByRecursion};
 ghost use Rattle.tcap_msg.specs.declared.message.Message.{Message};
 ghost use Rattle.tcap_msg.specs.Parts.{components_in};
@@ -19,7 +19,7 @@ ghost use Rattle.tcap_model.specs.Entries.{AreItems};
 ghost use Rattle.tcap_check.specs.Follows.{Follows, IsImplied, IsPlain, invoke_id, invoking_half};
 ghost use Rattle.tcap_check.specs.Named.{AreSameEvents, IsDescribedBy};
 ghost use Rattle.tcap_check.specs.Given.{DeliversAtOnce, IsGiven, IsInUse, IsReason, IsSeen};
-ghost use Rattle.tcap_check.specs.Replayed.{replayed};
+ghost use Rattle.tcap_check.specs.Replayed.{replayed, replayed_by};
 
 /// A run from any certificate: what it gives is a run of two ends, from the empty world, which sends the items that the
 /// entries are, in their order, and nothing else; the certificate describes it. It has at most twice as many steps as
@@ -100,11 +100,11 @@ pub fn prompt_runs_are_given()
         → (given : List Event) × (replayed table (prompt (length items)) entries ≡ Ok given) }
 {}
 
-/// What a refusal says of the certificate and the entries.
+/// What a refusal says of the certificate and the entries, where both ends are judged, or one alone.
 pub fn refusals_have_reasons()
-    ensures { (table : Table) (c : Certificate) (entries : List Entry) (fault : CheckFault)
-        → replayed table c entries ≡ Err fault
-        → IsReason table c entries fault.entry fault.reason }
+    ensures { (judged : Option Side) (table : Table) (c : Certificate) (entries : List Entry) (fault : CheckFault)
+        → replayed_by judged table c entries ≡ Err fault
+        → IsReason judged table c entries fault.entry fault.reason }
 {}
 
 /// A run that follows a prompt certificate has no loss, no provider's reply and no closing.
