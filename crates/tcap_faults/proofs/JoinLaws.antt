@@ -1,5 +1,5 @@
 -- Which IDs are joined, and whether those that a message goes over are tangled, by what is kept of both ends.
-use Rattle.std.proofs.Common.{◌≡◌, ◌⊎◌, inl, inr, ℕ, Bool, true, false, cond, ◌&&◌, ◌||◌, List, [], ◌∷◌, ◌++◌, Option, Some, None, bytes_eq, filter, refl, sym, ap, subst, ◌∙◌, ap₂}
+use Rattle.std.proofs.Common.{◌≡◌, ◌⊎◌, inl, inr, ℕ, Bool, true, false, cond, ◌&&◌, ◌||◌, List, [], ◌∷◌, ◌++◌, Option, Some, bytes_eq, filter, refl, sym, ap, subst, ◌∙◌, ap₂}
 use Rattle.std.specs.Prelude.{Contains, filter_map, nat_le}
 use Rattle.std.specs.List.{flat_map, list_any}
 use Rattle.std.proofs.lemmas.Bool.{and_from, and_parts, or_from, or_parts}
@@ -23,11 +23,11 @@ use Rattle.tcap_refute.proofs.Members.{filter_has, filter_map_has}
 use Rattle.tcap_faults.specs.Counts.{count}
 use Rattle.tcap_faults.specs.Told.{began, goes_on_from, goes_on_to, has_used}
 use Rattle.tcap_faults.specs.declared.ids.Ids.{Ids}
-use Rattle.tcap_faults.specs.Ids.{AreAmong, IsOneOf}
+use Rattle.tcap_faults.specs.Ids.{AreAmong}
 use Rattle.tcap_faults.specs.Kept.{dtids_of, otids_of, sent_from, sent_to}
 use Rattle.tcap_faults.specs.Tangled.{are_tangled, goes_to_begun, is_own_tangled, is_peer_tangled, owns_of, peers_of, two_differ}
 use Rattle.tcap_faults.proofs.HalfLawsFinds.{filter_is}
-use Rattle.tcap_faults.proofs.SameLaws.{any_one, differ_so}
+use Rattle.tcap_faults.proofs.SameLaws.{differ_so}
 use Rattle.tcap_faults.proofs.SideLaws.{other_twice}
 use Rattle.tcap_faults.proofs.TangledLaws.{all_same, began_used}
 use Rattle.tcap_faults.proofs.TwoTests.{and_turned, any_agree, any_both, any_id, filter_map_is, flat_map_is, filter_turned, none_passes, passes_not}
@@ -202,7 +202,7 @@ module _ (side : Side) (items : List Item) where
 -- ---- near an ID of the peer, and behind
 
 module _ (side : Side) (items : List Item) (id : List ℕ) where
-  -- One own ID at the most is joined with what is not tangled,
+  -- One own ID at the most is joined with what is not tangled.
   pub plain_same : is_peer_tangled side items id ≡ false → two_differ (owns_of side items id) ≡ false
   plain_same plain =
       let (three, guessed) = or_parts (two_differ (owns_of side items id)
@@ -212,14 +212,6 @@ module _ (side : Side) (items : List Item) (id : List ℕ) where
       let (two, apart) = or_parts (two_differ (owns_of side items id)
       || nat_le 2 (count (is_a forms.Begin) (asked side id items))) _ three in
       (or_parts (two_differ (owns_of side items id)) _ two).0
-
-  -- and none is tangled where the one is not.
-  pub plain_owns : is_peer_tangled side items id ≡ false → (o : Option (List ℕ)) → IsOneOf (owns_of side items id) o
-      → ((joined : List ℕ) → o ≡ Some joined → is_own_tangled side items joined ≡ false)
-      → list_any (is_own_tangled side items) (owns_of side items id) ≡ false
-  plain_owns plain None none so = ap (list_any (is_own_tangled side items)) none
-  plain_owns plain (Some joined) has so =
-      any_one (is_own_tangled side items) (owns_of side items id) joined has (plain_same plain) ∙ so joined refl
 
   -- So what is near it besides is to be looked at, and what is behind that.
   module _ (plain : is_peer_tangled side items id ≡ false)
@@ -271,3 +263,13 @@ module _ (side : Side) (items : List Item) (id : List ℕ) where
           || list_any (is_peer_tangled side items) (peers_of side items own))
           ≡ are_tangled side items (own ∷ []) id
       plain_besides = sym (ap₂ (λ a b. a || b) near_besides (ap₂ (λ a b. a || b) plain behind_besides))
+
+      -- Where that is one of those that are joined with it, there is nothing besides.
+      pub plain_itself : Contains (owns_of side items id) own → false ≡ are_tangled side items (own ∷ []) id
+      plain_itself has =
+          sym (
+          ap₂ (λ a b. a || b) (passes_not (is_own_tangled side items) (owns_of side items id) own has none_own)
+          (none_passes (is_peer_tangled side items) (peers_of side items own)
+          (λ peer has_peer. behind_plain own peer has has_peer))
+          )
+          ∙ plain_besides

@@ -46,16 +46,27 @@ by_half half dialogue busy linked answered rejected =
     (cond (not half && dialogue) (Some kinds.WrongDialogue)
     (kind_of_components (not half && busy) (not half && linked) (not half && answered) (not half && rejected)))
 
-pub found_over : (table : Table) (side : Side) (id : List ℕ) (items : List Item) (m : Message) (h : HalfOf)
-    → find (is_of_half_kind table side id items m h) further_kinds
-    ≡ by_half (is_wrong_half side items m h) (is_wrong_dialogue side items id m h)
-    (has_component (invokes_busy table h (h.told ++ components_in m)) [] h.told (components_in m))
+-- the same of a message over a half, by whether the half and the dialogue portion are wrong
+abbrev kind_by : Table → HalfOf → Message → Bool → Bool → Option Kind
+kind_by table h m half dialogue =
+    by_half half dialogue (has_component (invokes_busy table h (h.told ++ components_in m)) [] h.told (components_in m))
     (has_component (links_badly table h) [] h.told (components_in m))
     (has_component (answers_again table h) [] h.told (components_in m))
     (has_component (rejects_wrongly table h) [] h.told (components_in m))
+
+found_over : (table : Table) (side : Side) (id : List ℕ) (items : List Item) (m : Message) (h : HalfOf)
+    → find (is_of_half_kind table side id items m h) further_kinds
+    ≡ kind_by table h m (is_wrong_half side items m h) (is_wrong_dialogue side items id m h)
 found_over table side id items m h = refl
 
--- Where the half and the dialogue portion fit.
+-- Where the half fits, and the dialogue portion does not.
+pub kind_of_dialogue : (table : Table) (side : Side) (id : List ℕ) (items : List Item) (m : Message) (h : HalfOf)
+    → false ≡ is_wrong_half side items m h → true ≡ is_wrong_dialogue side items id m h
+    → Some kinds.WrongDialogue ≡ find (is_of_half_kind table side id items m h) further_kinds
+kind_of_dialogue table side id items m h half dialogue =
+    ap₂ (λ a b. kind_by table h m a b) half dialogue ∙ sym (found_over table side id items m h)
+
+-- Where both fit.
 pub kind_last : (table : Table) (side : Side) (id : List ℕ) (items : List Item) (m : Message) (h : HalfOf) (k : Option Kind)
     → false ≡ is_wrong_half side items m h → false ≡ is_wrong_dialogue side items id m h
     → k ≡ kind_of_components
@@ -65,22 +76,7 @@ pub kind_last : (table : Table) (side : Side) (id : List ℕ) (items : List Item
     (has_component (rejects_wrongly table h) [] h.told (components_in m))
     → k ≡ find (is_of_half_kind table side id items m h) further_kinds
 kind_last table side id items m h k half dialogue is =
-    is
-    ∙ ap (λ b. by_half false b busy linked answered rejected) dialogue
-    ∙ ap (λ b. by_half b (is_wrong_dialogue side items id m h) busy linked answered rejected) half
-    ∙ sym (found_over table side id items m h)
-  where
-    busy : Bool
-    busy = has_component (invokes_busy table h (h.told ++ components_in m)) [] h.told (components_in m)
-
-    linked : Bool
-    linked = has_component (links_badly table h) [] h.told (components_in m)
-
-    answered : Bool
-    answered = has_component (answers_again table h) [] h.told (components_in m)
-
-    rejected : Bool
-    rejected = has_component (rejects_wrongly table h) [] h.told (components_in m)
+    is ∙ ap₂ (λ a b. kind_by table h m a b) half dialogue ∙ sym (found_over table side id items m h)
 
 -- ---- the components
 

@@ -42,6 +42,7 @@ pub mod SideLaws
 pub mod JoinLaws
 pub mod FirstTangled
 pub mod HalfFacts
+pub mod FoundIds
 pub mod OwnHalfLaws
 pub mod HalfKindsLaws
 pub mod DialogueLaws

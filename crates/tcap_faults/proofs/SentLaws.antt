@@ -188,14 +188,13 @@ module _ (table : Table) (side : Side) (items : List Item) (m : Message) (own pe
 
     -- of the end that sent the message,
     pub own_sent : (froms : BTreeMap (List ℕ) SentFrom) (tos : BTreeMap (List ℕ) SentTo)
-        (guessed_now closed_now : BTreeSet (List ℕ)) (again : Bool) (closed guessed : Option (List ℕ))
+        (guessed_now closed_now : BTreeSet (List ℕ)) (again : Bool) (closed : Option (List ℕ))
         → AreFrom table (with_more otid_in m (sent_from side items)) froms
         → AreTo table (with_more dtid_in m (sent_to side items)) tos
         → again ≡ uses_again table side items m
         → ((id : List ℕ) → is_id id closed ≡ shows_closed side id items (Sent side m))
         → HasMore (λ other. is_id other closed) one.closed closed_now
-        → ((id : List ℕ) → is_id id guessed ≡ guesses (other side) id items (Sent side m))
-        → HasMore (λ other. is_id other guessed) one.guessed guessed_now
+        → HasMore (λ id. guesses (other side) id items (Sent side m)) one.guessed guessed_now
         → IsSide table side (items ++ Sent side m ∷ []) (record {
           from = froms;
           to = tos;
@@ -205,31 +204,29 @@ module _ (table : Table) (side : Side) (items : List Item) (m : Message) (own pe
           over = one.over;
           again = one.again || again;
         })
-    own_sent froms tos guessed_now closed_now again closed guessed are_from are_to again_is closed_is closes guessed_is
-        guess_more = record {
-          from = λ id. rw (from_own side items m id) (are_from id);
-          to = λ id. rw (to_own side items m id) (are_to id);
-          joined = λ id.
-              rw (filter_agree (has_used (other side) (items ++ Sent side m ∷ [])) (has_used (other side) items)
-              (used_theirs side items m) (dtids_of (sent_from side (items ++ Sent side m ∷ []) id))) (j.own_joined id);
-          guessed = λ id.
-              guess_more id
-              ∙ ap (λ b. b || is_id id guessed)
-              (ap (λ (s : SideFacts). set.contains octets_cmp s.guessed id) j.own_rest ∙ was.guessed id)
-              ∙ ap (λ b. one_passes (guesses (other side) id) [] items || b) (guessed_is id)
-              ∙ sym (one_more (guesses (other side) id) [] items (Sent side m));
-          closed = λ id.
-              closes id
-              ∙ ap (λ b. b || is_id id closed)
-              (ap (λ (s : SideFacts). set.contains octets_cmp s.closed id) j.own_rest ∙ was.closed id)
-              ∙ ap (λ b. one_passes (shows_closed side id) [] items || b) (closed_is id)
-              ∙ sym (one_more (shows_closed side id) [] items (Sent side m));
-          over = j.own_over;
-          again =
-              ap (λ b. b || again) (ap (λ (s : SideFacts). s.again) j.own_rest ∙ was.again)
-              ∙ ap (λ b. has_used_again table side items || b) (again_is ∙ here)
-              ∙ sym (one_more (is_used_again table side) [] items (Sent side m));
-        }
+    own_sent froms tos guessed_now closed_now again closed are_from are_to again_is closed_is closes guess_more = record {
+      from = λ id. rw (from_own side items m id) (are_from id);
+      to = λ id. rw (to_own side items m id) (are_to id);
+      joined = λ id.
+          rw (filter_agree (has_used (other side) (items ++ Sent side m ∷ [])) (has_used (other side) items)
+          (used_theirs side items m) (dtids_of (sent_from side (items ++ Sent side m ∷ []) id))) (j.own_joined id);
+      guessed = λ id.
+          guess_more id
+          ∙ ap (λ b. b || guesses (other side) id items (Sent side m))
+          (ap (λ (s : SideFacts). set.contains octets_cmp s.guessed id) j.own_rest ∙ was.guessed id)
+          ∙ sym (one_more (guesses (other side) id) [] items (Sent side m));
+      closed = λ id.
+          closes id
+          ∙ ap (λ b. b || is_id id closed)
+          (ap (λ (s : SideFacts). set.contains octets_cmp s.closed id) j.own_rest ∙ was.closed id)
+          ∙ ap (λ b. one_passes (shows_closed side id) [] items || b) (closed_is id)
+          ∙ sym (one_more (shows_closed side id) [] items (Sent side m));
+      over = j.own_over;
+      again =
+          ap (λ b. b || again) (ap (λ (s : SideFacts). s.again) j.own_rest ∙ was.again)
+          ∙ ap (λ b. has_used_again table side items || b) (again_is ∙ here)
+          ∙ sym (one_more (is_used_again table side) [] items (Sent side m));
+    }
       where
         here : uses_again table side items m ≡ is_used_again table side items (Sent side m)
         here = rw (is_itself side) refl

@@ -138,24 +138,16 @@ module _ (side : Side) (items : List Item) (m : Message) (from to : List ℕ) (o
   guess_is =
       rw (begun_there side items id, other_twice side, is_itself side, goes_both m from to otid dtid, otid, dtid) refl
 
-  pub guessed_so : began side from items ≡ true → has_used (other side) items to ≡ false
-      → bytes_eq id from ≡ guesses (other side) id items (Sent side m)
-  guessed_so begun used_not = by (bytes_eq id from) refl ∙ sym guess_is
+  pub guessed_is : (g : Bool) → g ≡ (began side from items && not (has_used (other side) items to))
+      → (bytes_eq id from && g) ≡ guesses (other side) id items (Sent side m)
+  guessed_is g is = by (bytes_eq id from) refl ∙ sym guess_is
     where
       by : (b : Bool) → bytes_eq id from ≡ b
-          → bytes_eq id from ≡ ((bytes_eq id from && began side id items) && not (has_used (other side) items to))
-      by false apart = rw apart refl
-      by true same =
-          let one : id ≡ from = (bytes_eq-Decides id from).0 same in
-          rw (same, used_not, one, begun) refl
+          → (b && g) ≡ ((b && began side id items) && not (has_used (other side) items to))
+      by false apart = refl
+      by true same = let one : id ≡ from = (bytes_eq-Decides id from).0 same in rw one is
 
-  pub guessed_not : (began side from items && not (has_used (other side) items to)) ≡ false
-      → false ≡ guesses (other side) id items (Sent side m)
-  guessed_not nothing = by (bytes_eq id from) refl ∙ sym guess_is
-    where
-      by : (b : Bool) → bytes_eq id from ≡ b
-          → false ≡ ((bytes_eq id from && began side id items) && not (has_used (other side) items to))
-      by false apart = rw apart refl
-      by true same =
-          let one : id ≡ from = (bytes_eq-Decides id from).0 same in
-          rw (same, one) (sym nothing)
+-- What is no Continue guesses nothing.
+pub guesses_not : (side : Side) (items : List Item) (m : Message) → is_a forms.Continue m ≡ false → (id : List ℕ)
+    → guesses (other side) id items (Sent side m) ≡ false
+guesses_not side items m stays id = rw (other_twice side, is_itself side, stays) refl

@@ -47,9 +47,6 @@ module _ {table : Table} {side : Side} {items : List Item} {facts : SideFacts} (
   pub from_there : (kept : SentFrom) → Some kept ≡ from_at → IsFrom table (sent_from side items id) kept
   from_there kept some = (rw (← some) at (is.from id)).1.from
 
-  pub from_whole : (kept : SentFrom) → Some kept ≡ from_at → IsFromWhole table (sent_from side items id) kept
-  from_whole kept some = (rw (← some) at (is.from id)).1
-
   pub from_nowhere : None ≡ from_at → sent_from side items id ≡ []
   from_nowhere none = rw (← none) at (is.from id)
 
@@ -80,10 +77,13 @@ kept_where : (table : Table) (p : Message → Bool) (ms : List Message) (o : Opt
 kept_where table p ms None is = sym (any_kept p ms ∙ ap (λ kept. not (is_nothing kept)) is)
 kept_where table p ms (Some kept) is = sym (any_kept p ms ∙ ap not is.0)
 
+pub used_at : (table : Table) (side : Side) (items : List Item) (id : List ℕ) (o : Option SentFrom)
+    → IsFromAt table (sent_from side items id) o → is_some o ≡ has_used side items id
+used_at table side items id o is = kept_where table (λ m. is_id id (otid_in m)) (sent_by side items) o is
+
 pub used_is : {table : Table} {side : Side} {items : List Item} {facts : SideFacts} → IsSide table side items facts
     → (id : List ℕ) → is_some (lookup (is_at (octets_cmp id)) facts.from.entries) ≡ has_used side items id
-used_is {table} {side} {items} {facts} is id =
-    kept_where table (λ m. is_id id (otid_in m)) (sent_by side items) _ (is.from id)
+used_is {table} {side} {items} {facts} is id = used_at table side items id _ (is.from id)
 
 -- It is there where the Begin is.
 begin_there : (table : Table) (o : Option Message) (kept : Option FirstBegin) → IsFirstBegin table o kept

@@ -1,5 +1,5 @@
 -- The half with an ID of the peer is the one that is read off what is kept.
-use Rattle.std.proofs.Common.{◌≡◌, Bor, ℕ, Bool, true, false, cond, not, ◌&&◌, ◌||◌, List, [], ◌∷◌, ◌++◌, Option, Some, None, is_some, filter, map, option_copied, refl, sym, ap, subst, ◌∙◌}
+use Rattle.std.proofs.Common.{◌≡◌, Bor, ℕ, Bool, true, false, cond, not, ◌&&◌, ◌||◌, List, [], ◌∷◌, ◌++◌, Option, Some, None, is_some, map, option_copied, refl, sym, ap, subst, ◌∙◌}
 use Rattle.std.specs.Prelude.{is_none}
 use Rattle.std.specs.Map.{lookup}
 use Rattle.std.specs.BTreeMap.{is_at}
@@ -18,10 +18,8 @@ use Rattle.tcap_end.specs.Table.{Table, octets_cmp}
 use Rattle.tcap_model.specs.World.{Item}
 use Rattle.tcap_model.specs.Run.{then_so}
 use Rattle.tcap_refute.specs.Before.{asked, components_of, has_a, is_a, sent_by}
-use Rattle.tcap_refute.proofs.BeforeLaws.{is_that_id}
-use Rattle.tcap_refute.proofs.Members.{filter_has, has_first, has_not}
 use Rattle.tcap_faults.specs.Counts.{is_nothing}
-use Rattle.tcap_faults.specs.Told.{began, begin_from, goes_on_to, is_cause, is_request_of, told, was_refused}
+use Rattle.tcap_faults.specs.Told.{begin_from, is_cause, is_request_of, told, was_refused}
 use Rattle.tcap_faults.specs.declared.half.Half.{Half}
 use Rattle.tcap_faults.specs.declared.how.How.TheVariants.{Accepted, Begun, Refused, Unanswered}
 use Rattle.tcap_faults.specs.declared.sent_from.Came.{Came}
@@ -34,13 +32,9 @@ use Rattle.tcap_faults.specs.HalfOf.{HalfOf, accepted_half, answered_from, begun
 use Rattle.tcap_faults.specs.Ids.{ids_first}
 use Rattle.tcap_faults.specs.Kept.{IsCame, IsCameAt, IsFirstBegin, IsFrom, IsTo, IsToAt, before_response, of_user, otids_of, sent_from, sent_to}
 use Rattle.tcap_faults.specs.Speaking.{IsBegunBy, IsCameBack, came_counted, heard_counted, told_counted}
-use Rattle.tcap_faults.specs.HalfKinds.{is_first_answer, is_wrong_dialogue, is_wrong_going_on}
-use Rattle.tcap_faults.specs.Tangled.{goes_to_begun, is_peer_tangled, owns_of}
-use Rattle.tcap_faults.proofs.HalfLawsFinds.{filter_is, find_has, find_none}
-use Rattle.tcap_faults.proofs.OwnHalfLaws.{begun_there, to_begun}
+use Rattle.tcap_faults.specs.HalfKinds.{is_first_answer, is_wrong_aborting, is_wrong_dialogue, is_wrong_going_on}
 use Rattle.tcap_faults.proofs.TalliedLaws.{are_more, are_none, are_one}
-use Rattle.tcap_faults.proofs.TangledLaws.{IsPlain, began_used, joins, plain_peer}
-use Rattle.tcap_faults.proofs.TwoTests.{any_both, any_found, filter_both, found_both}
+use Rattle.tcap_faults.proofs.TwoTests.{any_both, filter_both}
 
 -- ---- two tests
 
@@ -257,6 +251,16 @@ module _ (table : Table) (side : Side) (id : List ℕ) (items : List Item) (kept
       hears_it false so = rw (← so) (both_are table _ came is)
 
 -- ---- the dialogue
+
+pub aborting_so : (side : Side) (items : List Item) (id : List ℕ) (m : Message) (h : HalfOf)
+    → kind_in m ≡ forms.Abort
+    → is_wrong_aborting (is_first_answer side items id h) (is_request_of h.begin) (dialogue_in m)
+    ≡ is_wrong_dialogue side items id m h
+aborting_so side items id (Unidirectional dialogue components) h so = cc
+aborting_so side items id (Begin otid dialogue components) h so = cc
+aborting_so side items id (Continue otid dtid dialogue components) h so = cc
+aborting_so side items id (EndMessage dtid dialogue components) h so = cc
+aborting_so side items id (Abort dtid reason) h so = refl
 
 pub going_on_else : (side : Side) (items : List Item) (id : List ℕ) (m : Message) (h : HalfOf)
     → (kind_in m ≡ forms.Abort → ⊥)

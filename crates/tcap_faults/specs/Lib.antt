@@ -34,6 +34,8 @@ pub mod FaultRows12
 pub mod FaultRows13
 pub mod Ids
 pub mod Kept
+pub mod Found
+pub mod Effects
 pub mod Noting
 pub mod Joining
 pub mod Speaking

@@ -5,7 +5,7 @@ use Rattle.tcap_record.specs.declared.entry.End.{End as Side}
 use Rattle.tcap_record.specs.declared.entry.Entry.{Entry}
 use Rattle.tcap_end.specs.Table.{Table}
 use Rattle.tcap_model.specs.declared.reason.Reason.{Reason}
-use Rattle.tcap_model.specs.World.{Item, Sent}
+use Rattle.tcap_model.specs.World.{Item, Sent, is_side}
 use Rattle.tcap_model.specs.Entries.{item_of}
 use Rattle.tcap_refute.specs.Before.{since_quiet}
 use Rattle.tcap_refute.specs.Kind.{or_else}
@@ -30,12 +30,13 @@ again_behind table side number (Ok (Sent sender m) ∷ more) seen first =
 abbrev pub used_again_at : Table → Side → List Entry → ℕ → Option ℕ
 used_again_at table side entries number = again_behind table side 0 (map item_of (take (number + 1) entries)) [] None
 
--- the first tangled ID that the message of that entry goes over, as it is for an end
+-- the first tangled ID that the message of that entry goes over, where that end sent it
 abbrev pub tangled_at : Side → List Entry → ℕ → Option TangledId
 tangled_at side entries number = by (slice_get (map item_of entries) number)
   where
     by : Option (Result Item Reason) → Option TangledId
-    by (Some (Ok (Sent sender m))) = tangled_in side (since_quiet (items_among (map item_of (take number entries)))) m
+    by (Some (Ok (Sent sender m))) =
+        cond (is_side side sender) (tangled_in side (since_quiet (items_among (map item_of (take number entries)))) m) None
     by entry = None
 
 abbrev pub unblamed_by : Option ℕ → Option TangledId → Option Unblamed

@@ -12,6 +12,7 @@ ghost use Rattle.tcap_faults.specs.Fault.{blamed};
 ghost use Rattle.tcap_faults.specs.Searching.{AreRoomy, IsKept, IsTaken, Takes, components_in_all, looking_at, looking_bad, looking_behind, looking_first, looking_put, looking_with};
 
 use crate::facts::Facts;
+use crate::found::key_of;
 use std::alloc::{AllocError, Global};
 use tcap_ber::Reason;
 use tcap_end::Table;
@@ -132,12 +133,18 @@ impl SearchState {
             → AreRoomy (items ++ Sent sender (M.meaning message.now) ∷ [])
             → OnOk result (IsTaken table.now items number (Sent sender (M.meaning message.now)) self.old self.new) }
     {
+        let otid = key_of(message.otid());
+        let dtid = key_of(message.dtid());
+        let found = self.kept.find(sender, otid.as_ref(), dtid.as_ref());
+        let effects = self.kept.effects(table, sender, found);
         let looking = self.of(sender);
         if !looking.is_over {
-            let kind = self.kept.fault_of(alloc, table, sender, message)?;
+            let kind = self
+                .kept
+                .fault_of(alloc, table, sender, message, found, effects)?;
             self.put(sender, looking.with(number, kind));
         }
-        self.kept.note(alloc, table, sender, message)
+        self.kept.note(alloc, table, sender, message, effects)
     }
 
     /// A quiet mark of that number: whether it is a fault of an end.

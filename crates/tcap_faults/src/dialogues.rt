@@ -6,16 +6,16 @@ ghost use Rattle.tcap_record.specs.declared.entry.End.{End as Side};
 ghost use Rattle.tcap_end.specs.Dialogue.{is_user_abort};
 ghost use Rattle.tcap_end.specs.Table.{Table};
 ghost use Rattle.tcap_model.specs.World.{Item};
+ghost use Rattle.tcap_faults.specs.Found.{IsThere};
 ghost use Rattle.tcap_faults.specs.HalfKept.{IsHalf};
 ghost use Rattle.tcap_faults.specs.HalfKinds.{is_first_answer, is_wrong_aborting, is_wrong_dialogue, is_wrong_going_on};
 ghost use Rattle.tcap_faults.specs.HalfOf.{HalfOf};
-ghost use Rattle.tcap_faults.specs.Kept.{IsSide};
 
+use crate::found::There;
 use crate::half::Half;
 use crate::how::How;
 use crate::sent_from::is_response;
-use crate::tangled::Ends;
-use tcap_msg::{Kind as Form, MessageParts, TransactionId};
+use tcap_msg::{Kind as Form, MessageParts};
 use tcap_parts::DialogueView;
 
 /// Whether it is an ABRT of the user.
@@ -43,34 +43,29 @@ fn is_wrong_aborting(is_first: bool, has_request: bool, dialogue: Option<Dialogu
     (!is_first && is_response(dialogue)) || (is_user_abort(dialogue) && !has_request)
 }
 
-impl Ends<'_> {
-    /// Whether a message to that ID would be the first answer to the peer's Begin.
-    fn is_first_answer(self, id: &TransactionId, half: &Half) -> bool
+impl There<'_> {
+    /// Whether a message to it would be the first answer to the peer's Begin.
+    fn is_first_answer(self, half: &Half) -> bool
         ensures { (table : Table) (side : Side) (items : List Item) (h : HalfOf)
-            → IsSide table side items self.entry.own.now → IsHalf table h half.now
-            → result ≡ is_first_answer side items id.now h }
+            → IsThere table side items self.entry.id.now self.entry → IsHalf table h half.now
+            → result ≡ is_first_answer side items self.entry.id.now h }
     {
         if half.how != How::Accepted {
             return false;
         }
-        match self.own.to.get(id) {
+        match self.to {
             Some(told) => told.from.first().is_none(),
             None => true,
         }
     }
 
-    /// Whether the dialogue portion of a message to that ID does not fit the dialogue of its half.
-    pub(crate) fn is_wrong_dialogue<M: MessageParts>(
-        self,
-        id: &TransactionId,
-        message: &M,
-        half: &Half,
-    ) -> bool
+    /// Whether the dialogue portion of a message to it does not fit the dialogue of its half.
+    pub(crate) fn is_wrong_dialogue<M: MessageParts>(self, message: &M, half: &Half) -> bool
         ensures { (table : Table) (side : Side) (items : List Item) (h : HalfOf)
-            → IsSide table side items self.entry.own.now → IsHalf table h half.now
-            → result ≡ is_wrong_dialogue side items id.now (M.meaning message.now) h }
+            → IsThere table side items self.entry.id.now self.entry → IsHalf table h half.now
+            → result ≡ is_wrong_dialogue side items self.entry.id.now (M.meaning message.now) h }
     {
-        let is_first = self.is_first_answer(id, half);
+        let is_first = self.is_first_answer(half);
         if matches!(message.kind(), Form::Abort) {
             is_wrong_aborting(is_first, half.requests, message.dialogue())
         } else {

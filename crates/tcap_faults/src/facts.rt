@@ -9,16 +9,17 @@ ghost use Rattle.tcap_record.specs.Ends.{other};
 ghost use Rattle.tcap_end.specs.Table.{Table};
 ghost use Rattle.tcap_model.specs.World.{Item};
 ghost use Rattle.tcap_refute.specs.Before.{ends_to, is_a, sent_by};
-ghost use Rattle.tcap_refute.specs.Asking.{told_ended, told_from};
+ghost use Rattle.tcap_refute.specs.Asking.{told_from};
 ghost use Rattle.tcap_refute.specs.Facts.{FromFact, told_since};
 ghost use Rattle.tcap_refute.specs.Kept.{told_by_from};
 ghost use Rattle.tcap_faults.specs.Counts.{count, is_nothing};
-ghost use Rattle.tcap_faults.specs.Told.{began, goes_on_to, has_ended, has_used, told};
+ghost use Rattle.tcap_faults.specs.Tangled.{guesses};
+ghost use Rattle.tcap_faults.specs.Told.{began, has_ended, has_used, one_passes, told};
 ghost use Rattle.tcap_faults.specs.Kept.{AreFacts, IsSide, sent_from};
 
 use crate::ids::Ids;
-use crate::sent_from::SentFrom;
-use crate::sent_to::SentTo;
+use crate::sent_from::{SentFrom, begins, begins_twice, first_of};
+use crate::sent_to::{SentTo, is_ended, is_silenced, tells};
 use std::alloc::Global;
 use std::collections::{BTreeMap, BTreeSet};
 use tcap_msg::{TransactionId, TransactionIdView};
@@ -72,11 +73,8 @@ impl SideFacts {
         ensures { (table : Table) (side : Side) (items : List Item) (fact : FromFact) → IsSide table side items self.now
             → told_by_from (option_copied result) fact ≡ told_from (told_since table side items) (id_of id.entry) fact }
     {
-        let Some(id) = id else {
-            return None;
-        };
-        match self.from.get(&id.to_transaction_id()) {
-            Some(kept) => Some(&kept.first),
+        match id {
+            Some(id) => first_of(self.from.get(&id.to_transaction_id())),
             None => None,
         }
     }
@@ -94,10 +92,7 @@ impl SideFacts {
         ensures { (table : Table) (side : Side) (items : List Item) → IsSide table side items self.now
             → result ≡ began side id.now items }
     {
-        match self.from.get(id) {
-            Some(kept) => kept.begin.is_some(),
-            None => false,
-        }
+        begins(self.from.get(id))
     }
 
     /// Whether it sent two there, or more.
@@ -105,21 +100,15 @@ impl SideFacts {
         ensures { (table : Table) (side : Side) (items : List Item) → IsSide table side items self.now
             → result ≡ nat_le 2 (count (is_a forms.Begin) (sent_from side items id.now)) }
     {
-        match self.from.get(id) {
-            Some(kept) => kept.begun_twice,
-            None => false,
-        }
+        begins_twice(self.from.get(id))
     }
 
-    /// Whether it sent a Continue from an ID to another.
-    pub(crate) fn goes_on(&self, from: &TransactionId, to: &TransactionId) -> bool
+    /// Whether, behind a Begin from there, it went on to an ID that the other end had not used.
+    pub(crate) fn has_guessed(&self, id: &TransactionId) -> bool
         ensures { (table : Table) (side : Side) (items : List Item) → IsSide table side items self.now
-            → result ≡ list_any (goes_on_to to.now) (sent_from side items «from».now) }
+            → result ≡ one_passes (guesses (other side) id.now) [] items }
     {
-        match self.from.get(from) {
-            Some(kept) => kept.came.contains_key(to),
-            None => false,
-        }
+        self.guessed.contains(id)
     }
 
     /// Whether it told an ID something that is no Abort of the provider.
@@ -127,10 +116,7 @@ impl SideFacts {
         ensures { (table : Table) (side : Side) (items : List Item) → IsSide table side items self.now
             → result ≡ not (is_nothing (told side id.now items)) }
     {
-        match self.to.get(id) {
-            Some(kept) => kept.spoke,
-            None => false,
-        }
+        tells(self.to.get(id))
     }
 
     /// Whether it sent an End or an Abort to an ID.
@@ -138,10 +124,7 @@ impl SideFacts {
         ensures { (table : Table) (side : Side) (items : List Item) → IsSide table side items self.now
             → result ≡ list_any (ends_to id.now) (sent_by side items) }
     {
-        match self.to.get(id) {
-            Some(kept) => kept.silenced,
-            None => false,
-        }
+        is_silenced(self.to.get(id))
     }
 
     /// Whether it sent an End, or an Abort without cause, to an ID.
@@ -149,21 +132,7 @@ impl SideFacts {
         ensures { (table : Table) (side : Side) (items : List Item) → IsSide table side items self.now
             → result ≡ has_ended side items id.now }
     {
-        match self.to.get(id) {
-            Some(kept) => kept.ended,
-            None => false,
-        }
-    }
-
-    /// The same, where there is an ID.
-    pub(crate) fn has_ended_with(&self, id: Option<TransactionIdView>) -> bool
-        ensures { (table : Table) (side : Side) (items : List Item) → IsSide table side items self.now
-            → result ≡ told_ended (told_since table side items) (id_of id.entry) }
-    {
-        match id {
-            Some(id) => self.has_ended(&id.to_transaction_id()),
-            None => false,
-        }
+        is_ended(self.to.get(id))
     }
 }
 

@@ -10,12 +10,14 @@ ghost use Rattle.tcap_refute.specs.declared.kind.Kind.TheVariants.{WrongReply};
 ghost use Rattle.tcap_faults.specs.Fault.{further_kinds, is_of_further_kind, is_of_half_kind, is_wrong_reply};
 ghost use Rattle.tcap_refute.specs.Before.{since_quiet};
 ghost use Rattle.tcap_refute.specs.FirstKinds.{first_kinds, is_of_first_kind};
+ghost use Rattle.tcap_faults.specs.Found.{AreFound, IsThere};
 ghost use Rattle.tcap_faults.specs.HalfOf.{half_of};
 ghost use Rattle.tcap_faults.specs.Kept.{IsSide};
 ghost use Rattle.tcap_faults.specs.Searching.{AreRoomy, kind_of_components};
 ghost use Rattle.tcap_faults.specs.Tangled.{goes_over_tangled, is_peer_tangled};
 
 use crate::components::{ComponentFaults, faults_of, first_faults};
+use crate::found::{Found, There};
 use crate::tangled::Ends;
 use std::alloc::{AllocError, Global};
 use tcap_ber::SmallView;
@@ -41,39 +43,40 @@ fn kind_of_faults(faults: ComponentFaults) -> Option<Kind>
     }
 }
 
-impl Ends<'_> {
+impl Found<'_> {
     /// The lowest of F2 to F7, as they are asked of one end, of a message that the end sends.
     pub(crate) fn first_kind<M: MessageParts>(self, table: &Table, message: &M) -> Option<Kind>
-        ensures { (side : Side) (items : List Item) → IsSide table.now side (since_quiet items) self.entry.own.now
-            → IsSide table.now (other side) (since_quiet items) self.entry.peer.now
+        ensures { (side : Side) (items : List Item)
+            → AreFound table.now side (since_quiet items) (M.meaning message.now) self.entry
             → result ≡ find (is_of_first_kind table.now side (since_quiet items) (M.meaning message.now)) first_kinds }
     {
-        let own = self.own.first_from(message.otid());
-        let there = self.peer.first_from(message.dtid());
-        let has_ended = self.own.has_ended_with(message.dtid());
-        first_kind(table, own, there, has_ended, message)
+        let own = self.first_own();
+        let there = self.first_there();
+        first_kind(table, own, there, self.has_ended(), message)
     }
+}
 
+impl Ends<'_> {
     /// The lowest kind of a message to that ID, which is not tangled, by the half over which it would go.
     fn half_kind<M: MessageParts>(
         self,
         alloc: Global,
         table: &Table,
-        id: &TransactionId,
+        there: There,
         message: &M,
     ) -> Result<Option<Kind>, AllocError>
         ensures { (side : Side) (items : List Item) → IsSide table.now side items self.entry.own.now
-            → IsSide table.now (other side) items self.entry.peer.now → is_peer_tangled side items id.now ≡ false
+            → IsThere table.now side items there.entry.id.now there.entry
+            → is_peer_tangled side items there.entry.id.now ≡ false
             → AreRoomy (items ++ Sent side (M.meaning message.now) ∷ [])
-            → IfOk result (λ kind. kind ≡ find
-            (is_of_half_kind table.now side id.now items (M.meaning message.now) (half_of side items id.now))
-            further_kinds) }
+            → IfOk result (λ kind. kind ≡ find (is_of_half_kind table.now side there.entry.id.now items
+            (M.meaning message.now) (half_of side items there.entry.id.now)) further_kinds) }
     {
-        let half = self.half(alloc, id)?;
+        let half = self.half(alloc, there)?;
         if self.is_wrong_half(message, &half) {
             return Ok(Some(Kind::WrongHalf));
         }
-        if self.is_wrong_dialogue(id, message, &half) {
+        if there.is_wrong_dialogue(message, &half) {
             return Ok(Some(Kind::WrongDialogue));
         }
         let faults = faults_of(alloc, table, &half, message)?;
@@ -100,22 +103,23 @@ impl Ends<'_> {
         alloc: Global,
         table: &Table,
         message: &M,
+        found: Found,
     ) -> Result<Option<Kind>, AllocError>
         ensures { (side : Side) (items : List Item) → IsSide table.now side items self.entry.own.now
             → IsSide table.now (other side) items self.entry.peer.now
+            → AreFound table.now side items (M.meaning message.now) found.entry
             → goes_over_tangled side items (M.meaning message.now) ≡ false
             → AreRoomy (items ++ Sent side (M.meaning message.now) ∷ [])
             → IfOk result (λ kind. kind ≡ find
             (is_of_further_kind table.now side items (M.meaning message.now) (dtid_in (M.meaning message.now)))
             further_kinds) }
     {
-        let Some(dtid) = message.dtid() else {
+        let Some(there) = found.there else {
             return Ok(kind_of_faults(first_faults(alloc, message)?));
         };
-        let id = dtid.to_transaction_id();
         match message.cause() {
-            Some(cause) => Ok(self.reply_kind(table, &id, cause)),
-            None => self.half_kind(alloc, table, &id, message),
+            Some(cause) => Ok(self.reply_kind(table, there.id, cause)),
+            None => self.half_kind(alloc, table, there, message),
         }
     }
 }

@@ -9,7 +9,7 @@ ghost use Rattle.tcap_msg.specs.declared.message.Message.{Message};
 ghost use Rattle.tcap_end.specs.End.{is_id};
 ghost use Rattle.tcap_end.specs.Table.{Table};
 ghost use Rattle.tcap_model.specs.World.{Item, Sent};
-ghost use Rattle.tcap_refute.specs.Before.{asked};
+ghost use Rattle.tcap_refute.specs.Before.{asked, since_quiet};
 ghost use Rattle.tcap_faults.specs.Closed.{all_go_on_to, shows_closed};
 ghost use Rattle.tcap_faults.specs.Told.{has_ended, has_used};
 ghost use Rattle.tcap_faults.specs.Joining.{GetsMore, HasMore, IsJoined};
@@ -18,16 +18,17 @@ ghost use Rattle.tcap_faults.specs.Kept.{IsSide, otids_of, sent_to};
 ghost use Rattle.tcap_faults.specs.Noting.{AreTo};
 ghost use Rattle.tcap_faults.specs.Searching.{IsKept};
 ghost use Rattle.tcap_faults.specs.Tangled.{guesses, owns_of};
+ghost use Rattle.tcap_faults.specs.Effects.{AreEffects};
 
+use crate::effects::Effects;
 use crate::facts::{Facts, SideFacts};
 use crate::ids::Ids;
 use crate::sent_from::note_from;
 use crate::sent_to::{SentTo, ends, note_to};
-use crate::tangled::Ends;
 use std::alloc::{AllocError, Global};
 use std::collections::{BTreeMap, BTreeSet};
 use tcap_end::Table;
-use tcap_msg::{Kind as Form, MessageParts, TransactionId, TransactionIdView};
+use tcap_msg::{MessageParts, TransactionId, TransactionIdView};
 use tcap_record::End;
 
 /// An ID more at a key.
@@ -145,29 +146,6 @@ fn closed_by<M: MessageParts>(
     }
 }
 
-/// The ID from which a message goes on, where its end guesses the other: it began that ID, and the other end has not used the
-/// one that it goes to.
-fn guessed_by<M: MessageParts>(
-    own: &SideFacts,
-    peer: &SideFacts,
-    message: &M,
-) -> Option<TransactionId>
-    ensures { (table : Table) (side : Side) (items : List Item) (id : List ℕ) → IsSide table side items own.now
-        → IsSide table (other side) items peer.now
-        → is_id id result ≡ guesses (other side) id items (Sent side (M.meaning message.now)) }
-{
-    if !matches!(message.kind(), Form::Continue) {
-        return None;
-    }
-    let own_id = message.otid()?.to_transaction_id();
-    let id = message.dtid()?.to_transaction_id();
-    if own.began(&own_id) && !peer.has_used(&id) {
-        Some(own_id)
-    } else {
-        None
-    }
-}
-
 /// An ID more, where there is one.
 fn insert_some(
     set: &mut BTreeSet<TransactionId>,
@@ -195,15 +173,16 @@ fn insert_if(
     Ok(())
 }
 
-/// The first use of an ID: those from which the peer went on to it are joined with it.
+/// The first use of an ID: those from which the peer went on to it are joined with it. It is said whether it was used before.
 fn join_first(
     alloc: Global,
     own: &mut SideFacts,
     peer: &mut SideFacts,
     otid: TransactionIdView,
+    used: bool,
 ) -> Result<(), AllocError>
     ensures { (table : Table) (side : Side) (items : List Item) → IsSide table side items own.old
-        → IsSide table (other side) items peer.old
+        → IsSide table (other side) items peer.old → used ≡ has_used side items otid.entry.octets.now
         → OnOk result (
         GetsMore (λ key. not (has_used side items otid.entry.octets.now)
         && list_any (bytes_eq key) (otids_of (sent_to (other side) items otid.entry.octets.now)))
@@ -214,52 +193,16 @@ fn join_first(
         × (own.new ≡ record own.old { over = own.new.over })
         × (peer.new ≡ record peer.old { joined = peer.new.joined })) }
 {
-    let id = otid.to_transaction_id();
-    if own.has_used(&id) {
+    if used {
         return Ok(());
     }
+    let id = otid.to_transaction_id();
     let Some(kept) = peer.to.get(&id) else {
         return Ok(());
     };
     add_at_all(alloc, &mut peer.joined, &kept.from, otid)?;
     let ended = own.ended_one(&kept.from);
     insert_if(&mut own.over, ended, otid)
-}
-
-/// What a Continue from an own ID to one of the peer joins, by what was sent before.
-#[derive(Clone, Copy, Debug)]
-struct Joins {
-    /// Whether the end sent an End, or an Abort without cause, to the ID of the peer.
-    over: bool,
-    /// Whether the peer used its ID.
-    used: bool,
-    /// Whether it did, and sent an End, or an Abort without cause, to the own ID.
-    peer_over: bool,
-}
-
-impl Joins {
-    /// That of a Continue which is not noted yet.
-    fn of(
-        own: &SideFacts,
-        peer: &SideFacts,
-        otid: TransactionIdView,
-        dtid: TransactionIdView,
-    ) -> Joins
-        ensures { (table : Table) (side : Side) (items : List Item) → IsSide table side items own.now
-            → IsSide table (other side) items peer.now
-            → (result.over ≡ has_ended side items dtid.entry.octets.now)
-            × (result.used ≡ has_used (other side) items dtid.entry.octets.now)
-            × (result.peer_over ≡ has_used (other side) items dtid.entry.octets.now
-            && has_ended (other side) items otid.entry.octets.now) }
-    {
-        let id = dtid.to_transaction_id();
-        let used = peer.has_used(&id);
-        Joins {
-            over: own.has_ended(&id),
-            used,
-            peer_over: used && peer.has_ended(&otid.to_transaction_id()),
-        }
-    }
 }
 
 /// A Continue from an own ID to one of the peer: they are joined.
@@ -269,19 +212,19 @@ fn join_continue(
     peer: &mut SideFacts,
     otid: TransactionIdView,
     dtid: TransactionIdView,
-    joins: Joins,
+    effects: Effects,
 ) -> Result<(), AllocError>
     ensures { OnOk result (
-        GetsMore (λ key. bytes_eq key otid.entry.octets.now && joins.used)
+        GetsMore (λ key. bytes_eq key otid.entry.octets.now && effects.joins)
         dtid.entry.octets.now own.old.joined own.new.joined
-        × HasMore (λ id. bytes_eq id otid.entry.octets.now && joins.over) own.old.over own.new.over
-        × HasMore (λ id. bytes_eq id dtid.entry.octets.now && joins.peer_over) peer.old.over peer.new.over
+        × HasMore (λ id. bytes_eq id otid.entry.octets.now && effects.over) own.old.over own.new.over
+        × HasMore (λ id. bytes_eq id dtid.entry.octets.now && effects.peer_over) peer.old.over peer.new.over
         × (own.new ≡ record own.old { over = own.new.over; joined = own.new.joined })
         × (peer.new ≡ record peer.old { over = peer.new.over })) }
 {
-    insert_if(&mut own.over, joins.over, otid)?;
-    insert_if(&mut peer.over, joins.peer_over, dtid)?;
-    if !joins.used {
+    insert_if(&mut own.over, effects.over, otid)?;
+    insert_if(&mut peer.over, effects.peer_over, dtid)?;
+    if !effects.joins {
         return Ok(());
     }
     add_at(alloc, &mut own.joined, otid, dtid)
@@ -302,19 +245,25 @@ fn insert_from(
     insert_all(set, Some(&kept.from))
 }
 
-/// An end of the transaction with an ID of the peer: those of the end that are joined with it may be over.
-fn end_all(own: &mut SideFacts, peer: &SideFacts, dtid: TransactionIdView) -> Result<(), AllocError>
+/// An end of the transaction with an ID of the peer: those of the end that are joined with it may be over. It is said whether it
+/// was ended before.
+fn end_all(
+    own: &mut SideFacts,
+    peer: &SideFacts,
+    dtid: TransactionIdView,
+    ended: bool,
+) -> Result<(), AllocError>
     ensures { (table : Table) (side : Side) (items : List Item) → IsSide table side items own.old
-        → IsSide table (other side) items peer.now
+        → IsSide table (other side) items peer.now → ended ≡ has_ended side items dtid.entry.octets.now
         → OnOk result (
         HasMore (λ id. not (has_ended side items dtid.entry.octets.now)
         && list_any (bytes_eq id) (owns_of side items dtid.entry.octets.now)) own.old.over own.new.over
         × (own.new ≡ record own.old { over = own.new.over })) }
 {
-    let id = dtid.to_transaction_id();
-    if own.has_ended(&id) {
+    if ended {
         return Ok(());
     }
+    let id = dtid.to_transaction_id();
     insert_from(&mut own.over, &own.to, &id)?;
     insert_all(&mut own.over, peer.joined.get(&id))
 }
@@ -325,66 +274,81 @@ fn note_joined<M: MessageParts>(
     own: &mut SideFacts,
     peer: &mut SideFacts,
     message: &M,
+    effects: Effects,
 ) -> Result<(), AllocError>
     ensures { (table : Table) (side : Side) (items : List Item) → IsSide table side items own.old
-        → IsSide table (other side) items peer.old
+        → IsSide table (other side) items peer.old → AreEffects table side items (M.meaning message.now) effects
         → OnOk result (IsJoined side items (M.meaning message.now) own.old own.new peer.old peer.new) }
 {
     match (message.otid(), message.dtid()) {
-        (Some(otid), None) => join_first(alloc, own, peer, otid),
+        (Some(otid), None) => join_first(alloc, own, peer, otid, effects.used),
         (Some(otid), Some(dtid)) => {
-            let joins = Joins::of(own, peer, otid, dtid);
-            join_first(alloc, own, peer, otid)?;
-            join_continue(alloc, own, peer, otid, dtid, joins)
+            join_first(alloc, own, peer, otid, effects.used)?;
+            join_continue(alloc, own, peer, otid, dtid, effects)
         }
-        (None, Some(dtid)) if ends(message) => end_all(own, peer, dtid),
+        (None, Some(dtid)) if ends(message) => end_all(own, peer, dtid, effects.over),
         _ => Ok(()),
     }
 }
 
-/// A message more that an end sent: what is kept of it, and of its peer.
+/// The originating ID of a message which guesses, where its end guesses the ID to which it goes on.
+fn note_guessed<M: MessageParts>(
+    guessed: &mut BTreeSet<TransactionId>,
+    message: &M,
+    effects: Effects,
+) -> Result<(), AllocError>
+    ensures { (table : Table) (side : Side) (items : List Item) → AreEffects table side items (M.meaning message.now) effects
+        → OnOk result (HasMore (λ id. guesses (other side) id items (Sent side (M.meaning message.now))) guessed.old guessed.new) }
+{
+    let Some(otid) = message.otid() else {
+        return Ok(());
+    };
+    match message.dtid() {
+        Some(_) => insert_if(guessed, effects.guesses, otid),
+        None => Ok(()),
+    }
+}
+
+/// A message more that an end sent: what is kept of it, and of its peer. It is said what it does, by what was sent before.
 fn note_sent<M: MessageParts>(
     alloc: Global,
     table: &Table,
     own: &mut SideFacts,
     peer: &mut SideFacts,
     message: &M,
+    effects: Effects,
 ) -> Result<(), AllocError>
     ensures { (side : Side) (items : List Item) → IsSide table.now side items own.old
-        → IsSide table.now (other side) items peer.old
+        → IsSide table.now (other side) items peer.old → AreEffects table.now side items (M.meaning message.now) effects
         → OnOk result (IsSide table.now side (items ++ Sent side (M.meaning message.now) ∷ []) own.new
         × IsSide table.now (other side) (items ++ Sent side (M.meaning message.now) ∷ []) peer.new) }
 {
-    let again = Ends {
-        own: &*own,
-        peer: &*peer,
-    }
-    .uses_again(table, message);
     let closed = closed_by(own, peer, message);
-    let guessed = guessed_by(own, peer, message);
-    note_joined(alloc, own, peer, message)?;
-    own.again |= again;
+    note_joined(alloc, own, peer, message, effects)?;
+    own.again |= effects.again;
     insert_some(&mut own.closed, closed)?;
-    insert_some(&mut own.guessed, guessed)?;
+    note_guessed(&mut own.guessed, message, effects)?;
     note_from(&mut own.from, alloc, table, message)?;
     note_to(&mut own.to, alloc, table, message)
 }
 
 impl Facts {
-    /// A message more, which that end sent.
+    /// A message more, which that end sent. It is said what it does, by what was sent before.
     pub(crate) fn note<M: MessageParts>(
         &mut self,
         alloc: Global,
         table: &Table,
         sender: End,
         message: &M,
+        effects: Effects,
     ) -> Result<(), AllocError>
         ensures { (items : List Item) → IsKept table.now items self.old
+            → AreEffects table.now sender (since_quiet items) (M.meaning message.now) effects
             → OnOk result (IsKept table.now (items ++ Sent sender (M.meaning message.now) ∷ []) self.new) }
     {
         match sender {
-            End::A => note_sent(alloc, table, &mut self.a, &mut self.b, message),
-            End::B => note_sent(alloc, table, &mut self.b, &mut self.a, message),
+            End::A => note_sent(alloc, table, &mut self.a, &mut self.b, message, effects),
+            End::B => note_sent(alloc, table, &mut self.b, &mut self.a, message, effects),
         }
     }
 }

@@ -10,6 +10,7 @@ ghost use Rattle.tcap_faults.specs.Subject.{items_among};
 
 use crate::blaming::entry_count;
 use crate::facts::Facts;
+use crate::found::key_of;
 use std::alloc::{AllocError, Global};
 use tcap_end::Table;
 use tcap_msg::MessageParts;
@@ -45,7 +46,12 @@ impl Facts {
     {
         match (entry.side, &entry.body) {
             (Some(sender), Body::Good(message)) => {
-                self.note(alloc, table, sender, &message.view())
+                let view = message.view();
+                let otid = key_of(view.otid());
+                let dtid = key_of(view.dtid());
+                let found = self.find(sender, otid.as_ref(), dtid.as_ref());
+                let effects = self.effects(table, sender, found);
+                self.note(alloc, table, sender, &view, effects)
             }
             (None, Body::Quiet) => {
                 self.note_mark(alloc);

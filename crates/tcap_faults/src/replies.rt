@@ -146,7 +146,7 @@ impl Ends<'_> {
             return false;
         }
         match &kept.to.first {
-            Some(to) => !self.are_tangled(to, Some(own)),
+            Some(to) => !self.are_tangled(self.there(to), Some(self.own_at(own))),
             None => false,
         }
     }

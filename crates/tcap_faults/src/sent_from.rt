@@ -1,16 +1,22 @@
 //! What an end sent from a transaction ID, since the last quiet mark.
 
-ghost use Rattle.std.specs.Prelude.{◌≡◌, [], ◌∷◌, ◌++◌, ℕ, true, false, List, Some, IfOk, OnOk, option_map};
+ghost use Rattle.std.specs.Prelude.{◌≡◌, [], ◌∷◌, ◌++◌, ℕ, true, false, List, Some, IfOk, OnOk, nat_le, option_copied, option_map};
+ghost use Rattle.std.specs.List.{list_any};
 ghost use Rattle.tcap_parts.specs.DialogueMeaning.{dialogue_of};
 ghost use Rattle.tcap_msg.specs.declared.kind.Kind.TheVariants as forms;
 ghost use Rattle.tcap_msg.specs.declared.message.Message.{Message};
 ghost use Rattle.tcap_msg.specs.Parts.{dtid_in, otid_in};
+ghost use Rattle.tcap_record.specs.declared.entry.End.{End as Side};
 ghost use Rattle.tcap_end.specs.Dialogue.{is_request, is_response};
 ghost use Rattle.tcap_end.specs.Table.{Table};
+ghost use Rattle.tcap_model.specs.World.{Item};
 ghost use Rattle.tcap_refute.specs.Before.{is_a};
-ghost use Rattle.tcap_refute.specs.Facts.{FromFact};
-ghost use Rattle.tcap_refute.specs.Kept.{tells_from};
-ghost use Rattle.tcap_faults.specs.Kept.{IsCame, IsFirstBegin, IsFrom, IsFromWhole};
+ghost use Rattle.tcap_refute.specs.Facts.{From, FromFact, told_since};
+ghost use Rattle.tcap_refute.specs.Kept.{tells_from, told_by_from};
+ghost use Rattle.tcap_faults.specs.Counts.{count};
+ghost use Rattle.tcap_faults.specs.Told.{began, goes_on_to};
+ghost use Rattle.tcap_faults.specs.Ids.{AreAmong};
+ghost use Rattle.tcap_faults.specs.Kept.{IsCame, IsFirstBegin, IsFrom, IsFromAt, IsFromWhole, dtids_of, sent_from};
 ghost use Rattle.tcap_faults.specs.Noting.{AreCame, AreFrom, with_more};
 
 use crate::ids::Ids;
@@ -238,4 +244,60 @@ pub(crate) fn note_from<M: MessageParts>(
     kept.note(alloc, table, message)?;
     from.insert(key, kept)?;
     Ok(())
+}
+
+/// The destination IDs of the Continues.
+pub(crate) fn goes_to(from: Option<&SentFrom>) -> Option<&Ids>
+    ensures { (table : Table) (ms : List Message) → IsFromAt table ms (option_copied from.entry)
+        → AreAmong (dtids_of ms) (option_copied result) }
+{
+    match from {
+        Some(kept) => Some(&kept.to),
+        None => None,
+    }
+}
+
+/// What F2 to F7 ask of it.
+pub(crate) fn first_of(from: Option<&SentFrom>) -> Option<&FromId>
+    ensures { (table : Table) (side : Side) (items : List Item) (id : List ℕ) (fact : FromFact)
+        → IsFromAt table (sent_from side items id) (option_copied from.entry)
+        → told_by_from (option_copied result) fact ≡ told_since table side items (From id fact) }
+{
+    match from {
+        Some(kept) => Some(&kept.first),
+        None => None,
+    }
+}
+
+/// Whether there is a Begin.
+pub(crate) fn begins(from: Option<&SentFrom>) -> bool
+    ensures { (table : Table) (side : Side) (items : List Item) (id : List ℕ)
+        → IsFromAt table (sent_from side items id) (option_copied from.entry) → result ≡ began side id items }
+{
+    match from {
+        Some(kept) => kept.begin.is_some(),
+        None => false,
+    }
+}
+
+/// Whether there are two, or more.
+pub(crate) fn begins_twice(from: Option<&SentFrom>) -> bool
+    ensures { (table : Table) (ms : List Message) → IsFromAt table ms (option_copied from.entry)
+        → result ≡ nat_le 2 (count (is_a forms.Begin) ms) }
+{
+    match from {
+        Some(kept) => kept.begun_twice,
+        None => false,
+    }
+}
+
+/// Whether there is a Continue to an ID.
+pub(crate) fn goes_on(from: Option<&SentFrom>, to: &TransactionId) -> bool
+    ensures { (table : Table) (ms : List Message) → IsFromAt table ms (option_copied from.entry)
+        → result ≡ list_any (goes_on_to to.now) ms }
+{
+    match from {
+        Some(kept) => kept.came.contains_key(to),
+        None => false,
+    }
 }

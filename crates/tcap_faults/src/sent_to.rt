@@ -1,12 +1,17 @@
 //! What an end sent to a transaction ID, since the last quiet mark.
 
-ghost use Rattle.std.specs.Prelude.{◌≡◌, [], ◌∷◌, ◌++◌, None, ℕ, List, OnOk};
+ghost use Rattle.std.specs.Prelude.{◌≡◌, [], ◌∷◌, ◌++◌, None, ℕ, List, OnOk, not, option_copied};
+ghost use Rattle.std.specs.List.{list_any};
 ghost use Rattle.tcap_msg.specs.declared.message.Message.{Message};
 ghost use Rattle.tcap_msg.specs.Parts.{cause_in, dtid_in};
+ghost use Rattle.tcap_record.specs.declared.entry.End.{End as Side};
 ghost use Rattle.tcap_end.specs.Table.{Table};
-ghost use Rattle.tcap_refute.specs.Before.{components_of};
-ghost use Rattle.tcap_faults.specs.Ids.{AreIds};
-ghost use Rattle.tcap_faults.specs.Kept.{IsTo, ends, of_user, otids_of, silences};
+ghost use Rattle.tcap_model.specs.World.{Item};
+ghost use Rattle.tcap_refute.specs.Before.{components_of, ends_to, sent_by};
+ghost use Rattle.tcap_faults.specs.Counts.{is_nothing};
+ghost use Rattle.tcap_faults.specs.Told.{has_ended, told};
+ghost use Rattle.tcap_faults.specs.Ids.{AreAmong, AreIds};
+ghost use Rattle.tcap_faults.specs.Kept.{IsTo, IsToAt, ends, of_user, otids_of, sent_to, silences};
 ghost use Rattle.tcap_faults.specs.Noting.{AreTo, IsCaused, IsTold, with_more};
 ghost use Rattle.tcap_faults.specs.Tallies.{IsTally};
 
@@ -143,4 +148,49 @@ pub(crate) fn note_to<M: MessageParts>(
     kept.note(alloc, table, message)?;
     to.insert(key, kept)?;
     Ok(())
+}
+
+/// The originating IDs of the Continues.
+pub(crate) fn comes_from(to: Option<&SentTo>) -> Option<&Ids>
+    ensures { (table : Table) (ms : List Message) → IsToAt table ms (option_copied to.entry)
+        → AreAmong (otids_of ms) (option_copied result) }
+{
+    match to {
+        Some(kept) => Some(&kept.from),
+        None => None,
+    }
+}
+
+/// Whether one is no Abort of the provider.
+pub(crate) fn tells(to: Option<&SentTo>) -> bool
+    ensures { (table : Table) (side : Side) (items : List Item) (id : List ℕ)
+        → IsToAt table (sent_to side items id) (option_copied to.entry) → result ≡ not (is_nothing (told side id items)) }
+{
+    match to {
+        Some(kept) => kept.spoke,
+        None => false,
+    }
+}
+
+/// Whether one is an End or an Abort.
+pub(crate) fn is_silenced(to: Option<&SentTo>) -> bool
+    ensures { (table : Table) (side : Side) (items : List Item) (id : List ℕ)
+        → IsToAt table (sent_to side items id) (option_copied to.entry)
+        → result ≡ list_any (ends_to id) (sent_by side items) }
+{
+    match to {
+        Some(kept) => kept.silenced,
+        None => false,
+    }
+}
+
+/// Whether one is an End, or an Abort without cause.
+pub(crate) fn is_ended(to: Option<&SentTo>) -> bool
+    ensures { (table : Table) (side : Side) (items : List Item) (id : List ℕ)
+        → IsToAt table (sent_to side items id) (option_copied to.entry) → result ≡ has_ended side items id }
+{
+    match to {
+        Some(kept) => kept.ended,
+        None => false,
+    }
 }

@@ -15,12 +15,14 @@ ghost use Rattle.tcap_faults.specs.HalfKinds.{goes_from_other, is_provider_abort
 ghost use Rattle.tcap_refute.specs.Before.{is_a};
 ghost use Rattle.tcap_faults.specs.Closed.{was_closed};
 ghost use Rattle.tcap_faults.specs.Told.{began};
+ghost use Rattle.tcap_faults.specs.Found.{IsThere};
 ghost use Rattle.tcap_faults.specs.HalfKept.{IsHalf};
 ghost use Rattle.tcap_faults.specs.HalfOf.{HalfOf, accepted_half, begun_half, half_of, no_half};
 ghost use Rattle.tcap_faults.specs.Kept.{IsSide};
 ghost use Rattle.tcap_faults.specs.Ids.{AreIds};
 ghost use Rattle.tcap_faults.specs.Speaking.{IsBegunBy, IsBegunOwn, IsCameBack, IsKeptFrom, begin_counted, came_counted, heard_counted, told_counted};
 
+use crate::found::There;
 use crate::half::Half;
 use crate::how::How;
 use crate::ids::Ids;
@@ -107,21 +109,20 @@ fn heard_back<'a>(
     Ok(heard)
 }
 
-impl<'a> Ends<'a> {
+impl<'a> There<'a> {
     /// The half that accepted a Begin from that ID, or whose provider refused it.
     fn accepted_half(
         self,
         alloc: Global,
-        id: &TransactionId,
         asked: &'a SentFrom,
         begin: &'a FirstBegin,
     ) -> Result<Half<'a>, AllocError>
-        ensures { (table : Table) (side : Side) (items : List Item) → IsSide table side items self.entry.own.now
-            → IsSide table (other side) items self.entry.peer.now
-            → IsKeptFrom table (other side) items id.now asked.now → asked.now.begin ≡ Some begin.now
-            → IfOk result (IsHalf table (accepted_half side items id.now)) }
+        ensures { (table : Table) (side : Side) (items : List Item)
+            → IsThere table side items self.entry.id.now self.entry
+            → IsKeptFrom table (other side) items self.entry.id.now asked.now → asked.now.begin ≡ Some begin.now
+            → IfOk result (IsHalf table (accepted_half side items self.entry.id.now)) }
     {
-        let told = self.own.to.get(id);
+        let told = self.to;
         let own = match told {
             Some(told) => told.from.first(),
             None => None,
@@ -153,32 +154,32 @@ impl<'a> Ends<'a> {
     fn begun_half(
         self,
         alloc: Global,
-        id: &TransactionId,
         own: TransactionId,
         begin: &'a FirstBegin,
         came: &'a Came,
     ) -> Result<Half<'a>, AllocError>
-        ensures { (table : Table) (side : Side) (items : List Item) → IsSide table side items self.entry.own.now
-            → IsSide table (other side) items self.entry.peer.now
-            → IsBegunBy table side items own begin.now → IsCameBack table side items id.now own came.now
-            → IfOk result (IsHalf table (begun_half side items id.now own)) }
+        ensures { (table : Table) (side : Side) (items : List Item)
+            → IsThere table side items self.entry.id.now self.entry
+            → IsBegunBy table side items own begin.now → IsCameBack table side items self.entry.id.now own came.now
+            → IfOk result (IsHalf table (begun_half side items self.entry.id.now own)) }
     {
         let how = if begin.requests && !came.answered {
             How::Unanswered
         } else {
             How::Begun
         };
-        let told = self.own.to.get(id);
         Ok(Half {
             how,
             own: Some(own),
             requests: begin.requests,
             heard: heard_back(alloc, begin, came)?,
-            told: told_behind(alloc, None, told)?,
-            invoked: told_behind(alloc, Some(begin), told)?,
+            told: told_behind(alloc, None, self.to)?,
+            invoked: told_behind(alloc, Some(begin), self.to)?,
         })
     }
+}
 
+impl<'a> Ends<'a> {
     /// Of these IDs the first that the end began.
     fn first_begun(self, ids: &Ids) -> Option<TransactionId>
         ensures { (table : Table) (side : Side) (items : List Item) (those : List (List ℕ))
@@ -201,15 +202,16 @@ impl<'a> Ends<'a> {
 
     /// The own ID of the half with an ID of the peer that did not begin it, if there is such a half. Only where several own IDs are
     /// joined with it are the destination IDs of its Continues looked through.
-    fn begun_own(self, id: &TransactionId, asked: &SentFrom) -> Option<TransactionId>
+    fn begun_own(self, there: There, asked: &SentFrom) -> Option<TransactionId>
         ensures { (table : Table) (side : Side) (items : List Item) → IsSide table side items self.entry.own.now
-            → IsSide table (other side) items self.entry.peer.now
-            → IsKeptFrom table (other side) items id.now asked.now → IsBegunOwn side items id.now result }
+            → IsThere table side items there.entry.id.now there.entry
+            → IsKeptFrom table (other side) items there.entry.id.now asked.now
+            → IsBegunOwn side items there.entry.id.now result }
     {
-        if self.owns_differ(id) {
+        if there.owns_differ() {
             self.first_begun(&asked.to)
         } else {
-            self.joined_own(id)
+            there.joined_own()
         }
     }
 
@@ -217,15 +219,15 @@ impl<'a> Ends<'a> {
     fn other_half(
         self,
         alloc: Global,
-        id: &TransactionId,
+        there: There<'a>,
         asked: &'a SentFrom,
     ) -> Result<Half<'a>, AllocError>
         ensures { (table : Table) (side : Side) (items : List Item) → IsSide table side items self.entry.own.now
-            → IsSide table (other side) items self.entry.peer.now
-            → IsKeptFrom table (other side) items id.now asked.now → asked.now.begin ≡ None
-            → IfOk result (IsHalf table (half_of side items id.now)) }
+            → IsThere table side items there.entry.id.now there.entry
+            → IsKeptFrom table (other side) items there.entry.id.now asked.now → asked.now.begin ≡ None
+            → IfOk result (IsHalf table (half_of side items there.entry.id.now)) }
     {
-        let Some(own) = self.begun_own(id, asked) else {
+        let Some(own) = self.begun_own(there, asked) else {
             return Ok(no_half(alloc));
         };
         let Some(came) = asked.came.get(&own) else {
@@ -236,23 +238,23 @@ impl<'a> Ends<'a> {
             None => None,
         };
         match begin {
-            Some(begin) => self.begun_half(alloc, id, own, begin, came),
+            Some(begin) => there.begun_half(alloc, own, begin, came),
             None => Ok(no_half(alloc)),
         }
     }
 
     /// The half with an ID of the peer.
-    pub(crate) fn half(self, alloc: Global, id: &TransactionId) -> Result<Half<'a>, AllocError>
+    pub(crate) fn half(self, alloc: Global, there: There<'a>) -> Result<Half<'a>, AllocError>
         ensures { (table : Table) (side : Side) (items : List Item) → IsSide table side items self.entry.own.now
-            → IsSide table (other side) items self.entry.peer.now
-            → IfOk result (IsHalf table (half_of side items id.now)) }
+            → IsThere table side items there.entry.id.now there.entry
+            → IfOk result (IsHalf table (half_of side items there.entry.id.now)) }
     {
-        let Some(asked) = self.peer.from.get(id) else {
+        let Some(asked) = there.from else {
             return Ok(no_half(alloc));
         };
         match &asked.begin {
-            Some(begin) => self.accepted_half(alloc, id, asked, begin),
-            None => self.other_half(alloc, id, asked),
+            Some(begin) => there.accepted_half(alloc, asked, begin),
+            None => self.other_half(alloc, there, asked),
         }
     }
 

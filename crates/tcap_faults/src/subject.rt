@@ -67,7 +67,8 @@ impl Facts {
                 component: first.or(faults.component(kind)),
             });
         };
-        let half = ends.half(alloc, &dtid.to_transaction_id())?;
+        let id = dtid.to_transaction_id();
+        let half = ends.half(alloc, ends.there(&id))?;
         let faults = faults_of(alloc, table, &half, message)?;
         Ok(Subject {
             how: half.how,

@@ -1,24 +1,30 @@
 //! Tangled transaction IDs, and own IDs that are used again (Q.774 3.3).
 
-ghost use Rattle.std.specs.Prelude.{◌≡◌, ℕ, Bool, List, [], ◌∷◌, Some, true, ◌++◌, ◌&&◌, false, filter, not, option_copied};
+ghost use Rattle.std.specs.Prelude.{◌≡◌, ℕ, Bool, List, [], ◌∷◌, Some, true, ◌++◌, ◌&&◌, false, not, Option, option_copied};
 ghost use Rattle.std.specs.List.{list_any};
 ghost use Rattle.std.specs.Str.{bytes_eq};
 ghost use Rattle.std.specs.Option.{option_to_list};
 ghost use Rattle.tcap_msg.specs.declared.kind.Kind.TheVariants as forms;
+ghost use Rattle.tcap_msg.specs.declared.message.Message.{Message};
 ghost use Rattle.tcap_record.specs.declared.entry.End.{End as Side};
 ghost use Rattle.tcap_record.specs.Ends.{other};
+ghost use Rattle.tcap_end.specs.End.{is_id};
 ghost use Rattle.tcap_end.specs.Table.{Table};
 ghost use Rattle.tcap_model.specs.World.{Item};
 ghost use Rattle.tcap_refute.specs.Before.{asked, has_a};
 ghost use Rattle.tcap_faults.specs.Counts.{is_nothing};
 ghost use Rattle.tcap_faults.specs.Told.{began, has_used, told};
+ghost use Rattle.tcap_faults.specs.Found.{AreFound, IsOwn, IsOwnAt, IsThere};
 ghost use Rattle.tcap_faults.specs.Ids.{AreAmong, IsOneOf};
-ghost use Rattle.tcap_faults.specs.Kept.{IsSide, dtids_of, otids_of, sent_from, sent_to};
+ghost use Rattle.tcap_faults.specs.Kept.{IsSide, dtids_of, sent_from};
 ghost use Rattle.tcap_faults.specs.Tangled.{are_tangled, first_tangled, goes_over_tangled, goes_to_begun, is_own_tangled, is_peer_tangled, owns_of, peers_of, tangle_of_own, tangle_of_peer, tangled_for, tangled_id, tangled_in, two_differ};
 ghost use Rattle.tcap_faults.specs.UsedAgain.{may_be_over, uses_again};
 
 use crate::facts::SideFacts;
+use crate::found::{Found, Own, There};
 use crate::ids::Ids;
+use crate::sent_from::{begins, begins_twice, goes_on, goes_to};
+use crate::sent_to::{is_silenced, tells};
 use crate::why::{Tangle, TangledId};
 use tcap_end::Table;
 use tcap_msg::{Kind as Form, MessageParts, TransactionId};
@@ -31,32 +37,14 @@ pub(crate) struct Ends<'a> {
     pub(crate) peer: &'a SideFacts,
 }
 
-/// Whether two differ of these IDs and those; of each there may be none.
-fn differ(some: Option<&Ids>, others: Option<&Ids>) -> bool
-    ensures { (xs ys : List (List ℕ)) → AreAmong xs (option_copied some.entry) → AreAmong ys (option_copied others.entry)
-        → result ≡ two_differ (xs ++ ys) }
+/// Whether it is that ID.
+fn is_that(id: &TransactionId, other: Option<&TransactionId>) -> bool
+    ensures { result ≡ is_id id.now (option_copied other.entry) }
 {
-    match (some, others) {
-        (Some(some), Some(others)) => some.differs_from(others),
-        (Some(ids), None) | (None, Some(ids)) => ids.differ(),
-        (None, None) => false,
+    match other {
+        Some(other) => id.octets() == other.octets(),
+        None => false,
     }
-}
-
-/// One of these IDs or those, if there is any.
-fn one_of(some: Option<&Ids>, others: Option<&Ids>) -> Option<TransactionId>
-    ensures { (xs ys : List (List ℕ)) → AreAmong xs (option_copied some.entry) → AreAmong ys (option_copied others.entry)
-        → IsOneOf (xs ++ ys) result }
-{
-    let one = match some {
-        Some(ids) => ids.first(),
-        None => None,
-    };
-    let one = match (one, others) {
-        (None, Some(ids)) => ids.first()?,
-        (one, _) => one?,
-    };
-    Some(one.to_transaction_id())
 }
 
 impl SideFacts {
@@ -65,29 +53,7 @@ impl SideFacts {
         ensures { (table : Table) (side : Side) (items : List Item) → IsSide table side items self.now
             → AreAmong (dtids_of (sent_from side items id.now)) (option_copied result) }
     {
-        match self.from.get(id) {
-            Some(kept) => Some(&kept.to),
-            None => None,
-        }
-    }
-
-    /// The originating IDs of those that it sent to an ID.
-    pub(crate) fn comes_from(&self, id: &TransactionId) -> Option<&Ids>
-        ensures { (table : Table) (side : Side) (items : List Item) → IsSide table side items self.now
-            → AreAmong (otids_of (sent_to side items id.now)) (option_copied result) }
-    {
-        match self.to.get(id) {
-            Some(kept) => Some(&kept.from),
-            None => None,
-        }
-    }
-
-    /// Of the destination IDs of the Continues that it sent from an ID those that the other end used.
-    pub(crate) fn joins(&self, id: &TransactionId) -> Option<&Ids>
-        ensures { (table : Table) (side : Side) (items : List Item) → IsSide table side items self.now
-            → AreAmong (filter (has_used (other side) items) (dtids_of (sent_from side items id.now))) (option_copied result) }
-    {
-        self.joined.get(id)
+        goes_to(self.from.get(id))
     }
 }
 
@@ -97,12 +63,7 @@ impl<'a> Ends<'a> {
         ensures { (table : Table) (side : Side) (items : List Item) → IsSide table side items self.entry.own.now
             → IsSide table (other side) items self.entry.peer.now → result ≡ is_own_tangled side items own.now }
     {
-        let back = if self.own.has_used(own) {
-            self.peer.comes_from(own)
-        } else {
-            None
-        };
-        differ(self.own.goes_to(own), back)
+        self.own_at(own).is_tangled()
     }
 
     /// An ID of the peer that is joined with an own one, if there is any.
@@ -110,12 +71,7 @@ impl<'a> Ends<'a> {
         ensures { (table : Table) (side : Side) (items : List Item) → IsSide table side items self.entry.own.now
             → IsSide table (other side) items self.entry.peer.now → IsOneOf (peers_of side items own.now) result }
     {
-        let back = if self.own.has_used(own) {
-            self.peer.comes_from(own)
-        } else {
-            None
-        };
-        one_of(self.own.goes_to(own), back)
+        self.own_at(own).joined()
     }
 
     /// Whether two own IDs are joined with one of the peer.
@@ -123,7 +79,7 @@ impl<'a> Ends<'a> {
         ensures { (table : Table) (side : Side) (items : List Item) → IsSide table side items self.entry.own.now
             → IsSide table (other side) items self.entry.peer.now → result ≡ two_differ (owns_of side items id.now) }
     {
-        differ(self.own.comes_from(id), self.peer.joins(id))
+        self.there(id).owns_differ()
     }
 
     /// An own ID that is joined with one of the peer, if there is any.
@@ -131,7 +87,7 @@ impl<'a> Ends<'a> {
         ensures { (table : Table) (side : Side) (items : List Item) → IsSide table side items self.entry.own.now
             → IsSide table (other side) items self.entry.peer.now → IsOneOf (owns_of side items id.now) result }
     {
-        one_of(self.own.comes_from(id), self.peer.joins(id))
+        self.there(id).joined_own()
     }
 
     /// Whether the peer began an ID, and went on from there to one that the end began, where one own ID at the most is joined
@@ -142,10 +98,20 @@ impl<'a> Ends<'a> {
             → result ≡ (has_a forms.Begin (asked side id.now items)
             && list_any (goes_to_begun side items) (asked side id.now items)) }
     {
-        if !self.peer.began(id) {
+        self.is_begun_by_both(self.there(id))
+    }
+
+    /// The same, of what is kept of that ID.
+    fn is_begun_by_both(self, there: There) -> bool
+        ensures { (table : Table) (side : Side) (items : List Item) (id : List ℕ) → IsSide table side items self.entry.own.now
+            → IsThere table side items id there.entry → two_differ (owns_of side items id) ≡ false
+            → result ≡ (has_a forms.Begin (asked side id items)
+            && list_any (goes_to_begun side items) (asked side id items)) }
+    {
+        if !begins(there.from) {
             return false;
         }
-        match self.peer.joins(id) {
+        match there.joined {
             Some(ids) => self.began_first(ids),
             None => false,
         }
@@ -164,61 +130,101 @@ impl<'a> Ends<'a> {
     }
 
     /// Whether an ID of the peer is tangled.
-    pub(crate) fn is_peer_tangled(self, id: &TransactionId) -> bool
-        ensures { (table : Table) (side : Side) (items : List Item) → IsSide table side items self.entry.own.now
-            → IsSide table (other side) items self.entry.peer.now → result ≡ is_peer_tangled side items id.now }
+    pub(crate) fn is_peer_tangled(self, there: There) -> bool
+        ensures { (table : Table) (side : Side) (items : List Item) (id : List ℕ) → IsSide table side items self.entry.own.now
+            → IsSide table (other side) items self.entry.peer.now → IsThere table side items id there.entry
+            → result ≡ is_peer_tangled side items id }
     {
-        if self.owns_differ(id) || self.peer.began_twice(id) {
+        if there.owns_differ() || begins_twice(there.from) {
             return true;
         }
-        self.is_of_both(id) || self.peer.guessed.contains(id)
+        self.is_begun_by_both(there) || self.peer.has_guessed(there.id)
     }
 
     /// Whether an ID of the peer that is joined with an own one is tangled, where one at the most is.
-    fn leads_to_tangled(self, own: &TransactionId) -> bool
-        ensures { (table : Table) (side : Side) (items : List Item) → IsSide table side items self.entry.own.now
-            → IsSide table (other side) items self.entry.peer.now → two_differ (peers_of side items own.now) ≡ false
-            → result ≡ list_any (is_peer_tangled side items) (peers_of side items own.now) }
+    fn leads_to_tangled(self, own: Own) -> bool
+        ensures { (table : Table) (side : Side) (items : List Item) (id : List ℕ) → IsSide table side items self.entry.own.now
+            → IsSide table (other side) items self.entry.peer.now → IsOwn table side items id own.entry
+            → two_differ (peers_of side items id) ≡ false
+            → result ≡ list_any (is_peer_tangled side items) (peers_of side items id) }
     {
-        match self.joined_peer(own) {
-            Some(id) => self.is_peer_tangled(&id),
+        match own.joined() {
+            Some(id) => self.is_peer_tangled(self.there(&id)),
             None => false,
         }
+    }
+
+    /// Whether an own ID is tangled; where it is that one, it is not looked up.
+    fn is_near_tangled(self, id: &TransactionId, own: Option<Own>) -> bool
+        ensures { (table : Table) (side : Side) (items : List Item) (near : Option (List ℕ))
+            → IsSide table side items self.entry.own.now → IsSide table (other side) items self.entry.peer.now
+            → IsOwnAt table side items near own.entry → result ≡ is_own_tangled side items id.now }
+    {
+        match own {
+            Some(own) if is_that(own.id, Some(id)) => own.is_tangled(),
+            _ => self.is_own_tangled(id),
+        }
+    }
+
+    /// Whether an own ID that is one of these is tangled, if there is one, where all are one; where it is that one, it is not looked up.
+    fn is_joined_tangled(self, joined: Option<&TransactionId>, own: Option<Own>) -> bool
+        ensures { (table : Table) (side : Side) (items : List Item) (near : Option (List ℕ)) (ids : List (List ℕ))
+            → IsSide table side items self.entry.own.now → IsSide table (other side) items self.entry.peer.now
+            → IsOwnAt table side items near own.entry → IsOneOf ids (option_copied joined.entry) → two_differ ids ≡ false
+            → result ≡ list_any (is_own_tangled side items) ids }
+    {
+        match joined {
+            Some(id) => self.is_near_tangled(id, own),
+            None => false,
+        }
+    }
+
+    /// Whether an own ID more, or one behind it, is tangled, beside an ID of the peer that is not, with which none is joined that is.
+    /// Where it is the one that is joined with it, nothing more is behind them.
+    fn is_tangled_besides(self, own: Own, joined: Option<&TransactionId>) -> bool
+        ensures { (table : Table) (side : Side) (items : List Item) (more id : List ℕ)
+            → IsSide table side items self.entry.own.now → IsSide table (other side) items self.entry.peer.now
+            → IsOwn table side items more own.entry → IsOneOf (owns_of side items id) (option_copied joined.entry)
+            → is_peer_tangled side items id ≡ false
+            → list_any (is_own_tangled side items) (owns_of side items id) ≡ false
+            → result ≡ are_tangled side items (more ∷ []) id }
+    {
+        if is_that(own.id, joined) {
+            return false;
+        }
+        own.is_tangled() || self.leads_to_tangled(own)
     }
 
     /// Whether an ID of the peer, or one near it, or one behind them, is tangled; an own ID more may be near.
-    pub(crate) fn are_tangled(self, id: &TransactionId, own: Option<&TransactionId>) -> bool
-        ensures { (table : Table) (side : Side) (items : List Item) → IsSide table side items self.entry.own.now
-            → IsSide table (other side) items self.entry.peer.now
-            → result ≡ are_tangled side items (option_to_list (option_copied own.entry)) id.now }
+    pub(crate) fn are_tangled(self, there: There, own: Option<Own>) -> bool
+        ensures { (table : Table) (side : Side) (items : List Item) (id : List ℕ) (near : Option (List ℕ))
+            → IsSide table side items self.entry.own.now → IsSide table (other side) items self.entry.peer.now
+            → IsThere table side items id there.entry → IsOwnAt table side items near own.entry
+            → result ≡ are_tangled side items (option_to_list near) id }
     {
-        if self.is_peer_tangled(id) {
+        if self.is_peer_tangled(there) {
             return true;
         }
-        if let Some(joined) = self.joined_own(id) {
-            if self.is_own_tangled(&joined) {
-                return true;
-            }
+        let joined = there.joined_own();
+        let near = joined.as_ref();
+        if self.is_joined_tangled(near, own) {
+            return true;
         }
         match own {
-            Some(own) => self.is_own_tangled(own) || self.leads_to_tangled(own),
+            Some(own) => self.is_tangled_besides(own, near),
             None => false,
         }
     }
 
-    /// Whether a message that the end sends goes over tangled IDs.
-    pub(crate) fn goes_over_tangled<M: MessageParts>(self, message: &M) -> bool
-        ensures { (table : Table) (side : Side) (items : List Item) → IsSide table side items self.entry.own.now
-            → IsSide table (other side) items self.entry.peer.now
-            → result ≡ goes_over_tangled side items (M.meaning message.now) }
+    /// Whether a message that the end sends goes over tangled IDs, of which that is found.
+    pub(crate) fn goes_over_tangled(self, found: Found) -> bool
+        ensures { (table : Table) (side : Side) (items : List Item) (m : Message)
+            → IsSide table side items self.entry.own.now → IsSide table (other side) items self.entry.peer.now
+            → AreFound table side items m found.entry → result ≡ goes_over_tangled side items m }
     {
-        let Some(dtid) = message.dtid() else {
-            return false;
-        };
-        let id = dtid.to_transaction_id();
-        match message.otid() {
-            Some(otid) => self.are_tangled(&id, Some(&otid.to_transaction_id())),
-            None => self.are_tangled(&id, None),
+        match found.there {
+            Some(there) => self.are_tangled(there, found.own),
+            None => false,
         }
     }
 
@@ -343,49 +349,49 @@ impl<'a> Ends<'a> {
     // ---- an own ID that is used again
 
     /// Whether the transaction of an own ID may be over.
-    fn may_be_over(self, table: &Table, own: &TransactionId) -> bool
-        ensures { (side : Side) (items : List Item) → IsSide table.now side items self.entry.own.now
-            → IsSide table.now (other side) items self.entry.peer.now
-            → result ≡ may_be_over table.now side items own.now }
+    fn may_be_over(self, table: &Table, own: Own) -> bool
+        ensures { (side : Side) (items : List Item) (id : List ℕ) → IsSide table.now side items self.entry.own.now
+            → IsOwn table.now side items id own.entry → result ≡ may_be_over table.now side items id }
     {
-        table.prearranged() || self.peer.has_silenced(own) || self.own.over.contains(own)
+        table.prearranged() || is_silenced(own.to) || self.own.over.contains(own.id)
     }
 
-    /// Whether an own ID that the end used is joined with one of the peer.
-    fn is_joined(self, own: &TransactionId, id: &TransactionId) -> bool
-        ensures { (table : Table) (side : Side) (items : List Item) → IsSide table side items self.entry.own.now
-            → IsSide table (other side) items self.entry.peer.now → has_used side items own.now ≡ true
-            → result ≡ list_any (bytes_eq own.now) (owns_of side items id.now) }
+    /// Whether a message uses an own ID again, of which that is found.
+    pub(crate) fn uses_again(self, table: &Table, found: Found) -> bool
+        ensures { (side : Side) (items : List Item) (m : Message) → IsSide table.now side items self.entry.own.now
+            → AreFound table.now side items m found.entry → result ≡ uses_again table.now side items m }
     {
-        self.own.goes_on(own, id) || self.peer.goes_on(id, own)
+        let Some(own) = found.own else {
+            return false;
+        };
+        if own.from.is_none() || !self.may_be_over(table, own) {
+            return false;
+        }
+        match found.there {
+            Some(there) => there.is_answered_anew(own),
+            None => true,
+        }
+    }
+}
+
+impl There<'_> {
+    /// Whether an own ID that the end used is joined with it.
+    fn is_joined(self, own: Own) -> bool
+        ensures { (table : Table) (side : Side) (items : List Item) (own_id id : List ℕ)
+            → IsOwn table side items own_id own.entry → IsThere table side items id self.entry
+            → has_used side items own_id ≡ true → result ≡ list_any (bytes_eq own_id) (owns_of side items id) }
+    {
+        goes_on(own.from, self.id) || goes_on(self.from, own.id)
     }
 
     /// Whether a Continue from an own ID answers a Begin of the peer, to which nothing was told before.
-    fn answers_anew(self, own: &TransactionId, id: &TransactionId) -> bool
-        ensures { (table : Table) (side : Side) (items : List Item) → IsSide table side items self.entry.own.now
-            → IsSide table (other side) items self.entry.peer.now → has_used side items own.now ≡ true
-            → result ≡ (has_a forms.Begin (asked side id.now items) && is_nothing (told side id.now items)
-            && not (list_any (bytes_eq own.now) (owns_of side items id.now))) }
+    fn is_answered_anew(self, own: Own) -> bool
+        ensures { (table : Table) (side : Side) (items : List Item) (own_id id : List ℕ)
+            → IsOwn table side items own_id own.entry → IsThere table side items id self.entry
+            → has_used side items own_id ≡ true
+            → result ≡ (has_a forms.Begin (asked side id items) && is_nothing (told side id items)
+            && not (list_any (bytes_eq own_id) (owns_of side items id))) }
     {
-        self.peer.began(id) && !self.own.has_spoken_to(id) && !self.is_joined(own, id)
-    }
-
-    /// Whether a message uses an own ID again.
-    pub(crate) fn uses_again<M: MessageParts>(self, table: &Table, message: &M) -> bool
-        ensures { (side : Side) (items : List Item) → IsSide table.now side items self.entry.own.now
-            → IsSide table.now (other side) items self.entry.peer.now
-            → result ≡ uses_again table.now side items (M.meaning message.now) }
-    {
-        let Some(otid) = message.otid() else {
-            return false;
-        };
-        let own = otid.to_transaction_id();
-        if !self.own.has_used(&own) || !self.may_be_over(table, &own) {
-            return false;
-        }
-        match message.dtid() {
-            Some(dtid) => self.answers_anew(&own, &dtid.to_transaction_id()),
-            None => true,
-        }
+        begins(self.from) && !tells(self.to) && !self.is_joined(own)
     }
 }

@@ -17,13 +17,15 @@ use tcap_record::{Body, End, Entry, Record};
 use tcap_refute::SearchFault;
 
 impl Facts {
-    /// The first tangled ID that the message of an entry behind what is kept goes over.
+    /// The first tangled ID that the message of an entry behind what is kept goes over, where that end sent it.
     fn tangled_at(&self, end: End, entry: &Entry) -> Option<TangledId>
         ensures { (table : Table) (entries : List Entry) (number : ℕ) → IsKept table (items_up_to entries number) self.now
             → slice_get entries number ≡ Some entry.now → result ≡ tangled_at end entries number }
     {
         match (entry.side, &entry.body) {
-            (Some(_), Body::Good(message)) => self.ends(end).tangled_in(end, &message.view()),
+            (Some(sender), Body::Good(message)) if sender == end => {
+                self.ends(end).tangled_in(end, &message.view())
+            }
             _ => None,
         }
     }
@@ -44,9 +46,8 @@ fn unblamed_by(again: Option<u64>, tangled: Option<TangledId>) -> Option<Unblame
 
 /// Why nothing is blamed on an end at an entry of a record, which is given by its number, counted from 0 (Q.774 3.3). `UsedAgain`, with
 /// the number of the first entry, up to and with that one, in which the end used an own ID again, since the last quiet mark; else
-/// `Tangled`, where the message of that entry, whoever sent it, goes over tangled IDs of the end, with the first of them: its
-/// destination ID; else an own ID that is joined with it, or its originating ID; else an ID that is joined with one of these. Else
-/// `None`. Where the record has no such entry, all its entries are looked at for IDs that are used again. The entries are noted once
+/// `Tangled`, where the end sent the message of that entry and it goes over tangled IDs, with the first of them: its destination ID; else
+/// an own ID that is joined with it, or its originating ID; else an ID that is joined with one of these. Else `None`. Where the record has no such entry, all its entries are looked at for IDs that are used again. The entries are noted once
 /// more, so it costs what the search up to that entry did. `Memory` where memory ran out.
 pub fn unblamed(
     alloc: Global,

@@ -8,13 +8,13 @@ use Rattle.tcap_faults.proofs.StepLaws.{end_more}
 use Rattle.tcap_faults.proofs.noting.end_all.Goals as goal
 
 pub returns : goal.returns
-returns c = λ table side items was their.
+returns c = λ table side items was their ended_is.
     let id = c.args.dtid.octets.now in
-    let ended_not = sym (c.has_ended.ensures table side items was) ∙ c.if-has_ended.false in
+    let ended_not = sym ended_is ∙ c.if-ended.false in
     let ids = filter (has_used (other (other side)) items) (dtids_of (sent_from (other side) items id)) in
     on_ok_weaker c.insert_all.result
     (λ more. (
-      end_more side items id (rw c.to_transaction_id-id.ensures at ended_not) c.args.own.now.over c.insert_from.new.set
+      end_more side items id ended_not c.args.own.now.over c.insert_from.new.set
           c.insert_all.new.set
           (rw c.to_transaction_id-id.ensures at (c.in_ok-insert_from.ensures table (sent_to side items) was.to)) more,
       refl,

@@ -11,8 +11,8 @@ pub returns : goal.returns
 returns c =
     on_ok_weaker c.add_at.result
     (λ gets. (
-      continue_gets c.args.otid.octets.now c.args.dtid.octets.now c.args.joins.used
-          (turned c.args.joins.used c.if-not-joins.false) c.args.own.now.joined c.add_at.new.map gets,
+      continue_gets c.args.otid.octets.now c.args.dtid.octets.now c.args.effects.joins
+          (turned c.args.effects.joins c.if-not-effects.false) c.args.own.now.joined c.add_at.new.map gets,
       c.in_ok-insert_if.ensures,
       c.in_ok-insert_if-2.ensures,
       refl,

@@ -6,7 +6,7 @@ use Rattle.tcap_faults.proofs.StepLaws.{first_gets, first_gets_none, first_has, 
 use Rattle.tcap_faults.proofs.noting.join_first.Goals as goal
 
 pub returns-in_default : goal.returns-in_default
-returns-in_default c = λ table side items was their.
+returns-in_default c = λ table side items was their used_is.
     let id = c.args.otid.octets.now in
     let none = sent_none table (other side) items c.args.peer.now id their
     (rw c.to_transaction_id-id.ensures at c.in_default.ensures.value) in (
@@ -17,13 +17,12 @@ returns-in_default c = λ table side items was their.
     )
 
 pub returns : goal.returns
-returns c = λ table side items was their.
+returns c = λ table side items was their used_is.
     let id = c.args.otid.octets.now in
     let ids = otids_of (sent_to (other side) items id) in
     let among = sent_among table (other side) items c.args.peer.now id their c.in-Some.kept.now
     (rw c.to_transaction_id-id.ensures at c.in-Some.ensures.value) in
-    let unused = sym (c.has_used.ensures table side items was) ∙ c.if-has_used.false in
-    let fresh = rw c.to_transaction_id-id.ensures at unused in
+    let fresh = sym used_is ∙ c.if-used.false in
     on_ok_weaker c.insert_if.result
     (λ more. (
       first_gets side items id fresh c.args.peer.now.joined c.add_at_all.new.map

@@ -4,10 +4,10 @@ use Rattle.tcap_faults.proofs.SentLaws.{from_was, own_sent, peer_sent, to_was}
 use Rattle.tcap_faults.proofs.noting.note_sent.Goals as goal
 
 pub returns : goal.returns
-returns g c = λ side items was their.
+returns g c = λ side items was their are.
     let m = g.M.MessageParts.meaning c.args.message.now in
     let table = c.args.table.now in
-    let joined = c.in_ok-note_joined.ensures table side items was their in
+    let joined = c.in_ok-note_joined.ensures table side items was their are in
     let own = c.args.own.now in
     let peer = c.args.peer.now in
     let one = c.note_joined.new.own in
@@ -15,12 +15,10 @@ returns g c = λ side items was their.
     on_ok_weaker c.note_to.result
     (λ tos. (
       own_sent table side items m own peer was their one there joined c.note_from.new.from c.note_to.new.to
-          c.insert_some-2.new.set c.insert_some.new.set c.uses_again-again.result c.closed_by-closed.result
-          c.guessed_by-guessed.result
+          c.note_guessed.new.guessed c.insert_some.new.set c.args.effects.again c.closed_by-closed.result
           (c.in_ok-note_from.ensures (sent_from side items) (from_was table side items m own peer was their one there joined))
-          tos (c.uses_again-again.ensures side items was their)
-          (λ id. c.closed_by-closed.ensures table side items id was their) c.in_ok-insert_some.ensures
-          (λ id. c.guessed_by-guessed.ensures table side items id was their) c.in_ok-insert_some-2.ensures,
+          tos are.again (λ id. c.closed_by-closed.ensures table side items id was their) c.in_ok-insert_some.ensures
+          (c.in_ok-note_guessed.ensures table side items are),
       peer_sent table side items m own peer was their one there joined,
     ))
     (c.note_to.ensures (sent_to side items) (to_was table side items m own peer was their one there joined))

@@ -4,11 +4,11 @@ use Rattle.tcap_faults.specs.Tangled.{goes_over_tangled}
 use Rattle.tcap_faults.specs.UsedAgain.{has_used_again, uses_again}
 use Rattle.tcap_faults.proofs.FewLaws.{still_roomy}
 use Rattle.tcap_faults.proofs.KeptLaws.{first_fault, first_so, further_fault, no_fault, none_so, second_so, third_so}
-use Rattle.tcap_faults.proofs.facts.Facts.fault_of.Goals.{then-ends-via-then-ends, then-ends-via-else-ends+then-uses_again, then-ends-via-else-ends+else-uses_again+then-goes_over_tangled}
+use Rattle.tcap_faults.proofs.facts.Facts.fault_of.Goals.{then-ends-via-then-ends, then-ends-via-else-ends+then-effects, then-ends-via-else-ends+else-effects+then-goes_over_tangled}
 use Rattle.tcap_faults.proofs.facts.Facts.fault_of.Goals as goal
 
 pub returns-then-ends : goal.returns-then-ends
-returns-then-ends g c = λ items are roomy.
+returns-then-ends g c = λ items are roomy found effects.
     let m = g.M.MessageParts.meaning c.args.message.now in
     let table = c.args.table.now in
     let side = c.args.side in
@@ -17,15 +17,15 @@ returns-then-ends g c = λ items are roomy.
     let so : (has_used_again table side xs || uses_again table side xs m || goes_over_tangled side xs m) ≡ true =
     elim c.then-ends.branch [
       | then-ends-via-then-ends w ↦ first_so (has_used_again table side xs) (uses_again table side xs m) _ (sym own.again ∙ w.if-ends.true)
-      | then-ends-via-else-ends+then-uses_again w ↦
-          second_so (has_used_again table side xs) (uses_again table side xs m) _ (sym (w.uses_again.ensures side xs own peer) ∙ w.if-uses_again.true)
-      | then-ends-via-else-ends+else-uses_again+then-goes_over_tangled w ↦
-          third_so (has_used_again table side xs) (uses_again table side xs m) _ (sym (w.goes_over_tangled.ensures table side xs own peer) ∙ w.if-goes_over_tangled.true)
+      | then-ends-via-else-ends+then-effects w ↦
+          second_so (has_used_again table side xs) (uses_again table side xs m) _ (sym effects.again ∙ w.if-effects.true)
+      | then-ends-via-else-ends+else-effects+then-goes_over_tangled w ↦
+          third_so (has_used_again table side xs) (uses_again table side xs m) _ (sym (w.goes_over_tangled.ensures table side xs m own peer found) ∙ w.if-goes_over_tangled.true)
     ] in
     no_fault table side xs m so
 
 pub returns-in-Some : goal.returns-in-Some
-returns-in-Some g c = λ items are roomy.
+returns-in-Some g c = λ items are roomy found effects.
     let m = g.M.MessageParts.meaning c.args.message.now in
     let table = c.args.table.now in
     let side = c.args.side in
@@ -33,20 +33,20 @@ returns-in-Some g c = λ items are roomy.
     let (own, peer) = c.ends-ends.ensures table items are in
     first_fault table side xs m c.in-Some.kind
     (none_so (has_used_again table side xs) (uses_again table side xs m) _ (sym own.again ∙ c.if-ends.false)
-    (sym (c.uses_again.ensures side xs own peer) ∙ c.if-uses_again.false)
-    (sym (c.goes_over_tangled.ensures table side xs own peer) ∙ c.if-goes_over_tangled.false))
-    (c.in-Some.ensures side items own peer)
+    (sym effects.again ∙ c.if-effects.false)
+    (sym (c.goes_over_tangled.ensures table side xs m own peer found) ∙ c.if-goes_over_tangled.false))
+    (c.in-Some.ensures side items found)
 
 pub returns-in-None : goal.returns-in-None
-returns-in-None g c = λ items are roomy.
+returns-in-None g c = λ items are roomy found effects.
     let m = g.M.MessageParts.meaning c.args.message.now in
     let table = c.args.table.now in
     let side = c.args.side in
     let xs = since_quiet items in
     let (own, peer) = c.ends-ends.ensures table items are in
-    let plain = sym (c.goes_over_tangled.ensures table side xs own peer) ∙ c.if-goes_over_tangled.false in
+    let plain = sym (c.goes_over_tangled.ensures table side xs m own peer found) ∙ c.if-goes_over_tangled.false in
     further_fault table side xs m c.further_kind.result
     (none_so (has_used_again table side xs) (uses_again table side xs m) _ (sym own.again ∙ c.if-ends.false)
-    (sym (c.uses_again.ensures side xs own peer) ∙ c.if-uses_again.false) plain)
-    (c.in-None.ensures side items own peer)
-    (c.further_kind.ensures side xs own peer plain (still_roomy side items m roomy))
+    (sym effects.again ∙ c.if-effects.false) plain)
+    (c.in-None.ensures side items found)
+    (c.further_kind.ensures side xs own peer found plain (still_roomy side items m roomy))

@@ -1,11 +1,4 @@
-use Rattle.tcap_faults.proofs.SideLaws.{ended_nowhere, ended_there, to_nowhere, to_there}
 use Rattle.tcap_faults.proofs.facts.SideFacts.has_ended.Goals as goal
 
-pub returns-in-Some : goal.returns-in-Some
-returns-in-Some c = λ table side items is.
-    ended_there table side items c.args.id.now c.in-Some.kept.now
-    (to_there is c.args.id.now c.in-Some.kept.now c.in-Some.ensures.value)
-
-pub returns-in-None : goal.returns-in-None
-returns-in-None c = λ table side items is.
-    ended_nowhere table side items c.args.id.now (to_nowhere is c.args.id.now c.in-None.ensures.value)
+pub returns : goal.returns
+returns c = λ table side items is. c.is_ended.ensures table side items c.args.id.now (rw c.get.ensures.value (is.to c.args.id.now))

@@ -5,12 +5,12 @@ use Rattle.tcap_faults.proofs.WhichHalf.{first_own_is, joined_own_is}
 use Rattle.tcap_faults.proofs.tangled.Ends.begun_own.Goals as goal
 
 pub returns-then-owns_differ : goal.returns-then-owns_differ
-returns-then-owns_differ c = λ table side items own peer kept.
-    first_own_is side items c.args.id.now c.first_begun.result
-    (c.first_begun.ensures table side items (dtids_of (sent_from (other side) items c.args.id.now)) own kept.to)
+returns-then-owns_differ c = λ table side items own is kept.
+    first_own_is side items c.args.there.id.now c.first_begun.result
+    (c.first_begun.ensures table side items (dtids_of (sent_from (other side) items c.args.there.id.now)) own kept.to)
 
 pub returns-else-owns_differ : goal.returns-else-owns_differ
-returns-else-owns_differ c = λ table side items own peer kept.
-    joined_own_is side items c.args.id.now
-    (sym (c.owns_differ.ensures table side items own peer) ∙ c.if-owns_differ.false)
-    c.joined_own.result (c.joined_own.ensures table side items own peer)
+returns-else-owns_differ c = λ table side items own is kept.
+    joined_own_is side items c.args.there.id.now
+    (sym (c.owns_differ.ensures table side items c.args.there.id.now is) ∙ c.if-owns_differ.false)
+    c.joined_own.result (c.joined_own.ensures table side items c.args.there.id.now is)

@@ -2,17 +2,16 @@ use Rattle.tcap_faults.proofs.WhichHalf.{begun_it, half_unasked}
 use Rattle.tcap_faults.proofs.tangled.Ends.half.Goals as goal
 
 pub returns-in_default : goal.returns-in_default
-returns-in_default c = λ table side items own peer.
-    rw (half_unasked table side items c.args.id.now (rw (← c.in_default.ensures.value) at (peer.from c.args.id.now)))
-    (c.no_half.ensures table)
+returns-in_default c = λ table side items own is.
+    rw (half_unasked table side items c.args.there.id.now (rw c.in_default.is at is.from)) (c.no_half.ensures table)
 
 pub returns-in-Some-begin : goal.returns-in-Some-begin
-returns-in-Some-begin c = λ table side items own peer.
-    let kept = (rw (← c.in-Some.ensures.value) at (peer.from c.args.id.now)).1.from in
-    rw (begun_it table side items c.args.id.now c.in-Some.asked.now kept c.in-Some-begin.begin c.in-Some-begin.is)
-    (c.accepted_half.ensures table side items own peer kept c.in-Some-begin.is)
+returns-in-Some-begin c = λ table side items own is.
+    let kept = (rw c.in-Some.is at is.from).1.from in
+    rw (begun_it table side items c.args.there.id.now c.in-Some.asked.now kept c.in-Some-begin.begin c.in-Some-begin.is)
+    (c.accepted_half.ensures table side items is kept c.in-Some-begin.is)
 
 pub returns-in-None : goal.returns-in-None
-returns-in-None c = λ table side items own peer.
-    let kept = (rw (← c.in-Some.ensures.value) at (peer.from c.args.id.now)).1.from in
-    c.other_half.ensures table side items own peer kept c.in-None.is
+returns-in-None c = λ table side items own is.
+    let kept = (rw c.in-Some.is at is.from).1.from in
+    c.other_half.ensures table side items own is kept c.in-None.is

@@ -1,4 +1,4 @@
-use Rattle.std.proofs.Common.{not, sym, ap, ◌∙◌}
+use Rattle.std.proofs.Common.{Some, not, sym, ap, ◌∙◌}
 use Rattle.tcap_faults.proofs.MarkLaws.{left_at, left_differing, left_shut, open_nowhere}
 use Rattle.tcap_faults.proofs.tangled.Ends.is_left_open.Goals as goal
 use Rattle.tcap_faults.proofs.tangled.Ends.is_left_open.Goals.{then-differ-via-then-differ, then-differ-via-else-differ+then-not-is_open}
@@ -19,7 +19,8 @@ pub returns-in-Some : goal.returns-in-Some
 returns-in-Some c = λ side items own_is peer_is from.
     let own = c.args.own.now in
     let table = c.args.table.now in
-    ap not (c.are_tangled.ensures table side items own_is peer_is)
+    ap not (c.are_tangled.ensures table side items c.in-Some.to (Some own) own_is peer_is
+    (c.there.ensures table side items own_is peer_is) (c.own_at.ensures table side items own_is peer_is))
     ∙ left_at table side items own c.in-Some.to (sym c.in-Some.is ∙ from.to.first)
     (sym (c.differ.ensures _ from.to) ∙ c.if-differ.false)
     (sym (c.is_open.ensures side items own_is peer_is from) ∙ c.if-not-is_open.false)

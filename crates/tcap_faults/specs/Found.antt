@@ -1,0 +1,44 @@
+-- What is kept of the transaction IDs of a message, as it is found: of an own ID, and of one of the peer.
+use Rattle.std.specs.Prelude.{◌≡◌, ⊤, ℕ, List, filter, Option, Some, None, option_copied}
+use Rattle.tcap_msg.specs.declared.message.Message.{Message}
+use Rattle.tcap_msg.specs.Parts.{dtid_in, otid_in}
+use Rattle.tcap_record.specs.declared.entry.End.{End as Side}
+use Rattle.tcap_record.specs.Ends.{other}
+use Rattle.tcap_end.specs.Table.{Table}
+use Rattle.tcap_model.specs.World.{Item}
+use Rattle.tcap_faults.specs.declared.found.Found.{Found}
+use Rattle.tcap_faults.specs.declared.found.Own.{Own}
+use Rattle.tcap_faults.specs.declared.found.There.{There}
+use Rattle.tcap_faults.specs.Ids.{AreAmong}
+use Rattle.tcap_faults.specs.Kept.{IsFromAt, IsToAt, dtids_of, sent_from, sent_to}
+use Rattle.tcap_faults.specs.Told.{has_used}
+
+-- It is that own ID: what the end sent from there, and what the peer sent to it.
+pub record IsOwn (table : Table) (side : Side) (items : List Item) (id : List ℕ) (own : Own) : Type 0 where
+  pub it : own.id.now ≡ id
+  pub from : IsFromAt table (sent_from side items id) (option_copied own.from)
+  pub to : IsToAt table (sent_to (other side) items id) (option_copied own.to)
+
+-- It is that ID of the peer: what the peer sent from there, what the end sent to it, and the own IDs that are joined with it by
+-- what the peer sent.
+pub record IsThere (table : Table) (side : Side) (items : List Item) (id : List ℕ) (there : There) : Type 0 where
+  pub it : there.id.now ≡ id
+  pub from : IsFromAt table (sent_from (other side) items id) (option_copied there.from)
+  pub to : IsToAt table (sent_to side items id) (option_copied there.to)
+  pub joined : AreAmong (filter (has_used side items) (dtids_of (sent_from (other side) items id))) (option_copied there.joined)
+
+-- the same where there may be no ID
+abbrev pub IsOwnAt : Table → Side → List Item → Option (List ℕ) → Option Own → Type 0
+IsOwnAt table side items None None = ⊤
+IsOwnAt table side items (Some id) (Some own) = IsOwn table side items id own
+IsOwnAt table side items _ _ = ⊥
+
+abbrev pub IsThereAt : Table → Side → List Item → Option (List ℕ) → Option There → Type 0
+IsThereAt table side items None None = ⊤
+IsThereAt table side items (Some id) (Some there) = IsThere table side items id there
+IsThereAt table side items _ _ = ⊥
+
+-- They are the IDs of that message.
+pub record AreFound (table : Table) (side : Side) (items : List Item) (m : Message) (found : Found) : Type 0 where
+  pub own : IsOwnAt table side items (otid_in m) found.own
+  pub there : IsThereAt table side items (dtid_in m) found.there
