@@ -309,8 +309,10 @@ def hostile():
     objects = []
     for name in HOSTILE:
         part = (f"Invoke 1 {name} 2", f"Invoke id=1 op=2 parameter={name}")
-        messages = [message(0, "A", "Begin", "otid=01", "62034801013c2f7363726970743e", [part], comment=name)]
-        ends = {"A": blamed(0, "F6", f"  entry 0 of A: {name}\n", [(name, [0])], comment=name, doubt=name or "none")}
+        # As the program does: where there is no comment, none is named.
+        comment = {"comment": name} if name else {}
+        messages = [message(0, "A", "Begin", "otid=01", "62034801013c2f7363726970743e", [part], **comment)]
+        ends = {"A": blamed(0, "F6", f"  entry 0 of A: {name}\n", [(name, [0])], **comment, doubt=name or "none")}
         objects += [dialogue(name, 0, "inconc", messages, "01", "", ends, table=name)]
         objects += [trace(name, "inconc", 1, inconc=1, text=name or None)]
     return [*objects, total(objects)]
