@@ -8,21 +8,16 @@ use Rattle.tcap_end.specs.Step.{◌>>◌, ◌>>=◌}
 use Rattle.tcap_check.specs.declared.certificate.Fate.{Fate}
 use Rattle.tcap_check.specs.declared.checker.Report.{Report}
 use Rattle.tcap_check.specs.declared.fault.CheckFault.{CheckFault}
-use Rattle.tcap_check.specs.declared.hearing.Hearing.{Hearing}
+use Rattle.tcap_check.specs.declared.progress.Progress.{Progress}
 use Rattle.tcap_model.specs.declared.reason.Reason.{Reason}
-use Rattle.tcap_record.specs.Ends.{other}
-use Rattle.tcap_model.specs.World.{Item, channel_from}
+use Rattle.tcap_model.specs.World.{Item}
 use Rattle.tcap_model.specs.Run.{Event}
 use Rattle.tcap_check.specs.Certificate.{Certificate}
-use Rattle.tcap_check.specs.Hearing.{nothing_heard}
-use Rattle.tcap_check.specs.Replayed.{Replay, certificate_fits, entries_by, lost_from_both, lost_from_front, lost_last, nothing_replayed, run_by}
-use Rattle.tcap_check.specs.Checking.{Checking, Kept, Took, count_ahead, count_losses, count_lost, count_waiting, hearing_by, kept_ended, kept_next, kept_of, map_ok, progress_of, report_of, reported, so_far_of, taken}
-use Rattle.tcap_check.specs.Unheard.{is_lost_from, steps_of}
+use Rattle.tcap_check.specs.Progress.{nothing_kept}
+use Rattle.tcap_check.specs.Replayed.{Replay, certificate_fits, entries_by, lost_last, nothing_replayed, run_by}
+use Rattle.tcap_check.specs.Checking.{Checking, Kept, Took, count_ahead, count_waiting, kept_ended, kept_next, kept_of, map_ok, progress_of, report_of, reported, so_far_of, taken}
 use Rattle.tcap_check.proofs.EntryLaws.{took_end, took_next}
-use Rattle.tcap_check.proofs.KeptTaken.{each_of_both}
-use Rattle.tcap_check.proofs.KeptHearing.{losing_heard}
-use Rattle.tcap_check.proofs.KeptBasics.{front_none}
-use Rattle.tcap_check.proofs.KeptPending.{moves_are, nothing_waits, pending_is}
+use Rattle.tcap_check.proofs.KeptPending.{pending_is}
 
 -- a checker with what it keeps, or why there is none
 abbrev pub checking : Option Side → Table → Certificate → Option CheckFault → Kept → Checking
@@ -30,7 +25,7 @@ checking judged table c fault k = record { judged = judged; table = table; certi
 
 -- what is kept of no entry
 abbrev pub first_kept : Kept
-first_kept = record { hearing = nothing_heard; entries = []; since = 0 }
+first_kept = record { progress = nothing_kept; entries = []; since = 0 }
 
 -- what is said of the run that is given
 abbrev pub given : Option Side → Table → Certificate → List (Result Item Reason) → Result Report CheckFault
@@ -52,58 +47,6 @@ pub took_err : (judged : Option Side) (table : Table) (c : Certificate) (k next 
 took_err judged table c k next entry fault is entries took =
     sym is ∙ took_next (checking judged table c None k) entries entry took
 
--- ---- the report
-
-steps_and_losses : (side : Side) (events : List Event) → steps_of side events + count_losses side events ≡ length events
-steps_and_losses side [] = refl
-steps_and_losses side (event ∷ events) = by (is_lost_from side event) (steps_and_losses side events)
-  where
-    steps : List Event
-    steps = filter (λ x. not (is_lost_from side x)) events
-
-    losses : List Event
-    losses = filter (is_lost_from side) events
-
-    by : (b : Bool) → length steps + length losses ≡ length events
-        → length (cond (not b) (event ∷ steps) steps) + length (cond b (event ∷ losses) losses) ≡ length (event ∷ events)
-    by true rest = omega (arith, rest)
-    by false rest = omega (arith, rest)
-
--- The steps of both ends, without the losses of what the end sent, where nothing of its peer is on its way.
-counted_steps : (c : Certificate) (side : Side) (r : Replay) → channel_from (other side) r.world ≡ []
-    → (hearing_by (Some side) c r).progress.moves - (hearing_by (Some side) c r).own ≡ steps_of side r.events
-counted_steps c sides.A r empty =
-    let each = each_of_both c.fates r.world.from_a in
-    let all = steps_and_losses sides.A r.events in
-    let none : count_lost c.fates r.world.from_b ≡ 0 = ap (count_lost c.fates) empty in
-    omega (arith, each, all, none)
-counted_steps c sides.B r empty =
-    let each = each_of_both c.fates r.world.from_b in
-    let all = steps_and_losses sides.B r.events in
-    let none : count_lost c.fates r.world.from_a ≡ 0 = ap (count_lost c.fates) empty in
-    omega (arith, each, all, none)
-
--- What is counted at the end is what is said of the run.
-report_of_one : (side : Side) (table : Table) (c : Certificate) (entries : List (Result Item Reason)) (r : Replay)
-    → (certificate_fits c >> entries_by (Some side) table c entries nothing_replayed) ≡ Ok r
-    → report_of (hearing_by (Some side) c r) ≡ reported (Some side) (lost_from_front c (other side) r).events
-report_of_one side table c entries r is =
-    let last = lost_from_front c (other side) r in
-    let empty = front_none c (other side) r (nothing_waits side table c entries r is) in
-    let none : count_lost c.fates (channel_from (other side) last.world) ≡ 0 = ap (count_lost c.fates) empty in
-    let unheard : (hearing_by (Some side) c last).unheard ≡ count_losses (other side) last.events = omega (arith, none) in
-    ap report_of (sym (losing_heard side c r))
-    ∙ ap₂ (λ (m n : ℕ). let report : Report = record { moves = m; unheard = n } in report) (counted_steps c side last empty) unheard
-
-report_is : (judged : Option Side) (table : Table) (c : Certificate) (entries : List (Result Item Reason)) (r : Replay)
-    → (certificate_fits c >> entries_by judged table c entries nothing_replayed) ≡ Ok r
-    → report_of (hearing_by judged c r) ≡ reported judged (lost_last judged c r).events
-report_is None table c entries r is =
-    let same = moves_are table c entries r is in
-    let less : (progress_of c r).moves - 0 ≡ length (lost_from_both c r).events = omega (arith, same) in
-    ap (λ (n : ℕ). let report : Report = record { moves = n; unheard = 0 } in report) less
-report_is (Some judged) table c entries r is = report_of_one judged table c entries r is
-
 -- ---- the end
 
 -- The last gap: the report, or the reason.
@@ -120,10 +63,15 @@ ends_so judged table c entries o is = by (certificate_fits c) is
     by (Ok fits) e = ap (λ (z : Result Replay CheckFault). z >>= events_of) e
     by (Err fault) e = ap (λ (z : Result Replay CheckFault). z >>= events_of) e
 
-abbrev report_ok : Hearing → Result Report CheckFault
-report_ok h = Ok (report_of h)
+abbrev report_ok : Progress → Result Report CheckFault
+report_ok p = Ok (report_of p)
 
-pub finished_ok : (judged : Option Side) (table : Table) (c : Certificate) (k : Kept) (left : Hearing)
+-- What is counted at the end is what is said of the run.
+counted_is : (judged : Option Side) (c : Certificate) (r : Replay) → report_of (progress_of judged c r) ≡ reported judged r.events
+counted_is None c r = refl
+counted_is (Some judged) c r = refl
+
+pub finished_ok : (judged : Option Side) (table : Table) (c : Certificate) (k : Kept) (left : Progress)
     → kept_ended judged table c k ≡ Ok left → (entries : List (Result Item Reason)) → Took (checking judged table c None k) entries
     → report_ok left ≡ given judged table c entries
 finished_ok judged table c k left is entries took =
@@ -131,23 +79,25 @@ finished_ok judged table c k left is entries took =
     (sym is ∙ took_end (checking judged table c None k) entries took)
   where
     by : (o : Result Replay CheckFault) → (certificate_fits c >> entries_by judged table c entries nothing_replayed) ≡ o
-        → (let a : Result Hearing CheckFault = Ok left in a) ≡ map_ok (hearing_by judged c) o → report_ok left ≡ given judged table c entries
+        → (let a : Result Progress CheckFault = Ok left in a) ≡ map_ok (progress_of judged c) (map_ok (lost_last judged c) o)
+        → report_ok left ≡ given judged table c entries
     by (Err fault) e same = cc
     by (Ok r) e same =
-        let is : left ≡ hearing_by judged c r = cc in
+        let is : left ≡ progress_of judged c (lost_last judged c r) = cc in
         ap report_ok is
-        ∙ ap (λ (x : Report). let a : Result Report CheckFault = Ok x in a) (report_is judged table c entries r e)
+        ∙ ap (λ (x : Report). let a : Result Report CheckFault = Ok x in a) (counted_is judged c (lost_last judged c r))
         ∙ sym (ap (map_ok (reported judged)) (ends_so judged table c entries (Ok r) e))
 
 refused_at_end : (judged : Option Side) (table : Table) (c : Certificate) (entries : List (Result Item Reason)) (fault : CheckFault)
-    → (let a : Result Hearing CheckFault = Err fault in a)
-    ≡ map_ok (hearing_by judged c) (certificate_fits c >> entries_by judged table c entries nothing_replayed)
+    → (let a : Result Progress CheckFault = Err fault in a)
+    ≡ map_ok (progress_of judged c) (map_ok (lost_last judged c) (certificate_fits c >> entries_by judged table c entries nothing_replayed))
     → refusing fault ≡ given judged table c entries
 refused_at_end judged table c entries fault same =
     by (certificate_fits c >> entries_by judged table c entries nothing_replayed) refl same
   where
     by : (o : Result Replay CheckFault) → (certificate_fits c >> entries_by judged table c entries nothing_replayed) ≡ o
-        → (let a : Result Hearing CheckFault = Err fault in a) ≡ map_ok (hearing_by judged c) o → refusing fault ≡ given judged table c entries
+        → (let a : Result Progress CheckFault = Err fault in a) ≡ map_ok (progress_of judged c) (map_ok (lost_last judged c) o)
+        → refusing fault ≡ given judged table c entries
     by (Ok r) e same = cc
     by (Err other) e same =
         let is : fault ≡ other = cc in
@@ -229,19 +179,19 @@ keeps_so s judged table c (Some fault) k is kept so =
     let same : (let a : Result Kept CheckFault = Err fault in a) ≡ Ok kept = ap (λ (x : Checking). x.so_far) (sym is) ∙ so in cc
 
 waits : (table : Table) (c : Certificate) (k : Kept) (entries : List (Result Item Reason)) → Took (checking None table c None k) entries
-    → count_waiting None k.hearing.progress ≡ count_ahead (length entries) c.fates entries
+    → count_waiting None k.progress ≡ count_ahead (length entries) c.fates entries
 waits table c k entries took = by (taken None table c entries) refl took
   where
     by : (o : Result Replay CheckFault) → taken None table c entries ≡ o → (let a : Result Kept CheckFault = Ok k in a) ≡ map_ok (kept_of None c) o
-        → count_waiting None k.hearing.progress ≡ count_ahead (length entries) c.fates entries
+        → count_waiting None k.progress ≡ count_ahead (length entries) c.fates entries
     by (Err fault) e same = cc
     by (Ok r) e same =
         let is : k ≡ kept_of None c r = cc in
-        ap (λ (x : Kept). count_waiting None x.hearing.progress) is ∙ pending_is table c entries r e
+        ap (λ (x : Kept). count_waiting None x.progress) is ∙ pending_is table c entries r e
 
 pub waits_so : (s : Checking) (table : Table) (c : Certificate) (o : Option CheckFault) (k : Kept) → s ≡ checking None table c o k
     → (entries : List (Result Item Reason)) → Took s entries → IsTrue (is_ok s.so_far)
-    → count_waiting None k.hearing.progress ≡ count_ahead (length entries) s.certificate.fates entries
+    → count_waiting None k.progress ≡ count_ahead (length entries) s.certificate.fates entries
 waits_so s table c None k is entries took so =
     waits table c k entries (subst (λ (x : Checking). Took x entries) is took)
     ∙ ap (λ (x : Checking). count_ahead (length entries) x.certificate.fates entries) (sym is)

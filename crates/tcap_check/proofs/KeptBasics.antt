@@ -1,196 +1,230 @@
 -- What is kept of a replay, and its single steps.
-use Rattle.std.proofs.Common.{◌≡◌, ℕ, ◌+◌, Result, Ok, Err, List, [], ◌∷◌, ◌++◌, map, length, drop, Option, Some, None, refl, ap, ap₂, ◌∙◌, arith, zero-add}
-use Rattle.std.specs.Prelude.{slice_get}
+use Rattle.std.proofs.Common.{◌≡◌, ℕ, suc, ◌+◌, Bool, true, false, cond, Result, Ok, Err, List, [], ◌∷◌, ◌++◌, map, length, drop, Option, Some, None, refl, sym, ap, ap₂, ◌∙◌, arith, append-nil, append_assoc}
+use Rattle.std.specs.Prelude.{filter, not, slice_get}
+use Rattle.std.proofs.lemmas.List.{length-append}
 use Rattle.tcap_record.specs.declared.entry.End.{End as Side}
 use Rattle.tcap_record.specs.declared.entry.End.TheVariants as sides
 use Rattle.tcap_end.specs.End.{End}
+use Rattle.tcap_end.specs.Step.{◌>>=◌}
 use Rattle.tcap_check.specs.declared.certificate.Fate.{Fate}
 use Rattle.tcap_check.specs.declared.certificate.Fate.TheVariants.{Gap, Lost, By}
 use Rattle.tcap_check.specs.declared.progress.Progress.{Progress}
 use Rattle.tcap_check.specs.declared.progress.Waiting.{Waiting}
-use Rattle.tcap_model.specs.World.{OnItsWay, channel_from, end_at, with_channel, with_end}
-use Rattle.tcap_model.specs.Run.{Event, Loses}
-use Rattle.tcap_end.specs.Step.{◌>>=◌}
+use Rattle.tcap_record.specs.Ends.{other}
+use Rattle.tcap_model.specs.World.{OnItsWay, World, channel_from, end_at, with_channel, with_end}
+use Rattle.tcap_model.specs.Run.{Event, Loses, numbers_of}
 use Rattle.tcap_check.specs.Certificate.{Certificate}
-use Rattle.tcap_check.specs.Replayed.{Replay, lost_from_front, lost_from_both, if_lost, lost_front, with_step}
-use Rattle.tcap_check.specs.Progress.{moved, seat_at, with_seat_end, with_waiting}
-use Rattle.tcap_check.specs.Checking.{count_lost, lost_by, map_ok, progress_of, waiting, waiting_by}
-use Rattle.std.proofs.lemmas.List.{length-append, length-map}
+use Rattle.tcap_check.specs.Replayed.{Replay, all_lost_from, if_lost, is_heard, losing, lost_front, lost_from_both, lost_from_front, lost_last, with_step}
+use Rattle.tcap_check.specs.Unheard.{is_lost_from}
+use Rattle.tcap_check.specs.Progress.{front_lost, is_none_kept, last_lost, losing_kept, lost_told, moved, seat_at, with_seat_end, with_waiting}
+use Rattle.tcap_check.specs.Hearing.{sent_lost}
+use Rattle.tcap_check.specs.Checking.{fate_of, is_alone, kept_by, map_ok, progress_of, reported, waiting_at}
 use Rattle.tcap_check.proofs.ReplaySteps.{channel_with}
-use Rattle.tcap_check.proofs.KeptCounts.{front_waits}
+use Rattle.tcap_check.proofs.WorldLaws.{apart, itself, with_same}
 
-one_event_more : (events : List Event) (event : Event) → length (events ++ event ∷ []) ≡ length events + 1
-one_event_more events event = length-append events (event ∷ [])
+-- ---- what is counted
+
+-- One more that passes a test, or does not.
+count_more : {A : Type 0} (p : A → Bool) (xs : List A) (x : A) → p x ≡ true → length (filter p (xs ++ x ∷ [])) ≡ length (filter p xs) + 1
+count_more p [] x is = rw is refl
+count_more p (y ∷ ys) x is = by (p y) (count_more p ys x is)
+  where
+    by : (b : Bool) → length (filter p (ys ++ x ∷ [])) ≡ length (filter p ys) + 1
+        → length (cond b (y ∷ filter p (ys ++ x ∷ [])) (filter p (ys ++ x ∷ []))) ≡ length (cond b (y ∷ filter p ys) (filter p ys)) + 1
+    by true rest = omega (arith, rest)
+    by false rest = rest
+
+count_same : {A : Type 0} (p : A → Bool) (xs : List A) (x : A) → p x ≡ false → length (filter p (xs ++ x ∷ [])) ≡ length (filter p xs)
+count_same p [] x is = rw is refl
+count_same p (y ∷ ys) x is = by (p y) (count_same p ys x is)
+  where
+    by : (b : Bool) → length (filter p (ys ++ x ∷ [])) ≡ length (filter p ys)
+        → length (cond b (y ∷ filter p (ys ++ x ∷ [])) (filter p (ys ++ x ∷ []))) ≡ length (cond b (y ∷ filter p ys) (filter p ys))
+    by true rest = ap suc rest
+    by false rest = rest
+
+-- what is counted of these events
+abbrev pub counted : Option Side → List Event → Progress → Progress
+counted judged events p = record p { moves = (reported judged events).moves; unheard = (reported judged events).unheard }
+
+numbered : (p : Progress) (m n k l : ℕ) → m ≡ n → k ≡ l
+    → (let x : Progress = record p { moves = m; unheard = k } in x) ≡ record p { moves = n; unheard = l }
+numbered p m n k l a b = ap₂ (λ (i j : ℕ). let x : Progress = record p { moves = i; unheard = j } in x) a b
+
+-- An event more that is no loss is a step more.
+pub moved_counts : (judged : Option Side) (events : List Event) (event : Event) (p : Progress)
+    → ((side : Side) → is_lost_from side event ≡ false)
+    → counted judged (events ++ event ∷ []) p ≡ moved (counted judged events p)
+moved_counts None events event p none = numbered p _ _ 0 0 (length-append events (event ∷ [])) refl
+moved_counts (Some judged) events event p none =
+    numbered p _ _ _ _ (count_more (λ (e : Event). not (is_lost_from judged e)) events event (rw (none judged) refl))
+    (count_same (is_lost_from (other judged)) events event (none (other judged)))
+
+-- A loss more is told.
+pub lost_counts : (judged : Option Side) (side : Side) (number : ℕ) (events : List Event) (p : Progress)
+    → counted judged (events ++ Loses side number ∷ []) p ≡ lost_told judged side (counted judged events p)
+lost_counts None side number events p = numbered p _ _ 0 0 (length-append events (Loses side number ∷ [])) refl
+lost_counts (Some sides.A) sides.A number events p =
+    numbered p _ _ _ _ (count_same (λ (e : Event). not (is_lost_from sides.A e)) events (Loses sides.A number) refl)
+    (count_same (is_lost_from sides.B) events (Loses sides.A number) refl)
+lost_counts (Some sides.A) sides.B number events p =
+    numbered p _ _ _ _ (count_more (λ (e : Event). not (is_lost_from sides.A e)) events (Loses sides.B number) refl)
+    (count_more (is_lost_from sides.B) events (Loses sides.B number) refl)
+lost_counts (Some sides.B) sides.A number events p =
+    numbered p _ _ _ _ (count_more (λ (e : Event). not (is_lost_from sides.B e)) events (Loses sides.A number) refl)
+    (count_more (is_lost_from sides.A) events (Loses sides.A number) refl)
+lost_counts (Some sides.B) sides.B number events p =
+    numbered p _ _ _ _ (count_same (λ (e : Event). not (is_lost_from sides.B e)) events (Loses sides.B number) refl)
+    (count_same (is_lost_from sides.A) events (Loses sides.B number) refl)
+
+-- ---- a step of an end
 
 -- A step that changes an end alone.
-pub end_step_is : (c : Certificate) (side : Side) (event : Event) (e : End) (r : Replay)
-    → progress_of c (with_step event r (with_end side e r.world)) ≡ moved (with_seat_end side e (progress_of c r))
-end_step_is c side event e r = by side
+pub end_step_is : (judged : Option Side) (c : Certificate) (event : Event) (side : Side) (e : End) (r : Replay)
+    → ((at : Side) → is_lost_from at event ≡ false)
+    → progress_of judged c (with_step event r (with_end side e r.world)) ≡ moved (with_seat_end side e (progress_of judged c r))
+end_step_is judged c event sides.A e r none = moved_counts judged r.events event (with_seat_end sides.A e (progress_of judged c r)) none
+end_step_is judged c event sides.B e r none = moved_counts judged r.events event (with_seat_end sides.B e (progress_of judged c r)) none
+
+-- A step that changes nothing but that it is made.
+pub lost_step_is : (judged : Option Side) (c : Certificate) (side : Side) (number : ℕ) (r : Replay)
+    → progress_of judged c (with_step (Loses side number) r r.world) ≡ lost_told judged side (progress_of judged c r)
+lost_step_is judged c side number r = lost_counts judged side number r.events (progress_of judged c r)
+
+-- An end is put in place of another.
+pub end_put : (judged : Option Side) (c : Certificate) (side : Side) (e : End) (r : Replay)
+    → (let x : Replay = record { events = r.events; world = with_end side e r.world } in progress_of judged c x)
+    ≡ with_seat_end side e (progress_of judged c r)
+end_put judged c sides.A e r = refl
+end_put judged c sides.B e r = refl
+
+-- ---- what is on its way
+
+pub end_kept : (judged : Option Side) (c : Certificate) (side : Side) (r : Replay)
+    → (seat_at side (progress_of judged c r)).end ≡ end_at side r.world
+end_kept judged c sides.A r = refl
+end_kept judged c sides.B r = refl
+
+pub waiting_kept : (judged : Option Side) (c : Certificate) (side : Side) (r : Replay)
+    → (seat_at side (progress_of judged c r)).waiting ≡ waiting_at judged side c.fates (channel_from side r.world)
+waiting_kept judged c sides.A r = refl
+waiting_kept judged c sides.B r = refl
+
+-- another channel, and what is kept of it
+pub channel_put : (judged : Option Side) (c : Certificate) (side : Side) (messages : List OnItsWay) (r : Replay)
+    → (let x : Replay = record { events = r.events; world = with_channel side messages r.world } in progress_of judged c x)
+    ≡ with_waiting side (waiting_at judged side c.fates messages) (progress_of judged c r)
+channel_put judged c sides.A messages r = refl
+channel_put judged c sides.B messages r = refl
+
+channel_again : (judged : Option Side) (c : Certificate) (side : Side) (messages others : List OnItsWay) (events : List Event) (w : World)
+    → with_waiting side (waiting_at judged side c.fates messages)
+    (let x : Replay = record { events = events; world = with_channel side others w } in progress_of judged c x)
+    ≡ (let x : Replay = record { events = events; world = with_channel side messages w } in progress_of judged c x)
+channel_again judged c sides.A messages others events w = refl
+channel_again judged c sides.B messages others events w = refl
+
+lost_again : (judged : Option Side) (c : Certificate) (side : Side) (number : ℕ) (messages : List OnItsWay) (events : List Event) (w : World)
+    → lost_told judged side (let x : Replay = record { events = events; world = with_channel side messages w } in progress_of judged c x)
+    ≡ (let x : Replay = record { events = events ++ Loses side number ∷ []; world = with_channel side messages w } in progress_of judged c x)
+lost_again judged c side number messages events w =
+    sym (lost_counts judged side number events
+    (let x : Replay = record { events = events; world = with_channel side messages w } in progress_of judged c x))
+
+-- the numbers at the front of a channel of what will be lost
+abbrev lost_at : Option Side → Side → List Fate → List OnItsWay → List ℕ
+lost_at judged side fates [] = []
+lost_at judged side fates (m ∷ more) =
+    if_lost (fate_of judged side (slice_get fates m.number)) (m.number ∷ lost_at judged side fates more)
+
+-- They are lost, one after the other.
+losing_goes : (judged : Option Side) (c : Certificate) (side : Side) (channel : List OnItsWay) (events : List Event) (w : World)
+    → losing_kept judged side (waiting_at judged side c.fates channel)
+    (let x : Replay = record { events = events; world = with_channel side channel w } in progress_of judged c x)
+    ≡ (let x : Replay = record {
+      events = events ++ map (Loses side) (lost_at judged side c.fates channel);
+      world = with_channel side (drop (length (lost_at judged side c.fates channel)) channel) w;
+    } in progress_of judged c x)
+losing_goes judged c side [] events w =
+    ap (λ (es : List Event). let x : Replay = record { events = es; world = with_channel side [] w } in progress_of judged c x) (sym (append-nil events))
+losing_goes judged c side (m ∷ more) events w =
+    by (fate_of judged side (slice_get c.fates m.number)) (losing_goes judged c side more (events ++ Loses side m.number ∷ []) w)
   where
-    lost : ℕ
-    lost = count_lost c.fates r.world.from_a + count_lost c.fates r.world.from_b
+    at : List Event → List OnItsWay → Progress
+    at es channel = let x : Replay = record { events = es; world = with_channel side channel w } in progress_of judged c x
 
-    counted : length (r.events ++ event ∷ []) + lost ≡ (length r.events + lost) + 1
-    counted = let one : length (r.events ++ event ∷ []) ≡ length r.events + 1 = one_event_more r.events event in omega (arith, one)
+    rest : List Waiting
+    rest = waiting_at judged side c.fates more
 
-    by : (side : Side) → progress_of c (with_step event r (with_end side e r.world)) ≡ moved (with_seat_end side e (progress_of c r))
-    by sides.A = ap (λ (n : ℕ). let p : Progress = record (progress_of c (with_step event r (with_end sides.A e r.world))) { moves = n } in p) counted
-    by sides.B = ap (λ (n : ℕ). let p : Progress = record (progress_of c (with_step event r (with_end sides.B e r.world))) { moves = n } in p) counted
+    lost : List ℕ
+    lost = lost_at judged side c.fates more
 
-pub end_put : (c : Certificate) (side : Side) (e : End) (r : Replay)
-    → (let x : Replay = record { events = r.events; world = with_end side e r.world } in progress_of c x)
-    ≡ with_seat_end side e (progress_of c r)
-end_put c sides.A e r = refl
-end_put c sides.B e r = refl
+    stays : at events (m ∷ more) ≡ at (events ++ []) (m ∷ more)
+    stays = ap (λ (es : List Event). at es (m ∷ more)) (sym (append-nil events))
 
--- ---- the front of a channel
+    by : (o : Option Fate)
+        → losing_kept judged side rest (at (events ++ Loses side m.number ∷ []) more)
+        ≡ at ((events ++ Loses side m.number ∷ []) ++ map (Loses side) lost) (drop (length lost) more)
+        → losing_kept judged side (kept_by o m ∷ rest) (at events (m ∷ more))
+        ≡ at (events ++ map (Loses side) (if_lost o (m.number ∷ lost))) (drop (length (if_lost o (m.number ∷ lost))) (m ∷ more))
+    by None on = stays
+    by (Some (Gap g)) on = stays
+    by (Some (By k)) on = stays
+    by (Some Lost) on =
+        ap (losing_kept judged side rest)
+        (ap (lost_told judged side) (channel_again judged c side more (m ∷ more) events w) ∙ lost_again judged c side m.number more events w)
+        ∙ on
+        ∙ ap (λ (es : List Event). at es (drop (length lost) more)) (append_assoc events (Loses side m.number ∷ []) (map (Loses side) lost))
 
--- and it was counted.
-pub counted_front : (fates : List Fate) (channel : List OnItsWay)
-    → length (lost_front fates channel) + count_lost fates (drop (length (lost_front fates channel)) channel) ≡ count_lost fates channel
-counted_front fates [] = refl
-counted_front fates (first ∷ more) = by (slice_get fates first.number) refl (counted_front fates more)
-  where
-    by : (o : Option Fate) → slice_get fates first.number ≡ o
-        → length (lost_front fates more) + count_lost fates (drop (length (lost_front fates more)) more) ≡ count_lost fates more
-        → length (if_lost o (first.number ∷ lost_front fates more))
-        + count_lost fates (drop (length (if_lost o (first.number ∷ lost_front fates more))) (first ∷ more))
-        ≡ lost_by o (count_lost fates more)
-    by None at is = rw at (zero-add (count_lost fates more))
-    by (Some (Gap g)) at is = rw at (zero-add (count_lost fates more))
-    by (Some (By k)) at is = rw at (zero-add (count_lost fates more))
-    by (Some Lost) at is = omega (arith, is)
+front_goes : (judged : Option Side) (c : Certificate) (side : Side) (r : Replay)
+    → front_lost judged side (progress_of judged c r)
+    ≡ progress_of judged c (losing side (lost_at judged side c.fates (channel_from side r.world)) r)
+front_goes judged c side r =
+    ap (λ (x : List Waiting). losing_kept judged side x (progress_of judged c r)) (waiting_kept judged c side r)
+    ∙ ap (λ (w : World). losing_kept judged side (waiting_at judged side c.fates (channel_from side r.world))
+    (let x : Replay = record { events = r.events; world = w } in progress_of judged c x)) (sym (with_same side r.world))
+    ∙ losing_goes judged c side (channel_from side r.world) r.events r.world
 
--- What is lost at the front was counted, and is not kept.
-pub losing_is : (c : Certificate) (side : Side) (r : Replay) → progress_of c (lost_from_front c side r) ≡ progress_of c r
-losing_is c side r = by side
-  where
-    events : (side : Side) (numbers : List ℕ) → length (r.events ++ map (Loses side) numbers) ≡ length r.events + length numbers
-    events side numbers = length-append r.events (map (Loses side) numbers) ∙ ap (λ (n : ℕ). length r.events + n) (length-map numbers (Loses side))
+-- Of what comes to an end that is judged those are lost whose fates say so,
+pub not_alone : (judged : Option Side) (side : Side) → is_heard judged side ≡ true → is_alone judged side ≡ false
+not_alone None side so = refl
+not_alone (Some sides.A) sides.A so = cc
+not_alone (Some sides.A) sides.B so = refl
+not_alone (Some sides.B) sides.A so = refl
+not_alone (Some sides.B) sides.B so = cc
 
-    by : (side : Side) → progress_of c (lost_from_front c side r) ≡ progress_of c r
-    by sides.A =
-        let lost = lost_front c.fates r.world.from_a in
-        let left = drop (length lost) r.world.from_a in
-        let one : length (r.events ++ map (Loses sides.A) lost) ≡ length r.events + length lost = events sides.A lost in
-        let two : length lost + count_lost c.fates left ≡ count_lost c.fates r.world.from_a = counted_front c.fates r.world.from_a in
-        let moves : length (r.events ++ map (Loses sides.A) lost) + (count_lost c.fates left + count_lost c.fates r.world.from_b)
-        ≡ length r.events + (count_lost c.fates r.world.from_a + count_lost c.fates r.world.from_b) = omega (arith, one, two) in
-        ap₂ (λ (messages : List Waiting) (n : ℕ).
-        let p : Progress = record (progress_of c r) { a = record (progress_of c r).a { waiting = messages }; moves = n } in p)
-        (front_waits c.fates r.world.from_a) moves
-    by sides.B =
-        let lost = lost_front c.fates r.world.from_b in
-        let left = drop (length lost) r.world.from_b in
-        let one : length (r.events ++ map (Loses sides.B) lost) ≡ length r.events + length lost = events sides.B lost in
-        let two : length lost + count_lost c.fates left ≡ count_lost c.fates r.world.from_b = counted_front c.fates r.world.from_b in
-        let moves : length (r.events ++ map (Loses sides.B) lost) + (count_lost c.fates r.world.from_a + count_lost c.fates left)
-        ≡ length r.events + (count_lost c.fates r.world.from_a + count_lost c.fates r.world.from_b) = omega (arith, one, two) in
-        ap₂ (λ (messages : List Waiting) (n : ℕ).
-        let p : Progress = record (progress_of c r) { b = record (progress_of c r).b { waiting = messages }; moves = n } in p)
-        (front_waits c.fates r.world.from_b) moves
+lost_at_front : (judged : Option Side) (side : Side) (fates : List Fate) (channel : List OnItsWay) → is_alone judged side ≡ false
+    → lost_at judged side fates channel ≡ lost_front fates channel
+lost_at_front judged side fates [] so = refl
+lost_at_front judged side fates (m ∷ more) so =
+    rw so (ap (λ (x : List ℕ). if_lost (slice_get fates m.number) (m.number ∷ x)) (lost_at_front judged side fates more so))
 
-pub losing_both_is : (c : Certificate) (r : Replay) → progress_of c (lost_from_both c r) ≡ progress_of c r
-losing_both_is c r = losing_is c sides.B (lost_from_front c sides.A r) ∙ losing_is c sides.A r
+pub front_is : (judged : Option Side) (c : Certificate) (side : Side) (r : Replay) → is_heard judged side ≡ true
+    → front_lost judged side (progress_of judged c r) ≡ progress_of judged c (lost_from_front c side r)
+front_is judged c side r so =
+    front_goes judged c side r
+    ∙ ap (λ (numbers : List ℕ). progress_of judged c (losing side numbers r))
+    (lost_at_front judged side c.fates (channel_from side r.world) (not_alone judged side so))
 
-left_none : (fates : List Fate) (channel : List OnItsWay) → waiting fates channel ≡ []
-    → drop (length (lost_front fates channel)) channel ≡ []
-left_none fates [] is = refl
-left_none fates (first ∷ more) is = by (slice_get fates first.number) (left_none fates more) is
-  where
-    by : (o : Option Fate) → (waiting fates more ≡ [] → drop (length (lost_front fates more)) more ≡ [])
-        → waiting_by o first (waiting fates more) ≡ []
-        → drop (length (if_lost o (first.number ∷ lost_front fates more))) (first ∷ more) ≡ []
-    by None on e = cc
-    by (Some (Gap g)) on e = cc
-    by (Some (By k)) on e = cc
-    by (Some Lost) on e = on e
+-- and of what an end sends that alone is judged all are.
+lost_at_all : (side : Side) (fates : List Fate) (channel : List OnItsWay) → lost_at (Some side) side fates channel ≡ numbers_of channel
+lost_at_all side fates [] = refl
+lost_at_all side fates (m ∷ more) = rw (itself side) (ap (λ (x : List ℕ). m.number ∷ x) (lost_at_all side fates more))
 
--- Where nothing is kept of a channel, nothing is left behind what is lost at its front.
-pub front_none : (c : Certificate) (side : Side) (r : Replay) → waiting c.fates (channel_from side r.world) ≡ []
-    → channel_from side (lost_from_front c side r).world ≡ []
-front_none c side r is = channel_with side _ r.world ∙ left_none c.fates (channel_from side r.world) is
+pub sent_lost_is : (side : Side) (c : Certificate) (r : Replay)
+    → sent_lost (Some side) (progress_of (Some side) c r) ≡ progress_of (Some side) c (all_lost_from side r)
+sent_lost_is side c r =
+    front_goes (Some side) c side r
+    ∙ ap (λ (numbers : List ℕ). progress_of (Some side) c (losing side numbers r)) (lost_at_all side c.fates (channel_from side r.world))
 
--- the first that is kept, and what is left behind it
-record Front (fates : List Fate) (channel : List OnItsWay) (first : Waiting) (more : List Waiting) : Type 0 where
-  head : OnItsWay
-  left : List OnItsWay
-  is : drop (length (lost_front fates channel)) channel ≡ head ∷ left
-  number : head.number ≡ first.number
-  message : head.message ≡ first.message
-  rest : waiting fates left ≡ more
-  counted : count_lost fates (head ∷ left) ≡ count_lost fates left
-
-left_some : (fates : List Fate) (channel : List OnItsWay) (first : Waiting) (more : List Waiting)
-    → waiting fates channel ≡ first ∷ more → Front fates channel first more
-left_some fates [] first more is = cc
-left_some fates (head ∷ left) first more is = by (slice_get fates head.number) refl (left_some fates left first more) is
-  where
-    here : (o : Option Fate) → slice_get fates head.number ≡ o → lost_by o (count_lost fates left) ≡ count_lost fates left
-        → drop (length (if_lost o (head.number ∷ lost_front fates left))) (head ∷ left) ≡ head ∷ left
-        → (let w : Waiting = record { number = head.number; message = head.message } in w ∷ waiting fates left) ≡ first ∷ more
-        → Front fates (head ∷ left) first more
-    here o at none stays e =
-        let same : (let w : Waiting = record { number = head.number; message = head.message } in w) ≡ first = cc in
-        record {
-          head = head;
-          left = left;
-          is = rw at stays;
-          number = ap (λ (w : Waiting). w.number) same;
-          message = ap (λ (w : Waiting). w.message) same;
-          rest = cc;
-          counted = rw at none;
-        }
-
-    by : (o : Option Fate) → slice_get fates head.number ≡ o
-        → (waiting fates left ≡ first ∷ more → Front fates left first more)
-        → waiting_by o head (waiting fates left) ≡ first ∷ more → Front fates (head ∷ left) first more
-    by None at on e = here None at refl refl e
-    by (Some (Gap g)) at on e = here (Some (Gap g)) at refl refl e
-    by (Some (By k)) at on e = here (Some (By k)) at refl refl e
-    by (Some Lost) at on e =
-        let f = on e in
-        record { head = f.head; left = f.left; is = rw at f.is; number = f.number; message = f.message; rest = f.rest; counted = f.counted }
-
--- Else the first that is kept is the head.
-pub record HasFront (c : Certificate) (side : Side) (first : Waiting) (more : List Waiting) (r : Replay) : Type 0 where
-  pub head : OnItsWay
-  pub left : List OnItsWay
-  pub channel : channel_from side (lost_from_front c side r).world ≡ head ∷ left
-  pub number : head.number ≡ first.number
-  pub message : head.message ≡ first.message
-  pub rest : waiting c.fates left ≡ more
-  pub counted : count_lost c.fates (head ∷ left) ≡ count_lost c.fates left
-
-pub front_is : (c : Certificate) (side : Side) (first : Waiting) (more : List Waiting) (r : Replay)
-    → waiting c.fates (channel_from side r.world) ≡ first ∷ more → HasFront c side first more r
-front_is c side first more r is =
-    let f = left_some c.fates (channel_from side r.world) first more is in
-    record { head = f.head; left = f.left; channel = channel_with side _ r.world ∙ f.is; number = f.number; message = f.message; rest = f.rest; counted = f.counted }
-
--- The head is taken: what is kept is without the first.
-pub head_taken_is : (c : Certificate) (side : Side) (first : Waiting) (more : List Waiting) (r : Replay) (front : HasFront c side first more r)
-    → (let r' : Replay = record { events = (lost_from_front c side r).events; world = with_channel side front.left (lost_from_front c side r).world } in progress_of c r')
-    ≡ with_waiting side more (progress_of c r)
-head_taken_is c side first more r front = by side front.left front.channel front.rest front.counted ∙ ap (with_waiting side more) (losing_is c side r)
-  where
-    by : (side : Side) (left : List OnItsWay) → channel_from side (lost_from_front c side r).world ≡ front.head ∷ left
-        → waiting c.fates left ≡ more → count_lost c.fates (front.head ∷ left) ≡ count_lost c.fates left
-        → (let r' : Replay = record { events = (lost_from_front c side r).events; world = with_channel side left (lost_from_front c side r).world } in progress_of c r')
-        ≡ with_waiting side more (progress_of c (lost_from_front c side r))
-    by sides.A left channel rest counted = rw (channel, counted, rest) refl
-    by sides.B left channel rest counted = rw (channel, counted, rest) refl
+-- What is lost last.
+pub last_is : (judged : Option Side) (c : Certificate) (r : Replay)
+    → last_lost judged (progress_of judged c r) ≡ progress_of judged c (lost_last judged c r)
+last_is None c r =
+    ap (front_lost None sides.B) (front_is None c sides.A r refl) ∙ front_is None c sides.B (lost_from_front c sides.A r) refl
+last_is (Some judged) c r = front_is (Some judged) c (other judged) r (itself (other judged))
 
 -- ---- steps
-
-pub end_kept : (c : Certificate) (side : Side) (r : Replay) → (seat_at side (progress_of c r)).end ≡ end_at side r.world
-end_kept c sides.A r = refl
-end_kept c sides.B r = refl
-
-pub waiting_kept : (c : Certificate) (side : Side) (r : Replay)
-    → (seat_at side (progress_of c r)).waiting ≡ waiting c.fates (channel_from side r.world)
-waiting_kept c sides.A r = refl
-waiting_kept c sides.B r = refl
 
 -- One step, and the rest behind it.
 pub then_is : {F A : Type 0} (f : Replay → A) (step : Result Replay F) (kept : A → Result A F) (on : Replay → Result Replay F)

@@ -8,18 +8,27 @@ use Rattle.tcap_record.specs.declared.entry.End.TheVariants as sides
 use Rattle.tcap_model.specs.declared.reason.Reason.{Reason}
 use Rattle.tcap_check.specs.declared.certificate.Fate.{Fate}
 use Rattle.tcap_check.specs.declared.certificate.Fate.TheVariants.{Gap, Lost, By}
-use Rattle.tcap_check.specs.declared.progress.Waiting.{Waiting}
 use Rattle.tcap_record.specs.Ends.{other}
 use Rattle.tcap_model.specs.World.{Item, OnItsWay, Sent, World, channel_from, with_channel}
 use Rattle.tcap_model.specs.Run.{joined}
 use Rattle.tcap_check.specs.Certificate.{Certificate}
 use Rattle.tcap_check.specs.Follows.{FatesFit, taken_by}
 use Rattle.tcap_check.specs.Replayed.{Replay, if_lost, is_sent_by, lost_from_front, lost_front}
-use Rattle.tcap_check.specs.Checking.{count_ahead, waiting, waiting_by}
+use Rattle.tcap_check.specs.Checking.{count_ahead}
 use Rattle.tcap_check.specs.Hearing.{is_heard}
 use Rattle.tcap_check.proofs.PendingLaws.{IsAhead}
 
 -- ---- how many wait
+
+-- a message on its way, unless it is lost
+abbrev pub waiting_by : Option Fate → OnItsWay → List OnItsWay → List OnItsWay
+waiting_by (Some Lost) m messages = messages
+waiting_by _ m messages = m ∷ messages
+
+-- those of a channel that are not lost, from the oldest on
+abbrev pub waiting : List Fate → List OnItsWay → List OnItsWay
+waiting fates [] = []
+waiting fates (m ∷ more) = waiting_by (slice_get fates m.number) m (waiting fates more)
 
 -- So many more wait where a message of that fate joins.
 abbrev pub new_by : Option Fate → ℕ
@@ -94,7 +103,7 @@ pub counts_same : (judged : Option Side) (fates : List Fate) (w next : World)
     → ((side : Side) → waiting fates (channel_from side next) ≡ waiting fates (channel_from side w))
     → count_for judged fates next ≡ count_for judged fates w
 counts_same None fates w next same =
-    ap₂ (λ (x y : List Waiting). length x + length y) (same sides.A) (same sides.B)
+    ap₂ (λ (x y : List OnItsWay). length x + length y) (same sides.A) (same sides.B)
 counts_same (Some judged) fates w next same = ap length (same (other judged))
 
 -- so losses take none that waits;

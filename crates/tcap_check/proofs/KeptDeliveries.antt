@@ -1,5 +1,5 @@
 -- The deliveries of a gap, over what is kept, are those of the replay.
-use Rattle.std.proofs.Common.{◌≡◌, ℕ, suc, ◌+◌, ◌==◌, Bool, true, false, cond, List, [], ◌∷◌, Option, Some, None, Result, Ok, Err, refl, sym, ap, ◌∙◌, arith}
+use Rattle.std.proofs.Common.{◌≡◌, ℕ, suc, ◌+◌, ◌==◌, Bool, true, false, cond, List, [], ◌∷◌, length, drop, Option, Some, None, Result, Ok, Err, refl, sym, ap, ◌∙◌, arith}
 use Rattle.std.specs.Prelude.{◌&&◌, slice_get}
 use Rattle.tcap_record.specs.declared.entry.End.{End as Side}
 use Rattle.tcap_record.specs.declared.entry.End.TheVariants as sides
@@ -9,89 +9,144 @@ use Rattle.tcap_end.specs.Message.{receive}
 use Rattle.tcap_end.specs.Table.{Table}
 use Rattle.tcap_end.specs.Step.{needs, ◌>>◌, ◌>>=◌}
 use Rattle.tcap_record.specs.Ends.{other}
-use Rattle.tcap_model.specs.World.{Item, Sent, channel_from, end_at, with_end}
+use Rattle.tcap_model.specs.World.{Item, OnItsWay, Sent, channel_from, end_at, with_channel, with_end}
 use Rattle.tcap_model.specs.Run.{Loses, Receives}
 use Rattle.tcap_check.specs.declared.certificate.Fate.{Fate}
 use Rattle.tcap_check.specs.declared.certificate.Fate.TheVariants.{Gap, Lost, By}
 use Rattle.tcap_check.specs.declared.fault.CheckFault.{CheckFault}
 use Rattle.tcap_model.specs.declared.reason.Reason.TheVariants.{BadReply}
-use Rattle.tcap_check.specs.declared.hearing.Hearing.{Hearing}
 use Rattle.tcap_check.specs.declared.outline.Outline.{Outline}
+use Rattle.tcap_check.specs.declared.progress.Progress.{Progress}
 use Rattle.tcap_check.specs.declared.progress.Waiting.{Waiting}
 use Rattle.tcap_check.specs.Certificate.{Certificate}
-use Rattle.tcap_check.specs.Replayed.{Replay, deliveries_by, delivery_by, fault_at, is_due, lost_from_front, next_entry, received, refused, with_step}
+use Rattle.tcap_check.specs.Replayed.{Replay, deliveries_by, delivery_by, fault_at, if_lost, is_due, lost_from_front, lost_front, next_entry, received, refused, with_step}
 use Rattle.tcap_check.specs.Outlines.{outlines_from}
-use Rattle.tcap_check.specs.Progress.{due_in, map_ok, moved, with_seat_end, with_waiting}
-use Rattle.tcap_check.specs.Hearing.{deliveries_kept, delivery_kept, first_received, is_heard, received_or_not, with_progress}
-use Rattle.tcap_check.specs.Checking.{hearing_by, waiting}
-use Rattle.tcap_check.proofs.KeptBasics.{HasFront, front_is, front_none, then_is}
-use Rattle.tcap_check.proofs.KeptHearing.{end_step_heard, head_heard, lost_step_heard, without_head}
-use Rattle.tcap_check.proofs.KeptLost.{end_of, waiting_of}
+use Rattle.tcap_check.specs.Progress.{due_in, lost_told, map_ok, moved, seat_at, with_seat_end, with_waiting}
+use Rattle.tcap_check.specs.Hearing.{deliveries_kept, delivery_kept, first_received, is_heard, received_or_not}
+use Rattle.tcap_check.specs.Checking.{fate_of, kept_by, progress_of, waiting_at}
+use Rattle.tcap_check.proofs.KeptBasics.{channel_put, end_kept, end_step_is, front_is, lost_step_is, not_alone, then_is, waiting_kept}
+use Rattle.tcap_check.proofs.ReplaySteps.{channel_with}
 
 -- ---- one message
 
-abbrev kept : Hearing → Result Hearing CheckFault
-kept h = Ok h
+-- What stands behind the lost ones at the front of a channel is not lost.
+head_stays : (fates : List Fate) (channel : List OnItsWay) (head : OnItsWay) (more : List OnItsWay)
+    → drop (length (lost_front fates channel)) channel ≡ head ∷ more → slice_get fates head.number ≡ Some Lost → ⊥
+head_stays fates [] head more is lost = cc
+head_stays fates (first ∷ channel) head more is lost = by (slice_get fates first.number) refl (head_stays fates channel head more) is
+  where
+    stays : (o : Option Fate) → slice_get fates first.number ≡ o → (o ≡ Some Lost → ⊥) → first ∷ channel ≡ head ∷ more → ⊥
+    stays o at kept is =
+        let same : head ≡ first = cc in kept (sym at ∙ ap (λ (m : OnItsWay). slice_get fates m.number) (sym same) ∙ lost)
 
-module _ (judged : Option Side) (c : Certificate) (sender : Side) (number : ℕ) (first : Waiting) (more : List Waiting) (r : Replay)
-    (front : HasFront c sender first more r) (heard : is_heard judged sender ≡ true) where
-  abbrev left : Replay
-  left = without_head sender c front.left r
+    by : (o : Option Fate) → slice_get fates first.number ≡ o
+        → (drop (length (lost_front fates channel)) channel ≡ head ∷ more → slice_get fates head.number ≡ Some Lost → ⊥)
+        → drop (length (if_lost o (first.number ∷ lost_front fates channel))) (first ∷ channel) ≡ head ∷ more → ⊥
+    by None at on is = stays None at (λ e. cc) is
+    by (Some (Gap g)) at on is = stays (Some (Gap g)) at (λ e. cc) is
+    by (Some (By k)) at on is = stays (Some (By k)) at (λ e. cc) is
+    by (Some Lost) at on is = on is lost
+
+kept_whole : (o : Option Fate) (m : OnItsWay) → (o ≡ Some Lost → ⊥) → kept_by o m ≡ record { number = m.number; message = Some m.message }
+kept_whole None m stays = refl
+kept_whole (Some (Gap g)) m stays = refl
+kept_whole (Some (By k)) m stays = refl
+kept_whole (Some Lost) m stays = absurd (stays refl)
+
+-- the head of a channel to an end that is judged, behind what is lost at its front, and what stands behind it
+pub record HasFront (c : Certificate) (sender : Side) (head : OnItsWay) (left : List OnItsWay) (r : Replay) : Type 0 where
+  pub channel : channel_from sender (lost_from_front c sender r).world ≡ head ∷ left
+
+-- Of the head all is kept.
+pub front_waits : (judged : Option Side) (c : Certificate) (sender : Side) (head : OnItsWay) (left : List OnItsWay) (r : Replay)
+    → is_heard judged sender ≡ true → HasFront c sender head left r
+    → (seat_at sender (progress_of judged c (lost_from_front c sender r))).waiting
+    ≡ (record { number = head.number; message = Some head.message }) ∷ waiting_at judged sender c.fates left
+front_waits judged c sender head left r heard front =
+    let behind = drop (length (lost_front c.fates (channel_from sender r.world))) (channel_from sender r.world) in
+    let stands : behind ≡ head ∷ left = sym (channel_with sender behind r.world) ∙ front.channel in
+    let whole : kept_by (fate_of judged sender (slice_get c.fates head.number)) head ≡ record { number = head.number; message = Some head.message } =
+    rw (not_alone judged sender heard)
+    (kept_whole (slice_get c.fates head.number) head (head_stays c.fates (channel_from sender r.world) head left stands)) in
+    waiting_kept judged c sender (lost_from_front c sender r)
+    ∙ ap (waiting_at judged sender c.fates) front.channel
+    ∙ ap (λ (w : Waiting). w ∷ waiting_at judged sender c.fates left) whole
+
+-- the replay without the head
+abbrev pub without_head : Side → Certificate → List OnItsWay → Replay → Replay
+without_head sender c left r = record {
+  events = (lost_from_front c sender r).events;
+  world = with_channel sender left (lost_from_front c sender r).world;
+}
+
+same_end : (c : Certificate) (sender at : Side) (r : Replay) → end_at at (lost_from_front c sender r).world ≡ end_at at r.world
+same_end c sides.A sides.A r = refl
+same_end c sides.A sides.B r = refl
+same_end c sides.B sides.A r = refl
+same_end c sides.B sides.B r = refl
+
+-- Losses leave the end as it is.
+pub end_behind : (judged : Option Side) (c : Certificate) (sender : Side) (r : Replay)
+    → (seat_at (other sender) (progress_of judged c (lost_from_front c sender r))).end ≡ end_at (other sender) r.world
+end_behind judged c sender r =
+    end_kept judged c (other sender) (lost_from_front c sender r)
+    ∙ same_end c sender (other sender) r
+
+abbrev kept : Progress → Result Progress CheckFault
+kept p = Ok p
+
+module _ (judged : Option Side) (c : Certificate) (sender : Side) (number : ℕ) (head : OnItsWay) (left : List OnItsWay) (r : Replay) where
+  abbrev behind : Replay
+  behind = without_head sender c left r
+
+  abbrev kept_behind : Progress
+  kept_behind = with_waiting sender (waiting_at judged sender c.fates left) (progress_of judged c (lost_from_front c sender r))
 
   -- An end receives it,
-  received_is : (e : End)
-      → received_or_not judged (other sender) number (with_waiting sender more (hearing_by judged c r).progress) (hearing_by judged c r) (Ok e)
-      ≡ Ok (hearing_by judged c (with_step (Receives (other sender) number) left (with_end (other sender) e left.world)))
+  received_is : (e : End) → kept (moved (with_seat_end (other sender) e kept_behind))
+      ≡ Ok (progress_of judged c (with_step (Receives (other sender) number) behind (with_end (other sender) e behind.world)))
   received_is e =
-      ap kept (sym (end_step_heard judged c (Receives (other sender) number) (other sender) e left (λ at. refl)
-      ∙ ap (λ (h : Hearing). with_progress h (moved (with_seat_end (other sender) e h.progress))) (head_heard judged sender c first more r front heard)))
+      ap kept (ap (λ (p : Progress). moved (with_seat_end (other sender) e p)) (sym (channel_put judged c sender left (lost_from_front c sender r)))
+      ∙ sym (end_step_is judged c (Receives (other sender) number) (other sender) e behind (λ at. refl)))
 
--- or it is dropped, where that end alone is judged.
-dropped_is : (side : Side) (c : Certificate) (number : ℕ) (reason : EndFault) (first : Waiting) (more : List Waiting) (r : Replay)
-    (front : HasFront c (other side) first more r) → is_heard (Some side) (other side) ≡ true
-    → received_or_not (Some side) side number (with_waiting (other side) more (hearing_by (Some side) c r).progress) (hearing_by (Some side) c r)
-    (Err reason)
-    ≡ Ok (hearing_by (Some side) c (with_step (Loses (other side) number) (without_head (other side) c front.left r)
-    (without_head (other side) c front.left r).world))
-dropped_is side c number reason first more r front so =
-    ap kept (sym (lost_step_heard side c number (without_head (other side) c front.left r)
-    ∙ ap (λ (h : Hearing). let x : Hearing = record { progress = moved h.progress; own = h.own; unheard = h.unheard + 1 } in x)
-    (head_heard (Some side) (other side) c first more r front so)))
+  -- or it is lost, where that end alone is judged.
+  dropped_is : kept (lost_told judged sender kept_behind)
+      ≡ Ok (progress_of judged c (with_step (Loses sender number) behind behind.world))
+  dropped_is =
+      ap kept (ap (lost_told judged sender) (sym (channel_put judged c sender left (lost_from_front c sender r)))
+      ∙ sym (lost_step_is judged c sender number behind))
 
 -- The head is there, and it is that of the number, or not.
-head_is : (judged : Option Side) (table : Table) (c : Certificate) (sender : Side) (number : ℕ) (first : Waiting) (more : List Waiting) (r : Replay)
-    (front : HasFront c sender first more r) (so : Bool) (o : Result End EndFault) → is_heard judged sender ≡ true
-    → (first.number == number) ≡ so → receive table (end_at (other sender) r.world) first.message ≡ o
-    → (needs so (fault_at BadReply number)
-    >> received_or_not judged (other sender) number (with_waiting sender more (hearing_by judged c r).progress) (hearing_by judged c r) o)
-    ≡ map_ok (hearing_by judged c) (received judged table c sender number r)
-head_is (Some sides.A) table c sides.A number first more r front so o heard is step = cc
-head_is (Some sides.B) table c sides.B number first more r front so o heard is step = cc
-head_is None table c sides.A number first more r front false o heard is step = rw (front.channel, front.number, is) refl
-head_is None table c sides.B number first more r front false o heard is step = rw (front.channel, front.number, is) refl
-head_is (Some sides.A) table c sides.B number first more r front false o heard is step = rw (front.channel, front.number, is) refl
-head_is (Some sides.B) table c sides.A number first more r front false o heard is step = rw (front.channel, front.number, is) refl
-head_is None table c sides.A number first more r front true (Ok e) heard is step =
-    rw (front.channel, front.number, is, front.message, step) (received_is None c sides.A number first more r front heard e)
-head_is None table c sides.B number first more r front true (Ok e) heard is step =
-    rw (front.channel, front.number, is, front.message, step) (received_is None c sides.B number first more r front heard e)
-head_is (Some sides.A) table c sides.B number first more r front true (Ok e) heard is step =
-    rw (front.channel, front.number, is, front.message, step) (received_is (Some sides.A) c sides.B number first more r front heard e)
-head_is (Some sides.B) table c sides.A number first more r front true (Ok e) heard is step =
-    rw (front.channel, front.number, is, front.message, step) (received_is (Some sides.B) c sides.A number first more r front heard e)
-head_is None table c sides.A number first more r front true (Err reason) heard is step =
-    rw (front.channel, front.number, is, front.message, step) refl
-head_is None table c sides.B number first more r front true (Err reason) heard is step =
-    rw (front.channel, front.number, is, front.message, step) refl
-head_is (Some sides.A) table c sides.B number first more r front true (Err reason) heard is step =
-    rw (front.channel, front.number, is, front.message, step) (dropped_is sides.A c number reason first more r front heard)
-head_is (Some sides.B) table c sides.A number first more r front true (Err reason) heard is step =
-    rw (front.channel, front.number, is, front.message, step) (dropped_is sides.B c number reason first more r front heard)
+head_is : (judged : Option Side) (table : Table) (c : Certificate) (sender : Side) (number : ℕ) (head : OnItsWay) (left : List OnItsWay) (r : Replay)
+    (front : HasFront c sender head left r) (so : Bool) (o : Result End EndFault) → is_heard judged sender ≡ true
+    → (head.number == number) ≡ so → receive table (end_at (other sender) r.world) head.message ≡ o
+    → (needs so (fault_at BadReply number) >> received_or_not judged (other sender) number (kept_behind judged c sender number head left r) o)
+    ≡ map_ok (progress_of judged c) (received judged table c sender number r)
+head_is (Some sides.A) table c sides.A number head left r front so o heard is step = cc
+head_is (Some sides.B) table c sides.B number head left r front so o heard is step = cc
+head_is None table c sides.A number head left r front false o heard is step = rw (front.channel, is) refl
+head_is None table c sides.B number head left r front false o heard is step = rw (front.channel, is) refl
+head_is (Some sides.A) table c sides.B number head left r front false o heard is step = rw (front.channel, is) refl
+head_is (Some sides.B) table c sides.A number head left r front false o heard is step = rw (front.channel, is) refl
+head_is None table c sides.A number head left r front true (Ok e) heard is step =
+    rw (front.channel, is, step) (received_is None c sides.A number head left r e)
+head_is None table c sides.B number head left r front true (Ok e) heard is step =
+    rw (front.channel, is, step) (received_is None c sides.B number head left r e)
+head_is (Some sides.A) table c sides.B number head left r front true (Ok e) heard is step =
+    rw (front.channel, is, step) (received_is (Some sides.A) c sides.B number head left r e)
+head_is (Some sides.B) table c sides.A number head left r front true (Ok e) heard is step =
+    rw (front.channel, is, step) (received_is (Some sides.B) c sides.A number head left r e)
+head_is None table c sides.A number head left r front true (Err reason) heard is step = rw (front.channel, is, step) refl
+head_is None table c sides.B number head left r front true (Err reason) heard is step = rw (front.channel, is, step) refl
+head_is (Some sides.A) table c sides.B number head left r front true (Err reason) heard is step =
+    rw (front.channel, is, step) (dropped_is (Some sides.A) c sides.B number head left r)
+head_is (Some sides.B) table c sides.A number head left r front true (Err reason) heard is step =
+    rw (front.channel, is, step) (dropped_is (Some sides.B) c sides.A number head left r)
 
 nothing_is : (judged : Option Side) (table : Table) (c : Certificate) (sender : Side) (number : ℕ) (r : Replay) → is_heard judged sender ≡ true
     → channel_from sender (lost_from_front c sender r).world ≡ []
-    → (let x : Result Hearing CheckFault = refused BadReply number in x)
-    ≡ map_ok (hearing_by judged c) (received judged table c sender number r)
+    → (let x : Result Progress CheckFault = refused BadReply number in x)
+    ≡ map_ok (progress_of judged c) (received judged table c sender number r)
 nothing_is None table c sides.A number r heard none = rw none refl
 nothing_is None table c sides.B number r heard none = rw none refl
 nothing_is (Some sides.A) table c sides.A number r heard none = cc
@@ -99,24 +154,40 @@ nothing_is (Some sides.A) table c sides.B number r heard none = rw none refl
 nothing_is (Some sides.B) table c sides.A number r heard none = rw none refl
 nothing_is (Some sides.B) table c sides.B number r heard none = cc
 
+needs_then : (so : Bool) (fault : CheckFault) (o : Result End EndFault) (step : Result End EndFault → Result Progress CheckFault)
+    → ((needs so fault >> (let x : Result (Result End EndFault) CheckFault = Ok o in x)) >>= step) ≡ (needs so fault >> step o)
+needs_then true fault o step = refl
+needs_then false fault o step = refl
+
 delivered_is : (judged : Option Side) (table : Table) (c : Certificate) (sender : Side) (number : ℕ) (r : Replay) → is_heard judged sender ≡ true
-    → delivery_kept judged table number (Some sender) (hearing_by judged c r)
-    ≡ map_ok (hearing_by judged c) (received judged table c sender number r)
+    → delivery_kept judged table number (Some sender) (progress_of judged c r)
+    ≡ map_ok (progress_of judged c) (received judged table c sender number r)
 delivered_is judged table c sender number r heard =
-    ap (λ (messages : List Waiting). first_received judged table sender number messages (hearing_by judged c r))
-    (waiting_of judged c sender r heard)
-    ∙ by (waiting c.fates (channel_from sender r.world)) refl
+    ap (λ (p : Progress). first_received judged table sender number (seat_at sender p).waiting p) (front_is judged c sender r heard)
+    ∙ by (channel_from sender before.world) refl
   where
-    by : (messages : List Waiting) → waiting c.fates (channel_from sender r.world) ≡ messages
-        → first_received judged table sender number messages (hearing_by judged c r)
-        ≡ map_ok (hearing_by judged c) (received judged table c sender number r)
-    by [] is = nothing_is judged table c sender number r heard (front_none c sender r is)
-    by (first ∷ more) is =
-        ap (λ (e : End). needs (first.number == number) (fault_at BadReply number)
-        >> received_or_not judged (other sender) number (with_waiting sender more (hearing_by judged c r).progress) (hearing_by judged c r)
-        (receive table e first.message)) (end_of judged c (other sender) r)
-        ∙ head_is judged table c sender number first more r (front_is c sender first more r is) (first.number == number)
-        (receive table (end_at (other sender) r.world) first.message) heard refl refl
+    before : Replay
+    before = lost_from_front c sender r
+
+    by : (messages : List OnItsWay) → channel_from sender before.world ≡ messages
+        → first_received judged table sender number (seat_at sender (progress_of judged c before)).waiting (progress_of judged c before)
+        ≡ map_ok (progress_of judged c) (received judged table c sender number r)
+    by [] is =
+        ap (λ (messages : List Waiting). first_received judged table sender number messages (progress_of judged c before))
+        (waiting_kept judged c sender before ∙ ap (waiting_at judged sender c.fates) is)
+        ∙ nothing_is judged table c sender number r heard is
+    by (head ∷ left) is =
+        let front : HasFront c sender head left r = record { channel = is } in
+        ap (λ (messages : List Waiting). first_received judged table sender number messages (progress_of judged c before))
+        (front_waits judged c sender head left r heard front)
+        ∙ needs_then (head.number == number) (fault_at BadReply number)
+        (receive table (seat_at (other sender) (progress_of judged c before)).end head.message)
+        (received_or_not judged (other sender) number (kept_behind judged c sender number head left r))
+        ∙ ap (λ (e : End). needs (head.number == number) (fault_at BadReply number)
+        >> received_or_not judged (other sender) number (kept_behind judged c sender number head left r) (receive table e head.message))
+        (end_behind judged c sender r)
+        ∙ head_is judged table c sender number head left r front (head.number == number)
+        (receive table (end_at (other sender) r.world) head.message) heard refl refl
 
 -- ---- all that is due
 
@@ -139,19 +210,19 @@ none_next : (entries : List Outline) (n : ℕ) → StandsFrom entries n [] → S
 none_next entries n stands i = ap (slice_get entries) (sym (further n i)) ∙ stands (suc i)
 
 -- Of entries that did not come yet nothing is delivered.
-none_due : (judged : Option Side) (table : Table) (entries : List Outline) (gap n : ℕ) (fates : List Fate) (h : Hearing) → StandsFrom entries n []
-    → deliveries_kept judged table entries (due_in gap n fates) h ≡ Ok h
-none_due judged table entries gap n [] h stands = refl
-none_due judged table entries gap n (Lost ∷ fates) h stands = none_due judged table entries gap (n + 1) fates h (none_next entries n stands)
-none_due judged table entries gap n (By k ∷ fates) h stands = none_due judged table entries gap (n + 1) fates h (none_next entries n stands)
-none_due judged table entries gap n (Gap g ∷ fates) h stands =
-    by (none_due judged table entries gap (n + 1) fates h (none_next entries n stands)) (g == gap)
+none_due : (judged : Option Side) (table : Table) (entries : List Outline) (gap n : ℕ) (fates : List Fate) (p : Progress) → StandsFrom entries n []
+    → deliveries_kept judged table entries (due_in gap n fates) p ≡ Ok p
+none_due judged table entries gap n [] p stands = refl
+none_due judged table entries gap n (Lost ∷ fates) p stands = none_due judged table entries gap (n + 1) fates p (none_next entries n stands)
+none_due judged table entries gap n (By k ∷ fates) p stands = none_due judged table entries gap (n + 1) fates p (none_next entries n stands)
+none_due judged table entries gap n (Gap g ∷ fates) p stands =
+    by (none_due judged table entries gap (n + 1) fates p (none_next entries n stands)) (g == gap)
   where
     here : slice_get entries n ≡ None
     here = let same : n ≡ n + 0 = omega arith in ap (slice_get entries) same ∙ stands 0
 
-    by : deliveries_kept judged table entries (due_in gap (n + 1) fates) h ≡ Ok h
-        → (b : Bool) → deliveries_kept judged table entries (cond b (n ∷ due_in gap (n + 1) fates) (due_in gap (n + 1) fates)) h ≡ Ok h
+    by : deliveries_kept judged table entries (due_in gap (n + 1) fates) p ≡ Ok p
+        → (b : Bool) → deliveries_kept judged table entries (cond b (n ∷ due_in gap (n + 1) fates) (due_in gap (n + 1) fates)) p ≡ Ok p
     by rest true = rw here rest
     by rest false = rest
 
@@ -166,11 +237,11 @@ due_is (Some judged) gap g sender = refl
 
 deliveries_from : (judged : Option Side) (table : Table) (c : Certificate) (entries : List Outline) (gap n : ℕ) (fates : List Fate)
     (items : List Item) (r : Replay) → StandsFrom entries n (outlines_from c n items)
-    → deliveries_kept judged table entries (due_in gap n fates) (hearing_by judged c r)
-    ≡ map_ok (hearing_by judged c) (deliveries_by judged table c gap n fates items r)
+    → deliveries_kept judged table entries (due_in gap n fates) (progress_of judged c r)
+    ≡ map_ok (progress_of judged c) (deliveries_by judged table c gap n fates items r)
 deliveries_from judged table c entries gap n [] items r stands = refl
 deliveries_from judged table c entries gap n (fate ∷ fates) [] r stands =
-    none_due judged table entries gap n (fate ∷ fates) (hearing_by judged c r) stands
+    none_due judged table entries gap n (fate ∷ fates) (progress_of judged c r) stands
 deliveries_from judged table c entries gap n (Lost ∷ fates) (item ∷ items) r stands =
     deliveries_from judged table c entries gap (n + 1) fates items r (stands_next entries n _ _ stands)
 deliveries_from judged table c entries gap n (By k ∷ fates) (item ∷ items) r stands =
@@ -178,12 +249,12 @@ deliveries_from judged table c entries gap n (By k ∷ fates) (item ∷ items) r
 deliveries_from judged table c entries gap n (Gap g ∷ fates) (Item.Quiet ∷ items) r stands =
     by (deliveries_from judged table c entries gap (n + 1) fates items r (stands_next entries n _ _ stands)) (g == gap)
   where
-    rest_of : Result Hearing CheckFault
-    rest_of = map_ok (hearing_by judged c) (deliveries_by judged table c gap (n + 1) fates items r)
+    rest_of : Result Progress CheckFault
+    rest_of = map_ok (progress_of judged c) (deliveries_by judged table c gap (n + 1) fates items r)
 
-    by : deliveries_kept judged table entries (due_in gap (n + 1) fates) (hearing_by judged c r) ≡ rest_of
+    by : deliveries_kept judged table entries (due_in gap (n + 1) fates) (progress_of judged c r) ≡ rest_of
         → (b : Bool)
-        → deliveries_kept judged table entries (cond b (n ∷ due_in gap (n + 1) fates) (due_in gap (n + 1) fates)) (hearing_by judged c r)
+        → deliveries_kept judged table entries (cond b (n ∷ due_in gap (n + 1) fates) (due_in gap (n + 1) fates)) (progress_of judged c r)
         ≡ rest_of
     by rest true = rw (first_stands entries n _ _ stands) rest
     by rest false = rest
@@ -197,22 +268,22 @@ deliveries_from judged table c entries gap n (Gap g ∷ fates) (Sent sender mess
     more : Replay → Result Replay CheckFault
     more = deliveries_by judged table c gap (n + 1) fates items
 
-    by : ((next : Replay) → deliveries_kept judged table entries due (hearing_by judged c next) ≡ map_ok (hearing_by judged c) (more next))
+    by : ((next : Replay) → deliveries_kept judged table entries due (progress_of judged c next) ≡ map_ok (progress_of judged c) (more next))
         → (b : Bool) → (g == gap) ≡ b → (so : Bool) → is_heard judged sender ≡ so
-        → deliveries_kept judged table entries (cond b (n ∷ due) due) (hearing_by judged c r)
-        ≡ map_ok (hearing_by judged c) (delivery_by judged table c gap n (Gap g) (Sent sender message) r >>= more)
+        → deliveries_kept judged table entries (cond b (n ∷ due) due) (progress_of judged c r)
+        ≡ map_ok (progress_of judged c) (delivery_by judged table c gap n (Gap g) (Sent sender message) r >>= more)
     by rest false is so told = rw (due_is judged gap g sender, is) (rest r)
     by rest true is false told = rw (due_is judged gap g sender, is, first_stands entries n _ _ stands, told) (rest r)
     by rest true is true told =
         rw (due_is judged gap g sender, is, first_stands entries n _ _ stands, told)
-        (ap (λ (x : Result Hearing CheckFault). x >>= deliveries_kept judged table entries due) (delivered_is judged table c sender n r told)
-        ∙ then_is (hearing_by judged c) (received judged table c sender n r) (deliveries_kept judged table entries due) more
+        (ap (λ (x : Result Progress CheckFault). x >>= deliveries_kept judged table entries due) (delivered_is judged table c sender n r told)
+        ∙ then_is (progress_of judged c) (received judged table c sender n r) (deliveries_kept judged table entries due) more
         (λ next _. rest next))
 
 -- Nothing is delivered whose entry did not come yet: the list of what is due may name it.
 pub deliveries_are : (judged : Option Side) (table : Table) (c : Certificate) (r : Replay)
-    → deliveries_kept judged table (outlines_from c 0 r.world.sent) (due_in (next_entry r) 0 c.fates) (hearing_by judged c r)
-    ≡ map_ok (hearing_by judged c) (deliveries_by judged table c (next_entry r) 0 c.fates r.world.sent r)
+    → deliveries_kept judged table (outlines_from c 0 r.world.sent) (due_in (next_entry r) 0 c.fates) (progress_of judged c r)
+    ≡ map_ok (progress_of judged c) (deliveries_by judged table c (next_entry r) 0 c.fates r.world.sent r)
 deliveries_are judged table c r =
     deliveries_from judged table c (outlines_from c 0 r.world.sent) (next_entry r) 0 c.fates r.world.sent r
     (λ i. let same : 0 + i ≡ i = omega arith in ap (slice_get (outlines_from c 0 r.world.sent)) same)

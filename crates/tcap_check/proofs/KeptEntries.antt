@@ -9,8 +9,8 @@ use Rattle.tcap_end.specs.Step.{needs, ◌>>◌, ◌>>=◌}
 use Rattle.tcap_check.specs.declared.certificate.Fate.{Fate}
 use Rattle.tcap_check.specs.declared.fault.CheckFault.{CheckFault}
 use Rattle.tcap_model.specs.declared.reason.Reason.TheVariants.{BadReply, FateRange, OutOfOrder}
-use Rattle.tcap_check.specs.declared.hearing.Hearing.{Hearing}
 use Rattle.tcap_check.specs.declared.outline.Outline.{Outline}
+use Rattle.tcap_check.specs.declared.progress.Progress.{Progress}
 use Rattle.tcap_record.specs.Ends.{other}
 use Rattle.tcap_model.specs.World.{Item, Sent}
 use Rattle.tcap_model.specs.Run.{Tells, joined}
@@ -20,19 +20,18 @@ use Rattle.tcap_check.specs.Replayed.{Replay, behind_sending, fault_at, gap_by, 
 use Rattle.tcap_check.specs.Outlines.{is_named, outline_of, outlines_from, since_from}
 use Rattle.tcap_check.specs.Progress.{overtakes, seat_at}
 use Rattle.tcap_check.specs.Hearing.{is_heard, is_told, mark_taken, own_taken, told_among, told_taken}
-use Rattle.tcap_check.specs.Checking.{gap_before, hearing_by, item_kept, kept_of, map_ok, progress_of, tied_now}
+use Rattle.tcap_check.specs.Checking.{gap_before, item_kept, kept_of, map_ok, progress_of, tied_now}
 use Rattle.tcap_check.proofs.AloneReplays.{gap_leads, item_leads}
 use Rattle.tcap_check.proofs.ReplayLaws.{gap_replays}
 use Rattle.tcap_check.proofs.ReplayEntries.{item_replays}
 use Rattle.tcap_check.proofs.ReplaySteps.{replays_then}
-use Rattle.tcap_check.proofs.KeptBasics.{then_is}
+use Rattle.tcap_check.proofs.KeptBasics.{not_alone, then_is}
 use Rattle.tcap_check.proofs.KeptGaps.{gap_is}
 use Rattle.tcap_check.proofs.KeptHidden.{outline_at, outlines_count}
-use Rattle.tcap_check.proofs.KeptLost.{ends_of, seat_stays}
-use Rattle.tcap_check.proofs.KeptMarks.{IsHeard, mark_is, marked_by}
-pub use Rattle.tcap_check.proofs.KeptQuiet.{latest_with_mark}
+use Rattle.tcap_check.proofs.KeptMarks.{mark_is, marked_by}
+pub use Rattle.tcap_check.proofs.KeptMarks.{latest_with_mark}
 use Rattle.tcap_check.proofs.KeptSends.{overtakes_is}
-use Rattle.tcap_check.proofs.KeptTaken.{own_is, told_is}
+use Rattle.tcap_check.proofs.KeptMessages.{own_is, told_is}
 
 pub outlines_more : (c : Certificate) (n : ℕ) (items : List Item) (item : Item)
     → outlines_from c n (items ++ item ∷ [])
@@ -114,7 +113,7 @@ module _ (judged : Option Side) (table : Table) (c : Certificate) (r : Replay) w
   abbrev takes : List ℕ
   takes = tied judged c r
 
-  abbrev gap : Result Hearing CheckFault
+  abbrev gap : Result Progress CheckFault
   gap = gap_before judged table c (kept_of judged c r)
 
   abbrev kept_now : List ℕ
@@ -124,78 +123,74 @@ module _ (judged : Option Side) (table : Table) (c : Certificate) (r : Replay) w
   count = length (outlines_from c 0 r.world.sent)
 
   -- A step behind the gap that is counted over the outlines, and by what they say of the messages that it takes.
-  behind_gap : (on : ℕ → List ℕ → Hearing → Result Hearing CheckFault) (more : Replay → Result Replay CheckFault)
-      → ((next : Replay) → gap_by judged table c r ≡ Ok next → on n takes (hearing_by judged c next) ≡ map_ok (hearing_by judged c) (more next))
-      → (gap >>= on count kept_now) ≡ map_ok (hearing_by judged c) (gap_by judged table c r >>= more)
+  behind_gap : (on : ℕ → List ℕ → Progress → Result Progress CheckFault) (more : Replay → Result Replay CheckFault)
+      → ((next : Replay) → gap_by judged table c r ≡ Ok next → on n takes (progress_of judged c next) ≡ map_ok (progress_of judged c) (more next))
+      → (gap >>= on count kept_now) ≡ map_ok (progress_of judged c) (gap_by judged table c r >>= more)
   behind_gap on more same =
       ap₂ (λ (k : ℕ) (numbers : List ℕ). gap >>= on k numbers) (outlines_count c 0 r.world.sent) (tied_is judged c r)
-      ∙ ap (λ (x : Result Hearing CheckFault). x >>= on n takes) (gap_is judged table c r)
-      ∙ then_is (hearing_by judged c) (gap_by judged table c r) (on n takes) more same
+      ∙ ap (λ (x : Result Progress CheckFault). x >>= on n takes) (gap_is judged table c r)
+      ∙ then_is (progress_of judged c) (gap_by judged table c r) (on n takes) more same
 
   -- A message of an end that is judged,
   own_entry : (fate : Fate) (side : Side) (message : Message) → is_heard judged (other side) ≡ true → slice_get c.fates n ≡ Some fate
       → (gap >>= own_taken judged table side fate count message kept_now)
-      ≡ map_ok (hearing_by judged c)
+      ≡ map_ok (progress_of judged c)
       (gap_by judged table c r >>= λ behind. behind_sending judged (own_message judged table c side message behind))
   own_entry fate side message so has =
       behind_gap (λ k numbers. own_taken judged table side fate k message numbers)
       (λ behind. behind_sending judged (own_message judged table c side message behind))
       (λ next is. let sent = gap_sends judged table c r next is in
       let same : next_entry next ≡ n = ap (length {A = Item}) sent in
-      ap₂ (λ (k : ℕ) (numbers : List ℕ). own_taken judged table side fate k message numbers (hearing_by judged c next))
+      ap₂ (λ (k : ℕ) (numbers : List ℕ). own_taken judged table side fate k message numbers (progress_of judged c next))
       (sym same) (sym (tied_still judged c r next sent))
       ∙ own_is judged table c fate side message (tied judged c next) next so (ap (slice_get c.fates) same ∙ has))
 
   -- and a mark.
   mark_entry : (fate : Fate)
-      → ((next : Replay) → gap_by judged table c r ≡ Ok next → IsHeard judged next)
-      → item_kept judged table c fate Item.Quiet (kept_of judged c r) ≡ map_ok (hearing_by judged c) (mark_judged judged table c fate r)
-  mark_entry fate empty =
+      → item_kept judged table c fate Item.Quiet (kept_of judged c r) ≡ map_ok (progress_of judged c) (mark_judged judged table c fate r)
+  mark_entry fate =
       ap (λ (k : ℕ). needs (is_gap (k + 1) fate) (fault_at FateRange k) >> gap >>= mark_taken judged table count kept_now)
       (outlines_count c 0 r.world.sent)
       ∙ by (is_gap (n + 1) fate)
     where
       gone : (gap >>= mark_taken judged table count kept_now)
-          ≡ map_ok (hearing_by judged c) (gap_by judged table c r >>= marked_by judged table c n takes)
+          ≡ map_ok (progress_of judged c) (gap_by judged table c r >>= marked_by judged table c n takes)
       gone = behind_gap (λ k numbers. mark_taken judged table k numbers) (marked_by judged table c n takes)
-          (λ next is. let same : next_entry next ≡ n = ap (length {A = Item}) (gap_sends judged table c r next is) in
-          subst (λ (k : ℕ). mark_taken judged table k takes (hearing_by judged c next)
-          ≡ map_ok (hearing_by judged c) (marked_by judged table c k takes next)) same
-          (mark_is judged table c takes next (empty next is)))
+          (λ next is. mark_is judged table c n takes next)
 
       by : (b : Bool)
           → (needs b (fault_at FateRange n) >> gap >>= mark_taken judged table count kept_now)
-          ≡ map_ok (hearing_by judged c) (needs b (fault_at FateRange n) >> (gap_by judged table c r >>= marked_by judged table c n takes))
+          ≡ map_ok (progress_of judged c) (needs b (fault_at FateRange n) >> (gap_by judged table c r >>= marked_by judged table c n takes))
       by true = gone
       by false = refl
 
   -- The order of what comes to an end that is judged.
-  in_order : (fate : Fate) (side : Side) (step : Hearing → Result Hearing CheckFault) (on : Result Replay CheckFault)
-      → is_heard judged side ≡ true → (gap >>= step) ≡ map_ok (hearing_by judged c) on
-      → (needs (not (overtakes fate (seat_at side (ends_of judged c r)))) (fault_at OutOfOrder count) >> gap >>= step)
-      ≡ map_ok (hearing_by judged c) (needs (not (is_overtaking side fate c.fates r.world.sent)) (fault_at OutOfOrder n) >> on)
+  in_order : (fate : Fate) (side : Side) (step : Progress → Result Progress CheckFault) (on : Result Replay CheckFault)
+      → is_heard judged side ≡ true → (gap >>= step) ≡ map_ok (progress_of judged c) on
+      → (needs (not (overtakes fate (seat_at side (progress_of judged c r)))) (fault_at OutOfOrder count) >> gap >>= step)
+      ≡ map_ok (progress_of judged c) (needs (not (is_overtaking side fate c.fates r.world.sent)) (fault_at OutOfOrder n) >> on)
   in_order fate side step on so same =
       ap₂ (λ (b : Bool) (k : ℕ). needs (not b) (fault_at OutOfOrder k) >> gap >>= step)
-      (ap (overtakes fate) (seat_stays judged side (progress_of c r) so) ∙ overtakes_is c side fate r) (outlines_count c 0 r.world.sent)
+      (overtakes_is judged c side fate r (not_alone judged side so)) (outlines_count c 0 r.world.sent)
       ∙ by (not (is_overtaking side fate c.fates r.world.sent))
     where
-      by : (b : Bool) → (needs b (fault_at OutOfOrder n) >> gap >>= step) ≡ map_ok (hearing_by judged c) (needs b (fault_at OutOfOrder n) >> on)
+      by : (b : Bool) → (needs b (fault_at OutOfOrder n) >> gap >>= step) ≡ map_ok (progress_of judged c) (needs b (fault_at OutOfOrder n) >> on)
       by true = same
       by false = refl
 
 -- A message that the peer tells of the end that alone is judged.
 told_entry : (table : Table) (c : Certificate) (side : Side) (r : Replay) (fate : Fate) (message : Message)
     → is_heard (Some side) (other side) ≡ true → slice_get c.fates (next_entry r) ≡ Some fate
-    → (needs (not (overtakes fate (seat_at (other side) (ends_of (Some side) c r)))) (fault_at OutOfOrder (count (Some side) table c r))
+    → (needs (not (overtakes fate (seat_at (other side) (progress_of (Some side) c r)))) (fault_at OutOfOrder (count (Some side) table c r))
     >> gap (Some side) table c r
     >>= told_taken (other side) fate (count (Some side) table c r) message (kept_now (Some side) table c r))
-    ≡ map_ok (hearing_by (Some side) c) (told_replayed table c fate side message r)
+    ≡ map_ok (progress_of (Some side) c) (told_replayed table c fate side message r)
 told_entry table c side r fate message so has =
     in_order (Some side) table c r fate (other side) _ (gap_by (Some side) table c r >>= made) so
     (behind_gap (Some side) table c r (λ k numbers. told_taken (other side) fate k message numbers) made
     (λ next is. let same : next_entry next ≡ next_entry r = ap (length {A = Item}) (gap_sends (Some side) table c r next is) in
-    subst (λ (k : ℕ). told_taken (other side) fate k message (tied (Some side) c r) (hearing_by (Some side) c next)
-    ≡ map_ok (hearing_by (Some side) c) (needs (is_nothing (tied (Some side) c r)) (fault_at BadReply k)
+    subst (λ (k : ℕ). told_taken (other side) fate k message (tied (Some side) c r) (progress_of (Some side) c next)
+    ≡ map_ok (progress_of (Some side) c) (needs (is_nothing (tied (Some side) c r)) (fault_at BadReply k)
     >> Ok (with_step (Tells (other side) message) next (joined (other side) message next.world)))) same
     (told_is c fate side message (tied (Some side) c r) next (ap (slice_get c.fates) same ∙ has))))
   where
@@ -204,12 +199,12 @@ told_entry table c side r fate message so has =
         >> Ok (with_step (Tells (other side) message) behind (joined (other side) message behind.world))
 
 pub item_is : (judged : Option Side) (table : Table) (c : Certificate) (fate : Fate) (item : Item) (r : Replay)
-    → slice_get c.fates (next_entry r) ≡ Some fate → ((next : Replay) → gap_by judged table c r ≡ Ok next → IsHeard judged next)
-    → item_kept judged table c fate item (kept_of judged c r) ≡ map_ok (hearing_by judged c) (item_by judged table c fate item r)
-item_is judged table c fate Item.Quiet r has empty = mark_entry judged table c r fate empty
-item_is None table c fate (Sent side message) r has empty =
+    → slice_get c.fates (next_entry r) ≡ Some fate
+    → item_kept judged table c fate item (kept_of judged c r) ≡ map_ok (progress_of judged c) (item_by judged table c fate item r)
+item_is judged table c fate Item.Quiet r has = mark_entry judged table c r fate
+item_is None table c fate (Sent side message) r has =
     in_order None table c r fate side _ _ refl (own_entry None table c r fate side message refl has)
-item_is (Some sides.A) table c fate (Sent sides.A message) r has empty = own_entry (Some sides.A) table c r fate sides.A message refl has
-item_is (Some sides.A) table c fate (Sent sides.B message) r has empty = told_entry table c sides.A r fate message refl has
-item_is (Some sides.B) table c fate (Sent sides.A message) r has empty = told_entry table c sides.B r fate message refl has
-item_is (Some sides.B) table c fate (Sent sides.B message) r has empty = own_entry (Some sides.B) table c r fate sides.B message refl has
+item_is (Some sides.A) table c fate (Sent sides.A message) r has = own_entry (Some sides.A) table c r fate sides.A message refl has
+item_is (Some sides.A) table c fate (Sent sides.B message) r has = told_entry table c sides.A r fate message refl has
+item_is (Some sides.B) table c fate (Sent sides.A message) r has = told_entry table c sides.B r fate message refl has
+item_is (Some sides.B) table c fate (Sent sides.B message) r has = own_entry (Some sides.B) table c r fate sides.B message refl has

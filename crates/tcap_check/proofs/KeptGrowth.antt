@@ -1,6 +1,8 @@
 -- By how much a checker's count of steps grows.
-use Rattle.std.proofs.Common.{◌≡◌, ℕ, ℤ, suc, ◌+◌, ◌≤◌, Bool, true, false, List, [], ◌∷◌, length, filter, ◌==◌, cond, Option, Some, None, Result, Ok, Err, refl, sym, ap, arith}
-use Rattle.std.specs.Prelude.{ok_or}
+use Rattle.std.proofs.Common.{◌≡◌, ℕ, ℤ, suc, ◌+◌, ◌≤◌, Bool, true, false, List, [], ◌∷◌, ◌++◌, length, filter, ◌==◌, cond, Option, Some, None, Result, Ok, Err, refl, ap, subst, ◌∙◌, arith}
+use Rattle.std.specs.Prelude.{ok_or, ◌&&◌, OnOk}
+use Rattle.std.proofs.lemmas.List.{length-append}
+use Rattle.tcap_msg.specs.declared.message.Message.{Message}
 use Rattle.tcap_record.specs.declared.entry.End.{End as Side}
 use Rattle.tcap_record.specs.declared.entry.End.TheVariants as sides
 use Rattle.tcap_end.specs.declared.fault.EndFault.{EndFault}
@@ -10,77 +12,229 @@ use Rattle.tcap_end.specs.End.{End}
 use Rattle.tcap_end.specs.Hidden.{close, expire}
 use Rattle.tcap_end.specs.Step.{◌>>=◌}
 use Rattle.tcap_end.specs.Table.{Table}
-use Rattle.tcap_end.proofs.AnsweringLaws.{ok_same, then_ok}
+use Rattle.tcap_end.proofs.AnsweringLaws.{needs_ok, ok_same, then_ok}
+use Rattle.tcap_check.specs.declared.fault.CheckFault.{CheckFault}
 use Rattle.tcap_check.specs.declared.certificate.Closing.{Closing}
 use Rattle.tcap_check.specs.declared.certificate.Expiry.{Expiry}
 use Rattle.tcap_check.specs.declared.certificate.Fate.{Fate}
 use Rattle.tcap_check.specs.declared.certificate.Fate.TheVariants.{Gap, Lost, By}
-use Rattle.tcap_model.specs.declared.reason.Reason.TheVariants.{FateRange, HiddenRefused}
+use Rattle.tcap_model.specs.declared.reason.Reason.TheVariants.{BadReply, FateRange, HiddenRefused}
+use Rattle.tcap_record.specs.Ends.{other}
 use Rattle.tcap_check.specs.declared.outline.Outline.{Outline}
 use Rattle.tcap_check.specs.declared.progress.Progress.{Progress}
 use Rattle.tcap_check.specs.declared.progress.Waiting.{Waiting}
 use Rattle.tcap_model.specs.World.{is_side}
 use Rattle.tcap_check.specs.Outlines.{half_closed, invocation_ended}
-use Rattle.tcap_check.specs.Progress.{closing_kept, closings_kept, due_in, end_moved, expiries_kept, expiry_kept, half_closes, invocation_ends, seat_at, with_waiting}
+use Rattle.tcap_check.specs.Progress.{GrewBy, HasNoMore, YieldsInMemory, closing_kept, closings_kept, due_in, end_moved, expiries_kept, expiry_kept, first_answered, front_lost, half_closes, invocation_ends, is_none_kept, load, losing_kept, lost_told, may_be_answered, moved, on_way, reply_kept, seat_at, sent_by, unheard_load, unless_lost, with_seat_end, with_waiting}
+use Rattle.tcap_check.specs.Hearing.{first_heard, first_received, message_received, received_or_not}
 use Rattle.tcap_check.specs.Replayed.{closings_judged, expiries_judged, fault_at}
 
 -- ---- one step
 
+-- So many steps more, and as many messages on their way.
+abbrev pub IsMoved : ℕ → Progress → Progress → Type 0
+IsMoved n p q = (q.moves ≡ p.moves + n) × (on_way q ≡ on_way p) × (q.unheard ≡ p.unheard)
+
 -- A step of an end is one.
 end_moves : {F : Type 0} (side : Side) (fault : F) (p next : Progress) (answer : Result End EndFault)
-    → end_moved side fault p answer ≡ Ok next → next.moves ≡ p.moves + 1
-end_moves sides.A fault p next (Ok e) is = ap (λ (x : Progress). x.moves) (sym (ok_same _ next is))
-end_moves sides.B fault p next (Ok e) is = ap (λ (x : Progress). x.moves) (sym (ok_same _ next is))
+    → end_moved side fault p answer ≡ Ok next → IsMoved 1 p next
+end_moves sides.A fault p next (Ok e) is = subst (IsMoved 1 p) (ok_same _ next is) (refl, refl, refl)
+end_moves sides.B fault p next (Ok e) is = subst (IsMoved 1 p) (ok_same _ next is) (refl, refl, refl)
 end_moves side fault p next (Err reason) is = cc
 
 closing_grows : (table : Table) (entries : List Outline) (since : ℕ) (x : Closing) (p next : Progress)
-    → closing_kept table entries since x p ≡ Ok next → next.moves ≡ p.moves + 1
+    → closing_kept table entries since x p ≡ Ok next → IsMoved 1 p next
 closing_grows table entries since x p next is = by (half_closed entries since x) is
   where
     by : (o : Option HalfName) → (ok_or o (fault_at FateRange x.entry) >>= λ name. half_closes table x name p) ≡ Ok next
-        → next.moves ≡ p.moves + 1
+        → IsMoved 1 p next
     by None is = cc
     by (Some name) is =
         end_moves x.side (fault_at (HiddenRefused faults.CannotClose) x.entry) p next
         (close table (seat_at x.side p).end name) is
 
 expiry_grows : (table : Table) (entries : List Outline) (since : ℕ) (x : Expiry) (p next : Progress)
-    → expiry_kept table entries since x p ≡ Ok next → next.moves ≡ p.moves + 1
+    → expiry_kept table entries since x p ≡ Ok next → IsMoved 1 p next
 expiry_grows table entries since x p next is = by (invocation_ended entries since x) is
   where
     by : (o : Option (HalfName × ℤ))
         → (ok_or o (fault_at FateRange x.entry) >>= λ invocation. invocation_ends table x invocation p) ≡ Ok next
-        → next.moves ≡ p.moves + 1
+        → IsMoved 1 p next
     by None is = cc
     by (Some invocation) is =
         end_moves x.side (fault_at (HiddenRefused faults.CannotExpire) x.entry) p next
         (expire table (seat_at x.side p).end invocation.0 invocation.1) is
 
-pub waiting_moves : (side : Side) (messages : List Waiting) (p : Progress) → (with_waiting side messages p).moves ≡ p.moves
-waiting_moves sides.A messages p = refl
-waiting_moves sides.B messages p = refl
+-- ---- losses
+
+-- What was taken from a channel was on its way.
+pub taken_way : (side : Side) (first : Waiting) (more : List Waiting) (p : Progress) → (seat_at side p).waiting ≡ first ∷ more
+    → on_way p ≡ on_way (with_waiting side more p) + 1
+taken_way sides.A first more p is = let count : length p.a.waiting ≡ suc (length more) = ap length is in omega (arith, count)
+taken_way sides.B first more p is = let count : length p.b.waiting ≡ suc (length more) = ap length is in omega (arith, count)
+
+taken_counts : (side : Side) (messages : List Waiting) (p : Progress)
+    → ((with_waiting side messages p).moves ≡ p.moves) × ((with_waiting side messages p).unheard ≡ p.unheard)
+taken_counts sides.A messages p = (refl, refl)
+taken_counts sides.B messages p = (refl, refl)
+
+lost_way : (judged : Option Side) (side : Side) (p : Progress)
+    → (on_way (lost_told judged side p) ≡ on_way p) × ((lost_told judged side p).moves ≤ p.moves + 1)
+    × ((lost_told judged side p).unheard ≤ p.unheard + 1)
+lost_way None side p = (refl, omega arith, omega arith)
+lost_way (Some sides.A) sides.A p = (refl, omega arith, omega arith)
+lost_way (Some sides.A) sides.B p = (refl, omega arith, omega arith)
+lost_way (Some sides.B) sides.A p = (refl, omega arith, omega arith)
+lost_way (Some sides.B) sides.B p = (refl, omega arith, omega arith)
+
+pub lost_waits : (judged : Option Side) (side : Side) (more : List Waiting) (p : Progress)
+    → (seat_at side (lost_told judged side (with_waiting side more p))).waiting ≡ more
+lost_waits None sides.A more p = refl
+lost_waits None sides.B more p = refl
+lost_waits (Some sides.A) sides.A more p = refl
+lost_waits (Some sides.A) sides.B more p = refl
+lost_waits (Some sides.B) sides.A more p = refl
+lost_waits (Some sides.B) sides.B more p = refl
+
+-- A message that is lost was on its way.
+pub one_lost_grows : (judged : Option Side) (side : Side) (first : Waiting) (more : List Waiting) (p : Progress)
+    → (seat_at side p).waiting ≡ first ∷ more → HasNoMore p (lost_told judged side (with_waiting side more p))
+one_lost_grows judged side first more p is =
+    let way = taken_way side first more p is in
+    let counts = taken_counts side more p in
+    let lost = lost_way judged side (with_waiting side more p) in
+    let a = counts.0 in let b = counts.1 in let l0 = lost.0 in let l1 = lost.1 in let l2 = lost.2 in
+    (omega (arith, way, a, l0, l1), omega (arith, way, b, l0, l2))
+
+pub no_more : (p mid q : Progress) → HasNoMore p mid → HasNoMore mid q → HasNoMore p q
+no_more p mid q one two =
+    let a = one.0 in let b = one.1 in let c = two.0 in let d = two.1 in (omega (arith, a, c), omega (arith, b, d))
+
+losing_grows : (judged : Option Side) (side : Side) (messages : List Waiting) (p : Progress)
+    → (seat_at side p).waiting ≡ messages → HasNoMore p (losing_kept judged side messages p)
+losing_grows judged side [] p is = (omega arith, omega arith)
+losing_grows judged side (first ∷ more) p is =
+    by (is_none_kept first.message)
+    (no_more p next (losing_kept judged side more next) (one_lost_grows judged side first more p is)
+    (losing_grows judged side more next (lost_waits judged side more p)))
+  where
+    next : Progress
+    next = lost_told judged side (with_waiting side more p)
+
+    by : (b : Bool) → HasNoMore p (losing_kept judged side more next) → HasNoMore p (cond b (losing_kept judged side more next) p)
+    by true rest = rest
+    by false rest = (omega arith, omega arith)
+
+pub front_grows : (judged : Option Side) (side : Side) (p : Progress) → HasNoMore p (front_lost judged side p)
+front_grows judged side p = losing_grows judged side (seat_at side p).waiting p refl
+
+-- ---- what is received
+
+end_way : (side : Side) (e : End) (p : Progress)
+    → (on_way (moved (with_seat_end side e p)) ≡ on_way p) × ((moved (with_seat_end side e p)).moves ≡ p.moves + 1)
+    × ((moved (with_seat_end side e p)).unheard ≡ p.unheard)
+end_way sides.A e p = (refl, refl, refl)
+end_way sides.B e p = (refl, refl, refl)
+
+-- One step at most, and one message that is not received at most.
+received_way : (judged : Option Side) (side : Side) (number : ℕ) (p next : Progress) (o : Result End EndFault)
+    → received_or_not judged side number p o ≡ Ok next
+    → (on_way next ≡ on_way p) × (next.moves ≤ p.moves + 1) × (next.unheard ≤ p.unheard + 1)
+received_way judged side number p next (Ok e) is = subst Counts (ok_same {F = CheckFault} _ next is) here
+  where
+    Counts : Progress → Type 0
+    Counts x = (on_way x ≡ on_way p) × (x.moves ≤ p.moves + 1) × (x.unheard ≤ p.unheard + 1)
+
+    here : Counts (moved (with_seat_end side e p))
+    here = let way = end_way side e p in let a = way.0 in let b = way.1 in let d = way.2 in (a, omega (arith, b), omega (arith, d))
+received_way None side number p next (Err reason) is = cc
+received_way (Some judged) side number p next (Err reason) is =
+    subst (λ (x : Progress). (on_way x ≡ on_way p) × (x.moves ≤ p.moves + 1) × (x.unheard ≤ p.unheard + 1))
+    (ok_same {F = CheckFault} _ next is) (lost_way (Some judged) (other side) p)
+
+first_grows : (judged : Option Side) (table : Table) (sender : Side) (number : ℕ) (messages : List Waiting) (p next : Progress)
+    → (seat_at sender p).waiting ≡ messages → first_received judged table sender number messages p ≡ Ok next → HasNoMore p next
+first_grows judged table sender number [] p next at is = cc
+first_grows judged table sender number (first ∷ more) p next at is =
+    let heard = then_ok (first_heard table number (first ∷ more) (seat_at (other sender) p).end) _ next is in
+    let way = taken_way sender first more p at in
+    let counts = taken_counts sender more p in
+    let kept = received_way judged (other sender) number (with_waiting sender more p) next heard.0 heard.2 in
+    let a = counts.0 in let b = counts.1 in let k0 = kept.0 in let k1 = kept.1 in let k2 = kept.2 in
+    (omega (arith, way, a, k0, k1), omega (arith, way, b, k0, k2))
+
+pub received_grows : (judged : Option Side) (table : Table) (sender : Side) (number : ℕ) (p next : Progress)
+    → message_received judged table sender number p ≡ Ok next → HasNoMore p next
+received_grows judged table sender number p next is =
+    no_more p (front_lost judged sender p) next (front_grows judged sender p)
+    (first_grows judged table sender number _ (front_lost judged sender p) next refl is)
+
+-- What holds behind each step of those that a call yields.
+pub yields_so : (P : Progress → Type 0) (step : Result Progress CheckFault) (result : Result (Unit {0}) CheckFault) (left : Progress)
+    → YieldsInMemory step result left → ((next : Progress) → step ≡ Ok next → P next) → OnOk result (P left)
+yields_so P step (Ok done) left is so = so left is
+yields_so P step (Err fault) left is so = tt
+
+pub on_ok : {P Q : Type 0} (result : Result (Unit {0}) CheckFault) → OnOk result P → (P → Q) → OnOk result Q
+on_ok (Ok done) p f = f p
+on_ok (Err fault) p f = tt
+
+-- ---- what is sent
+
+-- A message that joins is on its way, and a step.
+pub sent_grows : (side : Side) (fate : Fate) (number : ℕ) (message : Message) (p : Progress) → GrewBy 2 1 p (sent_by side fate number message p)
+sent_grows sides.A fate number message p =
+    let w : Waiting = record { number = number; message = unless_lost fate message } in
+    let more : length (p.a.waiting ++ w ∷ []) ≡ length p.a.waiting + 1 = length-append p.a.waiting (w ∷ []) in
+    (omega (arith, more), omega (arith, more))
+sent_grows sides.B fate number message p =
+    let w : Waiting = record { number = number; message = unless_lost fate message } in
+    let more : length (p.b.waiting ++ w ∷ []) ≡ length p.b.waiting + 1 = length-append p.b.waiting (w ∷ []) in
+    (omega (arith, more), omega (arith, more))
+
+answered_grows : (side : Side) (fate : Fate) (number : ℕ) (abort : Message) (taken : ℕ) (messages : List Waiting) (p next : Progress)
+    → (seat_at (other side) p).waiting ≡ messages → first_answered side fate number abort taken messages p ≡ Ok next → GrewBy 2 1 p next
+answered_grows side fate number abort taken [] p next at is = cc
+answered_grows side fate number abort taken (first ∷ more) p next at is =
+    let left = with_waiting (other side) more p in
+    let so = needs_ok ((first.number == taken) && may_be_answered (seat_at side p).end first.message abort) (fault_at BadReply number)
+    (Ok (sent_by side fate number abort left)) next is in
+    let way = taken_way (other side) first more p at in
+    let counts = taken_counts (other side) more p in
+    let sent = sent_grows side fate number abort left in
+    let a = counts.0 in let b = counts.1 in let s0 = sent.0 in let s1 = sent.1 in
+    subst (GrewBy 2 1 p) (ok_same {F = CheckFault} _ next so.1) (omega (arith, way, a, s0), omega (arith, way, b, s1))
+
+pub reply_grows : (judged : Option Side) (side : Side) (fate : Fate) (number : ℕ) (abort : Message) (taken : ℕ) (p next : Progress)
+    → reply_kept judged side fate number abort taken p ≡ Ok next → GrewBy 2 1 p next
+reply_grows judged side fate number abort taken p next is =
+    let before = front_lost judged (other side) p in
+    let lost = front_grows judged (other side) p in
+    let sent = answered_grows side fate number abort taken (seat_at (other side) before).waiting before next refl is in
+    let a = lost.0 in let b = lost.1 in let s0 = sent.0 in let s1 = sent.1 in
+    (omega (arith, a, s0), omega (arith, b, s1))
 
 -- ---- a gap
 
 pub closings_grow : (table : Table) (entries : List Outline) (since : ℕ) (xs : List Closing) (p next : Progress)
-    → closings_kept table entries since xs p ≡ Ok next → next.moves ≡ p.moves + length xs
+    → closings_kept table entries since xs p ≡ Ok next → IsMoved (length xs) p next
 closings_grow table entries since [] p next is =
-    let same : p.moves ≡ next.moves = ap (λ (x : Progress). x.moves) (ok_same p next is) in omega arith
+    subst (IsMoved 0 p) (ok_same p next is) (omega arith, refl, refl)
 closings_grow table entries since (x ∷ xs) p next is =
     let found = then_ok _ _ next is in
     let one = closing_grows table entries since x p found.0 found.1 in
     let rest = closings_grow table entries since xs found.0 next found.2 in
-    omega arith
+    let m0 = one.0 in let m1 = rest.0 in (omega (arith, m0, m1), rest.1 ∙ one.1, rest.2 ∙ one.2)
 
 pub expiries_grow : (table : Table) (entries : List Outline) (since : ℕ) (xs : List Expiry) (p next : Progress)
-    → expiries_kept table entries since xs p ≡ Ok next → next.moves ≡ p.moves + length xs
+    → expiries_kept table entries since xs p ≡ Ok next → IsMoved (length xs) p next
 expiries_grow table entries since [] p next is =
-    let same : p.moves ≡ next.moves = ap (λ (x : Progress). x.moves) (ok_same p next is) in omega arith
+    subst (IsMoved 0 p) (ok_same p next is) (omega arith, refl, refl)
 expiries_grow table entries since (x ∷ xs) p next is =
     let found = then_ok _ _ next is in
     let one = expiry_grows table entries since x p found.0 found.1 in
     let rest = expiries_grow table entries since xs found.0 next found.2 in
-    omega arith
+    let m0 = one.0 in let m1 = rest.0 in (omega (arith, m0, m1), rest.1 ∙ one.1, rest.2 ∙ one.2)
 
 -- what is listed for a gap is no more than all that is listed
 some_listed : {X : Type 0} (so : X → Bool) (xs : List X) → length (filter so xs) ≤ length xs

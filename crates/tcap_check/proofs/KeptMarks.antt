@@ -1,5 +1,5 @@
 -- A quiet mark, over what is kept, is that of the replay.
-use Rattle.std.proofs.Common.{◌≡◌, ℕ, suc, ◌+◌, Bool, true, false, List, [], ◌∷◌, length, Option, Some, None, Result, Ok, Err, refl, sym, ap, ap₂, subst, ◌∙◌, arith, append-nil}
+use Rattle.std.proofs.Common.{◌≡◌, ℕ, suc, ◌+◌, Bool, true, false, cond, List, [], ◌∷◌, ◌++◌, length, Option, Some, None, Result, Ok, Err, refl, sym, ap, ap₂, subst, ◌∙◌, arith}
 use Rattle.std.specs.Prelude.{◌&&◌, ok_or}
 use Rattle.tcap_record.specs.declared.entry.End.{End as Side}
 use Rattle.tcap_record.specs.declared.entry.End.TheVariants as sides
@@ -10,26 +10,23 @@ use Rattle.tcap_end.specs.End.{End, all_closed, nothing, quiet}
 use Rattle.tcap_end.specs.Hidden.{close, close_each, open_halves, quiet_unseen}
 use Rattle.tcap_end.specs.Table.{Table}
 use Rattle.tcap_end.specs.Step.{needs, ◌>>◌, ◌>>=◌}
-use Rattle.tcap_end.proofs.AnsweringLaws.{needs_ok, ok_same, some_ok}
+use Rattle.tcap_end.proofs.AnsweringLaws.{needs_ok, ok_same}
+use Rattle.tcap_check.specs.declared.certificate.Fate.{Fate}
 use Rattle.tcap_check.specs.declared.fault.CheckFault.{CheckFault}
 use Rattle.tcap_model.specs.declared.reason.Reason.TheVariants.{NotQuiet}
-use Rattle.tcap_check.specs.declared.hearing.Hearing.{Hearing}
 use Rattle.tcap_check.specs.declared.progress.Progress.{Progress}
 use Rattle.tcap_check.specs.declared.progress.Waiting.{Waiting}
 use Rattle.tcap_record.specs.Ends.{other}
-use Rattle.tcap_model.specs.World.{Item, OnItsWay, World, channel_from, end_at, with_end}
-use Rattle.tcap_model.specs.Run.{Event, Closes, Quiet, after}
+use Rattle.tcap_model.specs.World.{Item, OnItsWay, Sent, World, channel_from, end_at, with_end}
+use Rattle.tcap_model.specs.Run.{Closes, Quiet, after}
 use Rattle.tcap_check.specs.Certificate.{Certificate}
-use Rattle.tcap_check.specs.Replayed.{Replay, closed_at_mark, closed_before, fault_at, happens, is_nothing, lost_from_both, lost_from_front, lost_last, next_entry, stepped, with_step}
-use Rattle.tcap_check.specs.Progress.{both_quiet, is_empty, mark_kept, moved, seat_at, with_seat_end}
-use Rattle.tcap_check.specs.Hearing.{closed_or_not, mark_taken, quieted, with_progress}
-use Rattle.tcap_check.specs.Checking.{all_lost, count_losses, count_lost, hearing_by, map_ok, progress_of, waiting}
+use Rattle.tcap_check.specs.Replayed.{Replay, closed_at_mark, closed_before, fault_at, is_nothing, lost_from_front, lost_last, next_entry, stepped, with_step}
+use Rattle.tcap_check.specs.Progress.{both_quiet, front_lost, is_empty, is_none_kept, last_lost, losing_kept, lost_told, moved, quiet_kept, seat_at, with_seat_end, with_waiting}
+use Rattle.tcap_check.specs.Hearing.{closed_or_not, halves_closed, mark_taken, quieted}
+use Rattle.tcap_check.specs.Checking.{is_alone, latest_at, latest_of, map_ok, progress_of, waiting_at}
 use Rattle.tcap_model.proofs.RunLaws.{map_some, quiet as quiet_step}
-use Rattle.tcap_check.proofs.KeptBasics.{end_kept, map_both, waiting_kept}
-use Rattle.tcap_check.proofs.KeptLost.{end_is_moved, end_of, end_stays}
-use Rattle.tcap_check.proofs.KeptQuiet.{mark_by_is}
-use Rattle.tcap_check.proofs.KeptStays.{Stays, closes_stays, no_loss, stays_same, stays_then}
-use Rattle.tcap_check.proofs.KeptHearing.{end_step_heard, losing_heard, same_hearing}
+use Rattle.tcap_check.proofs.KeptBasics.{end_kept, end_step_is, last_is, moved_counts}
+use Rattle.tcap_check.proofs.KeptStays.{Stays, closes_stays, stays_same, stays_then}
 use Rattle.tcap_check.proofs.WorldLaws.{end_with}
 
 -- ---- the open halves close
@@ -43,7 +40,7 @@ pub record Closed (table : Table) (c : Certificate) (side : Side) (mark : ℕ) (
   pub behind : Replay
   pub closes : closed_at_mark table side mark names r ≡ Ok behind
   pub end : end_at side behind.world ≡ e
-  pub kept : hearing_by (Some side) c behind ≡ with_progress (hearing_by (Some side) c r) (later side e (length names) (hearing_by (Some side) c r).progress)
+  pub kept : progress_of (Some side) c behind ≡ later side e (length names) (progress_of (Some side) c r)
   pub stays : Stays r behind
 
 -- They close, or one of them may not.
@@ -72,8 +69,8 @@ closings_are table c side mark [] r = record {
   behind = r;
   closes = refl;
   end = refl;
-  kept = ap (with_progress (hearing_by (Some side) c r)) (later_none side (hearing_by (Some side) c r).progress
-      ∙ ap (λ (e : End). later side e 0 (hearing_by (Some side) c r).progress) (end_of (Some side) c side r));
+  kept = later_none side (progress_of (Some side) c r)
+      ∙ ap (λ (e : End). later side e 0 (progress_of (Some side) c r)) (end_kept (Some side) c side r);
   stays = stays_same r r refl;
 }
 closings_are table c side mark (name ∷ more) r =
@@ -96,15 +93,12 @@ closings_are table c side mark (name ∷ more) r =
     then_closed e (Err reason) is rest = ap (λ (x : Option Replay). ok_or x fault >>= closed_at_mark table side mark more) (behind_one e is) ∙ rest
     then_closed e (Ok last) is rest =
         let next = with_step (Closes side name) r (with_end side e r.world) in
-        let h = hearing_by (Some side) c r in
-        let one = end_step_heard (Some side) c (Closes side name) side e r (λ at. refl) in
+        let one = end_step_is (Some side) c (Closes side name) side e r (λ at. refl) in
         record {
           behind = rest.behind;
           closes = ap (λ (x : Option Replay). ok_or x fault >>= closed_at_mark table side mark more) (behind_one e is) ∙ rest.closes;
           end = rest.end;
-          kept = rest.kept
-              ∙ ap (λ (x : Hearing). with_progress x (later side last (length more) x.progress)) one
-              ∙ ap (with_progress h) (later_more side e last (length more) h.progress);
+          kept = rest.kept ∙ ap (later side last (length more)) one ∙ later_more side e last (length more) (progress_of (Some side) c r);
           stays = stays_then r next rest.behind (closes_stays table side name r next (behind_one e is)) rest.stays;
         }
 
@@ -120,6 +114,68 @@ closings_are table c side mark (name ∷ more) r =
 
 -- ---- all is quiet
 
+-- A mark has no time.
+pub latest_with_mark : (side : Side) (fates : List Fate) (items : List Item)
+    → latest_of side fates (items ++ Item.Quiet ∷ []) ≡ latest_of side fates items
+latest_with_mark side [] [] = refl
+latest_with_mark side [] (item ∷ items) = refl
+latest_with_mark side (fate ∷ fates) [] = by fates
+  where
+    by : (fates : List Fate) → latest_of side fates [] ≡ 0
+    by [] = refl
+    by (fate ∷ fates) = refl
+latest_with_mark side (fate ∷ fates) (Sent sender message ∷ items) = rw (latest_with_mark side fates items) refl
+latest_with_mark side (fate ∷ fates) (Item.Quiet ∷ items) = latest_with_mark side fates items
+
+latest_still : (judged : Option Side) (side : Side) (fates : List Fate) (items : List Item)
+    → latest_at judged side fates (items ++ Item.Quiet ∷ []) ≡ latest_at judged side fates items
+latest_still judged side fates items = ap (λ (n : ℕ). cond (is_alone judged side) 0 n) (latest_with_mark side fates items)
+
+-- The step of a mark: nothing is on its way, and both ends are quiet.
+pub quiet_step_is : (judged : Option Side) (table : Table) (c : Certificate) (mark : ℕ) (r : Replay)
+    → quiet_kept mark (progress_of judged c r) ≡ map_ok (progress_of judged c) (ok_or (stepped table Quiet r) (fault_at NotQuiet mark))
+quiet_step_is judged table c mark r = channels r.world.from_a r.world.from_b refl refl
+  where
+    -- behind the mark, where both channels are empty
+    behind : End → End → Replay
+    behind a b = record {
+      events = r.events ++ Quiet ∷ [];
+      world = record { a = a; b = b; from_a = []; from_b = []; sent = r.world.sent ++ Item.Quiet ∷ [] };
+    }
+
+    kept_behind : End → End → Progress
+    kept_behind a b = record {
+      a = record { end = a; waiting = []; latest = latest_at judged sides.A c.fates r.world.sent };
+      b = record { end = b; waiting = []; latest = latest_at judged sides.B c.fates r.world.sent };
+      moves = (progress_of judged c r).moves + 1;
+      unheard = (progress_of judged c r).unheard;
+    }
+
+    behind_is : (a b : End) → kept_behind a b ≡ progress_of judged c (behind a b)
+    behind_is a b =
+        sym (moved_counts judged r.events Quiet
+        (let x : Replay = record { events = r.events; world = (behind a b).world } in progress_of judged c x) (λ at. refl)
+        ∙ rw (latest_still judged sides.A c.fates r.world.sent, latest_still judged sides.B c.fates r.world.sent) refl)
+
+    ends : r.world.from_a ≡ [] → r.world.from_b ≡ [] → (a b : Result End EndFault) → quiet r.world.a ≡ a → quiet r.world.b ≡ b
+        → both_quiet mark (progress_of judged c r) a b
+        ≡ map_ok (progress_of judged c) (ok_or (stepped table Quiet r) (fault_at NotQuiet mark))
+    ends none_a none_b (Ok a) (Ok b) is_a is_b = rw (none_a, none_b, is_a, is_b) (ap Ok (behind_is a b))
+    ends none_a none_b (Ok a) (Err reason) is_a is_b = rw (none_a, none_b, is_a, is_b) refl
+    ends none_a none_b (Err reason) (Ok b) is_a is_b = rw (none_a, none_b, is_a) refl
+    ends none_a none_b (Err reason) (Err more) is_a is_b = rw (none_a, none_b, is_a) refl
+
+    channels : (a b : List OnItsWay) → r.world.from_a ≡ a → r.world.from_b ≡ b
+        → quiet_kept mark (progress_of judged c r)
+        ≡ map_ok (progress_of judged c) (ok_or (stepped table Quiet r) (fault_at NotQuiet mark))
+    channels [] [] is_a is_b =
+        ap₂ (λ (a b : List Waiting). needs (is_empty a && is_empty b) (fault_at NotQuiet mark)
+        >> both_quiet mark (progress_of judged c r) (quiet r.world.a) (quiet r.world.b))
+        (ap (waiting_at judged sides.A c.fates) is_a) (ap (waiting_at judged sides.B c.fates) is_b)
+        ∙ ends is_a is_b (quiet r.world.a) (quiet r.world.b) refl refl
+    channels (m ∷ more) b is_a is_b = rw is_a refl
+    channels [] (m ∷ more) is_a is_b = rw (is_a, is_b) refl
+
 -- A quiet end stays as it is where it is quiet again.
 quiet_again : (e q : End) → quiet e ≡ Ok q → quiet q ≡ Ok q
 quiet_again e q is =
@@ -128,10 +184,9 @@ quiet_again e q is =
     subst (λ (x : End). quiet x ≡ Ok x) same refl
 
 -- An end that was quieted, and one that is quiet, are the same at a mark;
-quieted_is : (side : Side) (number : ℕ) (takes : List ℕ) (p : Progress) (q : End) → quiet (seat_at side p).end ≡ Ok q
-    → mark_kept number takes (with_seat_end side q p) ≡ mark_kept number takes p
-quieted_is side number (n ∷ takes) p q is = refl
-quieted_is sides.A number [] p q is =
+quieted_is : (side : Side) (number : ℕ) (p : Progress) (q : End) → quiet (seat_at side p).end ≡ Ok q
+    → quiet_kept number (with_seat_end side q p) ≡ quiet_kept number p
+quieted_is sides.A number p q is =
     rw (is, quiet_again p.a.end q is) (by (is_empty p.a.waiting && is_empty p.b.waiting) (quiet p.b.end))
   where
     by : (b : Bool) (o : Result End EndFault)
@@ -140,7 +195,7 @@ quieted_is sides.A number [] p q is =
     by false o = refl
     by true (Ok e) = refl
     by true (Err reason) = refl
-quieted_is sides.B number [] p q is =
+quieted_is sides.B number p q is =
     rw (is, quiet_again p.b.end q is) (by (is_empty p.a.waiting && is_empty p.b.waiting) (quiet p.a.end))
   where
     by : (b : Bool) (o : Result End EndFault)
@@ -151,15 +206,14 @@ quieted_is sides.B number [] p q is =
     by true (Err reason) = refl
 
 -- and one that is not quiet is refused.
-open_is : (side : Side) (number : ℕ) (takes : List ℕ) (p : Progress) (reason : EndFault) → quiet (seat_at side p).end ≡ Err reason
-    → mark_kept number takes p ≡ Err (fault_at NotQuiet number)
-open_is side number (n ∷ takes) p reason is = refl
-open_is sides.A number [] p reason is = rw is (by (is_empty p.a.waiting && is_empty p.b.waiting))
+open_is : (side : Side) (number : ℕ) (p : Progress) (reason : EndFault) → quiet (seat_at side p).end ≡ Err reason
+    → quiet_kept number p ≡ Err (fault_at NotQuiet number)
+open_is sides.A number p reason is = rw is (by (is_empty p.a.waiting && is_empty p.b.waiting))
   where
     by : (b : Bool) → (needs b (fault_at NotQuiet number) >> both_quiet number p (Err reason) (quiet p.b.end)) ≡ Err (fault_at NotQuiet number)
     by false = refl
     by true = refl
-open_is sides.B number [] p reason is = rw is (by (is_empty p.a.waiting && is_empty p.b.waiting) (quiet p.a.end))
+open_is sides.B number p reason is = rw is (by (is_empty p.a.waiting && is_empty p.b.waiting) (quiet p.a.end))
   where
     by : (b : Bool) (o : Result End EndFault)
         → (needs b (fault_at NotQuiet number) >> both_quiet number p o (Err reason)) ≡ Err (fault_at NotQuiet number)
@@ -167,93 +221,42 @@ open_is sides.B number [] p reason is = rw is (by (is_empty p.a.waiting && is_em
     by true (Ok e) = refl
     by true (Err other) = refl
 
--- Where nothing of the end waits, it does not matter that nothing of it is kept.
-lost_mark : (side : Side) (number : ℕ) (takes : List ℕ) (p : Progress) → (seat_at side p).waiting ≡ []
-    → mark_kept number takes (all_lost side p) ≡ map_ok (all_lost side) (mark_kept number takes p)
-lost_mark side number (n ∷ takes) p none = refl
-lost_mark sides.A number [] p none =
-    ap (λ (x : List Waiting). needs (is_empty x && is_empty p.b.waiting) (fault_at NotQuiet number)
-    >> both_quiet number (all_lost sides.A p) (quiet p.a.end) (quiet p.b.end)) (sym none)
-    ∙ by (is_empty p.a.waiting && is_empty p.b.waiting) (quiet p.a.end) (quiet p.b.end)
-  where
-    by : (b : Bool) (own peer : Result End EndFault)
-        → (needs b (fault_at NotQuiet number) >> both_quiet number (all_lost sides.A p) own peer)
-        ≡ map_ok (all_lost sides.A) (needs b (fault_at NotQuiet number) >> both_quiet number p own peer)
-    by false own peer = refl
-    by true (Err reason) peer = refl
-    by true (Ok a) (Err reason) = refl
-    by true (Ok a) (Ok b) = ap Ok (end_is_moved (Some sides.A) sides.B b (with_seat_end sides.A a p))
-lost_mark sides.B number [] p none =
-    ap (λ (x : List Waiting). needs (is_empty p.a.waiting && is_empty x) (fault_at NotQuiet number)
-    >> both_quiet number (all_lost sides.B p) (quiet p.a.end) (quiet p.b.end)) (sym none)
-    ∙ by (is_empty p.a.waiting && is_empty p.b.waiting) (quiet p.a.end) (quiet p.b.end)
-  where
-    by : (b : Bool) (peer own : Result End EndFault)
-        → (needs b (fault_at NotQuiet number) >> both_quiet number (all_lost sides.B p) peer own)
-        ≡ map_ok (all_lost sides.B) (needs b (fault_at NotQuiet number) >> both_quiet number p peer own)
-    by false peer own = refl
-    by true (Err reason) own = refl
-    by true (Ok a) (Err reason) = refl
-    by true (Ok a) (Ok b) = ap Ok (end_is_moved (Some sides.B) sides.B b (with_seat_end sides.A a p))
-
 -- ---- losses before the mark
 
--- Where nothing is on its way from an end, nothing of it is lost.
-none_lost : (c : Certificate) (side : Side) (r : Replay) → channel_from side r.world ≡ [] → lost_from_front c side r ≡ r
-none_lost c sides.A r is =
-    rw is (ap (λ (events : List Event). let x : Replay = record { events = events; world = record r.world { from_a = [] } } in x) (append-nil r.events))
-none_lost c sides.B r is =
-    rw is (ap (λ (events : List Event). let x : Replay = record { events = events; world = record r.world { from_b = [] } } in x) (append-nil r.events))
+-- What is lost on its way to an end leaves the end as it is.
+one_lost_puts : (side : Side) (q : End) (messages : List Waiting) (p : Progress)
+    → lost_told (Some side) (other side) (with_waiting (other side) messages (with_seat_end side q p))
+    ≡ with_seat_end side q (lost_told (Some side) (other side) (with_waiting (other side) messages p))
+one_lost_puts sides.A q messages p = refl
+one_lost_puts sides.B q messages p = refl
 
-both_are : (c : Certificate) (side : Side) (r : Replay) → channel_from side r.world ≡ []
-    → lost_from_both c r ≡ lost_from_front c (other side) r
-both_are c sides.A r is = ap (lost_from_front c sides.B) (none_lost c sides.A r is)
-both_are c sides.B r is = none_lost c sides.B (lost_from_front c sides.A r) is
+losing_puts : (side : Side) (q : End) (messages : List Waiting) (p : Progress)
+    → losing_kept (Some side) (other side) messages (with_seat_end side q p)
+    ≡ with_seat_end side q (losing_kept (Some side) (other side) messages p)
+losing_puts side q [] p = refl
+losing_puts side q (first ∷ more) p =
+    by (is_none_kept first.message) (losing_puts side q more (lost_told (Some side) (other side) (with_waiting (other side) more p)))
+  where
+    by : (b : Bool)
+        → losing_kept (Some side) (other side) more (with_seat_end side q (lost_told (Some side) (other side) (with_waiting (other side) more p)))
+        ≡ with_seat_end side q (losing_kept (Some side) (other side) more (lost_told (Some side) (other side) (with_waiting (other side) more p)))
+        → cond b (losing_kept (Some side) (other side) more (lost_told (Some side) (other side) (with_waiting (other side) more (with_seat_end side q p))))
+        (with_seat_end side q p)
+        ≡ with_seat_end side q (cond b (losing_kept (Some side) (other side) more (lost_told (Some side) (other side) (with_waiting (other side) more p))) p)
+    by true rest = ap (losing_kept (Some side) (other side) more) (one_lost_puts side q more p) ∙ rest
+    by false rest = refl
+
+waits_still : (side : Side) (q : End) (p : Progress) → (seat_at (other side) (with_seat_end side q p)).waiting ≡ (seat_at (other side) p).waiting
+waits_still sides.A q p = refl
+waits_still sides.B q p = refl
+
+front_puts : (side : Side) (q : End) (p : Progress)
+    → front_lost (Some side) (other side) (with_seat_end side q p) ≡ with_seat_end side q (front_lost (Some side) (other side) p)
+front_puts side q p =
+    ap (λ (x : List Waiting). losing_kept (Some side) (other side) x (with_seat_end side q p)) (waits_still side q p)
+    ∙ losing_puts side q (seat_at (other side) p).waiting p
 
 -- ---- the mark
-
--- Behind a mark what is kept besides the ends is the same.
-quiet_heard : (table : Table) (c : Certificate) (side : Side) (mark : ℕ) (r next : Replay) → channel_from side r.world ≡ []
-    → happens table c Quiet NotQuiet mark r ≡ Ok next
-    → with_progress (hearing_by (Some side) c r) (all_lost side (progress_of c next)) ≡ hearing_by (Some side) c next
-quiet_heard table c side mark r next empty is =
-    let before = lost_from_both c r in
-    let step = some_ok (stepped table Quiet before) (fault_at NotQuiet mark) next is in
-    let found = map_some _ (after table Quiet before.world) next step in
-    let q = quiet_step table before.world found.0 found.1 in
-    let was : hearing_by (Some side) c r ≡ hearing_by (Some side) c before =
-    sym (ap (hearing_by (Some side) c) (both_are c side r empty) ∙ losing_heard side c r) in
-    let made : with_step Quiet before found.0 ≡ next = found.2 in
-    same_hearing _ _ _ _ _ _ refl
-    (ap (λ (h : Hearing). h.own) was ∙ own side before found.0 next q.from_a q.from_b (ap (channel_from side) q.next_is ∙ quiet_channel _ side) made)
-    (ap (λ (h : Hearing). h.unheard) was ∙ unheard side before found.0 next q.from_a q.from_b (ap (channel_from (other side)) q.next_is ∙ quiet_channel _ (other side)) made)
-  where
-    quiet_channel : (sent : List Item) (side : Side)
-        → channel_from side (let w : World = record { a = nothing; b = nothing; from_a = []; from_b = []; sent = sent } in w) ≡ []
-    quiet_channel sent sides.A = refl
-    quiet_channel sent sides.B = refl
-
-    channel_none : (side : Side) (w : World) → w.from_a ≡ [] → w.from_b ≡ [] → channel_from side w ≡ []
-    channel_none sides.A w a b = a
-    channel_none sides.B w a b = b
-
-    own : (side : Side) (before : Replay) (w : World) (next : Replay) → before.world.from_a ≡ [] → before.world.from_b ≡ []
-        → channel_from side w ≡ [] → with_step Quiet before w ≡ next
-        → count_losses side before.events + length (channel_from side before.world)
-        ≡ count_losses side next.events + length (channel_from side next.world)
-    own side before w next a b none made =
-        ap₂ (λ (n : ℕ) (x : List OnItsWay). n + length x) (sym (no_loss side before.events Quiet refl))
-        (channel_none side before.world a b ∙ sym none)
-        ∙ ap (λ (x : Replay). count_losses side x.events + length (channel_from side x.world)) made
-
-    unheard : (side : Side) (before : Replay) (w : World) (next : Replay) → before.world.from_a ≡ [] → before.world.from_b ≡ []
-        → channel_from (other side) w ≡ [] → with_step Quiet before w ≡ next
-        → count_losses (other side) before.events + count_lost c.fates (channel_from (other side) before.world)
-        ≡ count_losses (other side) next.events + count_lost c.fates (channel_from (other side) next.world)
-    unheard side before w next a b none made =
-        ap₂ (λ (n : ℕ) (x : List OnItsWay). n + count_lost c.fates x) (sym (no_loss (other side) before.events Quiet refl))
-        (channel_none (other side) before.world a b ∙ sym none)
-        ∙ ap (λ (x : Replay). count_losses (other side) x.events + count_lost c.fates (channel_from (other side) x.world)) made
 
 -- Behind the mark nothing is on its way.
 pub quiet_empty : (table : Table) (side : Side) (r next : Replay) → stepped table Quiet r ≡ Some next → channel_from side next.world ≡ []
@@ -267,112 +270,9 @@ quiet_empty table side r next is =
     by sent sides.A = refl
     by sent sides.B = refl
 
--- the mark of a replay
-abbrev mark_heard : Table → Certificate → Side → ℕ → List ℕ → Replay → Result Replay CheckFault
-mark_heard table c side mark takes r =
-    needs (is_nothing takes) (fault_at NotQuiet mark)
-    >> (closed_at_mark table side mark (open_halves (end_at side r.world)) r
-    >>= λ closed. ok_or (stepped table Quiet (lost_from_front c (other side) closed)) (fault_at NotQuiet mark))
-
-refused_so : {A B : Type 0} (f : A → B) (step : Result A CheckFault) (fault : CheckFault) → map_ok f step ≡ Err fault → step ≡ Err fault
-refused_so f (Ok x) fault is = cc
-refused_so f (Err other) fault is = let same : other ≡ fault = cc in ap (λ (x : CheckFault). let r : Result _ CheckFault = Err x in r) same
-
 put_later : (side : Side) (e q : End) (n : ℕ) (p : Progress) → with_seat_end side q (later side e n p) ≡ later side q n p
 put_later sides.A e q n p = refl
 put_later sides.B e q n p = refl
-
-module _ (table : Table) (c : Certificate) (side : Side) (takes : List ℕ) (r : Replay) (empty : channel_from side r.world ≡ []) where
-  abbrev mark : ℕ
-  mark = next_entry r
-
-  abbrev fault : CheckFault
-  fault = fault_at NotQuiet mark
-
-  abbrev halves : List HalfName
-  halves = open_halves (end_at side r.world)
-
-  -- the mark itself, behind the closings
-  abbrev last : Replay → Result Replay CheckFault
-  last behind = needs (is_nothing takes) fault >> happens table c Quiet NotQuiet mark behind
-
-  -- The mark of the replay is that behind its closings.
-  heard_is : (e : End) (closed : Closed table c side mark halves r e) → mark_heard table c side mark takes r ≡ last closed.behind
-  heard_is e closed =
-      ap (λ (s : Result Replay CheckFault). needs (is_nothing takes) fault
-      >> (s >>= λ x. ok_or (stepped table Quiet (lost_from_front c (other side) x)) fault)) closed.closes
-      ∙ ap (λ (x : Replay). needs (is_nothing takes) fault >> ok_or (stepped table Quiet x) fault)
-      (sym (both_are c side closed.behind (closed.stays.channels side ∙ empty)))
-
-  -- What is kept at the mark.
-  kept_is : (e : End) (closed : Closed table c side mark halves r e)
-      → mark_kept mark takes (progress_of c closed.behind) ≡ map_ok (progress_of c) (last closed.behind)
-  kept_is e closed =
-      subst (λ (n : ℕ). mark_kept n takes (progress_of c closed.behind)
-      ≡ map_ok (progress_of c) (needs (is_nothing takes) (fault_at NotQuiet n) >> happens table c Quiet NotQuiet n closed.behind))
-      (ap (length {A = _}) closed.stays.sent) (mark_by_is table c takes closed.behind)
-
-  end_kept_is : (e : End) (closed : Closed table c side mark halves r e) → (seat_at side (progress_of c closed.behind)).end ≡ e
-  end_kept_is e closed = end_kept c side closed.behind ∙ closed.end
-
-  behind_is : (e q : End) (closed : Closed table c side mark halves r e)
-      → quieted side q (hearing_by (Some side) c r).progress ≡ with_seat_end side q (all_lost side (progress_of c closed.behind))
-  behind_is e q closed =
-      let p = (hearing_by (Some side) c r).progress in
-      ap (λ (x : End). later side q (length (open_halves x)) p) (end_of (Some side) c side r)
-      ∙ sym (put_later side e q (length halves) p)
-      ∙ ap (λ (h : Hearing). with_seat_end side q h.progress) (sym closed.kept)
-
-  quiet_is : (e q : End) (closed : Closed table c side mark halves r e) → quiet e ≡ Ok q
-      → mark_kept mark takes (quieted side q (hearing_by (Some side) c r).progress)
-      ≡ map_ok (all_lost side) (map_ok (progress_of c) (last closed.behind))
-  quiet_is e q closed is =
-      let p = progress_of c closed.behind in
-      ap (mark_kept mark takes) (behind_is e q closed)
-      ∙ quieted_is side mark takes (all_lost side p) q (ap quiet (end_stays (Some side) side p ∙ end_kept_is e closed) ∙ is)
-      ∙ lost_mark side mark takes p (waiting_kept c side closed.behind ∙ ap (waiting c.fates) (closed.stays.channels side ∙ empty))
-      ∙ ap (map_ok (all_lost side)) (kept_is e closed)
-
-  heard_so : (e : End) (closed : Closed table c side mark halves r e) (s : Result Replay CheckFault) → last closed.behind ≡ s
-      → map_ok (with_progress (hearing_by (Some side) c r)) (map_ok (all_lost side) (map_ok (progress_of c) s)) ≡ map_ok (hearing_by (Some side) c) s
-  heard_so e closed (Err reason) is = refl
-  heard_so e closed (Ok next) is =
-      let so = needs_ok (is_nothing takes) fault (happens table c Quiet NotQuiet mark closed.behind) next is in
-      let made = all_lost side (progress_of c next) in
-      ap (λ (h : Hearing). let x : Result Hearing CheckFault = Ok h in x)
-      (ap (λ (h : Hearing). with_progress h made) (sym closed.kept)
-      ∙ quiet_heard table c side mark closed.behind next (closed.stays.channels side ∙ empty) so.1)
-
-  marked : (o : Result End EndFault) → Closings table c side mark halves r o
-      → map_ok (with_progress (hearing_by (Some side) c r)) (closed_or_not side mark (hearing_by (Some side) c r).progress (o >>= quiet) >>= mark_kept mark takes)
-      ≡ map_ok (hearing_by (Some side) c) (mark_heard table c side mark takes r)
-  marked (Err reason) is = by (is_nothing takes)
-    where
-      by : (b : Bool) → (let x : Result Hearing CheckFault = Err fault in x)
-          ≡ map_ok (hearing_by (Some side) c) (needs b fault >> (closed_at_mark table side mark halves r
-          >>= λ closed. ok_or (stepped table Quiet (lost_from_front c (other side) closed)) fault))
-      by true = rw is refl
-      by false = refl
-  marked (Ok e) closed = by (quiet e) refl
-    where
-      by : (o : Result End EndFault) → quiet e ≡ o
-          → map_ok (with_progress (hearing_by (Some side) c r)) (closed_or_not side mark (hearing_by (Some side) c r).progress o >>= mark_kept mark takes)
-          ≡ map_ok (hearing_by (Some side) c) (mark_heard table c side mark takes r)
-      by (Err reason) is =
-          let none = open_is side mark takes (progress_of c closed.behind) reason (ap quiet (end_kept_is e closed) ∙ is) in
-          let refused_here = refused_so (progress_of c) (last closed.behind) fault (sym (kept_is e closed) ∙ none) in
-          sym (ap (map_ok (hearing_by (Some side) c)) (heard_is e closed ∙ refused_here))
-      by (Ok q) is =
-          ap (map_ok (with_progress (hearing_by (Some side) c r))) (quiet_is e q closed is)
-          ∙ heard_so e closed (last closed.behind) refl
-          ∙ ap (map_ok (hearing_by (Some side) c)) (sym (heard_is e closed))
-
-  mark_of_one : mark_taken (Some side) table (next_entry r) takes (hearing_by (Some side) c r)
-      ≡ map_ok (hearing_by (Some side) c) (mark_heard table c side (next_entry r) takes r)
-  mark_of_one =
-      ap (λ (e : End). map_ok (with_progress (hearing_by (Some side) c r))
-      (closed_or_not side mark (hearing_by (Some side) c r).progress (quiet_unseen table e) >>= mark_kept mark takes)) (end_of (Some side) c side r)
-      ∙ marked (close_each table halves (end_at side r.world)) (closings_are table c side mark halves r)
 
 -- The halves of the end that alone is judged close, and the mark takes no message.
 abbrev pub marked_by : Option Side → Table → Certificate → ℕ → List ℕ → Replay → Result Replay CheckFault
@@ -381,16 +281,83 @@ marked_by judged table c mark takes r =
     >> (closed_before judged table mark r
     >>= λ closed. ok_or (stepped table Quiet (lost_last judged c closed)) (fault_at NotQuiet mark))
 
--- Nothing is on its way from the end that is judged alone.
-abbrev pub IsHeard : Option Side → Replay → Type 0
-IsHeard None r = Unit {0}
-IsHeard (Some judged) r = channel_from judged r.world ≡ []
+same_end : (c : Certificate) (side : Side) (r : Replay) → end_at side (lost_from_front c (other side) r).world ≡ end_at side r.world
+same_end c sides.A r = refl
+same_end c sides.B r = refl
 
-pub mark_is : (judged : Option Side) (table : Table) (c : Certificate) (takes : List ℕ) (r : Replay) → IsHeard judged r
-    → mark_taken judged table (next_entry r) takes (hearing_by judged c r)
-    ≡ map_ok (hearing_by judged c) (marked_by judged table c (next_entry r) takes r)
-mark_is None table c takes r empty =
-    ap (map_ok (with_progress (hearing_by None c r))) (mark_by_is table c takes r)
-    ∙ map_both (progress_of c) (with_progress (hearing_by None c r)) (hearing_by None c)
-    (needs (is_nothing takes) (fault_at NotQuiet (next_entry r)) >> happens table c Quiet NotQuiet (next_entry r) r) (λ next is. refl)
-mark_is (Some judged) table c takes r empty = mark_of_one table c judged takes r empty
+module _ (table : Table) (c : Certificate) (side : Side) (mark : ℕ) (r : Replay) where
+  abbrev fault : CheckFault
+  fault = fault_at NotQuiet mark
+
+  abbrev halves : List HalfName
+  halves = open_halves (end_at side r.world)
+
+  abbrev p : Progress
+  p = progress_of (Some side) c r
+
+  abbrev last_step : Replay → Result Replay CheckFault
+  last_step closed = ok_or (stepped table Quiet (lost_from_front c (other side) closed)) fault
+
+  -- What is kept of the end that was quieted, behind the closings.
+  behind_is : (e q : End) (closed : Closed table c side mark halves r e)
+      → quieted side q p ≡ with_seat_end side q (progress_of (Some side) c closed.behind)
+  behind_is e q closed =
+      ap (λ (x : End). later side q (length (open_halves x)) p) (end_kept (Some side) c side r)
+      ∙ sym (put_later side e q (length halves) p)
+      ∙ ap (with_seat_end side q) (sym closed.kept)
+
+  -- Then the mark is that behind the closings.
+  quiet_is : (e q : End) (closed : Closed table c side mark halves r e) → quiet e ≡ Ok q
+      → quiet_kept mark (last_lost (Some side) (quieted side q p)) ≡ map_ok (progress_of (Some side) c) (last_step closed.behind)
+  quiet_is e q closed is =
+      let x = lost_from_front c (other side) closed.behind in
+      let end_is : (seat_at side (progress_of (Some side) c x)).end ≡ e =
+      end_kept (Some side) c side x ∙ same_end c side closed.behind ∙ closed.end in
+      ap (λ (y : Progress). quiet_kept mark (last_lost (Some side) y)) (behind_is e q closed)
+      ∙ ap (quiet_kept mark) (front_puts side q (progress_of (Some side) c closed.behind)
+      ∙ ap (with_seat_end side q) (last_is (Some side) c closed.behind))
+      ∙ quieted_is side mark (progress_of (Some side) c x) q (ap quiet end_is ∙ is)
+      ∙ quiet_step_is (Some side) table c mark x
+
+  marked : (o : Result End EndFault) → Closings table c side mark halves r o
+      → (closed_or_not side mark p (o >>= quiet) >>= λ closed. quiet_kept mark (last_lost (Some side) closed))
+      ≡ map_ok (progress_of (Some side) c) (closed_at_mark table side mark halves r >>= last_step)
+  marked (Err reason) is = rw is refl
+  marked (Ok e) closed =
+      by (quiet e) refl ∙ ap (λ (s : Result Replay CheckFault). map_ok (progress_of (Some side) c) (s >>= last_step)) (sym closed.closes)
+    where
+      by : (o : Result End EndFault) → quiet e ≡ o
+          → (closed_or_not side mark p o >>= λ x. quiet_kept mark (last_lost (Some side) x))
+          ≡ map_ok (progress_of (Some side) c) (last_step closed.behind)
+      by (Ok q) is = quiet_is e q closed is
+      by (Err reason) is =
+          let x = lost_from_front c (other side) closed.behind in
+          let end_is : (seat_at side (progress_of (Some side) c x)).end ≡ e =
+          end_kept (Some side) c side x ∙ same_end c side closed.behind ∙ closed.end in
+          sym (open_is side mark (progress_of (Some side) c x) reason (ap quiet end_is ∙ is)) ∙ quiet_step_is (Some side) table c mark x
+
+  closed_is : (halves_closed (Some side) table mark p >>= λ closed. quiet_kept mark (last_lost (Some side) closed))
+      ≡ map_ok (progress_of (Some side) c) (closed_before (Some side) table mark r
+      >>= λ closed. ok_or (stepped table Quiet (lost_last (Some side) c closed)) fault)
+  closed_is =
+      ap (λ (e : End). closed_or_not side mark p (quiet_unseen table e) >>= λ closed. quiet_kept mark (last_lost (Some side) closed))
+      (end_kept (Some side) c side r)
+      ∙ marked (close_each table halves (end_at side r.world)) (closings_are table c side mark halves r)
+
+both_closed : (table : Table) (c : Certificate) (mark : ℕ) (r : Replay)
+    → quiet_kept mark (last_lost None (progress_of None c r))
+    ≡ map_ok (progress_of None c) (ok_or (stepped table Quiet (lost_last None c r)) (fault_at NotQuiet mark))
+both_closed table c mark r = ap (quiet_kept mark) (last_is None c r) ∙ quiet_step_is None table c mark (lost_last None c r)
+
+pub mark_is : (judged : Option Side) (table : Table) (c : Certificate) (mark : ℕ) (takes : List ℕ) (r : Replay)
+    → mark_taken judged table mark takes (progress_of judged c r) ≡ map_ok (progress_of judged c) (marked_by judged table c mark takes r)
+mark_is judged table c mark takes r = by (is_nothing takes) judged
+  where
+    by : (b : Bool) (judged : Option Side)
+        → (needs b (fault_at NotQuiet mark) >> halves_closed judged table mark (progress_of judged c r)
+        >>= λ closed. quiet_kept mark (last_lost judged closed))
+        ≡ map_ok (progress_of judged c) (needs b (fault_at NotQuiet mark) >> (closed_before judged table mark r
+        >>= λ closed. ok_or (stepped table Quiet (lost_last judged c closed)) (fault_at NotQuiet mark)))
+    by false judged = refl
+    by true None = both_closed table c mark r
+    by true (Some side) = closed_is table c side mark r

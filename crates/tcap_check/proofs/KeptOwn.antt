@@ -1,5 +1,5 @@
 -- Between entries nothing is on its way from the end: what it sends is lost at once, and a gap sends nothing.
-use Rattle.std.proofs.Common.{◌≡◌, ℕ, ◌+◌, ◌==◌, Bool, true, false, cond, List, [], ◌∷◌, filter, Option, Some, None, Result, Ok, Err, refl, sym, ap, ◌∙◌}
+use Rattle.std.proofs.Common.{◌≡◌, ℕ, ◌+◌, ◌==◌, Bool, true, false, cond, List, [], ◌∷◌, drop, filter, length, Option, Some, None, Result, Ok, Err, refl, sym, ap, ◌∙◌}
 use Rattle.std.specs.Prelude.{◌&&◌, not, ok_or, slice_get}
 use Rattle.tcap_msg.specs.declared.message.Message.{Message}
 use Rattle.tcap_record.specs.declared.entry.End.{End as Side}
@@ -16,8 +16,8 @@ use Rattle.tcap_check.specs.declared.fault.CheckFault.{CheckFault}
 use Rattle.tcap_model.specs.declared.reason.Reason.{Reason}
 use Rattle.tcap_model.specs.declared.reason.Reason.TheVariants.{BadReply, FateCount, FateRange, NotQuiet, OutOfOrder}
 use Rattle.tcap_record.specs.Ends.{other}
-use Rattle.tcap_model.specs.World.{Item, Sent, channel_from, end_at, is_side, with_channel}
-use Rattle.tcap_model.specs.Run.{Loses, Quiet, Receives, Tells, after, joined}
+use Rattle.tcap_model.specs.World.{Item, OnItsWay, Sent, World, channel_from, end_at, is_side, with_channel}
+use Rattle.tcap_model.specs.Run.{Loses, Quiet, Receives, Tells, after, joined, numbers_of}
 use Rattle.tcap_check.specs.Certificate.{Certificate}
 use Rattle.tcap_check.specs.Follows.{sending_by}
 use Rattle.tcap_check.specs.Alone.{deliveries_heard, delivery_heard, entry_heard, gap_heard, item_heard, mark_replayed, own_replayed, tied_to_next}
@@ -26,8 +26,28 @@ use Rattle.tcap_check.specs.Checking.{taken, taken_from, taken_next}
 use Rattle.tcap_model.proofs.RunLaws.{delivery, loss, map_some}
 use Rattle.tcap_check.proofs.KeptStays.{closings_stay, expiries_stay}
 use Rattle.tcap_check.proofs.KeptMarks.{quiet_empty}
-use Rattle.tcap_check.proofs.KeptTaken.{nothing_left, own_told}
+use Rattle.tcap_check.proofs.ReplaySteps.{channel_with}
 use Rattle.tcap_check.proofs.WorldLaws.{own_with_channel, own_with_end}
+
+-- ---- what is on its way from the end
+
+-- Nothing is on its way from the end that is judged alone.
+abbrev pub IsHeard : Option Side → Replay → Type 0
+IsHeard None r = Unit {0}
+IsHeard (Some judged) r = channel_from judged r.world ≡ []
+
+drop_all : (channel : List OnItsWay) → drop (length (numbers_of channel)) channel ≡ []
+drop_all [] = refl
+drop_all (m ∷ more) = drop_all more
+
+nothing_left : (side : Side) (r : Replay) → channel_from side (all_lost_from side r).world ≡ []
+nothing_left side r =
+    let channel = channel_from side r.world in
+    channel_with side (drop (length (numbers_of channel)) channel) r.world ∙ drop_all channel
+
+own_told : (side : Side) (message : Message) (w : World) → channel_from side (joined (other side) message w) ≡ channel_from side w
+own_told sides.A message w = refl
+own_told sides.B message w = refl
 
 -- ---- a gap
 

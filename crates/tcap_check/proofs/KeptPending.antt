@@ -1,5 +1,5 @@
 -- What waits behind entries for the ends that are judged is what is delivered to them, or taken, behind them; at the end nothing does.
-use Rattle.std.proofs.Common.{◌≡◌, ℕ, ◌+◌, ◌==◌, arith, true, cond, List, [], ◌∷◌, ◌++◌, map, length, Option, Some, None, Result, Ok, Err, refl, sym, ap, subst, ◌∙◌, append_assoc, append-nil}
+use Rattle.std.proofs.Common.{◌≡◌, ℕ, ◌+◌, ◌==◌, arith, Bool, true, false, cond, List, [], ◌∷◌, ◌++◌, map, length, Option, Some, None, Result, Ok, Err, refl, sym, ap, ap₂, subst, ◌∙◌, append_assoc, append-nil}
 use Rattle.std.specs.Prelude.{ok_or, not, slice_get}
 use Rattle.std.proofs.lemmas.Bool.{eqb-true}
 use Rattle.std.proofs.lemmas.List.{length-append, length-map, map-append}
@@ -13,24 +13,21 @@ use Rattle.tcap_check.specs.declared.fault.CheckFault.{CheckFault}
 use Rattle.tcap_model.specs.declared.reason.Reason.{Reason}
 use Rattle.tcap_model.specs.declared.reason.Reason.TheVariants.{BadReply, FateCount, FateRange, NotQuiet, OutOfOrder}
 use Rattle.tcap_check.specs.declared.certificate.Fate.{Fate}
-use Rattle.tcap_check.specs.declared.certificate.Fate.TheVariants.{By}
-use Rattle.tcap_check.specs.declared.progress.Progress.{Progress}
-use Rattle.tcap_check.specs.declared.progress.Waiting.{Waiting}
+use Rattle.tcap_check.specs.declared.certificate.Fate.TheVariants.{Gap, Lost, By}
 use Rattle.tcap_record.specs.Ends.{other}
-use Rattle.tcap_model.specs.World.{Item, Sent, channel_from}
+use Rattle.tcap_model.specs.World.{Item, OnItsWay, Sent}
 use Rattle.tcap_model.specs.Run.{Tells, joined}
 use Rattle.tcap_check.specs.Certificate.{Certificate}
 use Rattle.tcap_check.specs.Follows.{FatesFit, taken_by}
 use Rattle.tcap_check.specs.Replayed.{Replay, certificate_fits, comes_in_order, entries_by, entry_by, fates_fit, fault_at, gap_by, is_gap, is_nothing, is_overtaking, item_by, lost_from_both, lost_from_front, mark_judged, next_entry, nothing_replayed, own_judged, own_message, tied, told_replayed, with_step}
-use Rattle.tcap_check.specs.Checking.{count_ahead, count_lost, ended, progress_of, taken, taken_from, taken_next, waiting}
+use Rattle.tcap_check.specs.Progress.{count_kept}
+use Rattle.tcap_check.specs.Checking.{count_ahead, count_waiting, is_alone, kept_by, progress_of, taken, taken_from, taken_next, waiting_at}
 use Rattle.tcap_check.specs.Hearing.{is_heard}
 use Rattle.tcap_check.proofs.PendingLaws.{IsAhead, ahead}
 use Rattle.tcap_check.proofs.ReplayEntries.{nothing_is}
 use Rattle.tcap_check.proofs.ReplayGaps.{fates_ok}
-use Rattle.tcap_check.proofs.KeptBasics.{front_none, losing_both_is}
-use Rattle.tcap_check.proofs.KeptCounts.{AreMarks, ahead_is, count_behind, count_for, heard_among, joined_waits, mark_behind, marks_quiet, marks_sent, new_behind, new_by, none_behind, ok_item, one_behind, replies_behind}
+use Rattle.tcap_check.proofs.KeptCounts.{AreMarks, ahead_is, count_behind, count_for, heard_among, joined_waits, mark_behind, marks_quiet, marks_sent, new_behind, new_by, ok_item, one_behind, replies_behind, waiting, waiting_by}
 use Rattle.tcap_check.proofs.KeptSteps.{gap_waits, mark_waits, message_waits, sent_waits}
-use Rattle.tcap_check.proofs.EntryLaws.{replayed_is}
 use Rattle.tcap_check.proofs.KeptEntries.{gap_sends, item_sends, tied_still}
 
 -- ---- a certificate that fits
@@ -218,60 +215,29 @@ none_yet judged c = record { waits = none judged c.fates; marks = no_marks c.fat
     no_marks [] = tt
     no_marks (fate ∷ fates) = tt
 
+-- As many of what is on its way are kept whole as will not be lost.
+kept_whole : (judged : Option Side) (side : Side) (fates : List Fate) (channel : List OnItsWay) → is_alone judged side ≡ false
+    → count_kept (waiting_at judged side fates channel) ≡ length (waiting fates channel)
+kept_whole judged side fates [] so = refl
+kept_whole judged side fates (m ∷ more) so = rw so (by (slice_get fates m.number) (kept_whole judged side fates more so))
+  where
+    by : (o : Option Fate) → count_kept (waiting_at judged side fates more) ≡ length (waiting fates more)
+        → count_kept (kept_by o m ∷ waiting_at judged side fates more) ≡ length (waiting_by o m (waiting fates more))
+    by None rest = omega (arith, rest)
+    by (Some (Gap g)) rest = omega (arith, rest)
+    by (Some (By k)) rest = omega (arith, rest)
+    by (Some Lost) rest = rest
+
 -- What waits behind entries is what is delivered, or taken, behind them.
 pub pending_is : (table : Table) (c : Certificate) (entries : List (Result Item Reason)) (r : Replay)
     → taken None table c entries ≡ Ok r
-    → length (waiting c.fates r.world.from_a) + length (waiting c.fates r.world.from_b) ≡ count_ahead (length entries) c.fates entries
+    → count_waiting None (progress_of None c r) ≡ count_ahead (length entries) c.fates entries
 pending_is table c entries r is =
     let both = both_ok (certificate_fits c) (taken_from None table c entries nothing_replayed) is in
     let behind = entries_wait None table c entries nothing_replayed r (fit_by c both.0) (none_yet None c) both.1 in
     let are : map ok_item r.world.sent ≡ entries = behind.1 in
     let number : next_entry r ≡ length entries = sym (length-map r.world.sent ok_item) ∙ ap length are in
-    behind.0.waits ∙ ahead_is (next_entry r) c.fates r.world.sent
+    ap₂ (λ (m n : ℕ). m + n) (kept_whole None sides.A c.fates r.world.from_a refl) (kept_whole None sides.B c.fates r.world.from_b refl)
+    ∙ behind.0.waits ∙ ahead_is (next_entry r) c.fates r.world.sent
     ∙ ap (λ (n : ℕ). count_ahead n c.fates (map ok_item r.world.sent)) number
     ∙ ap (count_ahead (length entries) c.fates) are
-
--- ---- the end
-
--- Behind the last gap nothing waits.
-none_waits : (judged : Option Side) (table : Table) (c : Certificate) (entries : List (Result Item Reason)) (r : Replay)
-    → (certificate_fits c >> entries_by judged table c entries nothing_replayed) ≡ Ok r → count_for judged c.fates r.world ≡ 0
-none_waits judged table c entries r is =
-    let all = then_ok (taken judged table c entries) (ended judged table c) r (sym (replayed_is judged table c entries) ∙ is) in
-    let both = both_ok (certificate_fits c) (taken_from judged table c entries nothing_replayed) all.1 in
-    let fit = fit_by c both.0 in
-    let before = all.0 in
-    let old = (entries_wait judged table c entries nothing_replayed before fit (none_yet judged c) both.1).0 in
-    let waits = old.waits in
-    let last = needs_ok (next_entry before == length c.fates) (fault_at FateCount (next_entry before)) (gap_by judged table c before) r all.2 in
-    let count = eqb-true (next_entry before) (length c.fates) last.0 in
-    let gap = gap_waits judged table c before r last.1 in
-    let none : count_behind judged (next_entry before + 1) (next_entry before) c.fates before.world.sent ≡ 0 =
-    ap (λ (k : ℕ). count_behind judged (k + 1) k c.fates before.world.sent) count
-    ∙ none_behind judged (length c.fates) 0 c.fates before.world.sent fit in
-    omega (arith, waits, gap, none)
-
-no_messages : (messages : List Waiting) → length messages ≡ 0 → messages ≡ []
-no_messages [] is = refl
-no_messages (m ∷ more) is = cc
-
-pub nothing_waits : (side : Side) (table : Table) (c : Certificate) (entries : List (Result Item Reason)) (r : Replay)
-    → (certificate_fits c >> entries_by (Some side) table c entries nothing_replayed) ≡ Ok r
-    → waiting c.fates (channel_from (other side) r.world) ≡ []
-nothing_waits side table c entries r is =
-    no_messages (waiting c.fates (channel_from (other side) r.world)) (none_waits (Some side) table c entries r is)
-
--- So the steps that are counted are those of the run, where both ends are judged: what is on its way is lost.
-pub moves_are : (table : Table) (c : Certificate) (entries : List (Result Item Reason)) (r : Replay)
-    → (certificate_fits c >> entries_by None table c entries nothing_replayed) ≡ Ok r
-    → (progress_of c r).moves ≡ length (lost_from_both c r).events
-moves_are table c entries r is =
-    let none = none_waits None table c entries r is in
-    let first = lost_from_front c sides.A r in
-    let from_a = no_messages (waiting c.fates r.world.from_a) (omega (arith, none)) in
-    let from_b = no_messages (waiting c.fates r.world.from_b) (omega (arith, none)) in
-    let a : count_lost c.fates (lost_from_both c r).world.from_a ≡ 0 = ap (count_lost c.fates) (front_none c sides.A r from_a) in
-    let b : count_lost c.fates (lost_from_both c r).world.from_b ≡ 0 = ap (count_lost c.fates) (front_none c sides.B first from_b) in
-    let moves : (progress_of c r).moves ≡ (progress_of c (lost_from_both c r)).moves =
-    ap (λ (p : Progress). p.moves) (sym (losing_both_is c r)) in
-    omega (arith, moves, a, b)

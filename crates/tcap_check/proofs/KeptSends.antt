@@ -2,7 +2,6 @@
 use Rattle.std.proofs.Common.{◌≡◌, ℕ, ◌+◌, ◌*◌, ◌≤◌, ◌<◌, Bool, true, false, cond, List, [], ◌∷◌, ◌++◌, length, Option, Some, None, refl, sym, ap, ap₂, ◌∙◌, arith}
 use Rattle.std.specs.Prelude.{slice_get, ◌&&◌, ◌||◌, nat_lt}
 use Rattle.std.proofs.lemmas.Bool.{ltb-true, ltb-false, lt-ltb, le-ltb}
-use Rattle.std.proofs.lemmas.List.{length-append}
 use Rattle.tcap_msg.specs.declared.message.Message.{Message}
 use Rattle.tcap_record.specs.declared.entry.End.{End as Side}
 use Rattle.tcap_record.specs.declared.entry.End.TheVariants as sides
@@ -13,8 +12,12 @@ use Rattle.tcap_model.specs.World.{Item, OnItsWay, Sent, is_side}
 use Rattle.tcap_model.specs.Run.{Event, joined}
 use Rattle.tcap_check.specs.Certificate.{Certificate}
 use Rattle.tcap_check.specs.Replayed.{Replay, is_later, is_overtaking, next_entry, time_of, with_step}
-use Rattle.tcap_check.specs.Progress.{greater, moves_with, overtakes, seat_at, sent_by, time_or_zero, waiting_with}
-use Rattle.tcap_check.specs.Checking.{count_lost, latest_of, lost_by, progress_of, waiting, waiting_by}
+use Rattle.tcap_record.specs.Ends.{other}
+use Rattle.tcap_check.specs.Unheard.{is_lost_from}
+use Rattle.tcap_check.specs.Progress.{greater, overtakes, seat_at, sent_by, time_or_zero, unless_lost}
+use Rattle.tcap_check.specs.Checking.{fate_of, is_alone, kept_by, latest_at, latest_of, progress_of, waiting_at}
+use Rattle.tcap_check.proofs.KeptBasics.{moved_counts}
+use Rattle.tcap_check.proofs.WorldLaws.{itself}
 
 -- ---- the greatest time
 
@@ -119,66 +122,29 @@ nothing_lost side (first ∷ fates) (Sent sender message ∷ items) = by (is_sid
     by false rest = rest
 
 -- Whether it overtakes is told by the greatest time.
-pub overtakes_is : (c : Certificate) (side : Side) (fate : Fate) (r : Replay)
-    → overtakes fate (seat_at side (progress_of c r)) ≡ is_overtaking side fate c.fates r.world.sent
-overtakes_is c side Lost r = sym (nothing_lost side c.fates r.world.sent)
-overtakes_is c sides.A (Gap g) r = overtaking sides.A (Gap g) (2 * g) c.fates r.world.sent refl
-overtakes_is c sides.B (Gap g) r = overtaking sides.B (Gap g) (2 * g) c.fates r.world.sent refl
-overtakes_is c sides.A (By k) r = overtaking sides.A (By k) (2 * k + 1) c.fates r.world.sent refl
-overtakes_is c sides.B (By k) r = overtaking sides.B (By k) (2 * k + 1) c.fates r.world.sent refl
+pub overtakes_is : (judged : Option Side) (c : Certificate) (side : Side) (fate : Fate) (r : Replay) → is_alone judged side ≡ false
+    → overtakes fate (seat_at side (progress_of judged c r)) ≡ is_overtaking side fate c.fates r.world.sent
+overtakes_is judged c side Lost r so = sym (nothing_lost side c.fates r.world.sent)
+overtakes_is judged c sides.A (Gap g) r so = rw so (overtaking sides.A (Gap g) (2 * g) c.fates r.world.sent refl)
+overtakes_is judged c sides.B (Gap g) r so = rw so (overtaking sides.B (Gap g) (2 * g) c.fates r.world.sent refl)
+overtakes_is judged c sides.A (By k) r so = rw so (overtaking sides.A (By k) (2 * k + 1) c.fates r.world.sent refl)
+overtakes_is judged c sides.B (By k) r so = rw so (overtaking sides.B (By k) (2 * k + 1) c.fates r.world.sent refl)
 
 -- ---- one message more
 
-waiting_more : (fates : List Fate) (channel : List OnItsWay) (m : OnItsWay) (fate : Fate) → slice_get fates m.number ≡ Some fate
-    → waiting fates (channel ++ m ∷ [])
-    ≡ waiting_with fate (record { number = m.number; message = m.message }) (waiting fates channel)
-waiting_more fates [] m fate is = by fate is
-  where
-    by : (fate : Fate) → slice_get fates m.number ≡ Some fate
-        → waiting_by (slice_get fates m.number) m [] ≡ waiting_with fate (record { number = m.number; message = m.message }) []
-    by (Gap g) is = rw is refl
-    by (By k) is = rw is refl
-    by Lost is = rw is refl
-waiting_more fates (first ∷ channel) m fate is =
-    by (slice_get fates first.number) fate (waiting_more fates channel m fate is)
-  where
-    w : Waiting
-    w = record { number = m.number; message = m.message }
+kept_with_fate : (fate : Fate) (m : OnItsWay) → kept_by (Some fate) m ≡ record { number = m.number; message = unless_lost fate m.message }
+kept_with_fate (Gap g) m = refl
+kept_with_fate (By k) m = refl
+kept_with_fate Lost m = refl
 
-    by : (o : Option Fate) (fate : Fate) → waiting fates (channel ++ m ∷ []) ≡ waiting_with fate w (waiting fates channel)
-        → waiting_by o first (waiting fates (channel ++ m ∷ [])) ≡ waiting_with fate w (waiting_by o first (waiting fates channel))
-    by None (Gap g) rest = rw rest refl
-    by None (By k) rest = rw rest refl
-    by None Lost rest = rw rest refl
-    by (Some (Gap g)) (Gap h) rest = rw rest refl
-    by (Some (Gap g)) (By k) rest = rw rest refl
-    by (Some (Gap g)) Lost rest = rw rest refl
-    by (Some (By j)) (Gap h) rest = rw rest refl
-    by (Some (By j)) (By k) rest = rw rest refl
-    by (Some (By j)) Lost rest = rw rest refl
-    by (Some Lost) fate rest = rest
-
--- whether it is lost, as a number
-abbrev pub lost_one : Fate → ℕ
-lost_one Lost = 1
-lost_one _ = 0
-
-pub lost_more : (fates : List Fate) (channel : List OnItsWay) (m : OnItsWay) (fate : Fate) → slice_get fates m.number ≡ Some fate
-    → count_lost fates (channel ++ m ∷ []) ≡ count_lost fates channel + lost_one fate
-lost_more fates [] m fate is = by fate is
-  where
-    by : (fate : Fate) → slice_get fates m.number ≡ Some fate → lost_by (slice_get fates m.number) 0 ≡ 0 + lost_one fate
-    by (Gap g) is = rw is refl
-    by (By k) is = rw is refl
-    by Lost is = rw is refl
-lost_more fates (first ∷ channel) m fate is = by (slice_get fates first.number) (lost_more fates channel m fate is)
-  where
-    by : (o : Option Fate) → count_lost fates (channel ++ m ∷ []) ≡ count_lost fates channel + lost_one fate
-        → lost_by o (count_lost fates (channel ++ m ∷ [])) ≡ lost_by o (count_lost fates channel) + lost_one fate
-    by None rest = rest
-    by (Some (Gap g)) rest = rest
-    by (Some (By k)) rest = rest
-    by (Some Lost) rest = omega (arith, rest)
+waiting_more : (judged : Option Side) (side : Side) (fates : List Fate) (channel : List OnItsWay) (m : OnItsWay) (fate : Fate)
+    → fate_of judged side (slice_get fates m.number) ≡ Some fate
+    → waiting_at judged side fates (channel ++ m ∷ [])
+    ≡ waiting_at judged side fates channel ++ (record { number = m.number; message = unless_lost fate m.message }) ∷ []
+waiting_more judged side fates [] m fate is =
+    ap (λ (o : Option Fate). kept_by o m ∷ []) is ∙ ap (λ (w : Waiting). w ∷ []) (kept_with_fate fate m)
+waiting_more judged side fates (first ∷ channel) m fate is =
+    ap (λ (x : List Waiting). kept_by (fate_of judged side (slice_get fates first.number)) first ∷ x) (waiting_more judged side fates channel m fate is)
 
 abbrev latest_with : Bool → Fate → ℕ → ℕ
 latest_with so fate time = cond so (greater time (time_or_zero fate)) time
@@ -214,40 +180,60 @@ latest_more side sender message (first ∷ fates) (Sent other m ∷ items) fate 
     by true true rest =
         ap (greater (time_or_zero first)) rest ∙ greater_assoc (time_or_zero first) (latest_of side fates items) (time_or_zero fate)
 
-moves_more : (fate : Fate) (steps lost : ℕ) → (steps + 1) + (lost + lost_one fate) ≡ moves_with fate (steps + lost)
-moves_more (Gap g) steps lost = omega arith
-moves_more (By k) steps lost = omega arith
-moves_more Lost steps lost = omega arith
+-- what becomes of a message of an end, whoever is judged
+abbrev pub fate_at : Option Side → Side → Fate → Fate
+fate_at judged side fate = cond (is_alone judged side) Lost fate
+
+fate_is : (judged : Option Side) (side : Side) (fate : Fate) (o : Option Fate) → o ≡ Some fate
+    → fate_of judged side o ≡ Some (fate_at judged side fate)
+fate_is judged side fate o is = by (is_alone judged side)
+  where
+    by : (b : Bool) → cond b (Some Lost) o ≡ Some (cond b Lost fate)
+    by true = refl
+    by false = is
+
+latest_own : (judged : Option Side) (side : Side) (message : Message) (fates : List Fate) (items : List Item) (fate : Fate)
+    → slice_get fates (length items) ≡ Some fate
+    → latest_at judged side fates (items ++ Sent side message ∷ [])
+    ≡ greater (latest_at judged side fates items) (time_or_zero (fate_at judged side fate))
+latest_own judged side message fates items fate is = by (is_alone judged side)
+  where
+    by : (b : Bool) → cond b 0 (latest_of side fates (items ++ Sent side message ∷ []))
+        ≡ greater (cond b 0 (latest_of side fates items)) (time_or_zero (cond b Lost fate))
+    by true = refl
+    by false = latest_more side side message fates items fate is ∙ ap (λ (so : Bool). latest_with so fate (latest_of side fates items)) (itself side)
+
+latest_peer : (judged : Option Side) (side : Side) (message : Message) (fates : List Fate) (items : List Item) (fate : Fate)
+    → slice_get fates (length items) ≡ Some fate
+    → latest_at judged (other side) fates (items ++ Sent side message ∷ []) ≡ latest_at judged (other side) fates items
+latest_peer judged side message fates items fate is =
+    ap (λ (n : ℕ). cond (is_alone judged (other side)) 0 n)
+    (latest_more (other side) side message fates items fate is ∙ ap (λ (so : Bool). latest_with so fate (latest_of (other side) fates items)) (differ side))
+  where
+    differ : (side : Side) → is_side (other side) side ≡ false
+    differ sides.A = refl
+    differ sides.B = refl
 
 -- A step by which a message joins what is on its way from an end.
-pub joined_is : (c : Certificate) (side : Side) (event : Event) (message : Message) (fate : Fate) (r : Replay)
-    → slice_get c.fates (next_entry r) ≡ Some fate
-    → progress_of c (with_step event r (joined side message r.world)) ≡ sent_by side fate (next_entry r) message (progress_of c r)
-joined_is c sides.A event message fate r has =
+pub joined_is : (judged : Option Side) (c : Certificate) (side : Side) (event : Event) (message : Message) (fate : Fate) (r : Replay)
+    → ((at : Side) → is_lost_from at event ≡ false) → slice_get c.fates (next_entry r) ≡ Some fate
+    → progress_of judged c (with_step event r (joined side message r.world))
+    ≡ sent_by side (fate_at judged side fate) (next_entry r) message (progress_of judged c r)
+joined_is judged c sides.A event message fate r none has =
     let m : OnItsWay = record { number = next_entry r; message = message } in
-    let steps : length (r.events ++ event ∷ []) ≡ length r.events + 1 = length-append r.events (event ∷ []) in
-    let lost = lost_more c.fates r.world.from_a m fate has in
-    let more = moves_more fate (length r.events) (count_lost c.fates r.world.from_a + count_lost c.fates r.world.from_b) in
-    let moves : length (r.events ++ event ∷ []) + (count_lost c.fates (r.world.from_a ++ m ∷ []) + count_lost c.fates r.world.from_b)
-    ≡ moves_with fate (length r.events + (count_lost c.fates r.world.from_a + count_lost c.fates r.world.from_b)) =
-    rw (steps, lost) (omega (arith, more)) in
-    rw (
-      waiting_more c.fates r.world.from_a m fate has,
-      latest_more sides.A sides.A message c.fates r.world.sent fate has,
-      latest_more sides.B sides.A message c.fates r.world.sent fate has,
-      moves,
+    moved_counts judged r.events event
+    (let x : Replay = record { events = r.events; world = joined sides.A message r.world } in progress_of judged c x) none
+    ∙ rw (
+      waiting_more judged sides.A c.fates r.world.from_a m (fate_at judged sides.A fate) (fate_is judged sides.A fate (slice_get c.fates m.number) has),
+      latest_own judged sides.A message c.fates r.world.sent fate has,
+      latest_peer judged sides.A message c.fates r.world.sent fate has,
     ) refl
-joined_is c sides.B event message fate r has =
+joined_is judged c sides.B event message fate r none has =
     let m : OnItsWay = record { number = next_entry r; message = message } in
-    let steps : length (r.events ++ event ∷ []) ≡ length r.events + 1 = length-append r.events (event ∷ []) in
-    let lost = lost_more c.fates r.world.from_b m fate has in
-    let more = moves_more fate (length r.events) (count_lost c.fates r.world.from_a + count_lost c.fates r.world.from_b) in
-    let moves : length (r.events ++ event ∷ []) + (count_lost c.fates r.world.from_a + count_lost c.fates (r.world.from_b ++ m ∷ []))
-    ≡ moves_with fate (length r.events + (count_lost c.fates r.world.from_a + count_lost c.fates r.world.from_b)) =
-    rw (steps, lost) (omega (arith, more)) in
-    rw (
-      waiting_more c.fates r.world.from_b m fate has,
-      latest_more sides.A sides.B message c.fates r.world.sent fate has,
-      latest_more sides.B sides.B message c.fates r.world.sent fate has,
-      moves,
+    moved_counts judged r.events event
+    (let x : Replay = record { events = r.events; world = joined sides.B message r.world } in progress_of judged c x) none
+    ∙ rw (
+      waiting_more judged sides.B c.fates r.world.from_b m (fate_at judged sides.B fate) (fate_is judged sides.B fate (slice_get c.fates m.number) has),
+      latest_own judged sides.B message c.fates r.world.sent fate has,
+      latest_peer judged sides.B message c.fates r.world.sent fate has,
     ) refl

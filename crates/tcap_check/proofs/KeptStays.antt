@@ -24,10 +24,13 @@ use Rattle.tcap_model.specs.Since.{originating}
 use Rattle.tcap_check.specs.Follows.{closing_by, closing_event, expiry_by, expiry_event, half_begun, invoke_id, named_entry}
 use Rattle.tcap_check.specs.Alone.{is_lost_from}
 use Rattle.tcap_check.specs.Replayed.{Replay, closings_replayed, expiries_replayed, fault_at, happens, implied, implied_over, or_same, stepped, with_step}
-use Rattle.tcap_check.specs.Checking.{count_losses}
 use Rattle.tcap_model.proofs.RunLaws.{closing, expiry, map_some, some_is, then_some, where_some}
 
 -- ---- losses
+
+-- how many of an end's messages are lost in these events
+abbrev pub count_losses : Side → List Event → ℕ
+count_losses side events = length (filter (is_lost_from side) events)
 
 -- The losses in events, one behind the other.
 pub losses_both : (side : Side) (xs ys : List Event) → count_losses side (xs ++ ys) ≡ count_losses side xs + count_losses side ys

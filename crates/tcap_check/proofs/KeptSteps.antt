@@ -27,12 +27,11 @@ use Rattle.tcap_model.specs.Run.{Sends, Receives, Replies, Loses, Closes, Quiet,
 use Rattle.tcap_check.specs.Certificate.{Certificate}
 use Rattle.tcap_check.specs.Follows.{invoking_half, sending_by}
 use Rattle.tcap_check.specs.Replayed.{Replay, all_lost_from, behind_sending, closed_at_mark, closed_before, closings_judged, closings_replayed, deliveries_by, expiries_judged, expiries_replayed, fault_at, gap_by, happens, heard, implied_over, is_abort, lost_from_front, lost_last, message_by, next_entry, or_else, received, send_replayed, sent_or_refused, stepped, with_step}
-use Rattle.tcap_check.specs.Checking.{waiting}
 use Rattle.tcap_check.specs.Hearing.{is_heard}
 use Rattle.tcap_model.proofs.RunLaws.{delivery, loss, map_some, quiet as quiet_step, reply}
-use Rattle.tcap_check.proofs.KeptCounts.{count_behind, count_for, counts_same, is_next, joined_waits, losses_wait, new_by, not_next, taken_waits}
+use Rattle.tcap_check.proofs.KeptCounts.{count_behind, count_for, counts_same, is_next, joined_waits, losses_wait, new_by, not_next, taken_waits, waiting}
 use Rattle.tcap_check.proofs.KeptDeliveries.{due_is}
-use Rattle.tcap_check.proofs.KeptTaken.{peer_stays}
+use Rattle.tcap_check.proofs.WorldLaws.{peer_stays}
 use Rattle.tcap_check.proofs.KeptStays.{Stays, closes_stays, closings_stay, expiries_stay, implied_over_stays, stays_same, stays_then}
 use Rattle.tcap_check.proofs.WorldLaws.{itself, sent_with_channel, sent_with_end}
 

@@ -19,6 +19,7 @@ pub mod GivenLosses
 pub mod GivenEvents
 pub mod GivenRuns
 pub mod LeftLaws
+pub mod LosingLaws
 pub mod AlikeLaws
 pub mod DescribedGaps
 pub mod DescribedSends
@@ -46,18 +47,14 @@ pub mod KeptDeliveries
 pub mod KeptEntries
 pub mod KeptGaps
 pub mod KeptGrowth
-pub mod KeptHearing
 pub mod KeptHidden
-pub mod KeptLost
 pub mod KeptMarks
 pub mod KeptMessages
 pub mod KeptOwn
 pub mod KeptPending
-pub mod KeptQuiet
 pub mod KeptSends
 pub mod KeptStays
 pub mod KeptSteps
-pub mod KeptTaken
 pub mod EntryLaws
 pub mod CheckerLaws
 pub mod RecordLaws

@@ -33,7 +33,8 @@ use Rattle.tcap_check.specs.Checking.{taken}
 use Rattle.tcap_check.proofs.AlonePending.{alone_behind, peer_is_nothing}
 use Rattle.tcap_check.proofs.AloneReplays.{gap_leads}
 use Rattle.tcap_check.proofs.EntryLaws.{gap_is_heard, taken_is_heard}
-use Rattle.tcap_check.proofs.KeptMarks.{Closings, IsHeard, closings_are}
+use Rattle.tcap_check.proofs.KeptMarks.{Closings, closings_are}
+use Rattle.tcap_check.proofs.KeptOwn.{IsHeard}
 use Rattle.tcap_check.proofs.KeptSteps.{before_stays}
 use Rattle.tcap_check.proofs.PendingBoth.{stands_behind}
 use Rattle.tcap_check.proofs.WorldLaws.{end_with_channel}

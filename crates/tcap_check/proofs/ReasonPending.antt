@@ -36,7 +36,7 @@ use Rattle.tcap_end.proofs.AnsweringLaws.{ok_same}
 use Rattle.tcap_check.proofs.AlonePending.{leads_still}
 use Rattle.tcap_check.proofs.AloneReplays.{closed_leads}
 use Rattle.tcap_check.proofs.AloneSteps.{front_leads}
-use Rattle.tcap_check.proofs.KeptMarks.{IsHeard}
+use Rattle.tcap_check.proofs.KeptOwn.{IsHeard}
 use Rattle.tcap_check.proofs.KeptSteps.{before_stays}
 use Rattle.tcap_check.proofs.PendingBoth.{losses_said}
 use Rattle.tcap_check.proofs.WorldLaws.{itself, sent_with_channel}

@@ -1,5 +1,5 @@
 -- The steps of a checker by which an end sends, or its provider answers.
-use Rattle.std.proofs.Common.{◌≡◌, ℕ, suc, ℤ, ◌+◌, ◌≤◌, arith, true, false, List, [], ◌∷◌, length, Option, Some, None, Result, Ok, Err, refl, sym, ap, ◌∙◌}
+use Rattle.std.proofs.Common.{◌≡◌, ℕ, suc, ℤ, ◌+◌, ◌≤◌, arith, true, false, List, [], ◌∷◌, drop, length, Option, Some, None, Result, Ok, Err, refl, sym, ap, ◌∙◌}
 use Rattle.std.specs.Prelude.{filter_map}
 use Rattle.tcap_parts.specs.declared.component.Component.{Component}
 use Rattle.tcap_msg.specs.declared.message.Message.{Message}
@@ -17,7 +17,7 @@ use Rattle.tcap_check.specs.Replayed.{fault_at}
 use Rattle.tcap_end.specs.declared.fault.EndFault.{EndFault}
 use Rattle.tcap_end.specs.End.{End}
 use Rattle.tcap_end.specs.Hidden.{expire}
-use Rattle.tcap_check.specs.Progress.{IsTakenFrom, end_tried, moved, or_still, seat_at, with_seat_end, first_answered, first_may_be_answered, ids_ended_over, invoked_ended, sent_by}
+use Rattle.tcap_check.specs.Progress.{IsAsMany, end_tried, moved, or_still, seat_at, with_seat_end, with_waiting, first_answered, first_may_be_answered, ids_ended_over, invoked_ended, sent_by}
 
 -- A provider that may not answer is refused,
 pub not_answered : (side : Side) (fate : Fate) (number : ℕ) (abort : Message) (taken : ℕ) (messages : List Waiting) (p : Progress)
@@ -27,12 +27,12 @@ not_answered side fate number abort taken [] p is = refl
 not_answered side fate number abort taken (first ∷ more) p is = rw is refl
 
 -- and one that may takes the first message away.
-pub answered : (side : Side) (fate : Fate) (number : ℕ) (abort : Message) (taken : ℕ) (messages : List Waiting)
-    (p : Progress) (first : Option Waiting) (left : Progress) → first_may_be_answered side abort taken messages p ≡ true
-    → IsTakenFrom (other side) messages p first left
-    → first_answered side fate number abort taken messages p ≡ Ok (sent_by side fate number abort left)
-answered side fate number abort taken [] p first left is one = cc
-answered side fate number abort taken (m ∷ more) p first left is one = rw (is, one.1) refl
+pub answered : (side : Side) (fate : Fate) (number : ℕ) (abort : Message) (taken : ℕ) (messages : List Waiting) (p : Progress)
+    → first_may_be_answered side abort taken messages p ≡ true
+    → first_answered side fate number abort taken messages p
+    ≡ Ok (sent_by side fate number abort (with_waiting (other side) (drop 1 messages) p))
+answered side fate number abort taken [] p is = cc
+answered side fate number abort taken (m ∷ more) p is = rw is refl
 
 -- ---- IDs that are invoked anew
 
@@ -43,10 +43,11 @@ pub record Ends (table : Table) (side : Side) (half : Option HalfName) (all : Li
   pub same : ids_ended_over table side half (filter_map invoke_id left) now
       ≡ ids_ended_over table side half (filter_map invoke_id all) start
   pub room : now.moves + length left ≤ start.moves + length all
+  pub still : IsAsMany start now
 
 pub ends_all : (table : Table) (side : Side) (half : Option HalfName) (all : List Component) (start : Progress)
     → Ends table side half all start all start
-ends_all table side half all start = record { same = refl; room = omega arith }
+ends_all table side half all start = record { same = refl; room = omega arith; still = (refl, refl) }
 
 tried : (table : Table) (side : Side) (name : HalfName) (id : ℤ) (p : Progress) → (end_tried table side name id p).moves ≤ p.moves + 1
 tried table side name id p = by (expire table (seat_at side p).end name id)
@@ -59,6 +60,19 @@ tried table side name id p = by (expire table (seat_at side p).end name id)
     by (Ok e) = let is : (moved (with_seat_end side e p)).moves ≡ p.moves + 1 = sides_moves side e in omega (arith, is)
     by (Err reason) = omega arith
 
+tried_still : (table : Table) (side : Side) (name : HalfName) (id : ℤ) (p : Progress) → IsAsMany p (end_tried table side name id p)
+tried_still table side name id p = by side (expire table (seat_at side p).end name id)
+  where
+    by : (side : Side) (o : Result End EndFault) → IsAsMany p (or_still side p o)
+    by sides.A (Ok e) = (refl, refl)
+    by sides.B (Ok e) = (refl, refl)
+    by side (Err reason) = (refl, refl)
+
+invoked_still : (table : Table) (side : Side) (half : Option HalfName) (id : Option ℤ) (p : Progress) → IsAsMany p (invoked_ended table side half id p)
+invoked_still table side None id p = (refl, refl)
+invoked_still table side (Some name) None p = (refl, refl)
+invoked_still table side (Some name) (Some id) p = tried_still table side name id p
+
 -- One component more.
 pub ends_more : {table : Table} {side : Side} {half : Option HalfName} {all left more : List Component} {start now : Progress} {component : Component}
     → Ends table side half all start left now → left ≡ component ∷ more
@@ -68,6 +82,8 @@ ends_more {table} {side} {half} {all} {left} {more} {start} {now} {component} en
   room = let counted : length left ≡ suc (length more) = ap length is in
       let step : (invoked_ended table side half (invoke_id component) now).moves ≤ now.moves + 1 = one half (invoke_id component) in
       omega (arith, counted, step, ends.room);
+  still = let one_still = invoked_still table side half (invoke_id component) now in
+      (one_still.0 ∙ ends.still.0, one_still.1 ∙ ends.still.1);
 }
   where
     one : (h : Option HalfName) (o : Option ℤ) → (invoked_ended table side h o now).moves ≤ now.moves + 1

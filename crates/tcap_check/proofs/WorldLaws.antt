@@ -55,6 +55,11 @@ pub sent_with_channel : (side : Side) (messages : List OnItsWay) (w : World) →
 sent_with_channel sides.A messages w = refl
 sent_with_channel sides.B messages w = refl
 
+pub peer_stays : (side : Side) (messages : List OnItsWay) (w : World)
+    → channel_from (other side) (with_channel side messages w) ≡ channel_from (other side) w
+peer_stays sides.A messages w = refl
+peer_stays sides.B messages w = refl
+
 -- ---- a message that joins
 
 pub sent_joined : (side : Side) (m : Message) (w : World) → (joined side m w).sent ≡ w.sent ++ Sent side m ∷ []

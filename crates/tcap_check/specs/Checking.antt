@@ -1,5 +1,5 @@
 -- What a checker stands for: the replay of the entries that it took (`Replayed`), for both ends, or for the one that is judged.
-use Rattle.std.specs.Prelude.{◌≡◌, ℕ, ◌+◌, ◌-◌, Bool, false, List, [], ◌∷◌, ◌++◌, filter, slice_get, length, Option, Some, None, Result, Ok, Err, ok_or, ◌==◌, ◌||◌, not, nat_le, cond}
+use Rattle.std.specs.Prelude.{◌≡◌, ℕ, ◌+◌, Bool, false, List, [], ◌∷◌, ◌++◌, map, slice_get, length, Option, Some, None, Result, Ok, Err, ok_or, ◌==◌, ◌||◌, not, nat_le, cond}
 use Rattle.tcap_msg.specs.declared.message.Message.{Message}
 use Rattle.tcap_ber.specs.declared.fault.Fault.{Fault}
 use Rattle.tcap_record.specs.declared.entry.End.{End as Side}
@@ -11,22 +11,22 @@ use Rattle.tcap_check.specs.declared.certificate.Fate.TheVariants.{Gap, Lost, By
 use Rattle.tcap_check.specs.declared.fault.CheckFault.{CheckFault}
 use Rattle.tcap_model.specs.declared.reason.Reason.{Reason}
 use Rattle.tcap_model.specs.declared.reason.Reason.TheVariants.{BadMessage, FateCount, FateRange, OutOfOrder}
-use Rattle.tcap_check.specs.declared.hearing.Hearing.{Hearing}
 use Rattle.tcap_check.specs.declared.outline.Outline.{Outline}
 use Rattle.tcap_check.specs.declared.progress.Progress.{Progress}
+use Rattle.tcap_check.specs.declared.progress.Seat.{Seat}
 use Rattle.tcap_check.specs.declared.progress.Waiting.{Waiting}
 use Rattle.tcap_check.specs.declared.checker.Report.{Report}
 use Rattle.tcap_record.specs.Ends.{other}
 use Rattle.tcap_model.specs.Run.{Event}
-use Rattle.tcap_model.specs.World.{Item, OnItsWay, Sent, channel_from, is_side}
+use Rattle.tcap_model.specs.World.{Item, OnItsWay, Sent, channel_from, end_at, is_side}
 use Rattle.tcap_check.specs.Certificate.{Certificate}
 use Rattle.tcap_check.specs.Follows.{taken_by}
 use Rattle.tcap_check.specs.Hearing.{gap_kept, mark_taken, message_taken, told_among}
 use Rattle.tcap_check.specs.Outlines.{is_named, outline_of, outlines_from, since_from}
 pub use Rattle.tcap_check.specs.Progress.{map_ok}
-use Rattle.tcap_check.specs.Progress.{greater, overtakes, seat_at, time_or_zero, with_seat}
+use Rattle.tcap_check.specs.Progress.{count_kept, greater, last_lost, overtakes, seat_at, time_or_zero}
 use Rattle.tcap_check.specs.Replayed.{Replay, certificate_fits, entry_by, fault_at, gap_by, is_gap, next_entry, nothing_replayed, refused}
-use Rattle.tcap_check.specs.Unheard.{is_lost_from, steps_of, unheard_of}
+use Rattle.tcap_check.specs.Unheard.{steps_of, unheard_of}
 
 -- ---- the replay of entries, one after the other
 
@@ -51,28 +51,27 @@ ended judged table c r =
 -- ---- what is kept of a replay
 
 pub record Kept : Type 0 where
-  pub hearing : Hearing
+  pub progress : Progress
   pub entries : List Outline
   pub since : ℕ
 
--- a message on its way, unless it is lost
-abbrev pub waiting_by : Option Fate → OnItsWay → List Waiting → List Waiting
-waiting_by (Some Lost) m messages = messages
-waiting_by _ m messages = record { number = m.number; message = m.message } ∷ messages
+-- whether that end alone is judged: what it sends comes to nobody
+abbrev pub is_alone : Option Side → Side → Bool
+is_alone None side = false
+is_alone (Some judged) side = is_side judged side
 
--- those of a channel that are not lost, from the oldest on
-abbrev pub waiting : List Fate → List OnItsWay → List Waiting
-waiting fates [] = []
-waiting fates (m ∷ more) = waiting_by (slice_get fates m.number) m (waiting fates more)
+-- what becomes of a message of an end: where it alone is judged, it is lost
+abbrev pub fate_of : Option Side → Side → Option Fate → Option Fate
+fate_of judged side fate = cond (is_alone judged side) (Some Lost) fate
 
-abbrev pub lost_by : Option Fate → ℕ → ℕ
-lost_by (Some Lost) count = count + 1
-lost_by _ count = count
+-- what is kept of a message on its way: of one that will be lost its number alone
+abbrev pub kept_by : Option Fate → OnItsWay → Waiting
+kept_by (Some Lost) m = record { number = m.number; message = None }
+kept_by fate m = record { number = m.number; message = Some m.message }
 
--- how many of a channel are lost
-abbrev pub count_lost : List Fate → List OnItsWay → ℕ
-count_lost fates [] = 0
-count_lost fates (m ∷ more) = lost_by (slice_get fates m.number) (count_lost fates more)
+-- those on their way from an end, from the oldest on
+abbrev pub waiting_at : Option Side → Side → List Fate → List OnItsWay → List Waiting
+waiting_at judged side fates channel = map (λ m. kept_by (fate_of judged side (slice_get fates m.number)) m) channel
 
 -- the greatest time of what an end sent; the first of these fates is that of the first item
 abbrev pub latest_of : Side → List Fate → List Item → ℕ
@@ -81,51 +80,34 @@ latest_of side (fate ∷ fates) (Sent sender message ∷ items) =
 latest_of side (fate ∷ fates) (Item.Quiet ∷ items) = latest_of side fates items
 latest_of side _ _ = 0
 
--- the ends, what is on its way and not lost, the greatest times, and the steps, with those losses that are still to come
-abbrev pub progress_of : Certificate → Replay → Progress
-progress_of c r = record {
-  a = record { end = r.world.a; waiting = waiting c.fates r.world.from_a; latest = latest_of sides.A c.fates r.world.sent };
-  b = record { end = r.world.b; waiting = waiting c.fates r.world.from_b; latest = latest_of sides.B c.fates r.world.sent };
-  moves = length r.events + (count_lost c.fates r.world.from_a + count_lost c.fates r.world.from_b);
+-- none, where it alone is judged
+abbrev pub latest_at : Option Side → Side → List Fate → List Item → ℕ
+latest_at judged side fates items = cond (is_alone judged side) 0 (latest_of side fates items)
+
+abbrev pub seat_of : Option Side → Certificate → Side → Replay → Seat
+seat_of judged c side r = record {
+  end = end_at side r.world;
+  waiting = waiting_at judged side c.fates (channel_from side r.world);
+  latest = latest_at judged side c.fates r.world.sent;
 }
 
--- Nothing is kept of what an end sent but that it is lost.
-abbrev pub all_lost : Side → Progress → Progress
-all_lost side p =
-    record (with_seat side (record (seat_at side p) { waiting = []; latest = 0 }) p) {
-      moves = p.moves + length (seat_at side p).waiting;
-    }
+-- What is said of a run. Where both ends are judged nothing is counted as unheard: those messages are lost whose fates say so.
+abbrev pub reported : Option Side → List Event → Report
+reported None events = record { moves = length events; unheard = 0 }
+reported (Some judged) events = record { moves = steps_of judged events; unheard = unheard_of judged events }
 
--- so it is where that end alone is judged
-abbrev pub lost_at_once : Option Side → Progress → Progress
-lost_at_once None p = p
-lost_at_once (Some judged) p = all_lost judged p
-
--- how many of an end's messages are lost in these events
-abbrev pub count_losses : Side → List Event → ℕ
-count_losses side events = length (filter (is_lost_from side) events)
-
--- where one end is judged, how many messages it sent: the steps have a loss for each
-abbrev pub own_of : Option Side → Replay → ℕ
-own_of None r = 0
-own_of (Some judged) r = count_losses judged r.events + length (channel_from judged r.world)
-
--- and how many of its peer's are lost, with those that are still to come
-abbrev pub unheard_by : Option Side → Certificate → Replay → ℕ
-unheard_by None c r = 0
-unheard_by (Some judged) c r = count_losses (other judged) r.events + count_lost c.fates (channel_from (other judged) r.world)
-
--- the ends, what is on its way to one that is judged, the steps, and these counts
-abbrev pub hearing_by : Option Side → Certificate → Replay → Hearing
-hearing_by judged c r = record {
-  progress = lost_at_once judged (progress_of c r);
-  own = own_of judged r;
-  unheard = unheard_by judged c r;
+-- both ends, what is on its way, and what is counted of the steps
+abbrev pub progress_of : Option Side → Certificate → Replay → Progress
+progress_of judged c r = record {
+  a = seat_of judged c sides.A r;
+  b = seat_of judged c sides.B r;
+  moves = (reported judged r.events).moves;
+  unheard = (reported judged r.events).unheard;
 }
 
 abbrev pub kept_of : Option Side → Certificate → Replay → Kept
 kept_of judged c r = record {
-  hearing = hearing_by judged c r;
+  progress = progress_of judged c r;
   entries = outlines_from c 0 r.world.sent;
   since = since_from 0 0 r.world.sent;
 }
@@ -162,30 +144,25 @@ Took checking entries = checking.so_far
 -- ---- its steps, over what is kept
 
 -- one entry more
-abbrev pub kept_with : Certificate → Item → Kept → Hearing → Kept
-kept_with c item k h = record {
-  hearing = h;
+abbrev pub kept_with : Certificate → Item → Kept → Progress → Kept
+kept_with c item k p = record {
+  progress = p;
   entries = k.entries ++ outline_of (is_named c (length k.entries)) item ∷ [];
   since = since_from k.since (length k.entries) (item ∷ []);
 }
 
 -- the gap before the next entry
-abbrev pub gap_before : Option Side → Table → Certificate → Kept → Result Hearing CheckFault
-gap_before judged table c k = gap_kept judged table c k.entries k.since k.hearing
+abbrev pub gap_before : Option Side → Table → Certificate → Kept → Result Progress CheckFault
+gap_before judged table c k = gap_kept judged table c k.entries k.since k.progress
 
 -- the messages that the next entry takes: of both ends, or of the peer alone
 abbrev pub tied_now : Option Side → Certificate → Kept → List ℕ
 tied_now None c k = taken_by (length k.entries) 0 c.fates
 tied_now (Some judged) c k = told_among (other judged) k.entries (taken_by (length k.entries) 0 c.fates)
 
--- whether that end alone is judged: what it sends comes to nobody
-abbrev pub is_alone : Option Side → Side → Bool
-is_alone None side = false
-is_alone (Some judged) side = is_side judged side
-
-abbrev pub item_kept : Option Side → Table → Certificate → Fate → Item → Kept → Result Hearing CheckFault
+abbrev pub item_kept : Option Side → Table → Certificate → Fate → Item → Kept → Result Progress CheckFault
 item_kept judged table c fate (Sent side message) k =
-    needs (is_alone judged side || not (overtakes fate (seat_at side k.hearing.progress))) (fault_at OutOfOrder (length k.entries))
+    needs (is_alone judged side || not (overtakes fate (seat_at side k.progress))) (fault_at OutOfOrder (length k.entries))
     >> gap_before judged table c k
     >>= message_taken judged table side fate (length k.entries) message (tied_now judged c k)
 item_kept judged table c fate Item.Quiet k =
@@ -202,28 +179,23 @@ kept_next judged table c entry k =
     ok_or (slice_get c.fates (length k.entries)) (fault_at FateCount (length k.entries))
     >>= λ fate. entry_kept judged table c fate entry k
 
--- the last gap
-abbrev pub kept_ended : Option Side → Table → Certificate → Kept → Result Hearing CheckFault
-kept_ended judged table c k =
-    needs (length k.entries == length c.fates) (fault_at FateCount (length k.entries)) >> gap_before judged table c k
+-- the last gap, and the loss of what is still on its way
+abbrev pub kept_ended : Option Side → Table → Certificate → Kept → Result Progress CheckFault
+kept_ended judged table c k = do
+  needs (length k.entries == length c.fates) (fault_at FateCount (length k.entries))
+  behind ← gap_before judged table c k
+  Ok (last_lost judged behind)
 
--- ---- a report
-
--- What is said of the run that is given. Where both ends are judged nothing is counted as unheard: those messages are lost whose fates say so.
-abbrev pub reported : Option Side → List Event → Report
-reported None events = record { moves = length events; unheard = 0 }
-reported (Some judged) events = record { moves = steps_of judged events; unheard = unheard_of judged events }
-
--- the same, by what is kept at the end
-abbrev pub report_of : Hearing → Report
-report_of h = record { moves = h.progress.moves - h.own; unheard = h.unheard }
+-- what is said of it
+abbrev pub report_of : Progress → Report
+report_of p = record { moves = p.moves; unheard = p.unheard }
 
 -- ---- what waits
 
 -- how many messages are kept that are on their way to an end that is judged
 abbrev pub count_waiting : Option Side → Progress → ℕ
-count_waiting None p = length p.a.waiting + length p.b.waiting
-count_waiting (Some judged) p = length (seat_at (other judged) p).waiting
+count_waiting None p = count_kept p.a.waiting + count_kept p.b.waiting
+count_waiting (Some judged) p = count_kept (seat_at (other judged) p).waiting
 
 -- whether a fate is a gap, or an entry, of that number or above
 abbrev pub is_ahead : ℕ → Fate → Bool

@@ -1,6 +1,6 @@
 -- What a checker keeps of a replay, and its steps, for both ends or for the one that is judged: those of `Replayed`, over what is kept.
 -- What an end sends that alone is judged is lost at once, so nothing of it waits; what waits is what its peer told.
-use Rattle.std.specs.Prelude.{ℕ, ◌+◌, Bool, true, false, List, [], ◌∷◌, filter, slice_get, length, Option, Some, None, Result, Ok, Err, ◌==◌, cond}
+use Rattle.std.specs.Prelude.{ℕ, ◌+◌, Bool, true, false, ◌≡◌, ◌≢◌, List, [], ◌∷◌, drop, filter, slice_get, length, Option, Some, None, Result, Ok, Err, ◌==◌, cond}
 use Rattle.tcap_msg.specs.declared.message.Message.{Message}
 use Rattle.tcap_record.specs.declared.entry.End.{End as Side}
 use Rattle.tcap_end.specs.declared.fault.EndFault.{EndFault}
@@ -12,8 +12,7 @@ use Rattle.tcap_end.specs.Step.{needs, ◌>>◌, ◌>>=◌}
 use Rattle.tcap_check.specs.declared.certificate.Fate.{Fate}
 use Rattle.tcap_check.specs.declared.certificate.Fate.TheVariants.{Lost}
 use Rattle.tcap_check.specs.declared.fault.CheckFault.{CheckFault}
-use Rattle.tcap_model.specs.declared.reason.Reason.TheVariants.{BadReply, NotQuiet}
-use Rattle.tcap_check.specs.declared.hearing.Hearing.{Hearing}
+use Rattle.tcap_model.specs.declared.reason.Reason.TheVariants.{BadReply, Memory, NotQuiet}
 use Rattle.tcap_check.specs.declared.outline.Outline.{Outline}
 use Rattle.tcap_check.specs.declared.outline.Outline.TheVariants as outlines
 use Rattle.tcap_check.specs.declared.progress.Progress.{Progress}
@@ -24,14 +23,7 @@ use Rattle.tcap_model.specs.Run.{where_so}
 use Rattle.tcap_check.specs.Certificate.{Certificate}
 pub use Rattle.tcap_check.specs.Replayed.{is_heard, is_judged}
 use Rattle.tcap_check.specs.Replayed.{closings_judged, expiries_judged, fault_at, is_nothing, refused}
-use Rattle.tcap_check.specs.Progress.{closings_kept, due_in, expiries_kept, map_ok, mark_kept, message_kept, moved, nothing_kept, seat_at, sent_by, with_seat_end, with_waiting}
-
--- nothing went yet
-abbrev pub nothing_heard : Hearing
-nothing_heard = record { progress = nothing_kept; own = 0; unheard = 0 }
-
-abbrev pub with_progress : Hearing → Progress → Hearing
-with_progress h p = record h { progress = p }
+use Rattle.tcap_check.specs.Progress.{closings_kept, due_in, expiries_kept, front_lost, last_lost, lost_told, map_ok, message_kept, moved, quiet_kept, seat_at, sent_by, with_seat_end, with_waiting}
 
 -- ---- who is judged
 
@@ -50,47 +42,57 @@ told_among side entries numbers = filter (λ n. is_told side (slice_get entries 
 
 -- ---- a gap
 
--- An end receives a message; what it can't receive is refused, or dropped where it alone is judged.
-abbrev pub received_or_not : Option Side → Side → ℕ → Progress → Hearing → Result End EndFault → Result Hearing CheckFault
-received_or_not judged side number p h (Ok e) = Ok (with_progress h (moved (with_seat_end side e p)))
-received_or_not None side number p h (Err reason) = refused BadReply number
-received_or_not (Some judged) side number p h (Err reason) =
-    Ok (record { progress = moved p; own = h.own; unheard = h.unheard + 1 })
+-- An end receives a message; what it can't receive is refused, or lost where it alone is judged.
+abbrev pub received_or_not : Option Side → Side → ℕ → Progress → Result End EndFault → Result Progress CheckFault
+received_or_not judged side number p (Ok e) = Ok (moved (with_seat_end side e p))
+received_or_not None side number p (Err reason) = refused BadReply number
+received_or_not (Some judged) side number p (Err reason) = Ok (lost_told (Some judged) (other side) p)
 
-abbrev pub message_received : Option Side → Table → Side → ℕ → Message → Hearing → Result Hearing CheckFault
-message_received judged table side number message h =
-    received_or_not judged side number h.progress h (receive table (seat_at side h.progress).end message)
+-- what is kept of a message comes to an end: what will be lost does not
+abbrev pub message_heard : Table → ℕ → Option Message → End → Result (Result End EndFault) CheckFault
+message_heard table number None e = refused BadReply number
+message_heard table number (Some message) e = Ok (receive table e message)
 
--- The first message on its way from an end is that of the number, and its peer receives it, or not.
-abbrev pub first_received : Option Side → Table → Side → ℕ → List Waiting → Hearing → Result Hearing CheckFault
-first_received judged table sender number [] h = refused BadReply number
-first_received judged table sender number (first ∷ more) h =
-    needs (first.number == number) (fault_at BadReply number)
-    >> received_or_not judged (other sender) number (with_waiting sender more h.progress) h
-    (receive table (seat_at (other sender) h.progress).end first.message)
+-- The first of these messages is that of the number, and comes to an end.
+abbrev pub first_heard : Table → ℕ → List Waiting → End → Result (Result End EndFault) CheckFault
+first_heard table number [] e = refused BadReply number
+first_heard table number (first ∷ more) e =
+    needs (first.number == number) (fault_at BadReply number) >> message_heard table number first.message e
 
--- the message of that number, where it comes from an end to one that is judged
-abbrev pub delivery_kept : Option Side → Table → ℕ → Option Side → Hearing → Result Hearing CheckFault
-delivery_kept judged table number None h = Ok h
-delivery_kept judged table number (Some sender) h =
-    first_received judged table sender number (seat_at sender h.progress).waiting h
+-- A call says whether it is received; the end is behind it, or as it was.
+abbrev pub Hears : End → Result (Result End EndFault) CheckFault → Result Bool CheckFault → End → Type 0
+Hears before step (Ok true) left = step ≡ Ok (Ok left)
+Hears before step (Ok false) left = ((reason : EndFault) × (step ≡ Ok (Err reason))) × (left ≡ before)
+Hears before step (Err fault) left = fault ≢ fault_at Memory 0 → step ≡ Err fault
 
-abbrev pub deliveries_kept : Option Side → Table → List Outline → List ℕ → Hearing → Result Hearing CheckFault
-deliveries_kept judged table entries [] h = Ok h
-deliveries_kept judged table entries (number ∷ numbers) h =
-    delivery_kept judged table number (heard_from judged (slice_get entries number)) h
+-- so it does on its way from an end, and is taken from there
+abbrev pub first_received : Option Side → Table → Side → ℕ → List Waiting → Progress → Result Progress CheckFault
+first_received judged table sender number messages p =
+    first_heard table number messages (seat_at (other sender) p).end
+    >>= received_or_not judged (other sender) number (with_waiting sender (drop 1 messages) p)
+
+-- the message of that number from an end to one that is judged, behind what is lost before it
+abbrev pub message_received : Option Side → Table → Side → ℕ → Progress → Result Progress CheckFault
+message_received judged table sender number p =
+    let before = front_lost judged sender p in
+    first_received judged table sender number (seat_at sender before).waiting before
+
+-- nothing where it is none
+abbrev pub delivery_kept : Option Side → Table → ℕ → Option Side → Progress → Result Progress CheckFault
+delivery_kept judged table number None p = Ok p
+delivery_kept judged table number (Some sender) p = message_received judged table sender number p
+
+abbrev pub deliveries_kept : Option Side → Table → List Outline → List ℕ → Progress → Result Progress CheckFault
+deliveries_kept judged table entries [] p = Ok p
+deliveries_kept judged table entries (number ∷ numbers) p =
+    delivery_kept judged table number (heard_from judged (slice_get entries number)) p
     >>= deliveries_kept judged table entries numbers
 
--- what is listed for the gap before the next entry
-abbrev pub hidden_kept : Option Side → Table → Certificate → List Outline → ℕ → Progress → Result Progress CheckFault
-hidden_kept judged table c entries since p =
+-- the gap before the next entry: what is listed, then what is delivered
+abbrev pub gap_kept : Option Side → Table → Certificate → List Outline → ℕ → Progress → Result Progress CheckFault
+gap_kept judged table c entries since p =
     closings_kept table entries since (closings_judged judged (filter (λ x. x.gap == length entries) c.close)) p
     >>= expiries_kept table entries since (expiries_judged judged (filter (λ x. x.gap == length entries) c.expire))
-
--- the gap: what is listed, then what is delivered
-abbrev pub gap_kept : Option Side → Table → Certificate → List Outline → ℕ → Hearing → Result Hearing CheckFault
-gap_kept judged table c entries since h =
-    map_ok (with_progress h) (hidden_kept judged table c entries since h.progress)
     >>= deliveries_kept judged table entries (due_in (length entries) 0 c.fates)
 
 -- ---- a message
@@ -100,38 +102,26 @@ abbrev pub own_fate : Option Side → Fate → Fate
 own_fate None fate = fate
 own_fate (Some judged) fate = Lost
 
--- and counted.
-abbrev pub own_counted : Option Side → Hearing → Progress → Hearing
-own_counted None h p = with_progress h p
-own_counted (Some judged) h p = record { progress = p; own = h.own + 1; unheard = h.unheard }
+-- at once
+abbrev pub sent_lost : Option Side → Progress → Progress
+sent_lost None p = p
+sent_lost (Some judged) p = front_lost (Some judged) judged p
 
 -- The end sends it, or its provider.
-abbrev pub own_taken : Option Side → Table → Side → Fate → ℕ → Message → List ℕ → Hearing → Result Hearing CheckFault
-own_taken judged table side fate number message takes h =
-    map_ok (own_counted judged h) (message_kept table side (own_fate judged fate) number message takes h.progress)
-
--- One that is lost is one that the end is taken not to have received.
-abbrev pub unheard_with : Fate → ℕ → ℕ
-unheard_with Lost count = count + 1
-unheard_with fate count = count
-
-abbrev pub told_with : Side → Fate → ℕ → Message → Hearing → Hearing
-told_with side fate number message h = record {
-  progress = sent_by side fate number message h.progress;
-  own = h.own;
-  unheard = unheard_with fate h.unheard;
-}
+abbrev pub own_taken : Option Side → Table → Side → Fate → ℕ → Message → List ℕ → Progress → Result Progress CheckFault
+own_taken judged table side fate number message takes p =
+    map_ok (sent_lost judged) (message_kept judged table side (own_fate judged fate) number message takes p)
 
 -- The peer of the end that alone is judged tells it; it takes no message.
-abbrev pub told_taken : Side → Fate → ℕ → Message → List ℕ → Hearing → Result Hearing CheckFault
-told_taken side fate number message takes h =
-    needs (is_nothing takes) (fault_at BadReply number) >> Ok (told_with side fate number message h)
+abbrev pub told_taken : Side → Fate → ℕ → Message → List ℕ → Progress → Result Progress CheckFault
+told_taken side fate number message takes p =
+    needs (is_nothing takes) (fault_at BadReply number) >> Ok (sent_by side fate number message p)
 
 -- a message with that number and fate, which takes these
-abbrev pub message_taken : Option Side → Table → Side → Fate → ℕ → Message → List ℕ → Hearing → Result Hearing CheckFault
-message_taken judged table side fate number message takes h =
-    cond (is_judged judged side) (own_taken judged table side fate number message takes h)
-    (told_taken side fate number message takes h)
+abbrev pub message_taken : Option Side → Table → Side → Fate → ℕ → Message → List ℕ → Progress → Result Progress CheckFault
+message_taken judged table side fate number message takes p =
+    cond (is_judged judged side) (own_taken judged table side fate number message takes p)
+    (told_taken side fate number message takes p)
 
 -- ---- a quiet mark
 
@@ -149,6 +139,8 @@ halves_closed None table number p = Ok p
 halves_closed (Some judged) table number p = closed_or_not judged number p (quiet_unseen table (seat_at judged p).end)
 
 -- The mark takes no message, nothing waits, and all is quiet.
-abbrev pub mark_taken : Option Side → Table → ℕ → List ℕ → Hearing → Result Hearing CheckFault
-mark_taken judged table number takes h =
-    map_ok (with_progress h) (halves_closed judged table number h.progress >>= mark_kept number takes)
+abbrev pub mark_taken : Option Side → Table → ℕ → List ℕ → Progress → Result Progress CheckFault
+mark_taken judged table number takes p =
+    needs (is_nothing takes) (fault_at NotQuiet number)
+    >> halves_closed judged table number p
+    >>= λ closed. quiet_kept number (last_lost judged closed)

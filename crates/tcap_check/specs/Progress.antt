@@ -1,5 +1,5 @@
--- What a checker keeps of two ends and two channels, and its steps: those of `Replayed`, over what is kept.
-use Rattle.std.specs.Prelude.{◌≡◌, ◌≢◌, ℕ, ℤ, ◌+◌, ◌*◌, Bool, true, false, List, [], ◌∷◌, ◌++◌, filter_map, Option, Some, None, Result, Ok, Err, ok_or, ◌==◌, ◌&&◌, nat_lt, cond}
+-- What a checker keeps of two ends and two channels, and single steps: those of `Replayed`, over what is kept.
+use Rattle.std.specs.Prelude.{◌≡◌, ◌≢◌, ℕ, ℤ, ◌+◌, ◌*◌, Bool, true, false, List, [], ◌∷◌, ◌++◌, ◌≤◌, filter_map, length, Option, Some, None, Result, Ok, Err, ok_or, ◌==◌, ◌&&◌, nat_lt, cond}
 use Rattle.tcap_msg.specs.declared.message.AbortReason.TheVariants.{Cause}
 use Rattle.tcap_msg.specs.declared.message.Message.{Message}
 use Rattle.tcap_msg.specs.declared.message.Message.TheVariants.{Abort}
@@ -26,6 +26,7 @@ use Rattle.tcap_check.specs.declared.progress.Seat.{Seat}
 use Rattle.tcap_check.specs.declared.progress.Waiting.{Waiting}
 use Rattle.tcap_record.specs.Ends.{other}
 use Rattle.tcap_model.specs.Run.{may_refuse}
+use Rattle.tcap_model.specs.World.{is_side}
 use Rattle.tcap_check.specs.Follows.{invoke_id, invoking_half}
 use Rattle.tcap_check.specs.Replayed.{fault_at, refused}
 use Rattle.tcap_check.specs.Outlines.{half_closed, invocation_ended}
@@ -69,12 +70,7 @@ empty_seat = record { end = nothing; waiting = []; latest = 0 }
 
 -- two of them
 abbrev pub nothing_kept : Progress
-nothing_kept = record { a = empty_seat; b = empty_seat; moves = 0 }
-
--- the first of an end's messages, if there is one, and what is left without it
-abbrev pub IsTakenFrom : Side → List Waiting → Progress → Option Waiting → Progress → Type 0
-IsTakenFrom side [] p first left = (first ≡ None) × (left ≡ p)
-IsTakenFrom side (m ∷ more) p first left = (first ≡ Some m) × (left ≡ with_waiting side more p)
+nothing_kept = record { a = empty_seat; b = empty_seat; moves = 0; unheard = 0 }
 
 -- one step more
 abbrev pub moved : Progress → Progress
@@ -84,6 +80,64 @@ moved p = record p { moves = p.moves + 1 }
 abbrev pub end_moved : {F : Type 0} → Side → F → Progress → Result End EndFault → Result Progress F
 end_moved side fault p (Ok e) = Ok (moved (with_seat_end side e p))
 end_moved side fault p (Err reason) = Err fault
+
+-- ---- losses
+
+-- A message is lost that an end sent: that is a step, and where the other end alone is judged, it is one that it does not hear. What the
+-- end sent that alone is judged comes to nobody: its loss counts as nothing.
+abbrev pub lost_told : Option Side → Side → Progress → Progress
+lost_told None side p = moved p
+lost_told (Some judged) side p = cond (is_side judged side) p (record (moved p) { unheard = p.unheard + 1 })
+
+abbrev pub is_none_kept : Option Message → Bool
+is_none_kept None = true
+is_none_kept (Some message) = false
+
+-- whether the first will be lost
+abbrev pub is_first_lost : List Waiting → Bool
+is_first_lost [] = false
+is_first_lost (first ∷ more) = is_none_kept first.message
+
+-- Those of these at the front of what is on its way from an end are lost that will be lost.
+abbrev pub losing_kept : Option Side → Side → List Waiting → Progress → Progress
+losing_kept judged side [] p = p
+losing_kept judged side (first ∷ more) p =
+    cond (is_none_kept first.message) (losing_kept judged side more (lost_told judged side (with_waiting side more p))) p
+
+abbrev pub front_lost : Option Side → Side → Progress → Progress
+front_lost judged side p = losing_kept judged side (seat_at side p).waiting p
+
+-- What is lost before a quiet mark, or at the end: what comes to an end that is judged.
+abbrev pub last_lost : Option Side → Progress → Progress
+last_lost None p = front_lost None sides.B (front_lost None sides.A p)
+last_lost (Some judged) p = front_lost (Some judged) (other judged) p
+
+-- how many of these messages will not be lost
+abbrev pub count_kept : List Waiting → ℕ
+count_kept [] = 0
+count_kept (first ∷ more) = cond (is_none_kept first.message) (count_kept more) (count_kept more + 1)
+
+-- how many are on their way
+abbrev pub on_way : Progress → ℕ
+on_way p = length p.a.waiting + length p.b.waiting
+
+-- the steps so far, and those losses that may come of what is on its way
+abbrev pub load : Progress → ℕ
+load p = p.moves + on_way p
+
+abbrev pub unheard_load : Progress → ℕ
+unheard_load p = p.unheard + on_way p
+
+-- By so many they grew at the most.
+abbrev pub GrewBy : ℕ → ℕ → Progress → Progress → Type 0
+GrewBy steps messages p q = (load q ≤ load p + steps) × (unheard_load q ≤ unheard_load p + messages)
+
+-- As many messages are on their way, and were not heard.
+abbrev pub IsAsMany : Progress → Progress → Type 0
+IsAsMany p q = (on_way q ≡ on_way p) × (q.unheard ≡ p.unheard)
+
+abbrev pub HasNoMore : Progress → Progress → Type 0
+HasNoMore p q = (load q ≤ load p) × (unheard_load q ≤ unheard_load p)
 
 -- ---- a gap
 
@@ -139,27 +193,21 @@ abbrev pub overtakes : Fate → Seat → Bool
 overtakes Lost seat = false
 overtakes fate seat = nat_lt (time_or_zero fate) seat.latest
 
--- A message is on its way behind the others, unless it is lost,
-abbrev pub waiting_with : Fate → Waiting → List Waiting → List Waiting
-waiting_with Lost message messages = messages
-waiting_with fate message messages = messages ++ message ∷ []
+-- what is kept of a message with that fate: nothing, where it is lost
+abbrev pub unless_lost : Fate → Message → Option Message
+unless_lost Lost message = None
+unless_lost fate message = Some message
 
--- which is a step of its own.
-abbrev pub moves_with : Fate → ℕ → ℕ
-moves_with Lost moves = moves + 2
-moves_with fate moves = moves + 1
-
+-- A message is on its way behind the others.
 abbrev pub seat_with : Fate → ℕ → Message → Seat → Seat
 seat_with fate number message seat = record seat {
-  waiting = waiting_with fate (record { number = number; message = message }) seat.waiting;
+  waiting = seat.waiting ++ (record { number = number; message = unless_lost fate message }) ∷ [];
   latest = greater seat.latest (time_or_zero fate);
 }
 
 -- that message was sent
 abbrev pub sent_by : Side → Fate → ℕ → Message → Progress → Progress
-sent_by side fate number message p =
-    let before = with_seat side (seat_with fate number message (seat_at side p)) p in
-    record before { moves = moves_with fate p.moves }
+sent_by side fate number message p = moved (with_seat side (seat_with fate number message (seat_at side p)) p)
 
 abbrev pub or_still : Side → Progress → Result End EndFault → Progress
 or_still side p (Ok e) = moved (with_seat_end side e p)
@@ -194,26 +242,37 @@ send_kept table side fate number message p =
     let before = ids_ended_over table side (invoking_half message) (filter_map invoke_id (components_in message)) p in
     sent_or_not side fate number message before (send table (seat_at side before).end message)
 
+-- Whether the provider of an end may answer a message by this Abort; what is lost it may not.
+abbrev pub may_be_answered : End → Option Message → Message → Bool
+may_be_answered e None abort = false
+may_be_answered e (Some message) abort = may_refuse e message abort
+
 -- Whether the first of these messages has that number, and the provider of the end may answer it by this Abort.
 abbrev pub first_may_be_answered : Side → Message → ℕ → List Waiting → Progress → Bool
 first_may_be_answered side abort taken [] p = false
 first_may_be_answered side abort taken (first ∷ more) p =
-    (first.number == taken) && may_refuse (seat_at side p).end first.message abort
+    (first.number == taken) && may_be_answered (seat_at side p).end first.message abort
 
--- Its provider answers the first message on its way to it, which has that number.
+-- Its provider answers the first of these messages on their way to it, which has that number.
 abbrev pub first_answered : Side → Fate → ℕ → Message → ℕ → List Waiting → Progress → Result Progress CheckFault
 first_answered side fate number abort taken [] p = refused BadReply number
 first_answered side fate number abort taken (first ∷ more) p = do
-  needs ((first.number == taken) && may_refuse (seat_at side p).end first.message abort) (fault_at BadReply number)
+  needs ((first.number == taken) && may_be_answered (seat_at side p).end first.message abort) (fault_at BadReply number)
   Ok (sent_by side fate number abort (with_waiting (other side) more p))
 
+-- The same, behind what is lost before it.
+abbrev pub reply_kept : Option Side → Side → Fate → ℕ → Message → ℕ → Progress → Result Progress CheckFault
+reply_kept judged side fate number abort taken p =
+    let before = front_lost judged (other side) p in
+    first_answered side fate number abort taken (seat_at (other side) before).waiting before
+
 -- An Abort with a cause answers the one message that it takes; no message is taken by another.
-abbrev pub message_kept : Table → Side → Fate → ℕ → Message → List ℕ → Progress → Result Progress CheckFault
-message_kept table side fate number (Abort dtid (Some (Cause cause))) (taken ∷ []) p =
-    first_answered side fate number (Abort dtid (Some (Cause cause))) taken (seat_at (other side) p).waiting p
-message_kept table side fate number (Abort dtid (Some (Cause cause))) _ p = refused BadReply number
-message_kept table side fate number message [] p = send_kept table side fate number message p
-message_kept table side fate number message (taken ∷ more) p = refused BadReply number
+abbrev pub message_kept : Option Side → Table → Side → Fate → ℕ → Message → List ℕ → Progress → Result Progress CheckFault
+message_kept judged table side fate number (Abort dtid (Some (Cause cause))) (taken ∷ []) p =
+    reply_kept judged side fate number (Abort dtid (Some (Cause cause))) taken p
+message_kept judged table side fate number (Abort dtid (Some (Cause cause))) _ p = refused BadReply number
+message_kept judged table side fate number message [] p = send_kept table side fate number message p
+message_kept judged table side fate number message (taken ∷ more) p = refused BadReply number
 
 -- ---- a quiet mark
 
@@ -226,8 +285,8 @@ abbrev pub both_quiet : ℕ → Progress → Result End EndFault → Result End 
 both_quiet number p (Ok a) (Ok b) = Ok (moved (with_seat_end sides.B b (with_seat_end sides.A a p)))
 both_quiet number p _ _ = refused NotQuiet number
 
-abbrev pub mark_kept : ℕ → List ℕ → Progress → Result Progress CheckFault
-mark_kept number (taken ∷ more) p = refused NotQuiet number
-mark_kept number [] p = do
+-- Nothing is on its way, and both ends are quiet.
+abbrev pub quiet_kept : ℕ → Progress → Result Progress CheckFault
+quiet_kept number p = do
   needs (is_empty p.a.waiting && is_empty p.b.waiting) (fault_at NotQuiet number)
   both_quiet number p (quiet p.a.end) (quiet p.b.end)

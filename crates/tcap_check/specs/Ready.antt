@@ -3,9 +3,10 @@ use Rattle.std.specs.Prelude.{◌≡◌, ◌≤◌, ◌*◌, ◌^◌, length, Ok
 use Rattle.tcap_check.specs.declared.replaying.Replaying.{Replaying}
 use Rattle.tcap_check.specs.Checking.{Checking, Kept}
 use Rattle.tcap_check.specs.Plan.{IsPlan}
+use Rattle.tcap_check.specs.Progress.{load, unheard_load}
 
 abbrev pub kept_in : Replaying → Kept
-kept_in x = record { hearing = x.hearing; entries = x.entries.items; since = x.since }
+kept_in x = record { progress = x.progress; entries = x.entries.items; since = x.since }
 
 -- what a replay under way stands for
 abbrev pub checking_of : Replaying → Checking
@@ -17,12 +18,11 @@ pub record IsReady (x : Replaying) : Type 0 where
   pub plan : IsPlan x.certificate.now x.plan
   pub count : length x.entries.items ≤ length x.certificate.now.fates
   pub few : length x.certificate.now.fates ≤ 100000
-  pub room : x.hearing.progress.moves ≤ length x.entries.items * 2 ^ 68
-  pub own : x.hearing.own ≤ length x.entries.items
-  pub unheard : x.hearing.unheard ≤ length x.entries.items * 2 ^ 20
+  pub room : load x.progress ≤ length x.entries.items * 2 ^ 68
+  pub unheard : unheard_load x.progress ≤ length x.entries.items
 
--- All but the hearing is the same.
-pub record IsSameBesideHearing (x y : Replaying) : Type 0 where
+-- All but the ends and what is on its way is the same.
+pub record IsSameBesideProgress (x y : Replaying) : Type 0 where
   pub alloc : y.alloc ≡ x.alloc
   pub judged : y.judged ≡ x.judged
   pub table : y.table ≡ x.table
@@ -38,5 +38,5 @@ pub record IsSameBesideEntries (x y : Replaying) : Type 0 where
   pub table : y.table ≡ x.table
   pub certificate : y.certificate ≡ x.certificate
   pub plan : y.plan ≡ x.plan
-  pub hearing : y.hearing ≡ x.hearing
+  pub progress : y.progress ≡ x.progress
   pub since : y.since ≡ x.since

@@ -178,16 +178,16 @@ impl<'a> Checker<'a> {
     }
 
     /// How many messages are kept: those of the entries so far that are delivered, or taken by a reply, behind them; where one end is
-    /// judged, those of its peer. Behind a refusal the number means nothing.
+    /// judged, those of its peer. They are counted anew. Behind a refusal the number means nothing.
     pub fn pending(&self) -> usize
-        ensures kept { (k : Kept) → self.now.so_far ≡ Ok k → result ≡ count_waiting self.now.judged k.hearing.progress }
+        ensures kept { (k : Kept) → self.now.so_far ≡ Ok k → result ≡ count_waiting self.now.judged k.progress }
         ensures ahead { (entries : List (Result Item Why)) → Took self.now entries → IsTrue (is_ok self.now.so_far)
             → self.now.judged ≡ None → result ≡ count_ahead (length entries) self.now.certificate.fates entries }
     {
-        let progress = &self.replaying.hearing.progress;
+        let progress = &self.replaying.progress;
         match self.replaying.judged {
-            None => progress.a.waiting.len() + progress.b.waiting.len(),
-            Some(judged) => progress.seat(judged.other()).waiting.len(),
+            None => progress.a.count_kept() + progress.b.count_kept(),
+            Some(judged) => progress.seat(judged.other()).count_kept(),
         }
     }
 

@@ -13,6 +13,7 @@ mod fault;
 pub mod given;
 mod hearing;
 mod held;
+mod marks;
 mod outline;
 mod plan;
 mod progress;
@@ -21,6 +22,7 @@ pub mod refused;
 mod replaying;
 pub mod replays;
 mod sending;
+mod taking;
 pub mod texts;
 pub mod worked;
 

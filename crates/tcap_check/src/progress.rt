@@ -1,13 +1,15 @@
-//! What a checker keeps of two ends and two channels between them, and the steps of both (Q.774 3.2 and 3.3).
+//! What a checker keeps of two ends and two channels between them, and single steps (Q.774 3.2 and 3.3).
 
-ghost use Rattle.std.specs.Prelude.{◌≡◌, ◌<◌, ◌+◌, ◌^◌, IsSome, OnErr, OnOk, length};
+ghost use Rattle.std.specs.Prelude.{◌≡◌, ◌<◌, ◌+◌, ◌^◌, IsSome, OnErr, OnOk, drop, length};
 ghost use Rattle.tcap_msg.specs.Parts.{otid_in};
 ghost use Rattle.tcap_end.specs.Step.{AnswersInMemory};
 ghost use Rattle.tcap_end.specs.Message.{receive};
 ghost use Rattle.tcap_check.specs.Hearing.{is_judged};
 ghost use Rattle.tcap_check.specs.Replayed.{closings_judged, expiries_judged};
-ghost use Rattle.tcap_check.specs.Progress.{IsTakenFrom, Yields, closing_kept, closings_kept, empty_seat, expiries_kept};
-ghost use Rattle.tcap_check.specs.Progress.{expiry_kept, half_closes, invocation_ends, nothing_kept, seat_at};
+ghost use Rattle.tcap_check.specs.Progress.{HasNoMore, Yields, closing_kept, closings_kept, count_kept, empty_seat};
+ghost use Rattle.tcap_check.specs.Progress.{expiries_kept};
+ghost use Rattle.tcap_check.specs.Progress.{expiry_kept, front_lost, half_closes, invocation_ends, is_first_lost, last_lost};
+ghost use Rattle.tcap_check.specs.Progress.{load, lost_told, nothing_kept, seat_at, unheard_load, with_waiting};
 
 use crate::certificate::{Closing, Expiry};
 use crate::fault::CheckFault;
@@ -19,14 +21,14 @@ use tcap_end::{EndFault, EndState, HalfName, Table};
 use tcap_model::Reason;
 use tcap_record::End;
 
-/// A message on its way that is not lost, with the number of its entry.
+/// A message on its way, with the number of its entry. Of one that will be lost nothing else is kept.
 #[derive(Debug, Drop)]
 pub(crate) struct Waiting<'r> {
     pub(crate) number: u64,
-    pub(crate) message: Held<'r>,
+    pub(crate) message: Option<Held<'r>>,
 }
 
-/// An end, what it sent that is on its way and not lost, and the greatest time of what it sent.
+/// An end, what it sent that is on its way, and the greatest time of what it sent.
 #[derive(Debug, Drop)]
 pub(crate) struct Seat<'r> {
     pub(crate) end: EndState,
@@ -34,12 +36,15 @@ pub(crate) struct Seat<'r> {
     pub(crate) latest: u64,
 }
 
-/// Both ends, and the count of steps so far, with the losses of what is still on its way.
+/// What is kept of a replay: both ends, what is on its way, and what is counted of the steps so far.
 #[derive(Debug, Drop)]
 pub(crate) struct Progress<'r> {
     pub(crate) a: Seat<'r>,
     pub(crate) b: Seat<'r>,
+    // How many steps there are, without the losses of what the end sent that alone is judged.
     pub(crate) moves: u128,
+    // How many messages of its peer were lost.
+    pub(crate) unheard: u64,
 }
 
 impl<'r> Seat<'r> {
@@ -52,6 +57,21 @@ impl<'r> Seat<'r> {
             waiting: LinkedList::new(alloc),
             latest: 0,
         }
+    }
+
+    /// How many messages are on its way that will not be lost.
+    #[tactic(auto, using(crate::proofs::LosingLaws::kept_more, crate::proofs::LosingLaws::lost_more))]
+    pub(crate) fn count_kept(&self) -> usize
+        ensures count { result ≡ count_kept self.now.waiting }
+        ensures few { result < 2 ^ 63 }
+    {
+        let mut lost = 0;
+        for waiting in &self.waiting {
+            if waiting.message.is_none() {
+                lost += 1;
+            }
+        }
+        self.waiting.len() - lost
     }
 }
 
@@ -90,6 +110,17 @@ impl<'r> Progress<'r> {
             a: Seat::new(alloc),
             b: Seat::new(alloc),
             moves: 0,
+            unheard: 0,
+        }
+    }
+
+    /// An end and what it sent.
+    pub(crate) fn seat(&self, side: End) -> &Seat<'r>
+        ensures { result.now ≡ seat_at side self.now }
+    {
+        match side {
+            End::A => &self.a,
+            End::B => &self.b,
         }
     }
 
@@ -225,13 +256,82 @@ impl<'r> Progress<'r> {
         Ok(())
     }
 
-    /// The first message on its way from an end, which is taken from its channel.
-    pub(crate) fn take_first(&mut self, side: End) -> Option<Waiting<'r>>
-        ensures { IsTakenFrom side (seat_at side self.old).waiting self.old result self.new }
+    /// A message that an end sent is lost, which was taken from its channel.
+    pub(crate) fn count_lost(&mut self, judged: Option<End>, side: End)
+        requires room { self.old.moves + 1 < 2 ^ 128 }
+        requires count { self.old.unheard + 1 < 2 ^ 64 }
+        ensures { self.new ≡ lost_told judged side self.old }
     {
-        match side {
+        match judged {
+            None => self.moves += 1,
+            Some(judged) if judged == side => {}
+            Some(_) => {
+                self.moves += 1;
+                self.unheard += 1;
+            }
+        }
+    }
+
+    /// The first message on its way from an end is dropped, if there is one.
+    pub(crate) fn drop_first(&mut self, side: End)
+        ensures left { self.new ≡ with_waiting side (drop 1 (seat_at side self.old).waiting) self.old }
+        ensures moves { self.new.moves ≡ self.old.moves }
+        ensures unheard { self.new.unheard ≡ self.old.unheard }
+    {
+        let _ = match side {
             End::A => self.a.waiting.pop_front(),
             End::B => self.b.waiting.pop_front(),
+        };
+    }
+
+    /// The first message on its way from an end is lost.
+    fn lose_first(&mut self, judged: Option<End>, side: End)
+        requires room { self.old.moves + 1 < 2 ^ 128 }
+        requires count { self.old.unheard + 1 < 2 ^ 64 }
+        ensures { self.new ≡ lost_told judged side (with_waiting side (drop 1 (seat_at side self.old).waiting) self.old) }
+    {
+        self.drop_first(side);
+        self.count_lost(judged, side);
+    }
+
+    /// Whether the first message on its way from an end is one that will be lost.
+    fn is_first_lost(&self, side: End) -> bool
+        ensures { result ≡ is_first_lost (seat_at side self.now).waiting }
+    {
+        match self.seat(side).waiting.front() {
+            Some(first) => first.message.is_none(),
+            None => false,
+        }
+    }
+
+    /// The messages at the front of what is on its way from an end that will be lost are lost.
+    pub(crate) fn lose_front(&mut self, judged: Option<End>, side: End)
+        requires room { load self.old < 2 ^ 128 }
+        requires count { unheard_load self.old < 2 ^ 64 }
+        ensures lost { self.new ≡ front_lost judged side self.old }
+        ensures grows { HasNoMore self.old self.new }
+    {
+        for _ in 0..self.seat(side).waiting.len() {
+            if !self.is_first_lost(side) {
+                return;
+            }
+            self.lose_first(judged, side);
+        }
+    }
+
+    /// What is lost before a quiet mark, or at the end.
+    pub(crate) fn lose_last(&mut self, judged: Option<End>)
+        requires room { load self.old < 2 ^ 128 }
+        requires count { unheard_load self.old < 2 ^ 64 }
+        ensures lost { self.new ≡ last_lost judged self.old }
+        ensures grows { HasNoMore self.old self.new }
+    {
+        match judged {
+            None => {
+                self.lose_front(None, End::A);
+                self.lose_front(None, End::B);
+            }
+            Some(alone) => self.lose_front(judged, alone.other()),
         }
     }
 }

@@ -6,20 +6,20 @@ ghost use Rattle.tcap_model.specs.declared.reason.Reason.{Reason as Why};
 ghost use Rattle.tcap_model.specs.declared.reason.Reason.TheVariants as reasons;
 ghost use Rattle.tcap_model.specs.World.{Item, Sent};
 ghost use Rattle.tcap_check.specs.Outlines.{outline_of};
-ghost use Rattle.tcap_check.specs.Progress.{YieldsInMemory, overtakes, seat_at};
+ghost use Rattle.tcap_check.specs.Progress.{GrewBy, YieldsInMemory, load, overtakes, seat_at, unheard_load};
 ghost use Rattle.tcap_check.specs.Replayed.{certificate_fits, fault_at, is_gap, run_by};
 ghost use Rattle.tcap_check.specs.Checking.{Took, gap_before, is_alone, kept_ended, kept_next, map_ok, reading, reported, tied_now};
 ghost use Rattle.tcap_check.specs.Hearing.{mark_taken, message_taken};
 ghost use Rattle.tcap_check.specs.Plan.{IsPlan, flag_by};
-ghost use Rattle.tcap_check.specs.Ready.{IsReady, IsSameBesideEntries, IsSameBesideHearing, checking_of, kept_in};
+ghost use Rattle.tcap_check.specs.Ready.{IsReady, IsSameBesideEntries, IsSameBesideProgress, checking_of, kept_in};
 
 use crate::certificate::{Certificate, Fate};
 use crate::checker::Report;
 use crate::fault::CheckFault;
-use crate::hearing::{Hearing, told_among};
+use crate::hearing::told_among;
 use crate::outline::Outline;
 use crate::plan::{Plan, check_ranges};
-use crate::progress::OUT_OF_MEMORY;
+use crate::progress::{OUT_OF_MEMORY, Progress};
 use std::alloc::Global;
 use tcap_ber::Fault;
 use tcap_end::Table;
@@ -37,7 +37,7 @@ pub(crate) struct Replaying<'a, 'r> {
     table: &'a Table,
     certificate: &'a Certificate,
     plan: Plan,
-    pub(crate) hearing: Hearing<'r>,
+    pub(crate) progress: Progress<'r>,
     entries: Vec<Outline>,
     since: usize,
 }
@@ -71,7 +71,7 @@ impl<'a, 'r> Replaying<'a, 'r> {
             table,
             certificate,
             plan,
-            hearing: Hearing::new(alloc),
+            progress: Progress::new(alloc),
             entries,
             since: 0,
         })
@@ -107,9 +107,9 @@ impl<'a, 'r> Replaying<'a, 'r> {
 
     /// Whether a message with that fate may come behind what its end sent earlier: what the judged end sends comes to nobody.
     fn is_in_order(&self, side: End, fate: Fate) -> bool
-        ensures { result ≡ is_alone self.now.judged side || not (overtakes fate (seat_at side self.now.hearing.progress)) }
+        ensures { result ≡ is_alone self.now.judged side || not (overtakes fate (seat_at side self.now.progress)) }
     {
-        self.judged == Some(side) || !self.hearing.progress.seat(side).overtakes(fate)
+        self.judged == Some(side) || !self.progress.seat(side).overtakes(fate)
     }
 
     /// The peer's messages that the next entry takes, where that end alone is judged.
@@ -130,13 +130,11 @@ impl<'a, 'r> Replaying<'a, 'r> {
     fn pass_gap(&mut self) -> Result<(), CheckFault>
         requires ready { IsReady self.old }
         ensures passed { YieldsInMemory (gap_before self.old.judged self.old.table.now self.old.certificate.now
-            (kept_in self.old)) result self.new.hearing }
-        ensures grows { OnOk result (self.new.hearing.progress.moves ≤ self.old.hearing.progress.moves + 2 ^ 66) }
-        ensures own { OnOk result (self.new.hearing.own ≡ self.old.hearing.own) }
-        ensures unheard { OnOk result (self.new.hearing.unheard ≤ self.old.hearing.unheard + 100000) }
-        ensures others { IsSameBesideHearing self.old self.new }
+            (kept_in self.old)) result self.new.progress }
+        ensures grows { OnOk result (GrewBy (2 ^ 66) 0 self.old.progress self.new.progress) }
+        ensures others { IsSameBesideProgress self.old self.new }
     {
-        self.hearing.pass_gap(
+        self.progress.pass_gap(
             self.table,
             self.certificate,
             &self.plan,
@@ -183,28 +181,26 @@ impl<'a, 'r> Replaying<'a, 'r> {
         requires plan { IsPlan self.old.certificate.now self.old.plan }
         requires within { length self.old.entries.items ≤ length self.old.certificate.now.fates }
         requires few { length self.old.certificate.now.fates ≤ 100000 }
-        requires room { self.old.hearing.progress.moves < 2 ^ 127 }
-        requires counts { self.old.hearing.own + self.old.hearing.unheard < 2 ^ 63 }
+        requires room { load self.old.progress < 2 ^ 127 }
+        requires count { unheard_load self.old.progress < 2 ^ 63 }
         requires same { IfSome lent (λ lent. lent.now ≡ M.meaning message.now) }
         ensures taken { YieldsInMemory (message_taken self.old.judged self.old.table.now side fate (length self.old.entries.items)
-            (M.meaning message.now) (tied_now self.old.judged self.old.certificate.now (kept_in self.old)) self.old.hearing) result
-            self.new.hearing }
-        ensures grows { OnOk result (self.new.hearing.progress.moves ≤ self.old.hearing.progress.moves + 2 ^ 65) }
-        ensures own { OnOk result (self.new.hearing.own ≤ self.old.hearing.own + 1) }
-        ensures unheard { OnOk result (self.new.hearing.unheard ≤ self.old.hearing.unheard + 1) }
-        ensures others { IsSameBesideHearing self.old self.new }
+            (M.meaning message.now) (tied_now self.old.judged self.old.certificate.now (kept_in self.old)) self.old.progress) result
+            self.new.progress }
+        ensures grows { OnOk result (GrewBy (2 ^ 65) 1 self.old.progress self.new.progress) }
+        ensures others { IsSameBesideProgress self.old self.new }
     {
         let entry = self.entries.len();
         let (alloc, table, number) = (self.alloc, self.table, entry as u64);
         let Some(judged) = self.judged else {
             let takes = self.plan.taken.get(entry);
-            return self.hearing.take_message(
+            return self.progress.take_message(
                 alloc, table, None, side, fate, number, message, lent, takes,
             );
         };
         let tied = self.tied_to(judged)?;
         let judged = Some(judged);
-        self.hearing.take_message(
+        self.progress.take_message(
             alloc, table, judged, side, fate, number, message, lent, &tied,
         )
     }
@@ -252,23 +248,22 @@ impl<'a, 'r> Replaying<'a, 'r> {
         requires plan { IsPlan self.old.certificate.now self.old.plan }
         requires within { length self.old.entries.items ≤ length self.old.certificate.now.fates }
         requires few { length self.old.certificate.now.fates ≤ 100000 }
-        requires room { self.old.hearing.progress.moves < 2 ^ 126 }
+        requires room { load self.old.progress < 2 ^ 126 }
+        requires count { unheard_load self.old.progress < 2 ^ 63 }
         ensures quiet { YieldsInMemory (mark_taken self.old.judged self.old.table.now (length self.old.entries.items)
-            (tied_now self.old.judged self.old.certificate.now (kept_in self.old)) self.old.hearing) result self.new.hearing }
-        ensures grows { OnOk result (self.new.hearing.progress.moves ≤ self.old.hearing.progress.moves + 2 ^ 66) }
-        ensures own { OnOk result (self.new.hearing.own ≡ self.old.hearing.own) }
-        ensures unheard { OnOk result (self.new.hearing.unheard ≡ self.old.hearing.unheard) }
-        ensures others { IsSameBesideHearing self.old self.new }
+            (tied_now self.old.judged self.old.certificate.now (kept_in self.old)) self.old.progress) result self.new.progress }
+        ensures grows { OnOk result (GrewBy (2 ^ 66) 0 self.old.progress self.new.progress) }
+        ensures others { IsSameBesideProgress self.old self.new }
     {
         let entry = self.entries.len();
         let Some(judged) = self.judged else {
             let takes = self.plan.taken.get(entry);
             return self
-                .hearing
+                .progress
                 .take_mark(self.table, None, entry as u64, takes);
         };
         let tied = self.tied_to(judged)?;
-        self.hearing
+        self.progress
             .take_mark(self.table, Some(judged), entry as u64, &tied)
     }
 
@@ -323,16 +318,18 @@ impl<'a, 'r> Replaying<'a, 'r> {
         }
     }
 
-    /// No entry is left: the last gap.
+    /// No entry is left: the last gap, and the loss of what is still on its way.
     fn end(&mut self) -> Result<(), CheckFault>
         requires ready { IsReady self.old }
         ensures { YieldsInMemory (kept_ended self.old.judged self.old.table.now self.old.certificate.now (kept_in self.old)) result
-            self.new.hearing }
+            self.new.progress }
     {
         if self.entries.len() != self.certificate.fates().len() {
             return Err(self.refusal(Reason::FateCount));
         }
-        self.pass_gap()
+        self.pass_gap()?;
+        self.progress.lose_last(self.judged);
+        Ok(())
     }
 
     /// No entry is left: the last gap, and what is said of the run.
@@ -344,7 +341,10 @@ impl<'a, 'r> Replaying<'a, 'r> {
     {
         let mut replaying = self;
         match replaying.end() {
-            Ok(()) => Ok(replaying.hearing.report()),
+            Ok(()) => Ok(Report {
+                moves: replaying.progress.moves,
+                unheard: replaying.progress.unheard,
+            }),
             Err(fault) => Err(fault),
         }
     }

@@ -1,4 +1,4 @@
-//! What a checker does where an end sends a message, its provider answers one, or all is quiet (Q.774 3.2 and 3.3).
+//! What a checker does where an end sends a message, or its provider answers one (Q.774 3.2 and 3.3).
 
 ghost use Rattle.std.specs.Prelude.{◌≡◌, ◌<◌, ◌≤◌, ◌+◌, ◌^◌, length, filter_map, IfSome, OnErr, OnOk};
 ghost use Rattle.tcap_parts.specs.Meaning.{component_of};
@@ -6,11 +6,10 @@ ghost use Rattle.tcap_msg.specs.Parts.{components_in};
 ghost use Rattle.tcap_end.specs.Step.{AnswersInMemory};
 ghost use Rattle.tcap_end.specs.Message.{send};
 ghost use Rattle.tcap_record.specs.Ends.{other};
-ghost use Rattle.tcap_model.specs.Run.{may_refuse};
 ghost use Rattle.tcap_check.specs.Follows.{invoke_id, invoking_half};
-ghost use Rattle.tcap_check.specs.Progress.{YieldsInMemory, Yields, end_tried, first_answered};
-ghost use Rattle.tcap_check.specs.Progress.{first_may_be_answered, ids_ended_over, invoked_ended};
-ghost use Rattle.tcap_check.specs.Progress.{mark_kept, message_kept, overtakes, seat_at, seat_with, send_kept, sent_by, time_or_zero, with_seat_end};
+ghost use Rattle.tcap_check.specs.Progress.{GrewBy, IsAsMany, YieldsInMemory, end_tried, first_answered, first_may_be_answered, ids_ended_over};
+ghost use Rattle.tcap_check.specs.Progress.{invoked_ended, load, may_be_answered, message_kept, overtakes, reply_kept, seat_at, seat_with};
+ghost use Rattle.tcap_check.specs.Progress.{send_kept, sent_by, time_or_zero, unheard_load, with_seat_end};
 
 use crate::certificate::Fate;
 use crate::fault::CheckFault;
@@ -48,11 +47,14 @@ fn invoking_half<M: MessageParts>(message: &M) -> Option<HalfName>
     }
 }
 
-/// Whether the provider of an end may answer a message by this Abort.
+/// Whether the provider of an end may answer a message by this Abort. One that will be lost it may not.
 fn may_refuse<A: MessageParts>(seat: &Seat, first: &Waiting, abort: &A) -> bool
-    ensures { result ≡ may_refuse seat.now.end first.now.message (A.meaning abort.now) }
+    ensures { result ≡ may_be_answered seat.now.end first.now.message (A.meaning abort.now) }
 {
-    let first = first.message.view();
+    let Some(first) = &first.message else {
+        return false;
+    };
+    let first = first.view();
     seat.end.refuse_begin(&first, abort).is_ok() || seat.end.refuse_continue(&first, abort).is_ok()
 }
 
@@ -67,7 +69,7 @@ impl<'r> Seat<'r> {
         }
     }
 
-    /// A message that the end sends is on its way, unless it is lost.
+    /// A message that the end sends is on its way. Of one that will be lost its number alone is kept.
     fn join<M: MessageParts>(
         &mut self,
         alloc: Global,
@@ -79,10 +81,11 @@ impl<'r> Seat<'r> {
         requires same { IfSome lent (λ lent. lent.now ≡ M.meaning message.now) }
         ensures { OnOk result (self.new ≡ seat_with fate number (M.meaning message.now) self.old) }
     {
-        if !matches!(fate, Fate::Lost) {
-            let message = Held::new(alloc, message, lent)?;
-            self.waiting.push_back(Waiting { number, message })?;
-        }
+        let message = match fate {
+            Fate::Lost => None,
+            _ => Some(Held::new(alloc, message, lent)?),
+        };
+        self.waiting.push_back(Waiting { number, message })?;
         let time = time_or_zero(fate);
         if self.latest < time {
             self.latest = time;
@@ -92,17 +95,7 @@ impl<'r> Seat<'r> {
 }
 
 impl<'r> Progress<'r> {
-    /// An end and what it sent.
-    pub(crate) fn seat(&self, side: End) -> &Seat<'r>
-        ensures { result.now ≡ seat_at side self.now }
-    {
-        match side {
-            End::A => &self.a,
-            End::B => &self.b,
-        }
-    }
-
-    /// A message was sent, a loss was counted where it is lost.
+    /// A message was sent.
     pub(crate) fn join<M: MessageParts>(
         &mut self,
         alloc: Global,
@@ -112,18 +105,16 @@ impl<'r> Progress<'r> {
         message: &M,
         lent: Option<&'r Message>,
     ) -> Result<(), AllocError>
-        requires room { self.old.moves + 2 < 2 ^ 128 }
+        requires room { self.old.moves + 1 < 2 ^ 128 }
         requires same { IfSome lent (λ lent. lent.now ≡ M.meaning message.now) }
-        ensures { OnOk result (self.new ≡ sent_by side fate number (M.meaning message.now) self.old) }
+        ensures sent { OnOk result (self.new ≡ sent_by side fate number (M.meaning message.now) self.old) }
+        ensures grows { OnOk result (GrewBy 2 1 self.old self.new) }
     {
         match side {
             End::A => self.a.join(alloc, fate, number, message, lent)?,
             End::B => self.b.join(alloc, fate, number, message, lent)?,
         }
-        self.moves += match fate {
-            Fate::Lost => 2,
-            _ => 1,
-        };
+        self.moves += 1;
         Ok(())
     }
 
@@ -167,6 +158,7 @@ impl<'r> Progress<'r> {
         ensures ended { self.new ≡ ids_ended_over table.now side (invoking_half (M.meaning message.now))
             (filter_map invoke_id (components_in (M.meaning message.now))) self.old }
         ensures grows { self.new.moves ≤ self.old.moves + length (components_in (M.meaning message.now)) }
+        ensures still { IsAsMany self.old self.new }
     {
         for component in message.components() {
             self.end_invoked(table, side, message, component);
@@ -185,6 +177,7 @@ impl<'r> Progress<'r> {
         ensures rest { self.new ≡ with_seat_end side (seat_at side self.new).end self.old }
         ensures kept { OnErr result (self.new ≡ self.old) }
         ensures stays { self.new.moves ≡ self.old.moves }
+        ensures still { IsAsMany self.old self.new }
     {
         match side {
             End::A => self.a.end.send(table, message),
@@ -209,7 +202,7 @@ impl<'r> Progress<'r> {
         requires same { IfSome lent (λ lent. lent.now ≡ M.meaning message.now) }
         ensures sent { YieldsInMemory (send_kept table.now side fate number (M.meaning message.now) self.old) result
             self.new }
-        ensures grows { OnOk result (self.new.moves ≤ self.old.moves + 2 ^ 65) }
+        ensures grows { OnOk result (GrewBy (2 ^ 65) 1 self.old self.new) }
     {
         match self.send_as_is(table, side, message) {
             Ok(()) => self
@@ -235,7 +228,7 @@ impl<'r> Progress<'r> {
         requires same { IfSome lent (λ lent. lent.now ≡ M.meaning message.now) }
         ensures sent { YieldsInMemory (send_kept table.now side fate number (M.meaning message.now) self.old) result
             self.new }
-        ensures grows { OnOk result (self.new.moves ≤ self.old.moves + 2 ^ 65) }
+        ensures grows { OnOk result (GrewBy (2 ^ 65) 1 self.old self.new) }
     {
         if message.count() > 0 {
             self.end_implied(table, side, message);
@@ -272,7 +265,7 @@ impl<'r> Progress<'r> {
 
     /// The provider of an end answers the first message on its way to it, which has to be that of the number.
     #[tactic(auto, using(crate::proofs::SendingLaws::answered, crate::proofs::SendingLaws::not_answered))]
-    fn answer<A: MessageParts>(
+    fn answer_first<A: MessageParts>(
         &mut self,
         alloc: Global,
         side: End,
@@ -286,7 +279,6 @@ impl<'r> Progress<'r> {
         requires same { IfSome lent (λ lent. lent.now ≡ A.meaning abort.now) }
         ensures answered { YieldsInMemory (first_answered side fate number (A.meaning abort.now) taken
             (seat_at (other side) self.old).waiting self.old) result self.new }
-        ensures grows { OnOk result (self.new.moves ≤ self.old.moves + 2 ^ 65) }
     {
         if !self.may_answer(side, abort, taken) {
             return Err(CheckFault {
@@ -294,17 +286,40 @@ impl<'r> Progress<'r> {
                 entry: number,
             });
         }
-        self.take_first(side.other());
+        self.drop_first(side.other());
         self.join(alloc, side, fate, number, abort, lent)
             .map_err(|_| OUT_OF_MEMORY)
     }
 
+    /// The same, behind what is lost before it.
+    fn answer<A: MessageParts>(
+        &mut self,
+        alloc: Global,
+        judged: Option<End>,
+        side: End,
+        fate: Fate,
+        number: u64,
+        abort: &A,
+        lent: Option<&'r Message>,
+        taken: u32,
+    ) -> Result<(), CheckFault>
+        requires room { load self.old < 2 ^ 127 }
+        requires count { unheard_load self.old < 2 ^ 63 }
+        requires same { IfSome lent (λ lent. lent.now ≡ A.meaning abort.now) }
+        ensures answered { YieldsInMemory (reply_kept judged side fate number (A.meaning abort.now) taken self.old) result self.new }
+        ensures grows { OnOk result (GrewBy 2 1 self.old self.new) }
+    {
+        self.lose_front(judged, side.other());
+        self.answer_first(alloc, side, fate, number, abort, lent, taken)
+    }
+
     /// A message with that number and fate, which takes these messages: the provider's answer to one, where it is an
     /// Abort with a cause; else one that the end sends, which takes none. It is lent, where it outlives the replay.
-    pub(crate) fn take_message<M: MessageParts>(
+    pub(crate) fn send_or_answer<M: MessageParts>(
         &mut self,
         alloc: Global,
         table: &Table,
+        judged: Option<End>,
         side: End,
         fate: Fate,
         number: u64,
@@ -312,36 +327,22 @@ impl<'r> Progress<'r> {
         lent: Option<&'r Message>,
         taken: &[u32],
     ) -> Result<(), CheckFault>
-        requires room { self.old.moves < 2 ^ 127 }
+        requires room { load self.old < 2 ^ 127 }
+        requires count { unheard_load self.old < 2 ^ 63 }
         requires same { IfSome lent (λ lent. lent.now ≡ M.meaning message.now) }
-        ensures taken { YieldsInMemory (message_kept table.now side fate number (M.meaning message.now) taken.now self.old)
+        ensures taken { YieldsInMemory (message_kept judged table.now side fate number (M.meaning message.now) taken.now self.old)
             result self.new }
-        ensures grows { OnOk result (self.new.moves ≤ self.old.moves + 2 ^ 65) }
+        ensures grows { OnOk result (GrewBy (2 ^ 65) 1 self.old self.new) }
     {
         match (message.cause(), taken) {
-            (Some(_), [taken]) => { self.answer(alloc, side, fate, number, message, lent, *taken) }
+            (Some(_), [taken]) => {
+                self.answer(alloc, judged, side, fate, number, message, lent, *taken)
+            }
             (None, []) => self.send(alloc, table, side, fate, number, message, lent),
             _ => Err(CheckFault {
                 reason: Reason::BadReply,
                 entry: number,
             }),
         }
-    }
-
-    /// A quiet mark, which takes these messages: it takes none, nothing is on its way, and both ends are quiet.
-    pub(crate) fn take_mark(&mut self, number: u64, taken: &[u32]) -> Result<(), CheckFault>
-        requires room { self.old.moves < 2 ^ 127 }
-        ensures taken { Yields (mark_kept number taken.now self.old) result self.new }
-        ensures grows { OnOk result (self.new.moves ≤ self.old.moves + 2 ^ 65) }
-    {
-        let nothing = taken.is_empty() && self.a.waiting.is_empty() && self.b.waiting.is_empty();
-        if !nothing || self.a.end.quiet().is_err() || self.b.end.quiet().is_err() {
-            return Err(CheckFault {
-                reason: Reason::NotQuiet,
-                entry: number,
-            });
-        }
-        self.moves += 1;
-        Ok(())
     }
 }

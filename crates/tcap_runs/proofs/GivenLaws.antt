@@ -218,21 +218,21 @@ module _ (table : Table) (c : Certificate) (all : List Entry) (rest : List (Resu
 -- Whether a message comes before what its end sent earlier is told by the greatest time.
 comes_is : (c : Certificate) (side : Side) (fate : Fate) (r : Replay)
     → comes_before fate (latest_of side c.fates r.world.sent) ≡ is_overtaking side fate c.fates r.world.sent
-comes_is c sides.A (Gap g) r = overtakes_is c sides.A (Gap g) r
-comes_is c sides.A (By k) r = overtakes_is c sides.A (By k) r
-comes_is c sides.A Lost r = overtakes_is c sides.A Lost r
-comes_is c sides.B (Gap g) r = overtakes_is c sides.B (Gap g) r
-comes_is c sides.B (By k) r = overtakes_is c sides.B (By k) r
-comes_is c sides.B Lost r = overtakes_is c sides.B Lost r
+comes_is c sides.A (Gap g) r = overtakes_is None c sides.A (Gap g) r refl
+comes_is c sides.A (By k) r = overtakes_is None c sides.A (By k) r refl
+comes_is c sides.A Lost r = overtakes_is None c sides.A Lost r refl
+comes_is c sides.B (Gap g) r = overtakes_is None c sides.B (Gap g) r refl
+comes_is c sides.B (By k) r = overtakes_is None c sides.B (By k) r refl
+comes_is c sides.B Lost r = overtakes_is None c sides.B Lost r refl
 
 -- The greatest times behind an entry are those of what was sent, with it.
 times_are : (c : Certificate) (side : Side) (fate : Fate) (item : Item) (r : Replay) → slice_get c.fates (next_entry r) ≡ Some fate
     → time_behind side (Some fate) (Ok item) (latest_of side c.fates r.world.sent)
     ≡ latest_of side c.fates (r.world.sent ++ item ∷ [])
-times_are c sides.A fate (Sent sides.A m) r has = sym (ap (λ (p : Progress). p.a.latest) (joined_is c sides.A Event.Quiet m fate r has))
-times_are c sides.B fate (Sent sides.A m) r has = sym (ap (λ (p : Progress). p.b.latest) (joined_is c sides.A Event.Quiet m fate r has))
-times_are c sides.A fate (Sent sides.B m) r has = sym (ap (λ (p : Progress). p.a.latest) (joined_is c sides.B Event.Quiet m fate r has))
-times_are c sides.B fate (Sent sides.B m) r has = sym (ap (λ (p : Progress). p.b.latest) (joined_is c sides.B Event.Quiet m fate r has))
+times_are c sides.A fate (Sent sides.A m) r has = sym (ap (λ (p : Progress). p.a.latest) (joined_is None c sides.A Event.Quiet m fate r (λ at. refl) has))
+times_are c sides.B fate (Sent sides.A m) r has = sym (ap (λ (p : Progress). p.b.latest) (joined_is None c sides.A Event.Quiet m fate r (λ at. refl) has))
+times_are c sides.A fate (Sent sides.B m) r has = sym (ap (λ (p : Progress). p.a.latest) (joined_is None c sides.B Event.Quiet m fate r (λ at. refl) has))
+times_are c sides.B fate (Sent sides.B m) r has = sym (ap (λ (p : Progress). p.b.latest) (joined_is None c sides.B Event.Quiet m fate r (λ at. refl) has))
 times_are c side fate Item.Quiet r has = sym (latest_with_mark side c.fates r.world.sent)
 
 item_given : (table : Table) (c : Certificate) (all : List Entry) (rest : List (Result Item Reason)) (since : ℕ) (r next : Replay)

@@ -27,4 +27,5 @@ returns g c =
     record {
       ended = ends_none c.loop-component.invariant c.in-None.ensures.steps.0;
       grows = omega (arith, left, c.loop-component.invariant.room);
+      still = c.loop-component.invariant.still;
     }

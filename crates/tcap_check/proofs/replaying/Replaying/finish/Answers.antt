@@ -7,7 +7,7 @@ use Rattle.tcap_check.proofs.replaying.Replaying.finish.Goals as goal
 
 pub returns-in-Ok : goal.returns-in-Ok
 returns-in-Ok c = λ entries took other.
-    let r = c.args.self in rw c.report.ensures (finished_ok r.judged r.table.now r.certificate.now (kept_in r) c.end.new.self.hearing c.in-Ok.ensures entries took)
+    let r = c.args.self in (finished_ok r.judged r.table.now r.certificate.now (kept_in r) c.end.new.self.progress c.in-Ok.ensures entries took)
 
 pub returns : goal.returns
 returns c = λ entries took other.

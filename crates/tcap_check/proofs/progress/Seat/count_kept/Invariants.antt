@@ -1,0 +1,10 @@
+-- So many of those so far are lost; the others are not.
+use Rattle.std.proofs.Common.{◌≡◌, ◌+◌, length, map}
+use Rattle.tcap_check.specs.Progress.{count_kept}
+use Rattle.tcap_check.proofs.progress.Seat.count_kept.Given as goal
+
+abbrev pub invariant-loop-waiting : goal.invariant-loop-waiting
+invariant-loop-waiting l =
+    (goal.iterator-loop-waiting).can_next l.waiting-iterator ×
+    (goal.iterator-loop-waiting).is_finite l.waiting-iterator ×
+    (l.lost + count_kept (map (λ w. w.now) l.yielded) ≡ length l.yielded)

@@ -1,0 +1,108 @@
+//! What a checker does with a message: an end that is judged sends it, or its provider, or its peer tells it (Q.774 3.2 and 3.3).
+
+ghost use Rattle.std.specs.Prelude.{◌≡◌, ◌<◌, ◌^◌, IfSome, OnOk};
+ghost use Rattle.tcap_check.specs.Hearing.{message_taken, own_taken, told_taken};
+ghost use Rattle.tcap_check.specs.Progress.{GrewBy, YieldsInMemory, load, unheard_load};
+
+use crate::certificate::Fate;
+use crate::fault::CheckFault;
+use crate::progress::{OUT_OF_MEMORY, Progress, is_judged};
+use std::alloc::Global;
+use tcap_end::Table;
+use tcap_model::Reason;
+use tcap_msg::{Message, MessageParts};
+use tcap_record::End;
+
+impl<'r> Progress<'r> {
+    /// A message with that number and fate that an end sends which is judged, or by which its provider answers the message that it
+    /// takes. Where that end alone is judged it is lost at once, whatever its fate.
+    fn take_own<M: MessageParts>(
+        &mut self,
+        alloc: Global,
+        table: &Table,
+        judged: Option<End>,
+        side: End,
+        fate: Fate,
+        number: u64,
+        message: &M,
+        lent: Option<&'r Message>,
+        takes: &[u32],
+    ) -> Result<(), CheckFault>
+        requires room { load self.old < 2 ^ 127 }
+        requires count { unheard_load self.old < 2 ^ 63 }
+        requires same { IfSome lent (λ lent. lent.now ≡ M.meaning message.now) }
+        ensures taken { YieldsInMemory (own_taken judged table.now side fate number (M.meaning message.now) takes.now self.old)
+            result self.new }
+        ensures grows { OnOk result (GrewBy (2 ^ 65) 1 self.old self.new) }
+    {
+        let Some(alone) = judged else {
+            return self.send_or_answer(
+                alloc, table, judged, side, fate, number, message, lent, takes,
+            );
+        };
+        let fate = Fate::Lost;
+        let sent = self.send_or_answer(
+            alloc, table, judged, side, fate, number, message, None, takes,
+        );
+        sent?;
+        self.lose_front(judged, alone);
+        Ok(())
+    }
+
+    /// A message with that number and fate that the peer of the judged end tells. It takes no message. It is lent, where it outlives
+    /// the replay.
+    fn take_told<M: MessageParts>(
+        &mut self,
+        alloc: Global,
+        side: End,
+        fate: Fate,
+        number: u64,
+        message: &M,
+        lent: Option<&'r Message>,
+        takes: &[u32],
+    ) -> Result<(), CheckFault>
+        requires room { self.old.moves < 2 ^ 127 }
+        requires same { IfSome lent (λ lent. lent.now ≡ M.meaning message.now) }
+        ensures taken { YieldsInMemory (told_taken side fate number (M.meaning message.now) takes.now self.old) result self.new }
+        ensures grows { OnOk result (GrewBy (2 ^ 65) 1 self.old self.new) }
+    {
+        if !takes.is_empty() {
+            return Err(CheckFault {
+                reason: Reason::BadReply,
+                entry: number,
+            });
+        }
+        self.join(alloc, side, fate, number, message, lent)
+            .map_err(|_| OUT_OF_MEMORY)
+    }
+
+    /// A message with that number and fate, which takes these: an end sends it, or the peer of the one that is judged tells it. It is
+    /// lent, where it outlives the replay.
+    pub(crate) fn take_message<M: MessageParts>(
+        &mut self,
+        alloc: Global,
+        table: &Table,
+        judged: Option<End>,
+        side: End,
+        fate: Fate,
+        number: u64,
+        message: &M,
+        lent: Option<&'r Message>,
+        takes: &[u32],
+    ) -> Result<(), CheckFault>
+        requires room { load self.old < 2 ^ 127 }
+        requires count { unheard_load self.old < 2 ^ 63 }
+        requires same { IfSome lent (λ lent. lent.now ≡ M.meaning message.now) }
+        ensures taken { YieldsInMemory (message_taken judged table.now side fate number (M.meaning message.now) takes.now self.old)
+            result self.new }
+        ensures grows { OnOk result (GrewBy (2 ^ 65) 1 self.old self.new) }
+    {
+        if is_judged(judged, side) {
+            self.take_own(
+                alloc, table, judged, side, fate, number, message, lent, takes,
+            )
+        } else {
+            self.take_told(alloc, side, fate, number, message, lent, takes)
+        }
+    }
+}
