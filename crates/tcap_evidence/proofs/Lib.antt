@@ -21,10 +21,13 @@ pub mod AnswerShows
 pub mod RejectShows
 pub mod ListedLaws
 pub mod GroundLaws
+pub mod GivenLaws
+pub mod InvocationLaws
 pub mod StretchLaws
 pub mod PairingLaws
 pub mod EntryPlaces
 pub mod PairedLaws
+pub mod PairedEntries
 pub mod ListingLaws
 pub mod MarkLaws
 pub mod SceneLaws

@@ -8,7 +8,7 @@ use Rattle.tcap_parts.specs.declared.component.Component.{Component}
 use Rattle.tcap_parts.specs.declared.component.Component.TheVariants.{Invoke, ReturnResult, ReturnError, Reject}
 use Rattle.tcap_msg.specs.declared.message.Message.{Message}
 use Rattle.tcap_msg.specs.declared.message.Message.TheVariants.{Unidirectional, Begin, Continue, End as EndMessage, Abort}
-use Rattle.tcap_msg.specs.Parts.{components_in, dtid_in}
+use Rattle.tcap_msg.specs.Parts.{components_in, dtid_in, otid_in}
 use Rattle.tcap_record.specs.declared.entry.End.{End as Side}
 use Rattle.tcap_record.specs.declared.entry.Entry.{Entry}
 use Rattle.tcap_end.specs.Class.{of_class, reports, reports_neither}
@@ -143,12 +143,13 @@ module _ (s : Scene) (there_is : List Component) where
       )
   forbidden_is (Reject id problem) counts is = cc
 
-not_4_is : (s : Scene) → s.to ≡ None → (c : Component) → is_not_of_class_4 s.table c ≡ true → ShowsWrongOperation s (Some c)
-not_4_is s to (Invoke id linked code parameter) is =
-    inr (to, not-true (of_class reports_neither (class_of s.table code)) is)
-not_4_is s to (ReturnResult last id body) is = cc
-not_4_is s to (ReturnError id code parameter) is = cc
-not_4_is s to (Reject id problem) is = cc
+not_4_is : (s : Scene) → s.to ≡ None → s.from ≡ None → (c : Component) → is_not_of_class_4 s.table c ≡ true
+    → ShowsWrongOperation s (Some c)
+not_4_is s to from (Invoke id linked code parameter) is =
+    inr (to, from, not-true (of_class reports_neither (class_of s.table code)) is)
+not_4_is s to from (ReturnResult last id body) is = cc
+not_4_is s to from (ReturnError id code parameter) is = cc
+not_4_is s to from (Reject id problem) is = cc
 
 -- A message has it where one of its components has.
 wrong_of : (table : Table) (side : Side) (items : List Item) (m : Message) → is_wrong_operation table side items m ≡ true
@@ -206,7 +207,8 @@ module _ (of_one : Bool) (table : Table) (side : Side) (entries : List Entry) (n
 
   wrong_in : (x : Message) → x ≡ m → (c : Component) → scene.id ≡ invoke_id_of kinds.WrongOperation c
       → is_wrong_in table side before x c ≡ true → ShowsWrongOperation scene (Some c)
-  wrong_in (Unidirectional dialogue components) same c id is = not_4_is scene (ap dtid_in (sym same)) c is
+  wrong_in (Unidirectional dialogue components) same c id is =
+      not_4_is scene (ap dtid_in (sym same)) (ap otid_in (sym same)) c is
   wrong_in (Begin otid dialogue components) same c id is =
       by (or_cases (is_unknown_operation table c) false is)
     where

@@ -1,5 +1,5 @@
 -- What the lists of entries say where a component answers what was never sent, is of a wrong operation, or is not allowed by the
--- half over which it goes: of F5, F6 and F10 to F13 (Q.774 3.2, Q.771 3.1.2).
+-- half over which it goes: of F5, F6 and F10 to F13 (Q.774 3.2, Q.771 3.1).
 use Rattle.std.specs.Prelude.{◌≡◌, ◌⊎◌, ◌<◌, ◌≤◌, ◌+◌, ⊤, ℕ, ℤ, Bool, true, false, List, [], ◌++◌, filter, length, map, Option, Some, None, ◌==◌, ◌&&◌, not}
 use Rattle.std.specs.List.{list_any}
 use Rattle.tcap_parts.specs.declared.code.Code.{Code}
@@ -80,11 +80,12 @@ NoneAllowsResult s None =
 NoneAllowsResult s (Some body) =
     entries_so s (operates (λ code. class_reports s.table true code && is_code body.code code)) (there s) ≡ []
 
--- Of an Invoke the lists say nothing: the table lacks its operation, or it is not of class 4 in a Unidirectional.
+-- Of an Invoke the lists say nothing: the table lacks its operation, or it is not of class 4 in a Unidirectional, which has neither ID.
 abbrev pub ShowsWrongOperation : Scene → Option Component → Type 0
 ShowsWrongOperation s None = ⊥
 ShowsWrongOperation s (Some (Invoke id linked code parameter)) =
-    (operation_of s.table code ≡ None) ⊎ (s.to ≡ None) × (of_class reports_neither (class_of s.table code) ≡ false)
+    (operation_of s.table code ≡ None)
+    ⊎ (s.to ≡ None) × (s.from ≡ None) × (of_class reports_neither (class_of s.table code) ≡ false)
 ShowsWrongOperation s (Some (ReturnResult last id body)) = NoneAllowsResult s body
 ShowsWrongOperation s (Some (ReturnError id code parameter)) =
     ListsNone s (whats.There (sorts.Invokes One)) × ListsNone s (whats.There (sorts.Invokes Two))
@@ -109,8 +110,8 @@ MoreLast s =
     < many s (whats.Invoked (sorts.Lasting One)) + many s (whats.Invoked (sorts.Lasting Three)))
     ⊎ (ends_heard s + many s (whats.Heard sorts.NotLasts) < many s (whats.Invoked (sorts.Lasting Any)))
 
--- Of an Invoke: that; or the message has two of the ID, so its entry stands twice in that list. Where it has no destination ID: one
--- stands before the Invoke.
+-- Of an Invoke in a message with destination ID: `MoreLast`; or the message has two Invokes of the ID, so that its entry stands twice in
+-- the list of `Whole`. Of one in a message without: an Invoke of the ID stands before it in the message.
 abbrev pub ShowsBusy : Scene → Option (List ℕ) → Option Component → Type 0
 ShowsBusy s None (Some (Invoke id linked code parameter)) = ListsOne s (whats.Before (sorts.Invokes Any))
 ShowsBusy s (Some to) (Some (Invoke id linked code parameter)) =

@@ -12,3 +12,4 @@ pub mod Unblamed
 pub mod Shown
 pub mod HalvesShown
 pub mod ComponentsShown
+pub mod Given

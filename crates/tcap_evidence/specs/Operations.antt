@@ -1,5 +1,5 @@
 -- The invocations whose operations and links a fault rests on: the Invokes of the invoke ID that is asked about, in the messages that
--- the kind compares (Q.771 3.1.2, Q.774 3.2).
+-- the kind compares (Q.771 3.1, Q.774 3.2).
 use Rattle.std.specs.Prelude.{ℕ, ℤ, Bool, true, false, List, [], ◌∷◌, slice_get, map, Option, Some, None, Result, Ok, cond}
 use Rattle.std.specs.List.{flat_map}
 use Rattle.tcap_parts.specs.declared.component.Component.{Component}

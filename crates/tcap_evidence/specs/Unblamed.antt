@@ -40,7 +40,7 @@ abbrev pub tangled_text : TangledId → List ℕ
 tangled_text t =
     codes "  nobody is blamed for it: transaction ID " ++ encode_lower t.id ++ codes " of " ++ letter t.side ++ tangle_words t.why
 
--- and the entries that show it
+-- and the entries that begin it, and those in which it stands with IDs of the other end
 abbrev pub tangled_line : List Entry → ℕ → TangledId → List ℕ
 tangled_line entries number t =
     tangled_text t ++ entries_words (paired_before t.side t.id entries number) ++ line_end

@@ -48,7 +48,8 @@ pub struct Evidence {
     pub id: Option<i8>,
     /// What shows it.
     pub grounds: Vec<Ground>,
-    /// The Invokes of that ID whose operations and links it rests on.
+    /// The Invokes of that ID, in messages before this one, whose operations and links F6 of an answer, F10, F11 and F12 compare, and F13 may
+    /// compare: by its problem it compares them or not.
     pub invocations: Vec<Invocation>,
 }
 

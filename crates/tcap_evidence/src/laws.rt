@@ -1,7 +1,7 @@
 //! What it says that entries show a fault. Each function says by its contract alone what holds of the definitions: of the lists of
 //! entries, of the record, and of what the kinds of faults compare.
 
-ghost use Rattle.std.specs.Prelude.{◌≡◌, ◌≢◌, ℕ, ℤ, Bool, true, false, List, Contains, Some, Ok, map, slice_get};
+ghost use Rattle.std.specs.Prelude.{◌≡◌, ◌≢◌, ◌⊎◌, ℕ, ℤ, Bool, true, false, List, [], ◌∷◌, Contains, Some, None, Ok, map, slice_get};
 ghost use Rattle.tcap_parts.specs.declared.component.Component.{Component};
 ghost use Rattle.tcap_msg.specs.declared.message.Message.{Message};
 ghost use Rattle.tcap_msg.specs.Parts.{cause_in, dtid_in};
@@ -20,14 +20,18 @@ ghost use Rattle.tcap_faults.specs.Fault.{is_fault, is_open_at_mark};
 ghost use Rattle.tcap_faults.specs.HalfOf.{half_of};
 ghost use Rattle.tcap_faults.specs.Tallied.{is_sort};
 ghost use Rattle.tcap_faults.specs.Told.{begins_from};
+ghost use Rattle.tcap_evidence.specs.declared.operations.Invocation.{Invocation};
 ghost use Rattle.tcap_evidence.specs.declared.what.What.{What};
 ghost use Rattle.tcap_evidence.specs.declared.what.What.TheVariants as whats;
 ghost use Rattle.tcap_evidence.specs.ComponentsShown.{ShowsAnswered, ShowsBadLink, ShowsBusy, ShowsRejected, ShowsUnasked, ShowsWrongOperation};
 ghost use Rattle.tcap_evidence.specs.Evidence.{grounds_of, mark_scene, scene_of};
+ghost use Rattle.tcap_evidence.specs.Given.{AreGiven, IsInvoke, invokes_listed, spoken_of};
 ghost use Rattle.tcap_evidence.specs.HalvesShown.{ShowsMisplaced, ShowsWrongDialogue, ShowsWrongHalf, ShowsWrongReply};
+ghost use Rattle.tcap_evidence.specs.Operations.{invocations_at};
 ghost use Rattle.tcap_evidence.specs.Pairing.{paired_before, partner_in};
 ghost use Rattle.tcap_evidence.specs.Scene.{shown};
 ghost use Rattle.tcap_evidence.specs.Shown.{AreAllThere, AreCounted, HasKind, IsPaired, IsSentBefore, IsShown, ListsOne, ShowsReused, ShowsUnknown, SortsAre, component_with, has_kind_by, is_of_component, is_heard_or_invoked, items_before, scene_at};
+ghost use Rattle.tcap_evidence.specs.Words.{sender_of};
 
 /// The entries that are given as grounds are those which `shown` lists: of a message, with the half and the component that have the
 /// kind; of a quiet mark, with what was sent before it.
@@ -113,15 +117,54 @@ pub fn kinds_show()
         → ListsOne (mark_scene table side entries number) whats.Open }
 {}
 
-/// Of a transaction ID of an end, and the other end's with which it stands, each Begin from it is listed; and for each Continue in which
-/// it stands with an ID, from it or to it, one that the same end sent, no later and with no Begin from it between, in which it stands
-/// with that. So where an ID is tangled the entries that are listed show it.
+/// Of a transaction ID of an end each Begin from it is listed; and for each Continue from it or to it, in which it stands with an ID of the
+/// other end, one that the same end sent, no later and with no Begin from it between, in which it stands with the same ID. Each entry that
+/// is listed is such a Begin, or such a Continue. So the listed entries tell how often the ID was begun, and with which IDs it stands; what
+/// the other end began, or used, they don't tell.
 pub fn pairs_are_listed()
     ensures begins { (of : Side) (id : List ℕ) (entries : List Entry) (number n : ℕ) (m : Message)
         → IsSentBefore entries number of n m → begins_from id m ≡ true → Contains (paired_before of id entries number) n }
     ensures continues { (of sender : Side) (id partner : List ℕ) (entries : List Entry) (number n : ℕ) (m : Message)
         → IsSentBefore entries number sender n m → partner_in of id sender m ≡ Some partner
         → IsPaired of id entries number sender partner n }
+    ensures listed { (of : Side) (id : List ℕ) (entries : List Entry) (number n : ℕ)
+        → Contains (paired_before of id entries number) n → (sender : Side) × (m : Message) × IsSentBefore entries number sender n m
+        × ((sender ≡ of) × (begins_from id m ≡ true) ⊎ (partner : List ℕ) × (partner_in of id sender m ≡ Some partner)) }
+{}
+
+/// Each list is given of which `kinds_show`, `halves_show` and `components_show` speak, for a message, its kind, its half and its component;
+/// and that of a quiet mark. But for these: of F8 the list of the end's Begins with an AARQ, and of a message without destination ID the
+/// lists of what its peer sent from there, which are empty.
+pub fn lists_are_given()
+    ensures message { (of_one : Bool) (table : Table) (side sender : Side) (entries : List Entry) (r : Refutation) (m : Message)
+        → slice_get (map item_of entries) r.entry ≡ Some (Ok (Sent sender m))
+        → AreGiven (scene_at of_one table side entries r.entry m r.kind) (grounds_of of_one table side entries r)
+        (spoken_of (dtid_in m) (scene_at of_one table side entries r.entry m r.kind).how
+        (component_with of_one table side entries r.entry m r.kind) r.kind) }
+    ensures mark { (of_one : Bool) (table : Table) (side : Side) (entries : List Entry) (r : Refutation)
+        → slice_get (map item_of entries) r.entry ≡ Some (Ok Item.Quiet)
+        → AreGiven (mark_scene table side entries r.entry) (grounds_of of_one table side entries r) (whats.Open ∷ []) }
+{}
+
+/// The invocations that are given have the entries, in their order, that the list of Invokes has of the messages which the kind compares:
+/// for F6 of an answer those that the peer sent from the destination ID; for F10, and for F13 of a Reject of an answer, those with the
+/// half's own invocations; for F11, F12, and for F13 of another Reject, those that the half heard. Each invocation is an Invoke of its
+/// entry, with its operation and its linked ID. Of other kinds none is given.
+pub fn invocations_are_listed()
+    ensures listed { (of_one : Bool) (table : Table) (side sender : Side) (entries : List Entry) (r : Refutation) (m : Message)
+        (what : What) → slice_get (map item_of entries) r.entry ≡ Some (Ok (Sent sender m))
+        → invokes_listed r.kind (component_with of_one table side entries r.entry m r.kind) ≡ Some what
+        → map (λ i. i.entry) (invocations_at of_one table side entries r)
+        ≡ shown (scene_at of_one table side entries r.entry m r.kind) what }
+    ensures each { (of_one : Bool) (table : Table) (side sender : Side) (entries : List Entry) (r : Refutation) (m : Message)
+        (what : What) (i : Invocation) → slice_get (map item_of entries) r.entry ≡ Some (Ok (Sent sender m))
+        → invokes_listed r.kind (component_with of_one table side entries r.entry m r.kind) ≡ Some what
+        → Contains (invocations_at of_one table side entries r) i
+        → IsInvoke entries r.entry (sender_of side what) (scene_at of_one table side entries r.entry m r.kind).id i }
+    ensures none { (of_one : Bool) (table : Table) (side sender : Side) (entries : List Entry) (r : Refutation) (m : Message)
+        → slice_get (map item_of entries) r.entry ≡ Some (Ok (Sent sender m))
+        → invokes_listed r.kind (component_with of_one table side entries r.entry m r.kind) ≡ None
+        → invocations_at of_one table side entries r ≡ [] }
 {}
 
 /// Where a message has F8 or F9, the lists show that, by how the half began over which it would go.
@@ -137,7 +180,8 @@ pub fn halves_show()
 {}
 
 /// Where a message has one of the kinds of a component, F5, F6 or F10 to F13, there is the component that has it, and the lists show
-/// that, as many as they have: of F5 none, of F6 none that allows it, of the others more or less than the kind allows.
+/// that: of F5 the list is empty, of F6 no Invoke in the lists allows the answer, of the others the lists have more or fewer entries than
+/// the kind allows. Of a component of which the kind compares nothing they say nothing.
 pub fn components_show()
     ensures answers_nothing { (of_one : Bool) (table : Table) (side : Side) (entries : List Entry) (number : ℕ) (m : Message)
         → has_kind_by of_one table side (items_before entries number) m kinds.AnswersNothing ≡ true

@@ -142,7 +142,7 @@ impl Test<'_> {
     }
 }
 
-/// Whether an operation is of that class, or of any (Q.771 3.1.2).
+/// Whether an operation is of that class, or of any (Q.771 3.1).
 fn is_of_class(table: &Table, class: Class, code: CodeView) -> bool
     ensures { result ≡ is_of_class table.now class (code_of code.entry) }
 {

@@ -1,4 +1,4 @@
-//! The invocations whose operations and links a fault rests on (Q.771 3.1.2, Q.774 3.2).
+//! The invocations whose operations and links a fault rests on (Q.771 3.1, Q.774 3.2).
 
 ghost use Rattle.std.specs.Prelude.{◌≡◌, ◌++◌, IfOk, OnOk, Some, option_map};
 ghost use Rattle.std.specs.List.{flat_map};

@@ -84,7 +84,8 @@ fn push_tangled_id(text: &mut String, tangled: &TangledId) -> Result<(), AllocEr
     text.push_str(tangle_words(tangled.why))
 }
 
-/// Appends that an ID is tangled, the entries that show it, and where the IDs of the message stood before.
+/// Appends that an ID is tangled, the entries that begin it and those in which it stands with IDs of the other end, and where the IDs of
+/// the message stood before.
 fn push_tangled(
     alloc: Global,
     text: &mut String,
@@ -105,8 +106,9 @@ fn push_tangled(
 }
 
 /// Appends why nobody is blamed for the entry of that number, which is refuted, and of that end: it used an own ID again, or its
-/// message goes over tangled IDs, the first of which is named, with the entries that show it; or it is a Reject of what a stack may
-/// read otherwise. `AllocError` where memory ran out: a part of the lines may have been appended.
+/// message goes over tangled IDs, the first of which is named, with the entries that begin it and those in which it stands with IDs of the
+/// other end; or it is a Reject of what a stack may read otherwise. `AllocError` where memory ran out: a part of the lines may have been
+/// appended.
 pub fn push_unblamed(
     alloc: Global,
     text: &mut String,

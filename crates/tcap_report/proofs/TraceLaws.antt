@@ -2,9 +2,11 @@
 use Rattle.std.proofs.Common.{arith, ◌≡◌, ℕ, ◌+◌, ◌-◌, ◌^◌, ◌≤◌, min, cond, Bool, true, false, List, [], ◌∷◌, ◌++◌, length, map, refl, sym, ap, subst, ◌∙◌}
 use Rattle.std.specs.Prelude.{Option, None, Some, Result, Ok, Err, IfOk, count_by, filter, is_some}
 use Rattle.std.specs.Io.KnownBytes.{Consumes}
+use Rattle.std.specs.List.{AllByRecursion}
 use Rattle.std.proofs.lemmas.List.{length_push, map-append}
 use Rattle.std.proofs.lemmas.List.Sums.{sum_by_push}
 use Rattle.tcap_traces.specs.declared.judging.Ends.{Ends}
+use Rattle.tcap_traces.specs.declared.said.Circumstances.{Circumstances}
 use Rattle.tcap_traces.specs.declared.verdict.Verdict.{Verdict}
 use Rattle.tcap_traces.specs.Verdict.{trace_verdict}
 use Rattle.tcap_dialogues.specs.Course.{Heading, courses_of, courses_so_far, is_free}
@@ -19,7 +21,7 @@ use Rattle.tcap_report.specs.declared.sum.Sum.{Sum}
 use Rattle.tcap_report.specs.declared.trace.Asked.{Asked}
 use Rattle.tcap_report.specs.declared.trace.Trace.{Trace}
 use Rattle.tcap_report.specs.Counts.{more, with_each, with_one, with_read, with_verdict}
-use Rattle.tcap_report.specs.Dialogue.{Dialogue, ends_by, verdict_by, verdict_on}
+use Rattle.tcap_report.specs.Dialogue.{Dialogue, IsNoted, IsNotedOf, ends_by, verdict_by, verdict_on}
 use Rattle.tcap_report.specs.Stretch.{Stretch, counts_in, messages_in, readable_in, those_judged}
 use Rattle.tcap_report.specs.Judged.{IsJudged}
 use Rattle.tcap_report.proofs.CountsLaws.{each_append}
@@ -54,6 +56,17 @@ readable_push a hs h =
 
 -- ---- dialogues that are judged
 
+-- What holds of two lists holds of both behind each other.
+all_both : {A : Type 0} (P : A → Type 0) (xs ys : List A) → AllByRecursion P xs → AllByRecursion P ys → AllByRecursion P (xs ++ ys)
+all_both P [] ys one two = two
+all_both P (x ∷ xs) ys one two = (one.0, all_both P xs ys one.1 two)
+
+-- What is noted of dialogues is so, whichever trace is asked that is asked the same.
+noted_by : (one two : Asked) (judged : List Dialogue) → one ≡ two → AllByRecursion (IsNoted one.settled one.complete) judged
+    → AllByRecursion (IsNoted two.settled two.complete) judged
+noted_by one two judged same noted =
+    subst (λ (a : Asked). AllByRecursion (IsNoted a.settled a.complete) judged) same noted
+
 pub more_judged : (xs ys : List Gathered) (a b c : Trace) → Judges xs a b → Judges ys b c → Judges (xs ++ ys) a c
 more_judged xs ys a b c one two =
     let verdicts = verdict_on a.asked.of in
@@ -61,6 +74,8 @@ more_judged xs ys a b c one two =
       judged = one.judged ++ two.judged;
       those = map-append (λ d. d.gathered) one.judged two.judged
           ∙ ap (λ l. l ++ map (λ d. d.gathered) two.judged) one.those ∙ ap (λ l. xs ++ l) two.those;
+      noted = all_both (IsNoted a.asked.settled a.asked.complete) one.judged two.judged one.noted
+          (noted_by b.asked a.asked two.judged one.asked two.noted);
       counts = two.counts ∙ ap (λ k. with_each (map (verdict_on k.of) two.judged) b.dialogues) one.asked
           ∙ ap (with_each (map verdicts two.judged)) one.counts
           ∙ sym (each_append (map verdicts one.judged) (map verdicts two.judged) a.dialogues)
@@ -74,10 +89,12 @@ more_judged xs ys a b c one two =
 -- One is: its entries were held, and its verdict is counted.
 pub one_judged : (d : Dialogue) (ends : Option Ends) (verdict : Verdict) (old one new : Trace) → one ≡ record old { held = one.held }
     → verdict ≡ verdict_by one.asked.of ends → ends ≡ ends_by d.table d.circumstances d.entries
-    → new ≡ record one { dialogues = with_one verdict one.dialogues; unheard = new.unheard } → Judges (d.gathered ∷ []) old new
-one_judged d ends verdict old one new taken is said counted = record {
+    → new ≡ record one { dialogues = with_one verdict one.dialogues; unheard = new.unheard }
+    → IsNoted one.asked.settled one.asked.complete d → Judges (d.gathered ∷ []) old new
+one_judged d ends verdict old one new taken is said counted noted = record {
   judged = d ∷ [];
   those = refl;
+  noted = (subst (λ (a : Asked). IsNoted a.settled a.complete d) (ap (λ t. t.asked) taken) noted, tt);
   counts = ap (λ t. t.dialogues) counted ∙ ap (λ t. with_one verdict t.dialogues) taken
       ∙ ap (λ v. with_one v old.dialogues)
       (is ∙ ap (λ t. verdict_by t.asked.of ends) taken ∙ ap (verdict_by old.asked.of) said);
@@ -85,6 +102,17 @@ one_judged d ends verdict old one new taken is said counted = record {
   cut = ap (λ t. t.cut) counted ∙ ap (λ t. t.cut) taken;
   messages = ap (λ t. t.messages) counted ∙ ap (λ t. t.messages) taken;
   readable = ap (λ t. t.readable) counted ∙ ap (λ t. t.readable) taken;
+}
+
+-- What is noted is so of more entries, too.
+pub noted_of : (settled complete a b : Bool) (over : Option ℕ) (m n : ℕ) (c : Circumstances) → a ≡ b → m ≤ n
+    → IsNotedOf settled complete a over m c → IsNotedOf settled complete b over n c
+noted_of settled complete a b over m n c same few noted = record {
+  again = λ is. sym same ∙ noted.again is;
+  unsettled = λ is. noted.unsettled is ∙ same;
+  under_way = λ is. sym same ∙ noted.under_way is;
+  is_open = noted.is_open;
+  is_cut = λ is. let many = noted.is_cut is in omega arith;
 }
 
 nothing_gathered : AreGathered [] []
@@ -135,6 +163,13 @@ module _ (asked : Asked) where
   those_more s given one new j =
       map-append (λ d. d.gathered) s.judged j.judged ∙ ap (λ l. those_judged s ++ l) j.those
 
+  noted_more : (old one new : Trace) (s : Stretch) (before : List Stretch) (given : List Gathered) → HasRead asked (s ∷ before) old
+      → one.asked ≡ old.asked → (j : Judges given one new)
+      → AllByRecursion (IsNoted asked.settled asked.complete) (s.judged ++ j.judged)
+  noted_more old one new s before given has asks j =
+      all_both (IsNoted asked.settled asked.complete) s.judged j.judged has.noted.0
+      (noted_by one.asked asked j.judged (asks ∙ has.asks) j.noted)
+
   -- The first entry of a stretch may come.
   pub begins : (t : Trace) → IsBetween asked t → IsWithin asked t
   begins t b = record {
@@ -144,6 +179,7 @@ module _ (asked : Asked) where
     done = nothing_gathered;
     has = record {
       asks = b.has.asks;
+      noted = (tt, b.has.noted);
       counts = b.has.counts;
       messages = b.has.messages ∙ none_more (messages_in b.stretches) (messages_fit b.stretches);
       readable = b.has.readable ∙ none_more (readable_in b.stretches) (readable_fit b.stretches);
@@ -158,7 +194,13 @@ module _ (asked : Asked) where
     before = w.before;
     whole = w.whole;
     done = w.done;
-    has = record { asks = w.has.asks; counts = w.has.counts; messages = w.has.messages; readable = w.has.readable };
+    has = record {
+      asks = w.has.asks;
+      noted = w.has.noted;
+      counts = w.has.counts;
+      messages = w.has.messages;
+      readable = w.has.readable;
+    };
     cut = w.cut;
   }
 
@@ -178,6 +220,7 @@ module _ (asked : Asked) where
             (next_gathered asked.reuse hs (those_judged w.stretch) given w.done h gives);
         has = record {
           asks = j.asked ∙ asks ∙ w.has.asks;
+          noted = (noted_more old one new w.stretch w.before given w.has asks j, w.has.noted.1);
           counts = counts_more old one new w.stretch w.before given w.has asks dialogues j;
           messages = j.messages ∙ messages ∙ ap (λ n. more n 1) w.has.messages ∙ one_more (messages_in w.before) (length hs)
               ∙ ap (more (messages_in w.before)) (sym (length_push hs h));
@@ -201,6 +244,7 @@ module _ (asked : Asked) where
         );
         has = record {
           asks = j.asked ∙ ap (λ t. t.asked) rest ∙ w.has.asks;
+          noted = (noted_more old one new w.stretch w.before given w.has (ap (λ t. t.asked) rest) j, w.has.noted.1);
           counts = counts_more old one new w.stretch w.before given w.has (ap (λ t. t.asked) rest) (ap (λ t. t.dialogues) rest) j;
           messages = j.messages ∙ ap (λ t. t.messages) rest ∙ w.has.messages;
           readable = j.readable ∙ ap (λ t. t.readable) rest ∙ w.has.readable;
@@ -225,6 +269,10 @@ module _ (asked : Asked) where
     };
     has = record {
       asks = j.asked ∙ ap (λ t. t.asked) rest ∙ w.has.asks;
+      noted = (
+        noted_more old one new w.stretch w.before (filter (λ g. is_some g.over) live) w.has (ap (λ t. t.asked) rest) j,
+        w.has.noted.1,
+      );
       counts = counts_more old one new w.stretch w.before (filter (λ g. is_some g.over) live) w.has
           (ap (λ t. t.asked) rest) (ap (λ t. t.dialogues) rest) j;
       messages = j.messages ∙ ap (λ t. t.messages) rest ∙ w.has.messages;
@@ -251,12 +299,13 @@ module _ (asked : Asked) where
   pub whole_is_judged : (t : Trace) (verdict : Verdict) (old new : Sum) → IsBetween asked t
       → verdict ≡ trace_verdict false t.readable t.dialogues.worst
       → new ≡ with_verdict verdict (with_read t.dialogues t.messages t.unheard old)
-      → IsJudged asked.of asked.reuse verdict old new
+      → IsJudged asked verdict old new
   whole_is_judged t verdict old new b is sum = record {
     stretches = b.stretches;
     unheard = t.unheard;
     is_faulty = false;
     judged = b.whole;
+    noted = b.has.noted;
     is = verdict_is b.stretches t false verdict b.has is;
     sum = sum_is b.stretches t verdict old new b.has sum;
   }
@@ -264,12 +313,13 @@ module _ (asked : Asked) where
   pub broken_is_judged : (t : Trace) (verdict : Verdict) (old new : Sum) → IsStopped asked t
       → verdict ≡ trace_verdict true t.readable t.dialogues.worst
       → new ≡ with_verdict verdict (with_read t.dialogues t.messages t.unheard old)
-      → IsJudged asked.of asked.reuse verdict old new
+      → IsJudged asked verdict old new
   broken_is_judged t verdict old new s is sum = record {
     stretches = s.stretch ∷ s.before;
     unheard = t.unheard;
     is_faulty = true;
     judged = (s.broken, s.whole);
+    noted = s.has.noted;
     is = verdict_is (s.stretch ∷ s.before) t true verdict s.has is;
     sum = sum_is (s.stretch ∷ s.before) t verdict old new s.has sum;
   }

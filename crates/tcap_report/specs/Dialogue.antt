@@ -1,5 +1,5 @@
 -- A dialogue that was judged.
-use Rattle.std.specs.Prelude.{◌≡◌, List, Option, Some, None}
+use Rattle.std.specs.Prelude.{◌≡◌, ◌≤◌, ℕ, Bool, true, false, List, length, Option, Some, None, is_some}
 use Rattle.tcap_record.specs.declared.entry.End.{End as Side}
 use Rattle.tcap_record.specs.declared.entry.End.TheVariants as sides
 use Rattle.tcap_record.specs.declared.entry.Entry.{Entry}
@@ -31,3 +31,19 @@ pub record Dialogue : Type 0 where
 -- the verdict on a dialogue: that of what `blame` answers of its entries
 abbrev pub verdict_on : Option Side → Dialogue → Verdict
 verdict_on of d = verdict_by of (ends_by d.table d.circumstances d.entries)
+
+-- What is noted of a dialogue beside its entries, by what was gathered of it: whether an earlier dialogue had one of its IDs, where it is
+-- over, and how many entries it has. It is asked whether nothing was under way when an ID came again, and whether dialogues are to be
+-- complete. An ID came again only where an earlier dialogue had it; and where it is not said that nothing was under way, it did so then.
+-- Only where none had it may the dialogue have been under way before. Only where it is to be complete, and is not over, is it open; and
+-- only where it has so many entries is it cut.
+pub record IsNotedOf (settled complete is_earlier : Bool) (over : Option ℕ) (count : ℕ) (c : Circumstances) : Type 0 where
+  pub again : c.again ≡ true → is_earlier ≡ true
+  pub unsettled : settled ≡ false → c.again ≡ is_earlier
+  pub under_way : c.under_way ≡ true → is_earlier ≡ false
+  pub is_open : c.open ≡ true → (complete ≡ true) × (over ≡ None)
+  pub is_cut : c.cut ≡ true → 100000 ≤ count
+
+abbrev pub IsNoted : Bool → Bool → Dialogue → Type 0
+IsNoted settled complete d =
+    IsNotedOf settled complete (is_some d.gathered.earlier) d.gathered.over (length d.gathered.numbers.items) d.circumstances

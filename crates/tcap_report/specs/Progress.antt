@@ -1,4 +1,5 @@
 -- What is kept of a trace as it is read.
+use Rattle.std.specs.List.{AllByRecursion}
 use Rattle.std.specs.Prelude.{◌≡◌, List, [], ◌∷◌, Result, Ok, Err, map}
 use Rattle.tcap_dialogues.specs.Course.{courses_so_far}
 use Rattle.tcap_dialogues.specs.Gathered.{AreGathered}
@@ -9,12 +10,13 @@ use Rattle.tcap_report.specs.declared.fault.Halt.TheVariants as halts
 use Rattle.tcap_report.specs.declared.trace.Asked.{Asked}
 use Rattle.tcap_report.specs.declared.trace.Trace.{Trace}
 use Rattle.tcap_report.specs.Counts.{with_each}
-use Rattle.tcap_report.specs.Dialogue.{Dialogue, verdict_on}
-use Rattle.tcap_report.specs.Stretch.{AreWhole, IsBrokenOff, Stretch, counts_in, messages_in, readable_in, those_judged}
+use Rattle.tcap_report.specs.Dialogue.{Dialogue, IsNoted, verdict_on}
+use Rattle.tcap_report.specs.Stretch.{AreNoted, AreWhole, IsBrokenOff, Stretch, counts_in, messages_in, readable_in, those_judged}
 
--- What was asked, and what is counted of these stretches, the last one first.
+-- What was asked, and what is noted and counted of these stretches, the last one first.
 pub record HasRead (asked : Asked) (stretches : List Stretch) (trace : Trace) : Type 0 where
   pub asks : trace.asked ≡ asked
+  pub noted : AreNoted asked.settled asked.complete stretches
   pub counts : trace.dialogues ≡ counts_in asked.of stretches
   pub messages : trace.messages ≡ messages_in stretches
   pub readable : trace.readable ≡ readable_in stretches
@@ -43,10 +45,12 @@ pub record IsStopped (asked : Asked) (trace : Trace) : Type 0 where
   pub broken : IsBrokenOff asked.reuse stretch
   pub has : HasRead asked (stretch ∷ before) trace
 
--- The dialogues of which these were gathered are judged, one after the other, and counted. Nothing else changes that is counted.
+-- The dialogues of which these were gathered are judged, by what is noted of them, one after the other, and counted. Nothing else
+-- changes that is counted.
 pub record Judges (given : List Gathered) (old new : Trace) : Type 0 where
   pub judged : List Dialogue
   pub those : map (λ d. d.gathered) judged ≡ given
+  pub noted : AllByRecursion (IsNoted old.asked.settled old.asked.complete) judged
   pub counts : new.dialogues ≡ with_each (map (verdict_on old.asked.of) judged) old.dialogues
   pub asked : new.asked ≡ old.asked
   pub cut : new.cut ≡ old.cut

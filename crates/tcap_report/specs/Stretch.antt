@@ -1,5 +1,6 @@
 -- The stretches of a trace, between quiet marks, and which of their dialogues are judged.
-use Rattle.std.specs.Prelude.{◌≡◌, ℕ, Bool, true, false, List, [], ◌∷◌, ◌++◌, Option, is_some, length, map, filter, count_by}
+use Rattle.std.specs.List.{AllByRecursion}
+use Rattle.std.specs.Prelude.{◌≡◌, ℕ, Bool, true, false, List, [], ◌∷◌, ◌++◌, Option, ⊤, is_some, length, map, filter, count_by}
 use Rattle.tcap_record.specs.declared.entry.End.{End as Side}
 use Rattle.tcap_dialogues.specs.Course.{Heading, courses_of, courses_so_far}
 use Rattle.tcap_dialogues.specs.Gathered.{AreGathered}
@@ -7,9 +8,9 @@ use Rattle.tcap_dialogues.specs.declared.gathered.Gathered.{Gathered}
 use Rattle.tcap_dialogues.specs.declared.reuse.Reuse.{Reuse}
 use Rattle.tcap_report.specs.declared.sum.Counts.{Counts}
 use Rattle.tcap_report.specs.Counts.{more, no_counts, with_each}
-use Rattle.tcap_report.specs.Dialogue.{Dialogue, verdict_on}
+use Rattle.tcap_report.specs.Dialogue.{Dialogue, IsNoted, verdict_on}
 
--- what was read of each entry of a stretch, and its dialogues that were judged, in their order
+-- what was read of each entry of a stretch, in the order of the entries; and its dialogues that were judged, in the order in which they were
 pub record Stretch : Type 0 where
   pub headings : List Heading
   pub judged : List Dialogue
@@ -38,6 +39,12 @@ abbrev pub AreJudged : Reuse → Bool → List Stretch → Type 0
 AreJudged reuse false stretches = AreWhole reuse stretches
 AreJudged reuse true [] = Unit {0}
 AreJudged reuse true (s ∷ before) = IsBrokenOff reuse s × AreWhole reuse before
+
+-- What is noted of each of their dialogues beside its entries is so.
+abbrev pub AreNoted : Bool → Bool → List Stretch → Type 0
+AreNoted settled complete [] = ⊤
+AreNoted settled complete (s ∷ before) =
+    AllByRecursion (IsNoted settled complete) s.judged × AreNoted settled complete before
 
 -- ---- what they have together
 

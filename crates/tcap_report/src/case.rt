@@ -1,11 +1,11 @@
 //! A dialogue that is judged.
 
-ghost use Rattle.std.specs.Prelude.{◌≡◌, ◌≤◌, IfOk, OnOk, length, option_map};
+ghost use Rattle.std.specs.Prelude.{◌≡◌, ◌≤◌, true, false, None, IfOk, OnOk, is_some, length, option_map};
 ghost use Rattle.tcap_traces.specs.declared.said.Circumstances.{Circumstances as Known};
-ghost use Rattle.tcap_report.specs.Dialogue.{ends_by, verdict_by};
+ghost use Rattle.tcap_report.specs.Dialogue.{IsNotedOf, ends_by, verdict_by};
 
+use crate::choosing::choose;
 use crate::fault::Stop;
-use crate::words::context_in;
 use std::alloc::{AllocError, Global};
 use tcap_books::{Book, NamedTable};
 use tcap_dialogues::{Gathered, HeadingView, read_heading};
@@ -93,7 +93,9 @@ pub(crate) struct Rules {
 
 impl Case {
     /// Whether it has more entries than are judged.
-    pub(crate) fn is_cut(&self) -> bool {
+    pub(crate) fn is_cut(&self) -> bool
+        ensures { result ≡ true → 100000 ≤ length self.now.entries.items }
+    {
         self.entries.len() > MOST || (self.is_marked() && self.entries.len() == MOST)
     }
 
@@ -108,7 +110,9 @@ impl Case {
     }
 
     /// Whether its trace ended before its transaction did.
-    pub(crate) fn is_open(&self) -> bool {
+    pub(crate) fn is_open(&self) -> bool
+        ensures { result ≡ true → self.now.gathered.over ≡ None }
+    {
         self.behind == Behind::End && self.gathered.over.is_none()
     }
 
@@ -134,7 +138,9 @@ impl Case {
 
     /// Whether its Begin may stand before its trace: dialogues may have been under way before its first entry, and that is a message to
     /// an ID that was never sent.
-    fn may_be_under_way(&self, record: &Record) -> bool {
+    fn may_be_under_way(&self, record: &Record) -> bool
+        ensures { result ≡ true → is_some self.now.earlier ≡ false }
+    {
         let (Some(from), Some(first)) = (self.under_way, self.gathered.numbers.first()) else {
             return false;
         };
@@ -143,6 +149,30 @@ impl Case {
             None => false,
         };
         from <= *first && self.earlier.is_none() && is_to_one
+    }
+
+    /// Whether an ID of it came again, and something of its earlier use may have been under way. Where it begins without a Begin, no ID
+    /// came again: an earlier dialogue goes on, of which more was under way.
+    fn comes_again(&self, settled: bool) -> bool
+        ensures only { result ≡ true → is_some self.now.earlier ≡ true }
+        ensures unsettled { settled ≡ false → result ≡ is_some self.now.earlier }
+    {
+        self.earlier.is_some() && !(settled && self.begins())
+    }
+
+    /// What is noted of it beside its entries, which were read as that record; and whether its table is unsure.
+    fn circumstances(&self, record: &Record, unsure: bool, rules: Rules) -> Circumstances
+        ensures { IsNotedOf rules.settled rules.complete (is_some self.now.earlier) self.now.gathered.over
+            (length self.now.entries.items) result }
+    {
+        Circumstances {
+            again: self.comes_again(rules.settled),
+            under_way: self.may_be_under_way(record),
+            unsure,
+            unread_from: self.unread_from(),
+            cut: self.is_cut(),
+            open: rules.complete && self.is_open(),
+        }
     }
 
     /// Whether an entry that can't be read may have been one of it.
@@ -203,109 +233,6 @@ pub(crate) fn first_message(record: &Record) -> Option<&tcap_msg::Message> {
     }
 }
 
-/// The table by which a dialogue is judged, its application context name, and whether it is unsure that this table is its own.
-#[derive(Debug, Drop)]
-struct Chosen<'a> {
-    table: Option<&'a NamedTable>,
-    context: Option<Vec<u8>>,
-    unsure: bool,
-}
-
-/// The application context names of a dialogue's Begins and Unidirectionals, without the same one behind itself; `None` for one without.
-fn contexts_of(alloc: Global, record: &Record) -> Result<Vec<Option<Vec<u8>>>, AllocError> {
-    let mut contexts = Vec::new(alloc);
-    for entry in &record.entries {
-        let Body::Good(message) = &entry.body else {
-            continue;
-        };
-        if matches!(message.kind(), Form::Begin | Form::Unidirectional) {
-            let context = context_in(alloc, message)?;
-            if contexts.last() != Some(&context) {
-                contexts.push(context)?;
-            }
-        }
-    }
-    Ok(contexts)
-}
-
-/// The context that the first message has which has one.
-fn first_context(alloc: Global, record: &Record) -> Result<Option<Vec<u8>>, AllocError> {
-    for entry in &record.entries {
-        if let Body::Good(message) = &entry.body {
-            let context = context_in(alloc, message)?;
-            if context.is_some() {
-                return Ok(context);
-            }
-        }
-    }
-    Ok(None)
-}
-
-/// The table of a context.
-fn table_of<'a>(book: &'a Book, context: &Option<Vec<u8>>) -> Option<&'a NamedTable> {
-    match context {
-        Some(context) => book.table_of(Some(context.as_slice())),
-        None => book.table_of(None),
-    }
-}
-
-/// The table of a dialogue that does not begin by a Begin: that of the first context that a message of it has, or any, of which it is
-/// then unsure.
-fn without_begin<'a>(
-    alloc: Global,
-    book: &'a Book,
-    record: &Record,
-) -> Result<Chosen<'a>, AllocError> {
-    let context = first_context(alloc, record)?;
-    let found = table_of(book, &context);
-    Ok(Chosen {
-        unsure: found.is_none(),
-        table: match found {
-            Some(table) => Some(table),
-            None => book.tables().first(),
-        },
-        context,
-    })
-}
-
-/// Whether two tables of a book are one, as far as their names and contexts tell.
-fn are_one(one: Option<&NamedTable>, other: Option<&NamedTable>) -> bool {
-    match (one, other) {
-        (Some(one), Some(other)) => {
-            one.name() == other.name() && first_octets(one) == first_octets(other)
-        }
-        (None, None) => true,
-        _ => false,
-    }
-}
-
-/// The octets of a table's first context.
-fn first_octets(table: &NamedTable) -> Option<&[u8]> {
-    match table.contexts().first() {
-        Some(context) => Some(context.octets()),
-        None => None,
-    }
-}
-
-/// The table of a dialogue: that of the context which its Begin asks for, or its Unidirectional has. Where several Begins ask for
-/// contexts of different tables it is unsure.
-fn choose<'a>(alloc: Global, book: &'a Book, record: &Record) -> Result<Chosen<'a>, AllocError> {
-    let mut contexts = contexts_of(alloc, record)?;
-    if first_message(record).is_none() || contexts.is_empty() {
-        return without_begin(alloc, book, record);
-    }
-    let context = contexts.swap_remove(0);
-    let table = table_of(book, &context);
-    let unsure = contexts
-        .iter()
-        .any(|other| !are_one(table, table_of(book, other)));
-    Ok(Chosen {
-        table,
-        context,
-        unsure,
-    })
-}
-
 /// The record of octets that were read as entries, of no more than are judged: but for want of memory it has no fault.
 fn record_of(alloc: Global, octets: &[u8]) -> Result<Record, AllocError>
     ensures few { IfOk result (λ made. length made.entries.items ≤ 100000) }
@@ -362,22 +289,16 @@ pub(crate) fn judge<'a>(
     book: &'a Book,
     rules: Rules,
 ) -> Result<Judged<'a>, Stop>
-    ensures said { IfOk result (λ judged. (c : Known) × judged.ends
-        ≡ ends_by (option_map (λ table. table.now.table) judged.table) c judged.record.entries.items) }
+    ensures said { IfOk result (λ judged. (c : Known) × (judged.ends
+        ≡ ends_by (option_map (λ table. table.now.table) judged.table) c judged.record.entries.items)
+        × IsNotedOf rules.settled rules.complete (is_some case.now.earlier) case.now.gathered.over
+        (length case.now.entries.items) c) }
     ensures verdict { IfOk result (λ judged. judged.verdict ≡ verdict_by rules.of judged.ends) }
 {
     let octets = case.octets(alloc)?;
     let mut record = record_of(alloc, &octets)?;
     let chosen = choose(alloc, book, &record)?;
-    let circumstances = Circumstances {
-        // Where it begins without a Begin, no ID came again: an earlier dialogue goes on, of which more was under way.
-        again: case.earlier.is_some() && !(rules.settled && case.begins()),
-        under_way: case.may_be_under_way(&record),
-        unsure: chosen.unsure,
-        unread_from: case.unread_from(),
-        cut: case.is_cut(),
-        open: rules.complete && case.is_open(),
-    };
+    let circumstances = case.circumstances(&record, chosen.unsure, rules);
     let ends = ends_of(alloc, &mut record, chosen.table, circumstances)?;
     Ok(Judged {
         record,

@@ -1,15 +1,16 @@
 //! What is said of a trace that was read.
 
-ghost use Rattle.std.specs.Prelude.{◌≡◌, is_some, IfOk};
+ghost use Rattle.std.specs.Prelude.{◌≡◌, [], ◌∷◌, is_some, IfOk, OnOk};
+ghost use Rattle.tcap_traces.specs.declared.verdict.Verdict.TheVariants as verdicts;
 ghost use Rattle.tcap_traces.specs.Verdict.{trace_verdict};
-ghost use Rattle.tcap_report.specs.Counts.{with_read, with_verdict};
+ghost use Rattle.tcap_report.specs.Counts.{HasJudged, no_counts, with_read, with_verdict};
 
 use crate::fault::{FormFault, Stop};
 use crate::sum::{Sum, push_counts};
 use crate::telling::{Lines, Sinks, Told, write_text};
-use crate::trace::{Trace, Watch};
+use crate::trace::{Asked, Trace, Watch};
 use crate::words::push_hint;
-use std::alloc::AllocError;
+use std::alloc::{AllocError, Global};
 use tcap_ber::Write;
 use tcap_traces::{Verdict, trace_verdict};
 
@@ -21,11 +22,11 @@ fn line_in(fault: &Option<FormFault>) -> Option<u64> {
     }
 }
 
-/// Appends what is wrong with a trace, where something is.
+/// Appends what is wrong with a trace, with so many entries of which a kind can be read, where something is.
 fn push_fault(
     text: &mut String,
     fault: &Option<FormFault>,
-    messages: u64,
+    readable: u64,
 ) -> Result<(), AllocError> {
     match fault {
         Some(
@@ -43,7 +44,7 @@ fn push_fault(
                 text: what,
             },
         ) => text.push_str(what),
-        None if messages == 0 => text.push_str("there is no message in it"),
+        None if readable == 0 => text.push_str("there is no message in it"),
         None => Ok(()),
     }
 }
@@ -109,4 +110,21 @@ impl Trace<'_> {
         text.push_str("; ")?;
         push_counts(text, self.messages, &self.dialogues, self.unheard)
     }
+}
+
+/// Says that a trace can't be read, and why, and answers the verdict on it.
+pub fn tell_unread<W: Write, J: Lines, P: Watch>(
+    alloc: Global,
+    asked: Asked,
+    why: &str,
+    sinks: &mut Sinks<W, J, P>,
+) -> Result<Verdict, Stop>
+    ensures error { IfOk result (λ verdict. verdict ≡ verdicts.Error) }
+    ensures counted { IfOk result (λ verdict. HasJudged (verdict ∷ []) sinks.old.sum.now sinks.new.sum.now) }
+    ensures sum { OnOk result (sinks.new.sum.now ≡ with_verdict verdicts.Error (with_read no_counts 0 0 sinks.old.sum.now)) }
+    ensures same_sum { sinks.new.sum.ghost_name ≡ sinks.old.sum.ghost_name }
+{
+    let mut text = String::new(alloc);
+    text.push_str(why)?;
+    Trace::new(alloc, asked).end(Some(FormFault { line: None, text }), None, sinks)
 }

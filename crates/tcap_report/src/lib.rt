@@ -2,6 +2,7 @@
 #![tactic(auto)]
 
 mod case;
+mod choosing;
 mod ending;
 mod entries;
 mod fault;
@@ -27,9 +28,10 @@ mod waiting;
 mod which;
 mod words;
 
+pub use ending::tell_unread;
 pub use fault::Stop;
 pub use junit::Junit;
 pub use page::Page;
 pub use sum::Sum;
 pub use telling::{Lines, Sinks};
-pub use trace::{Asked, Watch, run_trace, tell_unread};
+pub use trace::{Asked, Watch, run_trace};

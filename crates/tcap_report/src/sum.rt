@@ -123,7 +123,7 @@ impl Sum {
         }
     }
 
-    /// The worst verdict.
+    /// The worst verdict on a trace; pass where there is none.
     pub fn worst(&self) -> Verdict
         ensures { result ≡ worst_of self.now }
     {

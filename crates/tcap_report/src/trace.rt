@@ -1,13 +1,14 @@
 //! A trace, judged dialogue by dialogue as it is read.
 
-ghost use Rattle.std.specs.Prelude.{◌≡◌, [], ◌∷◌, List, Some, cond, filter, is_some, IfOk, OnOk};
+ghost use Rattle.std.specs.Io.KnownBytes.{IsAtEnd};
+ghost use Rattle.std.specs.Prelude.{◌≡◌, ◌⊎◌, ◌≤◌, [], ◌∷◌, List, Some, cond, filter, is_some, length, IfOk, OnOk};
 ghost use Rattle.tcap_dialogues.specs.Course.{Heading, courses_so_far};
 ghost use Rattle.tcap_dialogues.specs.Gathered.{AreGathered};
 ghost use Rattle.tcap_dialogues.specs.Held.{IsCut};
 ghost use Rattle.tcap_dialogues.specs.declared.reuse.Reuse.{Reuse as Reusing};
 ghost use Rattle.tcap_traces.specs.declared.verdict.Verdict.TheVariants as verdicts;
 ghost use Rattle.tcap_report.specs.declared.trace.Asked.{Asked as AskedOf};
-ghost use Rattle.tcap_report.specs.Counts.{HasJudged, more, no_counts, with_one, with_read, with_verdict};
+ghost use Rattle.tcap_report.specs.Counts.{HasJudged, more, no_counts, with_one};
 ghost use Rattle.tcap_report.specs.Judged.{IsJudged};
 ghost use Rattle.tcap_report.specs.Progress.{IsBetween, IsStopped, IsWithin, Judges, Reads, UnlessStopped};
 ghost use Rattle.tcap_report.specs.Untold.{HasNothing};
@@ -75,7 +76,7 @@ pub(crate) struct Trace<'a> {
 
 impl<'a> Trace<'a> {
     /// Of which nothing was read.
-    fn new(alloc: Global, asked: Asked<'a>) -> Trace<'a>
+    pub(crate) fn new(alloc: Global, asked: Asked<'a>) -> Trace<'a>
         ensures between { IsBetween asked.entry result }
         ensures nothing { (result.readable ≡ 0) × (result.messages ≡ 0) × (result.unheard ≡ 0) × (result.dialogues ≡ no_counts) }
     {
@@ -211,7 +212,8 @@ impl<'a> Trace<'a> {
 
     /// The entries of a dialogue, which are held no longer.
     fn taken(&mut self, gathered: &Gathered) -> Result<Vec<Held>, AllocError>
-        ensures { self.new ≡ record self.old { held = self.new.held } }
+        ensures few { IfOk result (λ entries. length entries.items ≤ length gathered.now.numbers.items) }
+        ensures rest { self.new ≡ record self.old { held = self.new.held } }
     {
         let mut entries = Vec::new(self.alloc);
         for number in &gathered.numbers {
@@ -220,6 +222,16 @@ impl<'a> Trace<'a> {
             }
         }
         Ok(entries)
+    }
+
+    /// The number of the earlier dialogue of the stretch that had one of its IDs, where one had, among those of the trace.
+    fn earlier_of(&self, gathered: &Gathered) -> Option<u64>
+        ensures { is_some result ≡ is_some gathered.now.earlier }
+    {
+        match gathered.earlier {
+            Some(earlier) => Some(self.dialogues_before.saturating_add(earlier)),
+            None => None,
+        }
     }
 
     /// Judges a dialogue, and says what is said of it.
@@ -233,13 +245,9 @@ impl<'a> Trace<'a> {
         ensures same_sum { sinks.new.sum ≡ sinks.old.sum }
     {
         let entries = self.taken(&gathered)?;
-        let number = self.dialogues.all();
-        let earlier = match gathered.earlier {
-            Some(earlier) => Some(self.dialogues_before.saturating_add(earlier)),
-            None => None,
-        };
+        let earlier = self.earlier_of(&gathered);
         let case = Case {
-            number,
+            number: self.dialogues.all(),
             entries,
             gathered,
             before: self.before,
@@ -322,6 +330,7 @@ impl<'a> Trace<'a> {
         ensures reads { (asked : AskedOf) → IsWithin asked self.old → Reads asked result self.new }
         ensures nothing { R.untold reader.old ≡ Some [] → HasNothing entries.old
             → OnOk result (self.new.readable ≡ self.old.readable) }
+        ensures all { OnOk result (IsAtEnd (R.untold reader.new) × (R.failures reader.new ≡ R.failures reader.old)) }
         ensures same_sum { sinks.new.sum ≡ sinks.old.sum }
     {
         let mut piece = [0; PIECE_LEN];
@@ -335,13 +344,13 @@ impl<'a> Trace<'a> {
             sinks.flush()?;
             sinks.watch.look(&self.so_far(sinks.sum));
             if told == 0 {
-                break;
+                return match self.end_stretch(Behind::End, sinks) {
+                    Ok(()) => Ok(()),
+                    Err(stop) => Err(Halt::Stop(stop)),
+                };
             }
         }
-        match self.end_stretch(Behind::End, sinks) {
-            Ok(()) => Ok(()),
-            Err(stop) => Err(Halt::Stop(stop)),
-        }
+        Err(self.unreadable()?)
     }
 
     /// The fault that it can't be read.
@@ -370,9 +379,11 @@ pub fn run_trace<R: Read, W: Write, J: Lines, P: Watch>(
     sinks: &mut Sinks<W, J, P>,
 ) -> Result<Verdict, Stop>
     ensures judged { IfOk result (λ verdict.
-        IsJudged asked.entry.of asked.entry.reuse verdict sinks.old.sum.now sinks.new.sum.now) }
+        IsJudged asked.entry verdict sinks.old.sum.now sinks.new.sum.now) }
     ensures counted { IfOk result (λ verdict. HasJudged (verdict ∷ []) sinks.old.sum.now sinks.new.sum.now) }
     ensures nothing { R.untold reader.old ≡ Some [] → IfOk result (λ verdict. verdict ≡ verdicts.Error) }
+    ensures all { IfOk result (λ verdict. (verdict ≡ verdicts.Error)
+        ⊎ IsAtEnd (R.untold reader.new) × (R.failures reader.new ≡ R.failures reader.old)) }
     ensures same_sum { sinks.new.sum.ghost_name ≡ sinks.old.sum.ghost_name }
 {
     let mut trace = Trace::new(alloc, asked);
@@ -385,21 +396,4 @@ pub fn run_trace<R: Read, W: Write, J: Lines, P: Watch>(
         }
         Err(Halt::Stop(stop)) => Err(stop),
     }
-}
-
-/// Says that a trace can't be read, and why, and answers the verdict on it.
-pub fn tell_unread<W: Write, J: Lines, P: Watch>(
-    alloc: Global,
-    asked: Asked,
-    why: &str,
-    sinks: &mut Sinks<W, J, P>,
-) -> Result<Verdict, Stop>
-    ensures error { IfOk result (λ verdict. verdict ≡ verdicts.Error) }
-    ensures counted { IfOk result (λ verdict. HasJudged (verdict ∷ []) sinks.old.sum.now sinks.new.sum.now) }
-    ensures sum { OnOk result (sinks.new.sum.now ≡ with_verdict verdicts.Error (with_read no_counts 0 0 sinks.old.sum.now)) }
-    ensures same_sum { sinks.new.sum.ghost_name ≡ sinks.old.sum.ghost_name }
-{
-    let mut text = String::new(alloc);
-    text.push_str(why)?;
-    Trace::new(alloc, asked).end(Some(FormFault { line: None, text }), None, sinks)
 }

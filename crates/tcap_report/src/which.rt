@@ -41,7 +41,7 @@ fn answer_in(component: ComponentView) -> Option<Answer> {
     }
 }
 
-/// What an answer is that operations of a class do not allow; nothing where they allow it (Q.771 3.1.2).
+/// What an answer is that operations of a class do not allow; nothing where they allow it (Q.771 3.1).
 fn not_allowed(class: u8, is_result: bool) -> &'static str {
     match (reports(is_result, class), is_result) {
         (true, _) => "",

@@ -226,9 +226,10 @@ verdict_asked None a b = worse (verdict_of a) (verdict_of b)
 verdict_asked (Some sides.A) a b = verdict_of a
 verdict_asked (Some sides.B) a b = verdict_of b
 
--- that of a trace, of so many messages, by the worst of its dialogues: a fault of its form is an error, and so is that there is none
+-- that of a trace, with so many entries of which a kind can be read, by the worst of its dialogues: a fault of its form is an error, and so
+-- is that there is no such entry
 abbrev pub trace_verdict : Bool → ℕ → Verdict → Verdict
-trace_verdict is_faulty messages worst = cond (is_faulty || messages == 0) verdicts.Error worst
+trace_verdict is_faulty readable worst = cond (is_faulty || readable == 0) verdicts.Error worst
 
 -- the exit status of a run by its worst verdict
 abbrev pub status_of : Verdict → ℕ

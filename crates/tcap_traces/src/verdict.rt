@@ -65,12 +65,12 @@ impl Verdict {
     }
 }
 
-/// The verdict on a trace of so many messages, by the worst of its dialogues: an error where its form has a fault, or where it has no
-/// message.
-pub fn trace_verdict(is_faulty: bool, messages: u64, worst: Verdict) -> Verdict
-    ensures { result ≡ trace_verdict is_faulty messages worst }
+/// The verdict on a trace with so many entries of which a kind can be read, by the worst of its dialogues: an error where its form has a
+/// fault, or where it has no such entry.
+pub fn trace_verdict(is_faulty: bool, readable: u64, worst: Verdict) -> Verdict
+    ensures { result ≡ trace_verdict is_faulty readable worst }
 {
-    if is_faulty || messages == 0 {
+    if is_faulty || readable == 0 {
         Verdict::Error
     } else {
         worst

@@ -1,10 +1,10 @@
 //! The word `test`: each dialogue of traces is judged.
 
-ghost use Rattle.std.specs.Prelude.{◌≡◌, [], ◌∷◌, List, IfOk, OnErr, OnOk, length};
-ghost use Rattle.tcap_traces.specs.declared.verdict.Verdict.{Verdict as Judgement};
+ghost use Rattle.std.specs.Prelude.{◌≡◌, [], ◌∷◌, IfOk, OnErr, OnOk, length};
 ghost use Rattle.tcap_traces.specs.declared.verdict.Verdict.TheVariants as verdicts;
 ghost use Rattle.tcap_traces.specs.Verdict.{status_of};
 ghost use Rattle.tcap_report.specs.Counts.{HasJudged, worst_of};
+ghost use Rattle.tcapjudge.specs.Tested.{AreCounted, IsStatus, IsWorst, IsWorstOrError};
 
 use crate::opening::{is_folder, tell_codes, tell_text};
 use crate::outputs::{INPUT, Outputs, stand_ins};
@@ -145,8 +145,7 @@ fn test_all<W: Write, J: Lines, P: Watch>(
     book: &Book,
     sinks: &mut Sinks<W, J, P>,
 ) -> Result<Verdict, Stop>
-    ensures each { OnOk result ((verdicts : List Judgement) × (length verdicts ≡ length test.now.traces.items)
-        × HasJudged verdicts sinks.old.sum.now sinks.new.sum.now) }
+    ensures each { OnOk result (AreCounted (length test.now.traces.items) sinks.old.sum.now sinks.new.sum.now) }
     ensures worst { IfOk result (λ verdict. verdict ≡ worst_of sinks.new.sum.now) }
 {
     for path in &test.traces {
@@ -187,6 +186,7 @@ fn test_over<W: Write, P: Watch>(
     book: &Book,
     sinks: &mut Sinks<W, Output, P>,
 ) -> Result<Verdict, Stop>
+    ensures each { OnOk result (AreCounted (length test.now.traces.items) sinks.old.sum.now sinks.new.sum.now) }
     ensures worst { IfOk result (λ verdict. verdict ≡ worst_of sinks.new.sum.now) }
 {
     let verdict = test_all(rt, test, book, sinks)?;
@@ -204,7 +204,7 @@ fn begun<'a>(html: Option<&'a mut Output>) -> Result<Option<Page<'a, Output>>, S
     }
 }
 
-/// Judges all traces by that book. Where standard output can't be written, standard error says why.
+/// Judges all traces by that book, and counts the verdicts. Where standard output can't be written, standard error says why.
 fn tested(
     rt: &HostRuntime,
     test: &Test,
@@ -212,8 +212,11 @@ fn tested(
     json: Option<&mut Output>,
     html: Option<&mut Output>,
     junit: &mut Junit,
-) -> Result<Verdict, Stop> {
-    let mut sum = Sum::new();
+    sum: &mut Sum,
+) -> Result<Verdict, Stop>
+    ensures { IfOk result (λ verdict. IsWorst (length test.now.traces.items) sum.old sum.new verdict) }
+{
+    let mut counted = *sum;
     let mut text = Sink::new(io::writer(rt));
     let mut watch = Progress::new(rt, test);
     let page = begun(html)?;
@@ -222,10 +225,11 @@ fn tested(
         json,
         page,
         junit: Some(junit),
-        sum: &mut sum,
+        sum: &mut counted,
         watch: &mut watch,
     };
     let ended = test_over(rt, test, book, &mut sinks);
+    *sum = *sinks.sum;
     tell_unprinted(rt, &text);
     ended
 }
@@ -237,7 +241,10 @@ fn judged(
     json: Option<&mut Output>,
     html: Option<&mut Output>,
     junit: Option<&mut Output>,
-) -> Result<Verdict, Stop> {
+    sum: &mut Sum,
+) -> Result<Verdict, Stop>
+    ensures { IfOk result (λ verdict. IsWorstOrError (length test.now.traces.items) sum.old sum.new verdict) }
+{
     let Some(book) = book_of(rt, &test.tables) else {
         return Ok(Verdict::Error);
     };
@@ -246,19 +253,21 @@ fn judged(
         return Ok(Verdict::Error);
     }
     let mut cases = Junit::new(rt.alloc());
-    let verdict = tested(rt, test, &book, json, html, &mut cases)?;
+    let verdict = tested(rt, test, &book, json, html, &mut cases, sum)?;
     write_junit(junit, &cases)?;
     Ok(verdict)
 }
 
 /// Judges all traces. The files that it goes to are there, and empty, before the first table is read, so that none is of a run before.
-fn written(rt: &HostRuntime, test: &Test) -> Result<Verdict, Stop> {
+fn written(rt: &HostRuntime, test: &Test, sum: &mut Sum) -> Result<Verdict, Stop>
+    ensures { IfOk result (λ verdict. IsWorstOrError (length test.now.traces.items) sum.old sum.new verdict) }
+{
     let Outputs {
         mut json,
         mut html,
         mut junit,
     } = Outputs::open(rt, test)?;
-    let ended = judged(rt, test, json.as_mut(), html.as_mut(), junit.as_mut());
+    let ended = judged(rt, test, json.as_mut(), html.as_mut(), junit.as_mut(), sum);
     let json_ended = Output::finish(rt, json);
     let html_ended = Output::finish(rt, html);
     let junit_ended = Output::finish(rt, junit);
@@ -273,7 +282,9 @@ fn written(rt: &HostRuntime, test: &Test) -> Result<Verdict, Stop> {
 const WRONG_WORDS: u8 = 4;
 
 /// Judges each dialogue of the traces, and answers the exit status: that of the worst verdict.
-pub(crate) fn test(rt: &HostRuntime, test: &Test) -> u8 {
+pub(crate) fn test(rt: &HostRuntime, test: &Test) -> u8
+    ensures { IsStatus (length test.now.traces.items) result }
+{
     if test.traces.iter().filter(|path| **path == "-").count() > 1 {
         let _ = eprintln!(rt; "error: the standard input can be read once");
         return WRONG_WORDS;
@@ -283,7 +294,9 @@ pub(crate) fn test(rt: &HostRuntime, test: &Test) -> u8 {
         return WRONG_WORDS;
     }
     let _held = stand_ins(rt);
-    status(rt, written(rt, test))
+    let mut sum = Sum::new();
+    let ended = written(rt, test, &mut sum);
+    status(rt, ended)
 }
 
 /// The exit status of a run: that of the worst verdict, or of an error where the run stopped.

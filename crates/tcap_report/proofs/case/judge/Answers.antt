@@ -13,4 +13,5 @@ left : (table : Option Table) (c : Circumstances) (old new : List Entry) (ends :
 left table c old new ends said stays = said ∙ ap (ends_by table c) (sym stays)
 
 pub returns-clause-said : goal.returns-clause-said
-returns-clause-said c = (_, left _ _ _ _ _ c.in_ok-ends.ensures.said c.in_ok-ends.ensures.stays)
+returns-clause-said c =
+    (_, left _ _ _ _ _ c.in_ok-ends.ensures.said c.in_ok-ends.ensures.stays, c.circumstances-circumstances.ensures)

@@ -10,6 +10,12 @@ returns-clause-between g c = λ asked within.
     record {
       stretches = b.stretches;
       whole = b.whole;
-      has = record { asks = b.has.asks; counts = b.has.counts; messages = b.has.messages; readable = b.has.readable };
+      has = record {
+        asks = b.has.asks;
+        noted = b.has.noted;
+        counts = b.has.counts;
+        messages = b.has.messages;
+        readable = b.has.readable;
+      };
       cut = b.cut;
     }

@@ -5,6 +5,6 @@ pub returns-clause-between : goal.returns-clause-between
 returns-clause-between c = record {
   stretches = [];
   whole = tt;
-  has = record { asks = refl; counts = search rules; messages = refl; readable = refl };
+  has = record { asks = refl; noted = tt; counts = search rules; messages = refl; readable = refl };
   cut = search rules;
 }

@@ -1,6 +1,9 @@
--- but for the entries that are held nothing changes
-use Rattle.std.proofs.Common.{◌≡◌}
+-- no more entries than numbers so far; and but for the entries that are held nothing changes
+use Rattle.std.proofs.Common.{◌≡◌, ◌≤◌, length}
 use Rattle.tcap_report.proofs.trace.Trace.taken.Given as goal
 
 abbrev pub invariant-loop-number : goal.invariant-loop-number
-invariant-loop-number l = l.self ≡ record l.fn.self { held = l.self.held }
+invariant-loop-number l = record {
+  few : length l.entries.items ≤ l.number-index;
+  rest : l.self ≡ record l.fn.self { held = l.self.held };
+}

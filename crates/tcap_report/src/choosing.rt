@@ -1,0 +1,115 @@
+//! The table by which a dialogue is judged.
+
+use crate::case::first_message;
+use crate::words::context_in;
+use std::alloc::{AllocError, Global};
+use tcap_books::{Book, NamedTable};
+use tcap_msg::{Kind as Form, MessageParts};
+use tcap_record::{Body, Record};
+
+/// The table by which a dialogue is judged, its application context name, and whether it is unsure that this table is its own.
+#[derive(Debug, Drop)]
+pub(crate) struct Chosen<'a> {
+    pub(crate) table: Option<&'a NamedTable>,
+    pub(crate) context: Option<Vec<u8>>,
+    pub(crate) unsure: bool,
+}
+
+/// The application context names of a dialogue's Begins and Unidirectionals, without the same one behind itself; `None` for one without.
+fn contexts_of(alloc: Global, record: &Record) -> Result<Vec<Option<Vec<u8>>>, AllocError> {
+    let mut contexts = Vec::new(alloc);
+    for entry in &record.entries {
+        let Body::Good(message) = &entry.body else {
+            continue;
+        };
+        if matches!(message.kind(), Form::Begin | Form::Unidirectional) {
+            let context = context_in(alloc, message)?;
+            if contexts.last() != Some(&context) {
+                contexts.push(context)?;
+            }
+        }
+    }
+    Ok(contexts)
+}
+
+/// The context that the first message has which has one.
+fn first_context(alloc: Global, record: &Record) -> Result<Option<Vec<u8>>, AllocError> {
+    for entry in &record.entries {
+        if let Body::Good(message) = &entry.body {
+            let context = context_in(alloc, message)?;
+            if context.is_some() {
+                return Ok(context);
+            }
+        }
+    }
+    Ok(None)
+}
+
+/// The table of a context.
+fn table_of<'a>(book: &'a Book, context: &Option<Vec<u8>>) -> Option<&'a NamedTable> {
+    match context {
+        Some(context) => book.table_of(Some(context.as_slice())),
+        None => book.table_of(None),
+    }
+}
+
+/// The table of a dialogue that does not begin by a Begin: that of the first context that a message of it has, or any, of which it is
+/// then unsure.
+fn without_begin<'a>(
+    alloc: Global,
+    book: &'a Book,
+    record: &Record,
+) -> Result<Chosen<'a>, AllocError> {
+    let context = first_context(alloc, record)?;
+    let found = table_of(book, &context);
+    Ok(Chosen {
+        unsure: found.is_none(),
+        table: match found {
+            Some(table) => Some(table),
+            None => book.tables().first(),
+        },
+        context,
+    })
+}
+
+/// Whether two tables of a book are one, as far as their names and contexts tell.
+fn are_one(one: Option<&NamedTable>, other: Option<&NamedTable>) -> bool {
+    match (one, other) {
+        (Some(one), Some(other)) => {
+            one.name() == other.name() && first_octets(one) == first_octets(other)
+        }
+        (None, None) => true,
+        _ => false,
+    }
+}
+
+/// The octets of a table's first context.
+fn first_octets(table: &NamedTable) -> Option<&[u8]> {
+    match table.contexts().first() {
+        Some(context) => Some(context.octets()),
+        None => None,
+    }
+}
+
+/// The table of a dialogue: that of the context which its Begin asks for, or its Unidirectional has. Where several Begins ask for
+/// contexts of different tables it is unsure.
+pub(crate) fn choose<'a>(
+    alloc: Global,
+    book: &'a Book,
+    record: &Record,
+) -> Result<Chosen<'a>, AllocError> {
+    let mut contexts = contexts_of(alloc, record)?;
+    if first_message(record).is_none() || contexts.is_empty() {
+        return without_begin(alloc, book, record);
+    }
+    let context = contexts.swap_remove(0);
+    let table = table_of(book, &context);
+    let unsure = contexts
+        .iter()
+        .any(|other| !are_one(table, table_of(book, other)));
+    Ok(Chosen {
+        table,
+        context,
+        unsure,
+    })
+}
