@@ -250,7 +250,7 @@ receives_goes table c side number gap w next r fate alike step =
   where
     taken : {head : OnItsWay} {made : End} (left : List OnItsWay) (v : World) → channel_from (other side) v ≡ head ∷ left
         → head.number ≡ number → receive table (end_at side v) head.message ≡ Ok made
-        → stepped table (Receives side number) (record { events = (lost_from_front c (other side) r).events; world = v })
+        → stepped table (Receives side number) (record { events = (lost_from_front c (other side) r).events; discards = r.discards; world = v })
         ≡ Some (with_step (Receives side number) (lost_from_front c (other side) r) (with_end side made (with_channel (other side) left v)))
     taken {head = head} {made = made} left v channel is same = rw (channel, eq-eqb head.number number is, same) refl
 
@@ -277,7 +277,7 @@ replies_goes table c side number k w next r fate alike step =
   where
     taken : {head : OnItsWay} {abort : Message} (left : List OnItsWay) (v : World) → channel_from (other side) v ≡ head ∷ left
         → head.number ≡ number → reply_to (end_at side v) head.message ≡ Some abort
-        → stepped table (Replies side number) (record { events = (lost_from_front c (other side) r).events; world = v })
+        → stepped table (Replies side number) (record { events = (lost_from_front c (other side) r).events; discards = r.discards; world = v })
         ≡ Some (with_step (Replies side number) (lost_from_front c (other side) r) (joined side abort (with_channel (other side) left v)))
     taken {head = head} {abort = abort} left v channel is same = rw (channel, eq-eqb head.number number is, same) refl
 

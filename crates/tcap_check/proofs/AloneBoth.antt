@@ -1,5 +1,5 @@
 -- A certificate that gives a run of both ends gives each of them one, in which nothing is discarded.
-use Rattle.std.proofs.Common.{◌≡◌, ℕ, ◌+◌, ◌==◌, Bool, true, false, cond, List, [], ◌∷◌, ◌++◌, map, filter, length, Some, Result, Ok, Err, refl, sym, ap, ap₂, ◌∙◌, append-nil}
+use Rattle.std.proofs.Common.{◌≡◌, ℕ, ◌+◌, ◌==◌, Bool, true, false, cond, List, [], ◌∷◌, ◌++◌, map, filter, length, Some, Result, Ok, Err, refl, sym, ap, ap₂, ◌∙◌, append-nil, None}
 use Rattle.std.specs.Prelude.{◌&&◌, not, ok_or, slice_get}
 use Rattle.std.proofs.lemmas.Bool.{and_parts}
 use Rattle.tcap_msg.specs.declared.message.Message.{Message}
@@ -20,11 +20,11 @@ use Rattle.tcap_model.specs.declared.reason.Reason.TheVariants.{BadReply, FateCo
 use Rattle.tcap_record.specs.Ends.{other}
 use Rattle.tcap_model.specs.World.{Item, Sent, World, end_at}
 use Rattle.tcap_model.specs.Run.{Event, Quiet, after}
+use Rattle.tcap_check.specs.declared.certificate.Fate.TheVariants.{Lost}
 use Rattle.tcap_check.specs.Certificate.{Certificate}
 use Rattle.tcap_model.specs.Entries.{AreItems, item_of}
 use Rattle.tcap_check.specs.Follows.{losses_from, lost_from, sending_by, taken_by}
-use Rattle.tcap_check.specs.Replayed.{Replay, all_lost_from, certificate_fits, closed_at_mark, entries_replayed, entry_replayed, fault_at, gap_replayed, is_gap, is_nothing, is_overtaking, item_replayed, lost_from_both, lost_from_front, message_by, message_replayed, next_entry, nothing_replayed, quiet_replayed, replayed, sent_replayed, stepped, told_replayed}
-use Rattle.tcap_check.specs.Alone.{entries_heard, gap_heard, item_heard, mark_replayed, own_replayed, replayed_for, tied_to_next}
+use Rattle.tcap_check.specs.Replayed.{Replay, all_lost_from, certificate_fits, closed_at_mark, entries_by, entry_by, fault_at, gap_by, is_gap, is_nothing, is_overtaking, item_by, lost_from_both, lost_from_front, mark_judged, message_by, next_entry, nothing_replayed, own_judged, own_message, replayed_by, stepped, tied, told_replayed}
 use Rattle.tcap_check.specs.AloneGiven.{DiscardsNothing}
 use Rattle.tcap_check.proofs.DescribedGaps.{ok_both, ok_needs, ok_some, ok_then}
 use Rattle.tcap_check.proofs.DescribedRuns.{items_of, items_same}
@@ -43,12 +43,12 @@ use Rattle.tcap_check.proofs.AloneViews.{AreClosed, quiet_closed, seen_end, seen
 -- a gap, and what it leaves in both
 record IsGap (side : Side) (table : Table) (c : Certificate) (r mid s : Replay) : Type 0 where
   made : Replay
-  is : gap_heard table c side s ≡ Ok made
+  is : gap_by (Some side) table c s ≡ Ok made
   mirrors : Mirrors side mid made
   reached : IsReached table mid.world
   sent : mid.world.sent ≡ s.world.sent
 
-gap_is : (side : Side) (table : Table) (c : Certificate) (r mid s : Replay) → gap_replayed table c r ≡ Ok mid
+gap_is : (side : Side) (table : Table) (c : Certificate) (r mid s : Replay) → gap_by None table c r ≡ Ok mid
     → Mirrors side r s
     → IsReached table r.world → IsGap side table c r mid s
 gap_is side table c r mid s is mirrors reached =
@@ -68,42 +68,42 @@ ties side c items = filter (is_from (other side) items) (taken_by (length items)
 
 -- A message of that end.
 own_item : (side : Side) (table : Table) (c : Certificate) (fate : Fate) (m : Message) (r next s : Replay)
-    → sent_replayed table c fate side m r ≡ Ok next → Mirrors side r s → IsReached table r.world
-    → Reflects side next (own_replayed table c side m s)
+    → own_judged None table c fate side m r ≡ Ok next → Mirrors side r s → IsReached table r.world
+    → Reflects side next (own_judged (Some side) table c Lost side m s)
 own_item side table c fate m r next s is mirrors reached =
     let so = needs_ok (not (is_overtaking side fate c.fates r.world.sent))
     (fault_at OutOfOrder (next_entry r)) _ next is in
-    let (mid, gap_ok, on) = then_ok (gap_replayed table c r) (message_replayed table c side m) next so.1 in
+    let (mid, gap_ok, on) = then_ok (gap_by None table c r) (own_message None table c side m) next so.1 in
     let gap = gap_is side table c r mid s gap_ok mirrors reached in
     let taken = taken_by (next_entry mid) 0 c.fates in
     let sends = own_reflects side table c m (next_entry mid) taken mid next gap.made gap.reached on gap.mirrors in
     let last = all_lost_from side sends.made in
-    let there : message_by table c side m (sending_by c (next_entry gap.made) (Sent side m) (tied_to_next side c gap.made)) gap.made
+    let there : message_by table c side m (sending_by c (next_entry gap.made) (Sent side m) (tied (Some side) c gap.made)) gap.made
     ≡ Ok sends.made =
     ap (λ (items : List Item). message_by table c side m
     (sending_by c (length items) (Sent side m) (ties side c items)) gap.made)
     (same_sent side mid gap.made gap.mirrors) ∙ sends.is in
     record {
       made = last;
-      is = ok_then (gap_heard table c side s) _ gap.made last gap.is
+      is = ok_then (gap_by (Some side) table c s) _ gap.made last gap.is
           (ok_then (message_by table c side m
-          (sending_by c (next_entry gap.made) (Sent side m) (tied_to_next side c gap.made)) gap.made)
+          (sending_by c (next_entry gap.made) (Sent side m) (tied (Some side) c gap.made)) gap.made)
           (λ x. Ok (all_lost_from side x)) sends.made last there refl);
       mirrors = all_lost_mirrors side next sends.made sends.mirrors;
     }
 
 -- One of its peer.
 peer_item : (side : Side) (table : Table) (c : Certificate) (fate : Fate) (m : Message) (r next s : Replay)
-    → sent_replayed table c fate (other side) m r ≡ Ok next → Mirrors side r s → IsReached table r.world
+    → own_judged None table c fate (other side) m r ≡ Ok next → Mirrors side r s → IsReached table r.world
     → Reflects side next (told_replayed table c fate side m s)
 peer_item side table c fate m r next s is mirrors reached =
     let so = needs_ok (not (is_overtaking (other side) fate c.fates r.world.sent))
     (fault_at OutOfOrder (next_entry r)) _ next is in
-    let (mid, gap_ok, on) = then_ok (gap_replayed table c r) (message_replayed table c (other side) m) next so.1 in
+    let (mid, gap_ok, on) = then_ok (gap_by None table c r) (own_message None table c (other side) m) next so.1 in
     let gap = gap_is side table c r mid s gap_ok mirrors reached in
     let taken = taken_by (next_entry mid) 0 c.fates in
     let none = peer_ties side table c m (next_entry mid) taken mid next gap.reached on in
-    let free : is_nothing (tied_to_next side c s) ≡ true =
+    let free : is_nothing (tied (Some side) c s) ≡ true =
     ap is_nothing (ap (ties side c) (sym gap.sent) ∙ none) in
     let last = told side m gap.made in
     record {
@@ -112,8 +112,8 @@ peer_item side table c fate m r next s is mirrors reached =
           (fault_at OutOfOrder (next_entry s)) _ last
           (ap (λ (items : List Item). not (is_overtaking (other side) fate c.fates items))
           (same_sent side r s mirrors) ∙ so.0)
-          (ok_then (gap_heard table c side s) _ gap.made last gap.is
-          (ok_needs (is_nothing (tied_to_next side c s)) (fault_at BadReply (next_entry s)) (Ok last) last free refl));
+          (ok_then (gap_by (Some side) table c s) _ gap.made last gap.is
+          (ok_needs (is_nothing (tied (Some side) c s)) (fault_at BadReply (next_entry s)) (Ok last) last free refl));
       mirrors = peer_mirrors side table c m (sending_by c (next_entry mid) (Sent (other side) m) taken)
           mid next gap.made on gap.mirrors;
     }
@@ -141,12 +141,12 @@ end_closed A w is = is.a
 end_closed B w is = is.b
 
 mark_item : (side : Side) (table : Table) (c : Certificate) (fate : Fate) (r next s : Replay)
-    → quiet_replayed table c fate r ≡ Ok next → Mirrors side r s → IsReached table r.world
-    → Reflects side next (mark_replayed table c fate side s)
+    → mark_judged None table c fate r ≡ Ok next → Mirrors side r s → IsReached table r.world
+    → Reflects side next (mark_judged (Some side) table c fate s)
 mark_item side table c fate r next s is mirrors reached =
     let entry = next_entry r in
     let so = needs_ok (is_gap (entry + 1) fate) (fault_at FateRange entry) _ next is in
-    let (mid, gap_ok, on) = then_ok (gap_replayed table c r) _ next so.1 in
+    let (mid, gap_ok, on) = then_ok (gap_by None table c r) _ next so.1 in
     let gap = gap_is side table c r mid s gap_ok mirrors reached in
     let free = needs_ok (is_nothing (taken_by entry 0 c.fates)) (fault_at NotQuiet entry) _ next on in
     let before = lost_from_both c mid in
@@ -165,7 +165,7 @@ mark_item side table c fate r next s is mirrors reached =
     let same_entry : next_entry s ≡ entry = ap length (same_sent side r s mirrors) in
     let taken_none : taken_by (next_entry s) 0 c.fates ≡ [] =
     ap (λ (n : ℕ). taken_by n 0 c.fates) same_entry ∙ nothing_is (taken_by entry 0 c.fates) free.0 in
-    let no_tie : is_nothing (tied_to_next side c s) ≡ true =
+    let no_tie : is_nothing (tied (Some side) c s) ≡ true =
     ap (λ (x : List ℕ). is_nothing (filter (is_from (other side) s.world.sent) x)) taken_none in
     let closed : closed_at_mark table side (next_entry s) (open_halves (end_at side gap.made.world)) gap.made
     ≡ Ok gap.made =
@@ -174,8 +174,8 @@ mark_item side table c fate r next s is mirrors reached =
       made = quiet.made;
       is = ok_needs (is_gap (next_entry s + 1) fate) (fault_at FateRange (next_entry s)) _ quiet.made
           (ap (λ (n : ℕ). is_gap (n + 1) fate) same_entry ∙ so.0)
-          (ok_then (gap_heard table c side s) _ gap.made quiet.made gap.is
-          (ok_needs (is_nothing (tied_to_next side c s)) (fault_at NotQuiet (next_entry s)) _ quiet.made no_tie
+          (ok_then (gap_by (Some side) table c s) _ gap.made quiet.made gap.is
+          (ok_needs (is_nothing (tied (Some side) c s)) (fault_at NotQuiet (next_entry s)) _ quiet.made no_tie
           (ok_then (closed_at_mark table side (next_entry s) (open_halves (end_at side gap.made.world)) gap.made)
           _ gap.made
           quiet.made closed (ok_some (stepped table Quiet mine)
@@ -186,14 +186,14 @@ mark_item side table c fate r next s is mirrors reached =
 -- ---- entries
 
 item_reflects : (side : Side) (table : Table) (c : Certificate) (fate : Fate) (item : Item) (r next s : Replay)
-    → item_replayed table c fate item r ≡ Ok next → Mirrors side r s → IsReached table r.world
-    → Reflects side next (item_heard table c fate side item s)
+    → item_by None table c fate item r ≡ Ok next → Mirrors side r s → IsReached table r.world
+    → Reflects side next (item_by (Some side) table c fate item s)
 item_reflects side table c fate Item.Quiet r next s is mirrors reached =
     mark_item side table c fate r next s is mirrors reached
 item_reflects side table c fate (Sent sender m) r next s is mirrors reached = by side sender is mirrors
   where
-    by : (side sender : Side) → sent_replayed table c fate sender m r ≡ Ok next → Mirrors side r s
-        → Reflects side next (item_heard table c fate side (Sent sender m) s)
+    by : (side sender : Side) → own_judged None table c fate sender m r ≡ Ok next → Mirrors side r s
+        → Reflects side next (item_by (Some side) table c fate (Sent sender m) s)
     by A A is mirrors = own_item A table c fate m r next s is mirrors reached
     by A B is mirrors = peer_item A table c fate m r next s is mirrors reached
     by B A is mirrors = peer_item B table c fate m r next s is mirrors reached
@@ -201,7 +201,7 @@ item_reflects side table c fate (Sent sender m) r next s is mirrors reached = by
 
 entry_reached : (table : Table) (c : Certificate) (fate : Fate) (item : Item) (r next : Replay)
     → slice_get c.fates (next_entry r) ≡ Some fate
-    → item_replayed table c fate item r ≡ Ok next → IsReached table r.world → IsReached table next.world
+    → item_by None table c fate item r ≡ Ok next → IsReached table r.world → IsReached table next.world
 entry_reached table c fate item r next has is reached =
     let one = item_replays table c fate item r next has is in
     let to_mid = reached_on table one.gap.steps r.world one.mid.world reached one.gap.extends.plays in
@@ -209,16 +209,16 @@ entry_reached table c fate item r next has is reached =
 
 entries_reflect : (side : Side) (table : Table) (c : Certificate) (entries : List (Result Item Reason))
     (r next s : Replay)
-    → entries_replayed table c entries r ≡ Ok next → Mirrors side r s → IsReached table r.world
-    → Reflects side next (entries_heard table c side entries s)
+    → entries_by None table c entries r ≡ Ok next → Mirrors side r s → IsReached table r.world
+    → Reflects side next (entries_by (Some side) table c entries s)
 entries_reflect side table c [] r next s is mirrors reached =
     let so = needs_ok (next_entry r == length c.fates) (fault_at FateCount (next_entry r))
-    (gap_replayed table c r) next is in
+    (gap_by None table c r) next is in
     let gap = gap_reflects side table c r next s so.1 mirrors in
     record {
       made = gap.made;
       is = ok_needs (next_entry s == length c.fates) (fault_at FateCount (next_entry s))
-          (gap_heard table c side s) gap.made
+          (gap_by (Some side) table c s) gap.made
           (ap (λ (items : List Item). length items == length c.fates) (same_sent side r s mirrors) ∙ so.0) gap.is;
       mirrors = gap.mirrors;
     }
@@ -226,15 +226,15 @@ entries_reflect side table c (entry ∷ entries) r next s is mirrors reached =
     let (fate, fate_ok, on) = then_ok
     (ok_or (slice_get c.fates (next_entry r)) (fault_at FateCount (next_entry r))) _ next is in
     let has = some_ok (slice_get c.fates (next_entry r)) (fault_at FateCount (next_entry r)) fate fate_ok in
-    let (mid, one_ok, rest) = then_ok (entry_replayed table c fate entry r)
-    (entries_replayed table c entries) next on in
+    let (mid, one_ok, rest) = then_ok (entry_by None table c fate entry r)
+    (entries_by None table c entries) next on in
     by fate entry has mid one_ok (λ v there. entries_reflect side table c entries mid next v rest there)
   where
     by : (fate : Fate) (x : Result Item Reason) → slice_get c.fates (next_entry r) ≡ Some fate → (mid : Replay)
-        → entry_replayed table c fate x r ≡ Ok mid
+        → entry_by None table c fate x r ≡ Ok mid
         → ((v : Replay) → Mirrors side mid v → IsReached table mid.world
-        → Reflects side next (entries_heard table c side entries v))
-        → Reflects side next (entries_heard table c side (x ∷ entries) s)
+        → Reflects side next (entries_by (Some side) table c entries v))
+        → Reflects side next (entries_by (Some side) table c (x ∷ entries) s)
     by fate (Err reason) has mid is on = cc
     by fate (Ok item) has mid is on =
         let one = item_reflects side table c fate item r mid s is mirrors reached in
@@ -245,8 +245,8 @@ entries_reflect side table c (entry ∷ entries) r next s is mirrors reached =
           made = last.made;
           is = ok_then (ok_or (slice_get c.fates (next_entry s)) (fault_at FateCount (next_entry s))) _ fate last.made
               (ok_some (slice_get c.fates (next_entry s)) (fault_at FateCount (next_entry s)) fate there)
-              (ok_then (item_heard table c fate side item s)
-              (entries_heard table c side entries) one.made last.made one.is last.is);
+              (ok_then (item_by (Some side) table c fate item s)
+              (entries_by (Some side) table c entries) one.made last.made one.is last.is);
           mirrors = last.mirrors;
         }
 
@@ -258,11 +258,11 @@ at_first B = record { world = refl; losses = refl }
 
 pub both_give : (side : Side) (table : Table) (c : Certificate) (entries : List Entry) (items : List Item)
     (events : List Event)
-    → AreItems entries items → replayed table c entries ≡ Ok events
-    → (own : List Event) × (replayed_for side table c entries ≡ Ok own) × DiscardsNothing side c items own
+    → AreItems entries items → replayed_by None table c entries ≡ Ok events
+    → (own : List Event) × (replayed_by (Some side) table c entries ≡ Ok own) × DiscardsNothing side c items own
 both_give side table c entries items events are is =
     let fits = both_ok (certificate_fits c) _ events is in
-    let (r, done, last) = then_ok (entries_replayed table c (map item_of entries) nothing_replayed) _ events fits.2 in
+    let (r, done, last) = then_ok (entries_by None table c (map item_of entries) nothing_replayed) _ events fits.2 in
     let mine = entries_reflect side table c (map item_of entries)
     nothing_replayed r nothing_replayed done (at_first side) ([], refl) in
     let fronts = both_fronts_mirror side c r mine.made mine.mirrors in
@@ -272,7 +272,7 @@ both_give side table c entries items events are is =
     items_same given.items items (sym (items_of entries given.items given.are) ∙ items_of entries items are) in (
       own,
       ok_both (certificate_fits c) _ tt own fits.1
-          (ok_then (entries_heard table c side (map item_of entries) nothing_replayed) _ mine.made own mine.is refl),
+          (ok_then (entries_by (Some side) table c (map item_of entries) nothing_replayed) _ mine.made own mine.is refl),
       fronts.losses ∙ ap (losses_from (other side)) (ok_same {F = CheckFault} (lost_from_both c r).events events last)
           ∙ given.follows.losses (other side) ∙ ap (lost_from (other side) 0 c.fates) same,
     )

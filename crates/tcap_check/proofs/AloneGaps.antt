@@ -1,6 +1,6 @@
 -- A gap of both ends, and of one: what is listed of that end and what is delivered to it happens in both, and the rest
 -- is not seen.
-use Rattle.std.proofs.Common.{◌≡◌, ℕ, ◌+◌, ℤ, ◌==◌, Bool, true, false, cond, List, [], ◌∷◌, filter, length, Some, Result, Ok, option_map, refl, sym, ap, subst, ◌∙◌}
+use Rattle.std.proofs.Common.{◌≡◌, ℕ, ◌+◌, ℤ, ◌==◌, Bool, true, false, cond, List, [], ◌∷◌, filter, length, Some, Result, Ok, option_map, refl, sym, ap, subst, ◌∙◌, None}
 use Rattle.std.specs.Prelude.{◌&&◌, ok_or, slice_get}
 use Rattle.tcap_msg.specs.declared.message.Message.TheVariants.{Unidirectional, Begin, Continue, End as EndMessage, Abort}
 use Rattle.tcap_msg.specs.Parts.{components_in}
@@ -25,8 +25,7 @@ use Rattle.tcap_model.specs.Run.{Event, Receives, Expires, Closes, after, then_s
 use Rattle.tcap_check.specs.Certificate.{Certificate}
 use Rattle.tcap_model.specs.Since.{originating}
 use Rattle.tcap_check.specs.Follows.{closing_by, closing_event, expiry_by, expiry_event, half_begun, invoke_id, losses_from, named_entry}
-use Rattle.tcap_check.specs.Replayed.{Replay, closings_replayed, deliveries_replayed, delivery_replayed, expiries_replayed, fault_at, gap_replayed, happens, heard, lost_before, lost_from_front, next_entry, stepped}
-use Rattle.tcap_check.specs.Alone.{deliveries_heard, delivery_heard, gap_heard}
+use Rattle.tcap_check.specs.Replayed.{Replay, closings_replayed, deliveries_by, delivery_by, expiries_replayed, fault_at, gap_by, happens, heard, lost_before, lost_from_front, next_entry, stepped}
 use Rattle.tcap_check.proofs.DescribedGaps.{ok_some, ok_then}
 use Rattle.tcap_model.proofs.RunLaws.{same_side}
 use Rattle.tcap_model.proofs.RunLaws.{closing, delivery, expiry, some_is, then_some, where_some}
@@ -241,25 +240,25 @@ delivery_reflects B A table c n true r next s is mirrors = heard_reflects B tabl
 delivery_reflects B B table c n true r next s is mirrors = reflects_this B next s (away B table c n r next s is mirrors)
 
 deliveries_reflect : (side : Side) (table : Table) (c : Certificate) (gap n : ℕ) (fates : List Fate) (items : List Item)
-    (r next s : Replay) → deliveries_replayed table c gap n fates items r ≡ Ok next → Mirrors side r s
-    → Reflects side next (deliveries_heard table c side gap n fates items s)
+    (r next s : Replay) → deliveries_by None table c gap n fates items r ≡ Ok next → Mirrors side r s
+    → Reflects side next (deliveries_by (Some side) table c gap n fates items s)
 deliveries_reflect side table c gap n [] items r next s is mirrors =
     reflects_this side next s (subst (λ (x : Replay). Mirrors side x s) (ok_same {F = CheckFault} r next is) mirrors)
 deliveries_reflect side table c gap n (fate ∷ fates) [] r next s is mirrors =
     reflects_this side next s (subst (λ (x : Replay). Mirrors side x s) (ok_same {F = CheckFault} r next is) mirrors)
 deliveries_reflect side table c gap n (fate ∷ fates) (item ∷ items) r next s is mirrors =
-    let one = then_ok (delivery_replayed table c gap n fate item r)
-    (deliveries_replayed table c gap (n + 1) fates items) next is in
-    reflects_then side one.0 next (delivery_heard table c side gap n fate item s)
-    (deliveries_heard table c side gap (n + 1) fates items)
+    let one = then_ok (delivery_by None table c gap n fate item r)
+    (deliveries_by None table c gap (n + 1) fates items) next is in
+    reflects_then side one.0 next (delivery_by (Some side) table c gap n fate item s)
+    (deliveries_by (Some side) table c gap (n + 1) fates items)
     (by fate item one.0 one.1) (λ v on. deliveries_reflect side table c gap (n + 1) fates items one.0 next v one.2 on)
   where
     same : (mid : Replay) → (let x : Result Replay CheckFault = Ok r in x) ≡ Ok mid → Reflects side mid (Ok s)
     same mid is = reflects_this side mid s
         (subst (λ (x : Replay). Mirrors side x s) (ok_same {F = CheckFault} r mid is) mirrors)
 
-    by : (fate : Fate) (item : Item) (mid : Replay) → delivery_replayed table c gap n fate item r ≡ Ok mid
-        → Reflects side mid (delivery_heard table c side gap n fate item s)
+    by : (fate : Fate) (item : Item) (mid : Replay) → delivery_by None table c gap n fate item r ≡ Ok mid
+        → Reflects side mid (delivery_by (Some side) table c gap n fate item s)
     by (Gap g) (Sent sender m) mid is = delivery_reflects side sender table c n (g == gap) r mid s is mirrors
     by (Gap g) Item.Quiet mid is = same mid is
     by (By k) (Sent sender m) mid is = same mid is
@@ -275,11 +274,11 @@ heard_at table c side items s =
     closings_replayed table c (filter (λ x. is_side side x.side) (filter (λ x. x.gap == length items) c.close)) s
     >>= λ closed.
     expiries_replayed table c (filter (λ x. is_side side x.side) (filter (λ x. x.gap == length items) c.expire)) closed
-    >>= deliveries_heard table c side (length items) 0 c.fates items
+    >>= deliveries_by (Some side) table c (length items) 0 c.fates items
 
 pub gap_reflects : (side : Side) (table : Table) (c : Certificate) (r next s : Replay)
-    → gap_replayed table c r ≡ Ok next
-    → Mirrors side r s → Reflects side next (gap_heard table c side s)
+    → gap_by None table c r ≡ Ok next
+    → Mirrors side r s → Reflects side next (gap_by (Some side) table c s)
 gap_reflects side table c r next s is mirrors =
     let closing = filter (λ (x : Closing). x.gap == next_entry r) c.close in
     let expiring = filter (λ (x : Expiry). x.gap == next_entry r) c.expire in
@@ -290,7 +289,7 @@ gap_reflects side table c r next s is mirrors =
     (closings_reflect side table c closing r a.0 s a.1 mirrors)
     (λ v on.
     reflects_then side b.0 next (expiries_replayed table c (filter (λ (x : Expiry). is_side side x.side) expiring) v)
-    (deliveries_heard table c side (next_entry r) 0 c.fates r.world.sent)
+    (deliveries_by (Some side) table c (next_entry r) 0 c.fates r.world.sent)
     (expiries_reflect side table c expiring a.0 b.0 v b.1 on)
     (λ u behind. deliveries_reflect side table c (next_entry r) 0 c.fates r.world.sent b.0 next u b.2 behind)) in
     subst (λ (items : List Item). Reflects side next (heard_at table c side items s))

@@ -20,9 +20,9 @@ use Rattle.tcap_model.specs.Run.{Event, Sends, Receives, Replies, Loses, Expires
 use Rattle.tcap_check.specs.Certificate.{Certificate}
 use Rattle.tcap_model.specs.Entries.{item_of}
 use Rattle.tcap_check.specs.Follows.{FatesFit, losses_from}
-use Rattle.tcap_check.specs.Replayed.{Replay, certificate_fits, fault_at, lost_from_front, next_entry, nothing_replayed}
+use Rattle.tcap_check.specs.Replayed.{Replay, certificate_fits, entries_by, entry_by, fault_at, gap_by, lost_from_front, next_entry, nothing_replayed, replayed_by}
 use Rattle.tcap_model.specs.Since.{WasSent}
-use Rattle.tcap_check.specs.Alone.{entries_heard, entry_heard, gap_heard, is_lost_from, replayed_for, unheard_of}
+use Rattle.tcap_check.specs.Unheard.{is_lost_from, unheard_of}
 use Rattle.tcap_model.proofs.ChannelLaws.{in_order, were_sent}
 use Rattle.tcap_check.proofs.GivenLosses.{all_numbered, fits_gap, fits_reply, is_lost, says_lost}
 use Rattle.tcap_check.proofs.GivenRuns.{are_fit, both_ok, front_empty}
@@ -56,15 +56,15 @@ fits_behind count n (suc i) f (first ∷ fates) fit at =
 
 -- There are as many fates as entries.
 counted : (side : Side) (table : Table) (c : Certificate) (entries : List (Result Item Reason)) (r next : Replay)
-    → entries_heard table c side entries r ≡ Ok next → length next.world.sent ≡ length c.fates
+    → entries_by (Some side) table c entries r ≡ Ok next → length next.world.sent ≡ length c.fates
 counted side table c [] r next is =
     let so = needs_ok (next_entry r == length c.fates) (fault_at FateCount (next_entry r))
-    (gap_heard table c side r) next is in
+    (gap_by (Some side) table c r) next is in
     ap length ((gap_leads side table c r next so.1).sent ∙ append-nil r.world.sent)
     ∙ eqb-true (next_entry r) (length c.fates) so.0
 counted side table c (entry ∷ entries) r next is =
     let fate = then_ok (ok_or (slice_get c.fates (next_entry r)) (fault_at FateCount (next_entry r))) _ next is in
-    let one = then_ok (entry_heard table c fate.0 side entry r) (entries_heard table c side entries) next fate.2 in
+    let one = then_ok (entry_by (Some side) table c fate.0 entry r) (entries_by (Some side) table c entries) next fate.2 in
     counted side table c entries one.0 next one.2
 
 -- What is left on its way is lost by its fate.
@@ -113,10 +113,10 @@ left_is_lost side table c r fit count runs taken =
 -- So nothing is.
 pub none_waits : (side : Side) (table : Table) (c : Certificate) (entries : List Entry)
     (events : List Event) (w : World)
-    → replayed_for side table c entries ≡ Ok events → Runs table events w → channel_from (other side) w ≡ []
+    → replayed_by (Some side) table c entries ≡ Ok events → Runs table events w → channel_from (other side) w ≡ []
 none_waits side table c entries events w is runs =
     let fits = both_ok (certificate_fits c) _ events is in
-    let (r, done, last_ok) = then_ok (entries_heard table c side (map item_of entries) nothing_replayed)
+    let (r, done, last_ok) = then_ok (entries_by (Some side) table c (map item_of entries) nothing_replayed)
     _ events fits.2 in
     let heard = entries_lead side table c (map item_of entries) nothing_replayed r done in
     let last = lost_from_front c (other side) r in

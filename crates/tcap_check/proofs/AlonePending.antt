@@ -17,8 +17,7 @@ use Rattle.tcap_model.specs.Run.{Event, Sends, Receives, Replies, Loses, Expires
 use Rattle.tcap_check.specs.Certificate.{Certificate}
 use Rattle.tcap_model.specs.Entries.{IsItem}
 use Rattle.tcap_check.specs.Follows.{FatesFit}
-use Rattle.tcap_check.specs.Alone.{gap_heard, item_heard}
-use Rattle.tcap_check.specs.Replayed.{Replay, next_entry}
+use Rattle.tcap_check.specs.Replayed.{Replay, gap_by, item_by, next_entry}
 use Rattle.tcap_model.proofs.ListLaws.{all_both}
 use Rattle.tcap_model.proofs.RunLaws.{closing, delivery, expiry, loss, quiet as quiet_step, reply, same_side, sending, some_is, telling, then_some}
 use Rattle.tcap_check.proofs.AloneCounts.{IsOwn}
@@ -68,7 +67,7 @@ by_peer side sender message n items of_peer is =
 
 -- Behind a gap, what is delivered in it was taken.
 pub alone_behind : (side : Side) (table : Table) (c : Certificate) (front : List Entry) (r next : Replay)
-    → Stands (Some side) table c front (next_entry r) r → gap_heard table c side r ≡ Ok next
+    → Stands (Some side) table c front (next_entry r) r → gap_by (Some side) table c r ≡ Ok next
     → Stands (Some side) table c front (next_entry r + 1) next
 alone_behind side table c front r next old goes =
     stands_on (Some side) table c front (next_entry r) (next_entry r + 1) r next leads.steps old leads.extends same
@@ -119,7 +118,7 @@ over_or_next (By g) k over = by (cases_lt g k)
 -- Behind an entry, what is delivered before it, and what it takes, was taken.
 pub alone_next : (side : Side) (table : Table) (c : Certificate) (front : List Entry) (entry : Entry) (item : Item) (fate : Fate)
     (r next : Replay) → FatesFit (length c.fates) 0 c.fates → Stands (Some side) table c front (next_entry r) r → IsItem entry item
-    → slice_get c.fates (next_entry r) ≡ Some fate → item_heard table c fate side item r ≡ Ok next
+    → slice_get c.fates (next_entry r) ≡ Some fate → item_by (Some side) table c fate item r ≡ Ok next
     → Stands (Some side) table c (front ++ entry ∷ []) (next_entry next) next
 alone_next side table c front entry item fate r next fit old is has goes =
     stands_more (Some side) table c front (next_entry r) entry item fate r next leads.steps old is has leads.extends leads.sent

@@ -20,13 +20,13 @@ use Rattle.tcap_check.specs.declared.fault.CheckFault.{CheckFault}
 use Rattle.tcap_model.specs.declared.reason.Reason.{Reason}
 use Rattle.tcap_model.specs.declared.reason.Reason.TheVariants.{BadReply, FateCount, FateRange, NotQuiet, OutOfOrder}
 use Rattle.tcap_record.specs.Ends.{other}
-use Rattle.tcap_model.specs.World.{Item, Sent, end_at, is_side}
+use Rattle.tcap_model.specs.World.{World, Item, Sent, end_at, is_side}
 use Rattle.tcap_model.specs.Run.{Event, Sends, Receives, Replies, Loses, Expires, Closes, Quiet, Tells, joined, then_so}
 use Rattle.tcap_check.specs.Certificate.{Certificate}
 use Rattle.tcap_model.specs.Since.{originating}
 use Rattle.tcap_check.specs.Follows.{IsImplied, closing_by, closing_event, expiry_by, expiry_event, invoke_id, invoking_half, named_entry, sending_by, taken_by}
-use Rattle.tcap_check.specs.Replayed.{Replay, all_lost_from, closed_at_mark, closings_replayed, expiries_replayed, fault_at, heard, implied_over, is_gap, is_nothing, is_overtaking, lost_from_front, message_by, next_entry, or_else, stepped, told_replayed, with_step, is_sent_by}
-use Rattle.tcap_check.specs.Alone.{deliveries_heard, delivery_heard, entries_heard, entry_heard, gap_heard, item_heard, mark_replayed, own_replayed, tied_to_next}
+use Rattle.tcap_check.specs.Replayed.{Replay, all_lost_from, closed_at_mark, closings_replayed, deliveries_by, delivery_by, discarded, entries_by, entry_by, expiries_replayed, fault_at, gap_by, heard, implied_over, is_gap, is_nothing, is_overtaking, is_sent_by, item_by, lost_from_front, mark_judged, message_by, next_entry, or_else, own_judged, stepped, tied, told_replayed, with_step}
+use Rattle.tcap_check.proofs.ReplaySteps.{discard_is}
 use Rattle.tcap_model.proofs.RunLaws.{some_is, then_some, where_some}
 use Rattle.tcap_model.proofs.RunLaws.{same_side}
 use Rattle.tcap_check.proofs.ReplayEntries.{ok_item}
@@ -109,27 +109,37 @@ heard_leads side table c n r next is =
     let before = lost_from_front c (other side) r in
     leads_then side table r before next [] [] (front_leads side table c (other side) r)
     (by before (stepped table (Receives side n) before) refl
-    (some_ok (or_else (stepped table (Receives side n) before) (stepped table (Loses (other side) n) before))
+    (some_ok (or_else (stepped table (Receives side n) before) (discarded table side n before))
     (fault_at BadReply n)
     next is))
   where
     by : (before : Replay) (o : Option Replay) → stepped table (Receives side n) before ≡ o
-        → or_else o (stepped table (Loses (other side) n) before) ≡ Some next → Leads side table before [] next
+        → or_else o (discarded table side n before) ≡ Some next → Leads side table before [] next
     by before (Some x) at found =
         step_leads side table (Receives side n) [] before next refl (at ∙ found) (λ adds none. none)
     by before None at found =
-        step_leads side table (Loses (other side) n) [] before next tt found (λ adds none. none)
+        let d = discard_is table side n before next found in
+        let lost = step_leads side table (Loses (other side) n) [] before d.lost tt d.step (λ adds none. none) in
+        record {
+          steps = lost.steps;
+          extends = record {
+            events = d.events ∙ lost.extends.events;
+            plays = lost.extends.plays ∙ ap (λ (w : World). Some w) (sym d.world);
+          };
+          own = lost.own;
+          sent = ap (λ (w : World). w.sent) d.world ∙ lost.sent;
+        }
 
 pub deliveries_lead : (side : Side) (table : Table) (c : Certificate) (gap n : ℕ) (fates : List Fate)
     (items : List Item) (r next : Replay)
-    → deliveries_heard table c side gap n fates items r ≡ Ok next → Leads side table r [] next
+    → deliveries_by (Some side) table c gap n fates items r ≡ Ok next → Leads side table r [] next
 deliveries_lead side table c gap n [] items r next is =
     subst (Leads side table r []) (ok_same {F = CheckFault} r next is) (leads_nothing side table r)
 deliveries_lead side table c gap n (fate ∷ fates) [] r next is =
     subst (Leads side table r []) (ok_same {F = CheckFault} r next is) (leads_nothing side table r)
 deliveries_lead side table c gap n (fate ∷ fates) (item ∷ items) r next is =
-    let one = then_ok (delivery_heard table c side gap n fate item r)
-    (deliveries_heard table c side gap (n + 1) fates items) next is in
+    let one = then_ok (delivery_by (Some side) table c gap n fate item r)
+    (deliveries_by (Some side) table c gap (n + 1) fates items) next is in
     leads_then side table r one.0 next [] [] (by fate item one.0 one.1)
     (deliveries_lead side table c gap (n + 1) fates items one.0 next one.2)
   where
@@ -140,7 +150,7 @@ deliveries_lead side table c gap n (fate ∷ fates) (item ∷ items) r next is =
     if_so true mid is = heard_leads side table c n r mid is
     if_so false mid is = same mid is
 
-    by : (fate : Fate) (item : Item) (mid : Replay) → delivery_heard table c side gap n fate item r ≡ Ok mid
+    by : (fate : Fate) (item : Item) (mid : Replay) → delivery_by (Some side) table c gap n fate item r ≡ Ok mid
         → Leads side table r [] mid
     by (Gap g) (Sent sender m) mid is = if_so ((g == gap) && is_side (other side) sender) mid is
     by (Gap g) Item.Quiet mid is = same mid is
@@ -150,7 +160,7 @@ deliveries_lead side table c gap n (fate ∷ fates) (item ∷ items) r next is =
     by Lost Item.Quiet mid is = same mid is
 
 -- The gap before the next entry.
-pub gap_leads : (side : Side) (table : Table) (c : Certificate) (r next : Replay) → gap_heard table c side r ≡ Ok next
+pub gap_leads : (side : Side) (table : Table) (c : Certificate) (r next : Replay) → gap_by (Some side) table c r ≡ Ok next
     → Leads side table r [] next
 gap_leads side table c r next is =
     let closing = filter (λ (x : Closing). x.gap == next_entry r) c.close in
@@ -208,19 +218,19 @@ own_rest side table c m o r next is =
     (message_leads side table c m o r sent.0 sent.1) (all_lost_leads side table sent.0))
 
 -- A gap takes no message for the entry behind it.
-pub tied_behind : (side : Side) (table : Table) (c : Certificate) (r behind : Replay) → gap_heard table c side r ≡ Ok behind
-    → tied_to_next side c behind ≡ tied_to_next side c r
+pub tied_behind : (side : Side) (table : Table) (c : Certificate) (r behind : Replay) → gap_by (Some side) table c r ≡ Ok behind
+    → tied (Some side) c behind ≡ tied (Some side) c r
 tied_behind side table c r behind is =
     ap (λ (s : List Item). filter (λ n. is_sent_by (other side) (slice_get s n)) (taken_by (length s) 0 c.fates))
     ((gap_leads side table c r behind is).sent ∙ append-nil r.world.sent)
 
 own_leads : (side : Side) (table : Table) (c : Certificate) (m : Message) (r next : Replay)
-    → own_replayed table c side m r ≡ Ok next
+    → own_judged (Some side) table c Lost side m r ≡ Ok next
     → Leads side table r (Sent side m ∷ []) next
 own_leads side table c m r next is =
-    let gap = then_ok (gap_heard table c side r) _ next is in
+    let gap = then_ok (gap_by (Some side) table c r) _ next is in
     leads_then side table r gap.0 next [] (Sent side m ∷ []) (gap_leads side table c r gap.0 gap.1)
-    (own_rest side table c m (sending_by c (next_entry gap.0) (Sent side m) (tied_to_next side c gap.0)) gap.0 next gap.2)
+    (own_rest side table c m (sending_by c (next_entry gap.0) (Sent side m) (tied (Some side) c gap.0)) gap.0 next gap.2)
 
 -- or of its peer.
 pub peer_rest : (side : Side) (table : Table) (m : Message) (so : Bool) (fault : CheckFault) (r next : Replay)
@@ -237,9 +247,9 @@ peer_leads : (side : Side) (table : Table) (c : Certificate) (fate : Fate) (m : 
 peer_leads side table c fate m r next is =
     let so = needs_ok (not (is_overtaking (other side) fate c.fates r.world.sent))
     (fault_at OutOfOrder (next_entry r)) _ next is in
-    let gap = then_ok (gap_heard table c side r) _ next so.1 in
+    let gap = then_ok (gap_by (Some side) table c r) _ next so.1 in
     leads_then side table r gap.0 next [] (Sent (other side) m ∷ []) (gap_leads side table c r gap.0 gap.1)
-    (peer_rest side table m (is_nothing (tied_to_next side c r)) (fault_at BadReply (next_entry r)) gap.0 next gap.2)
+    (peer_rest side table m (is_nothing (tied (Some side) c r)) (fault_at BadReply (next_entry r)) gap.0 next gap.2)
 
 -- ---- a mark
 
@@ -275,22 +285,22 @@ mark_rest side table c so fault entry r next is =
     (step_leads side table Quiet (Item.Quiet ∷ []) before next tt step (λ adds one. one)))
 
 mark_leads : (side : Side) (table : Table) (c : Certificate) (fate : Fate) (r next : Replay)
-    → mark_replayed table c fate side r ≡ Ok next → Leads side table r (Item.Quiet ∷ []) next
+    → mark_judged (Some side) table c fate r ≡ Ok next → Leads side table r (Item.Quiet ∷ []) next
 mark_leads side table c fate r next is =
     let entry = next_entry r in
     let so = needs_ok (is_gap (entry + 1) fate) (fault_at FateRange entry) _ next is in
-    let gap = then_ok (gap_heard table c side r) _ next so.1 in
+    let gap = then_ok (gap_by (Some side) table c r) _ next so.1 in
     leads_then side table r gap.0 next [] (Item.Quiet ∷ []) (gap_leads side table c r gap.0 gap.1)
-    (mark_rest side table c (is_nothing (tied_to_next side c r)) (fault_at NotQuiet entry) entry gap.0 next gap.2)
+    (mark_rest side table c (is_nothing (tied (Some side) c r)) (fault_at NotQuiet entry) entry gap.0 next gap.2)
 
 -- ---- entries
 
 pub item_leads : (side : Side) (table : Table) (c : Certificate) (fate : Fate) (item : Item) (r next : Replay)
-    → item_heard table c fate side item r ≡ Ok next → Leads side table r (item ∷ []) next
+    → item_by (Some side) table c fate item r ≡ Ok next → Leads side table r (item ∷ []) next
 item_leads side table c fate Item.Quiet r next is = mark_leads side table c fate r next is
 item_leads side table c fate (Sent sender m) r next is = by side sender is
   where
-    by : (side sender : Side) → item_heard table c fate side (Sent sender m) r ≡ Ok next
+    by : (side sender : Side) → item_by (Some side) table c fate (Sent sender m) r ≡ Ok next
         → Leads side table r (Sent sender m ∷ []) next
     by A A is = own_leads A table c m r next is
     by A B is = peer_leads A table c fate m r next is
@@ -305,17 +315,17 @@ pub record AreHeard (side : Side) (table : Table) (entries : List (Result Item R
 
 pub entries_lead : (side : Side) (table : Table) (c : Certificate) (entries : List (Result Item Reason))
     (r next : Replay)
-    → entries_heard table c side entries r ≡ Ok next → AreHeard side table entries r next
+    → entries_by (Some side) table c entries r ≡ Ok next → AreHeard side table entries r next
 entries_lead side table c [] r next is =
     let so = needs_ok (next_entry r == length c.fates) (fault_at FateCount (next_entry r))
-    (gap_heard table c side r) next is in
+    (gap_by (Some side) table c r) next is in
     record { items = []; are = refl; leads = gap_leads side table c r next so.1 }
 entries_lead side table c (entry ∷ entries) r next is =
     let fate = then_ok (ok_or (slice_get c.fates (next_entry r)) (fault_at FateCount (next_entry r))) _ next is in
-    let one = then_ok (entry_heard table c fate.0 side entry r) _ next fate.2 in
+    let one = then_ok (entry_by (Some side) table c fate.0 entry r) _ next fate.2 in
     by fate.0 one.0 entry refl one.1 (entries_lead side table c entries one.0 next one.2)
   where
-    by : (fate : Fate) (mid : Replay) (x : Result Item Reason) → entry ≡ x → entry_heard table c fate side x r ≡ Ok mid
+    by : (fate : Fate) (mid : Replay) (x : Result Item Reason) → entry ≡ x → entry_by (Some side) table c fate x r ≡ Ok mid
         → AreHeard side table entries mid next → AreHeard side table (entry ∷ entries) r next
     by fate mid (Err reason) e is rest = cc
     by fate mid (Ok item) e is rest = record {

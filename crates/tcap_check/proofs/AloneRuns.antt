@@ -1,5 +1,5 @@
 -- What a certificate gives for one end is a run of that end, which sends the entries.
-use Rattle.std.proofs.Common.{arith, ◌≡◌, List, [], ◌++◌, map, length, Ok, sym, ap, subst, ◌∙◌, append-nil}
+use Rattle.std.proofs.Common.{arith, ◌≡◌, List, [], ◌++◌, map, length, Ok, sym, ap, subst, ◌∙◌, append-nil, Some}
 use Rattle.tcap_record.specs.declared.entry.End.{End as Side}
 use Rattle.tcap_record.specs.declared.entry.Entry.{Entry}
 use Rattle.tcap_end.specs.Table.{Table}
@@ -10,8 +10,7 @@ use Rattle.tcap_model.specs.World.{Item, channel_from}
 use Rattle.tcap_model.specs.Run.{Event, Runs}
 use Rattle.tcap_check.specs.Certificate.{Certificate}
 use Rattle.tcap_model.specs.Entries.{AreItems, count_components, item_of}
-use Rattle.tcap_check.specs.Replayed.{Replay, certificate_fits, lost_from_front, nothing_replayed}
-use Rattle.tcap_check.specs.Alone.{entries_heard, replayed_for}
+use Rattle.tcap_check.specs.Replayed.{Replay, certificate_fits, entries_by, lost_from_front, nothing_replayed, replayed_by}
 use Rattle.tcap_check.specs.AloneGiven.{IsGivenFor}
 use Rattle.tcap_check.proofs.GivenRuns.{are_items, both_ok}
 use Rattle.tcap_check.proofs.AloneLeft.{none_waits}
@@ -44,10 +43,10 @@ led_from_nothing side table c entries items next are count leads left =
     })
 
 pub gives_for : (side : Side) (table : Table) (c : Certificate) (entries : List Entry) (events : List Event)
-    → replayed_for side table c entries ≡ Ok events → IsGivenFor side table c entries events
+    → replayed_by (Some side) table c entries ≡ Ok events → IsGivenFor side table c entries events
 gives_for side table c entries events is =
     let fits = both_ok (certificate_fits c) _ events is in
-    let r = then_ok (entries_heard table c side (map item_of entries) nothing_replayed) _ events fits.2 in
+    let r = then_ok (entries_by (Some side) table c (map item_of entries) nothing_replayed) _ events fits.2 in
     let heard = entries_lead side table c (map item_of entries) nothing_replayed r.0 r.1 in
     let are = are_items entries heard.items heard.are in
     let last = lost_from_front c (other side) r.0 in

@@ -20,8 +20,8 @@ use Rattle.tcap_model.specs.World.{Item, Sent, is_side}
 use Rattle.tcap_model.specs.Run.{Event, Receives, Replies, Loses, after, numbers_taken, takes_from}
 use Rattle.tcap_check.specs.Certificate.{Certificate}
 use Rattle.tcap_check.specs.Follows.{sending_by, taken_by}
-use Rattle.tcap_check.specs.Replayed.{Replay, all_lost_from, closings_replayed, expiries_replayed, fault_at, heard, is_gap, is_nothing, is_overtaking, lost_from_front, message_by, next_entry, or_else, reply_replayed, stepped, told_replayed}
-use Rattle.tcap_check.specs.Alone.{deliveries_heard, delivery_heard, entries_heard, entry_heard, gap_heard, item_heard, mark_replayed, own_replayed, tied_to_next}
+use Rattle.tcap_check.specs.Replayed.{Replay, all_lost_from, closings_replayed, deliveries_by, delivery_by, discarded, entries_by, entry_by, expiries_replayed, fault_at, gap_by, heard, is_gap, is_nothing, is_overtaking, item_by, lost_from_front, mark_judged, message_by, next_entry, or_else, own_judged, reply_replayed, stepped, tied, told_replayed}
+use Rattle.tcap_check.proofs.ReplaySteps.{discard_is}
 use Rattle.tcap_check.proofs.GivenEvents.{IsSender, by_mark, by_reply, by_send, sender_is}
 use Rattle.tcap_check.proofs.GivenRuns.{replied_at}
 use Rattle.tcap_check.proofs.NumberLaws.{IsAmong, among_plain, taken_left, taken_right}
@@ -72,29 +72,32 @@ heard_takes : (side : Side) (table : Table) (c : Certificate) (n : ℕ) (r next 
 heard_takes side table c n r next is =
     let before = lost_from_front c (other side) r in
     by before (stepped table (Receives side n) before) refl
-    (some_ok (or_else (stepped table (Receives side n) before) (stepped table (Loses (other side) n) before))
+    (some_ok (or_else (stepped table (Receives side n) before) (discarded table side n before))
     (fault_at BadReply n)
     next is)
   where
     by : (before : Replay) (o : Option Replay) → stepped table (Receives side n) before ≡ o
-        → or_else o (stepped table (Loses (other side) n) before) ≡ Some next → Took side n next
+        → or_else o (discarded table side n before) ≡ Some next → Took side n next
     by before (Some x) at found = took_by side table n (Receives side n)
         before next (received_takes side n) (at ∙ found)
-    by before None at found = took_by side table n (Loses (other side) n) before next (lost_takes side n) found
+    by before None at found =
+        let d = discard_is table side n before next found in
+        subst (λ (x : List Event). IsAmong n (numbers_taken (other side) x)) (sym d.events)
+        (took_by side table n (Loses (other side) n) before d.lost (lost_takes side n) d.step)
 
 -- In a gap each message of the peer that has it is taken,
 deliveries_take : (side : Side) (table : Table) (c : Certificate) (m : Message) (gap n i : ℕ) (fates : List Fate)
     (items : List Item)
-    (r next : Replay) → deliveries_heard table c side gap n fates items r ≡ Ok next → slice_get fates i ≡ Some (Gap gap)
+    (r next : Replay) → deliveries_by (Some side) table c gap n fates items r ≡ Ok next → slice_get fates i ≡ Some (Gap gap)
     → slice_get items i ≡ Some (Sent (other side) m) → Took side (n + i) next
 deliveries_take side table c m gap n i [] items r next is fate item = cc
 deliveries_take side table c m gap n i (f ∷ fates) [] r next is fate item = cc
 deliveries_take side table c m gap n zero (f ∷ fates) (x ∷ items) r next is fate item =
-    let one = then_ok (delivery_heard table c side gap n f x r)
-    (deliveries_heard table c side gap (n + 1) fates items) next is in
-    let at : delivery_heard table c side gap n (Gap gap) (Sent (other side) m) r ≡ Ok one.0 =
+    let one = then_ok (delivery_by (Some side) table c gap n f x r)
+    (deliveries_by (Some side) table c gap (n + 1) fates items) next is in
+    let at : delivery_by (Some side) table c gap n (Gap gap) (Sent (other side) m) r ≡ Ok one.0 =
     let same_fate : f ≡ Gap gap = cc in let same_item : x ≡ Sent (other side) m = cc in
-    sym (ap₂ (λ (g : Fate) (y : Item). delivery_heard table c side gap n g y r) same_fate same_item) ∙ one.1 in
+    sym (ap₂ (λ (g : Fate) (y : Item). delivery_by (Some side) table c gap n g y r) same_fate same_item) ∙ one.1 in
     let took = heard_takes side table c n r one.0
     (let so : ((gap == gap) && is_side (other side) (other side))
     ≡ true = rw (eq-eqb gap gap refl) (itself (other side)) in
@@ -103,14 +106,14 @@ deliveries_take side table c m gap n zero (f ∷ fates) (x ∷ items) r next is 
     subst (λ (k : ℕ). Took side k next) e
     (took_on side table n one.0 [] next (deliveries_lead side table c gap (n + 1) fates items one.0 next one.2) took)
 deliveries_take side table c m gap n (suc i) (f ∷ fates) (x ∷ items) r next is fate item =
-    let one = then_ok (delivery_heard table c side gap n f x r)
-    (deliveries_heard table c side gap (n + 1) fates items) next is in
+    let one = then_ok (delivery_by (Some side) table c gap n f x r)
+    (deliveries_by (Some side) table c gap (n + 1) fates items) next is in
     let e : (n + 1) + i ≡ n + suc i = omega arith in
     subst (λ (k : ℕ). Took side k next)
     e (deliveries_take side table c m gap (n + 1) i fates items one.0 next one.2 fate item)
 
 pub gap_takes : (side : Side) (table : Table) (c : Certificate) (m : Message) (n : ℕ) (r next : Replay)
-    → gap_heard table c side r ≡ Ok next
+    → gap_by (Some side) table c r ≡ Ok next
     → slice_get c.fates n ≡ Some (Gap (next_entry r)) → slice_get r.world.sent n ≡ Some (Sent (other side) m)
     → Took side n next
 gap_takes side table c m n r next is fate item =
@@ -128,7 +131,7 @@ gap_takes side table c m n r next is fate item =
 -- A message of the peer whose fate is the next entry is tied to it.
 is_tied : (side : Side) (c : Certificate) (m : Message) (n : ℕ) (r : Replay) → slice_get c.fates n
     ≡ Some (By (next_entry r))
-    → slice_get r.world.sent n ≡ Some (Sent (other side) m) → IsAmong n (tied_to_next side c r)
+    → slice_get r.world.sent n ≡ Some (Sent (other side) m) → IsAmong n (tied (Some side) c r)
 is_tied side c m n r fate item =
     let e : 0 + n ≡ n = omega arith in
     among_filter (is_from (other side) r.world.sent) n (taken_by (next_entry r) 0 c.fates)
@@ -177,8 +180,8 @@ IsNext Lost k = ⊥
 -- What the gap takes is taken; what is tied is taken where the entry takes it.
 by_next : (side : Side) (table : Table) (c : Certificate) (m : Message) (n : ℕ) (f : Fate) (r mid : Replay)
     (items : List Item)
-    (next : Replay) → gap_heard table c side r ≡ Ok mid → Leads side table mid items next
-    → (IsAmong n (tied_to_next side c r) → Took side n next) → slice_get c.fates n ≡ Some f → IsNext f (next_entry r)
+    (next : Replay) → gap_by (Some side) table c r ≡ Ok mid → Leads side table mid items next
+    → (IsAmong n (tied (Some side) c r) → Took side n next) → slice_get c.fates n ≡ Some f → IsNext f (next_entry r)
     → slice_get r.world.sent n ≡ Some (Sent (other side) m) → Took side n next
 by_next side table c m n (Gap gap) r mid items next is leads tied fate now item =
     let here : slice_get c.fates n ≡ Some (Gap (next_entry r)) = fate ∙ ap (λ (g : ℕ). Some (Gap g)) now in
@@ -189,11 +192,11 @@ by_next side table c m n (By reply) r mid items next is leads tied fate now item
 by_next side table c m n Lost r mid items next is leads tied fate now item = absurd now
 
 own_takes : (side : Side) (table : Table) (c : Certificate) (sent m : Message) (n : ℕ) (f : Fate) (r next : Replay)
-    → own_replayed table c side sent r ≡ Ok next → slice_get c.fates n ≡ Some f → IsNext f (next_entry r)
+    → own_judged (Some side) table c Lost side sent r ≡ Ok next → slice_get c.fates n ≡ Some f → IsNext f (next_entry r)
     → slice_get r.world.sent n ≡ Some (Sent (other side) m) → Took side n next
 own_takes side table c sent m n f r next is fate now item =
-    let gap = then_ok (gap_heard table c side r) _ next is in
-    let taken = tied_to_next side c gap.0 in
+    let gap = then_ok (gap_by (Some side) table c r) _ next is in
+    let taken = tied (Some side) c gap.0 in
     let event = sending_by c (next_entry gap.0) (Sent side sent) taken in
     let behind = then_ok (message_by table c side sent event gap.0) (λ x. Ok (all_lost_from side x)) next gap.2 in
     by_next side table c m n f r gap.0 (Sent side sent ∷ [])
@@ -211,36 +214,36 @@ peer_takes : (side : Side) (table : Table) (c : Certificate) (own : Fate) (sent 
 peer_takes side table c own sent m n f r next is fate now item =
     let so = needs_ok (not (is_overtaking (other side) own c.fates r.world.sent))
     (fault_at OutOfOrder (next_entry r)) _ next is in
-    let gap = then_ok (gap_heard table c side r) _ next so.1 in
-    let none = is_nothing (tied_to_next side c r) in
+    let gap = then_ok (gap_by (Some side) table c r) _ next so.1 in
+    let none = is_nothing (tied (Some side) c r) in
     let free = needs_ok none (fault_at BadReply (next_entry r)) _ next gap.2 in
     by_next side table c m n f r gap.0 (Sent (other side) sent ∷ []) next gap.1
     (peer_rest side table sent none (fault_at BadReply (next_entry r)) gap.0 next gap.2)
-    (λ tied. absurd (not_tied (tied_to_next side c r) n free.0 tied)) fate now item
+    (λ among. absurd (not_tied (tied (Some side) c r) n free.0 among)) fate now item
 
 mark_takes : (side : Side) (table : Table) (c : Certificate) (own : Fate) (m : Message) (n : ℕ) (f : Fate)
     (r next : Replay)
-    → mark_replayed table c own side r ≡ Ok next → slice_get c.fates n ≡ Some f → IsNext f (next_entry r)
+    → mark_judged (Some side) table c own r ≡ Ok next → slice_get c.fates n ≡ Some f → IsNext f (next_entry r)
     → slice_get r.world.sent n ≡ Some (Sent (other side) m) → Took side n next
 mark_takes side table c own m n f r next is fate now item =
     let entry = next_entry r in
     let so = needs_ok (is_gap (entry + 1) own) (fault_at FateRange entry) _ next is in
-    let gap = then_ok (gap_heard table c side r) _ next so.1 in
-    let none = is_nothing (tied_to_next side c r) in
+    let gap = then_ok (gap_by (Some side) table c r) _ next so.1 in
+    let none = is_nothing (tied (Some side) c r) in
     let free = needs_ok none (fault_at NotQuiet entry) _ next gap.2 in
     by_next side table c m n f r gap.0 (Item.Quiet ∷ []) next gap.1
     (mark_rest side table c none (fault_at NotQuiet entry) entry gap.0 next gap.2)
-    (λ tied. absurd (not_tied (tied_to_next side c r) n free.0 tied)) fate now item
+    (λ among. absurd (not_tied (tied (Some side) c r) n free.0 among)) fate now item
 
 pub item_takes : (side : Side) (table : Table) (c : Certificate) (own : Fate) (x : Item) (m : Message) (n : ℕ) (f : Fate)
     (r next : Replay)
-    → item_heard table c own side x r ≡ Ok next → slice_get c.fates n ≡ Some f → IsNext f (next_entry r)
+    → item_by (Some side) table c own x r ≡ Ok next → slice_get c.fates n ≡ Some f → IsNext f (next_entry r)
     → slice_get r.world.sent n ≡ Some (Sent (other side) m) → Took side n next
 item_takes side table c own Item.Quiet m n f r next is fate now item =
     mark_takes side table c own m n f r next is fate now item
 item_takes side table c own (Sent sender sent) m n f r next is fate now item = by side sender is item
   where
-    by : (side sender : Side) → item_heard table c own side (Sent sender sent) r ≡ Ok next
+    by : (side sender : Side) → item_by (Some side) table c own (Sent sender sent) r ≡ Ok next
         → slice_get r.world.sent n ≡ Some (Sent (other side) m) → Took side n next
     by A A is item = own_takes A table c sent m n f r next is fate now item
     by A B is item = peer_takes A table c own sent m n f r next is fate now item
@@ -280,18 +283,18 @@ sent_before side table n r items next item leads before is =
 -- So all is taken whose fate is still to come.
 pub entries_take : (side : Side) (table : Table) (c : Certificate) (entries : List (Result Item Reason))
     (r next : Replay) (m : Message)
-    (n : ℕ) (f : Fate) → entries_heard table c side entries r ≡ Ok next → slice_get c.fates n ≡ Some f
+    (n : ℕ) (f : Fate) → entries_by (Some side) table c entries r ≡ Ok next → slice_get c.fates n ≡ Some f
     → IsAhead f n (next_entry r) (length c.fates) → slice_get next.world.sent n ≡ Some (Sent (other side) m)
     → Took side n next
 entries_take side table c [] r next m n f is fate ahead item =
     let so = needs_ok (next_entry r == length c.fates) (fault_at FateCount (next_entry r))
-    (gap_heard table c side r) next is in
+    (gap_by (Some side) table c r) next is in
     let last = eqb-true (next_entry r) (length c.fates) so.0 in
     by f fate ahead last so.1
   where
     by : (f : Fate) → slice_get c.fates n ≡ Some f → IsAhead f n (next_entry r) (length c.fates) → next_entry r
         ≡ length c.fates
-        → gap_heard table c side r ≡ Ok next → Took side n next
+        → gap_by (Some side) table c r ≡ Ok next → Took side n next
     by (Gap gap) fate ahead last gap_ok =
         let e : gap ≡ next_entry r = omega (arith, ahead.1, ahead.2, last) in
         let low : n < next_entry r = omega (arith, ahead.0, e) in
@@ -302,14 +305,14 @@ entries_take side table c [] r next m n f is fate ahead item =
 entries_take side table c (entry ∷ entries) r next m n f is fate ahead item =
     let all = entries_lead side table c (entry ∷ entries) r next is in
     let own = then_ok (ok_or (slice_get c.fates (next_entry r)) (fault_at FateCount (next_entry r))) _ next is in
-    let one = then_ok (entry_heard table c own.0 side entry r) (entries_heard table c side entries) next own.2 in
+    let one = then_ok (entry_by (Some side) table c own.0 entry r) (entries_by (Some side) table c entries) next own.2 in
     let rest = entries_lead side table c entries one.0 next one.2 in
     by own.0 entry one.0 one.1 (next_or_ahead f n (next_entry r) (length c.fates) ahead)
     (λ low. sent_before side table n r all.items next (Sent (other side) m) all.leads low item)
     (λ took. took_on side table n one.0 rest.items next rest.leads took)
     (λ behind. entries_take side table c entries one.0 next m n f one.2 fate behind item)
   where
-    by : (own : Fate) (x : Result Item Reason) (mid : Replay) → entry_heard table c own side x r ≡ Ok mid
+    by : (own : Fate) (x : Result Item Reason) (mid : Replay) → entry_by (Some side) table c own x r ≡ Ok mid
         → ((n < next_entry r) × IsNext f (next_entry r)) ⊎ IsAhead f n (next_entry r + 1) (length c.fates)
         → (n < next_entry r → slice_get r.world.sent n ≡ Some (Sent (other side) m))
         → (Took side n mid → Took side n next) → (IsAhead f n (next_entry mid) (length c.fates) → Took side n next)

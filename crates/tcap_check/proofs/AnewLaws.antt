@@ -14,6 +14,7 @@ use Rattle.tcap_end.specs.Message.{send}
 use Rattle.tcap_end.specs.Table.{Table}
 use Rattle.tcap_check.specs.declared.certificate.Fate.{Fate}
 use Rattle.tcap_check.specs.declared.progress.Progress.{Progress}
+use Rattle.tcap_model.specs.Run.{Expires, Sends}
 use Rattle.tcap_check.specs.Follows.{invoke_id, invoking_half}
 use Rattle.tcap_check.specs.Given.{IsInUse}
 use Rattle.tcap_check.specs.Progress.{ids_ended, ids_ended_over, or_still, seat_at, send_kept, sent_by, sent_or_not, with_seat_end}
@@ -29,7 +30,7 @@ none_end table side name (x ∷ ids) p free =
     (none_end table side name ids p (λ id there. free id (Contains-append_right (x ∷ []) ids id there)))
   where
     by : (o : Result End EndFault) → expire table (seat_at side p).end name x ≡ o → ids_ended table side name ids p ≡ p
-        → ids_ended table side name ids (or_still side p (expire table (seat_at side p).end name x)) ≡ p
+        → ids_ended table side name ids (or_still side (Expires side name x) p (expire table (seat_at side p).end name x)) ≡ p
     by (Ok e) is rest = absurd (free x (0, omega arith, refl) (ends_in_use table (seat_at side p).end name x e is))
     by (Err reason) is rest = rw is rest
 
@@ -49,7 +50,7 @@ nothing_ends table side message p next is = by (invoking_half message) refl
 -- It is sent as the end is.
 pub sends_as_is : (table : Table) (side : Side) (fate : Fate) (number : ℕ) (message : Message) (p : Progress) (next : End)
     → send table (seat_at side p).end message ≡ Ok next
-    → send_kept table side fate number message p ≡ Ok (sent_by side fate number message (with_seat_end side next p))
+    → send_kept table side fate number message p ≡ Ok (sent_by (Sends side message) side fate number message (with_seat_end side next p))
 sends_as_is table side fate number message p next is =
     ap (λ (before : Progress). sent_or_not side fate number message before (send table (seat_at side before).end message))
     (nothing_ends table side message p next is)

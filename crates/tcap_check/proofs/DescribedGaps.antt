@@ -1,5 +1,5 @@
 -- A gap of a run that a certificate describes is replayed.
-use Rattle.std.proofs.Common.{arith, ◌≡◌, ℕ, ℤ, suc, ◌+◌, ◌==◌, Bool, true, false, cond, List, [], ◌∷◌, ◌++◌, map, filter, length, Option, Some, Result, Ok, refl, sym, ap, subst, ◌∙◌, append_assoc, append-nil}
+use Rattle.std.proofs.Common.{arith, ◌≡◌, ℕ, ℤ, suc, ◌+◌, ◌==◌, Bool, true, false, cond, List, [], ◌∷◌, ◌++◌, map, filter, length, Option, Some, Result, Ok, refl, sym, ap, subst, ◌∙◌, append_assoc, append-nil, None}
 use Rattle.std.specs.Prelude.{ok_or, slice_get}
 use Rattle.std.specs.List.{AllByRecursion}
 use Rattle.std.proofs.lemmas.Bool.{eqb-true}
@@ -25,7 +25,7 @@ use Rattle.tcap_model.specs.declared.reason.Reason.TheVariants.{BadReply, FateRa
 use Rattle.tcap_check.specs.Certificate.{Certificate}
 use Rattle.tcap_model.specs.Since.{originating}
 use Rattle.tcap_check.specs.Follows.{closing_by, closing_event, deliveries, expiry_by, expiry_event, gap_events, half_begun, invoke_id, is_loss, losses_from, lost_from, named_entry, taken_by, without_losses}
-use Rattle.tcap_check.specs.Replayed.{Replay, closings_replayed, deliveries_replayed, expiries_replayed, fault_at, gap_replayed, happens, lost_before, next_entry, stepped, with_step}
+use Rattle.tcap_check.specs.Replayed.{Replay, closings_replayed, deliveries_by, expiries_replayed, fault_at, gap_by, happens, lost_before, next_entry, stepped, with_step}
 use Rattle.tcap_model.proofs.RunLaws.{grows, map_some, same_events, then_some, where_some}
 use Rattle.tcap_check.proofs.ReplaySteps.{Replays, without_both}
 use Rattle.tcap_check.proofs.ReplayLaws.{gap_replays}
@@ -288,7 +288,7 @@ pub record AreDelivered (table : Table) (fates : List Fate) (final : World) (res
 deliveries_go : (table : Table) (c : Certificate) (final : World) (items : List Item) (gap n : ℕ) (fates : List Fate) (its : List Item)
     (rest : List Event) (r : Replay) → AreFrom c.fates n fates → r.world.sent ≡ items
     → Ahead table c.fates final (deliveries gap n fates its ++ rest) r.world
-    → AreDelivered table c.fates final rest items (deliveries_replayed table c gap n fates its r)
+    → AreDelivered table c.fates final rest items (deliveries_by None table c gap n fates its r)
 deliveries_go table c final items gap n [] its rest r are sent ahead = record { next = r; is = refl; sent = sent; ahead = ahead }
 deliveries_go table c final items gap n (fate ∷ fates) [] rest r are sent ahead = record { next = r; is = refl; sent = sent; ahead = ahead }
 deliveries_go table c final items gap n (Gap g ∷ fates) (Item.Quiet ∷ its) rest r are sent ahead =
@@ -313,10 +313,10 @@ deliveries_go table c final items gap n (Gap g ∷ fates) (Sent side m ∷ its) 
 
     by : (b : Bool)
         → ((mid : Replay) → mid.world.sent ≡ items → Ahead table c.fates final (others ++ rest) mid.world
-        → AreDelivered table c.fates final rest items (deliveries_replayed table c gap (n + 1) fates its mid))
+        → AreDelivered table c.fates final rest items (deliveries_by None table c gap (n + 1) fates its mid))
         → Ahead table c.fates final (cond b (Receives (other side) n ∷ others) others ++ rest) r.world
         → AreDelivered table c.fates final rest items
-        (cond b (happens table c (Receives (other side) n) BadReply n r) (Ok r) >>= deliveries_replayed table c gap (n + 1) fates its)
+        (cond b (happens table c (Receives (other side) n) BadReply n r) (Ok r) >>= deliveries_by None table c gap (n + 1) fates its)
     by true then at =
         let on = next_step table c.fates final (Receives (other side) n) (others ++ rest) r.world at in
         let goes = receives_goes table c (other side) n g on.w on.next r (first_from c.fates fates n (Gap g) are) on.alike on.step in
@@ -326,7 +326,7 @@ deliveries_go table c final items gap n (Gap g ∷ fates) (Sent side m ∷ its) 
         record {
           next = behind.next;
           is =
-              ok_then (happens table c (Receives (other side) n) BadReply n r) (deliveries_replayed table c gap (n + 1) fates its) goes.next behind.next
+              ok_then (happens table c (Receives (other side) n) BadReply n r) (deliveries_by None table c gap (n + 1) fates its) goes.next behind.next
               (ok_some (stepped table (Receives (other side) n) (lost_before c (Receives (other side) n) r)) (fault_at BadReply n) goes.next goes.is) behind.is;
           sent = behind.sent;
           ahead = behind.ahead;
@@ -336,7 +336,7 @@ deliveries_go table c final items gap n (Gap g ∷ fates) (Sent side m ∷ its) 
 -- A gap was replayed.
 pub record IsGap (table : Table) (c : Certificate) (final : World) (here rest : List Event) (r : Replay) : Type 0 where
   pub next : Replay
-  pub is : gap_replayed table c r ≡ Ok next
+  pub is : gap_by None table c r ≡ Ok next
   pub sent : next.world.sent ≡ r.world.sent
   pub ahead : Ahead table c.fates final rest next.world
   pub steps : plain next ≡ plain r + length here
@@ -357,7 +357,7 @@ gap_goes table c final here rest r are ahead =
     let ahead_of : Ahead table c.fates final (delivered ++ rest) expired.next.world =
     subst (λ (x : List Event). Ahead table c.fates final (x ++ rest) expired.next.world) (same_events expired.left delivered expired.left_are) expired.ahead in
     let last = deliveries_go table c final items gap 0 c.fates items rest expired.next (from_start c.fates) expired.sent ahead_of in
-    let is : gap_replayed table c r ≡ Ok last.next =
+    let is : gap_by None table c r ≡ Ok last.next =
     ok_then (closings_replayed table c closing r) _ closed.next last.next closed.is
     (ok_then (expiries_replayed table c expiring closed.next) _ expired.next last.next expired.is last.is) in
     let found = gap_replays table c r last.next is in

@@ -1,5 +1,5 @@
 -- The other way: what a certificate describes, it gives.
-use Rattle.std.proofs.Common.{arith, ◌≡◌, ℕ, zero, suc, ◌+◌, ◌<◌, ◌==◌, true, false, List, [], ◌∷◌, ◌++◌, map, length, Some, Result, Ok, refl, sym, ap, ap₂, subst, ◌∙◌, append_assoc, append-nil}
+use Rattle.std.proofs.Common.{arith, ◌≡◌, ℕ, zero, suc, ◌+◌, ◌<◌, ◌==◌, true, false, List, [], ◌∷◌, ◌++◌, map, length, Some, Result, Ok, refl, sym, ap, ap₂, subst, ◌∙◌, append_assoc, append-nil, None}
 use Rattle.std.specs.Prelude.{not, ok_or, slice_get}
 use Rattle.std.specs.List.{AllByRecursion}
 use Rattle.std.proofs.lemmas.Bool.{eq-eqb}
@@ -19,7 +19,7 @@ use Rattle.tcap_model.specs.declared.reason.Reason.TheVariants.{FateCount, FateR
 use Rattle.tcap_check.specs.Certificate.{Certificate}
 use Rattle.tcap_model.specs.Entries.{AreItems, IsItem, item_of}
 use Rattle.tcap_check.specs.Follows.{FatesFit, Follows, FollowsFrom, IsImplied, gap_events, losses_from, lost_from, quiet_by, sending, sending_by, taken_by, without_losses}
-use Rattle.tcap_check.specs.Replayed.{Replay, certificate_fits, entries_replayed, fault_at, gap_replayed, happens, is_gap, is_nothing, is_overtaking, item_replayed, lost_before, lost_from_both, next_entry, nothing_replayed, quiet_replayed, replayed, sent_replayed, stepped}
+use Rattle.tcap_check.specs.Replayed.{Replay, certificate_fits, entries_by, fault_at, gap_by, happens, is_gap, is_nothing, is_overtaking, item_by, lost_before, lost_from_both, mark_judged, next_entry, nothing_replayed, own_judged, replayed_by, stepped}
 use Rattle.tcap_model.proofs.RunLaws.{grows, where_some}
 use Rattle.tcap_check.proofs.ReplaySteps.{both_replay}
 use Rattle.tcap_check.proofs.ReplayGaps.{gap_events_before}
@@ -37,7 +37,7 @@ sent_goes : (table : Table) (c : Certificate) (final : World) (fate : Fate) (sid
     → map Some here ≡ gap_events c r.world.sent (next_entry r) → sending c (next_entry r) (Sent side message) ≡ Some sends
     → AllByRecursion (IsImplied (Sent side message)) made → final.sent ≡ r.world.sent ++ Sent side message ∷ more
     → Ahead table c.fates final (here ++ (made ++ sends ∷ rest)) r.world
-    → IsSent table c.fates final (Sent side message) (length here + (length made + 1)) rest r (sent_replayed table c fate side message r)
+    → IsSent table c.fates final (Sent side message) (length here + (length made + 1)) rest r (own_judged None table c fate side message r)
 sent_goes table c final fate side message here made rest sends more r in_order are is all ends ahead =
     let gap = gap_goes table c final here (made ++ sends ∷ rest) r are ahead in
     let mid = gap.next in
@@ -50,7 +50,7 @@ sent_goes table c final fate side message here made rest sends more r in_order a
       next = one.next;
       is =
           ok_needs (not (is_overtaking side fate c.fates r.world.sent)) (fault_at OutOfOrder (next_entry r)) _ one.next (ap not in_order)
-          (ok_then (gap_replayed table c r) _ mid one.next gap.is one.is);
+          (ok_then (gap_by None table c r) _ mid one.next gap.is one.is);
       sent = one.sent ∙ ap (λ (x : List Item). x ++ Sent side message ∷ []) gap.sent;
       ahead = one.ahead;
       count = omega (arith, first, second);
@@ -73,7 +73,7 @@ mark_goes : (table : Table) (c : Certificate) (final : World) (fate : Fate) (her
     → slice_get c.fates (next_entry r) ≡ Some fate → map Some here ≡ gap_events c r.world.sent (next_entry r)
     → sending c (next_entry r) Item.Quiet ≡ Some sends → AllByRecursion (IsImplied Item.Quiet) made
     → Ahead table c.fates final (here ++ (made ++ sends ∷ rest)) r.world
-    → IsSent table c.fates final Item.Quiet (length here + (length made + 1)) rest r (quiet_replayed table c fate r)
+    → IsSent table c.fates final Item.Quiet (length here + (length made + 1)) rest r (mark_judged None table c fate r)
 mark_goes table c final fate here made rest sends r has are is all ahead =
     let number = next_entry r in
     let mark = quiet_event c number fate (taken_by number 0 c.fates) sends has is in
@@ -95,7 +95,7 @@ mark_goes table c final fate here made rest sends r has are is all ahead =
       next = goes.next;
       is =
           ok_needs (is_gap (number + 1) fate) (fault_at FateRange number) _ goes.next mark.1
-          (ok_then (gap_replayed table c r) _ mid goes.next gap.is
+          (ok_then (gap_by None table c r) _ mid goes.next gap.is
           (ok_needs (is_nothing (taken_by number 0 c.fates)) (fault_at NotQuiet number) (happens table c Quiet NotQuiet number mid) goes.next
           (ap is_nothing mark.0)
           (ok_some (stepped table Quiet (lost_before c Quiet mid)) (fault_at NotQuiet number) goes.next goes.is)));
@@ -121,7 +121,7 @@ item_goes : (table : Table) (c : Certificate) (final : World) (fate : Fate) (ite
     → map Some here ≡ gap_events c r.world.sent (next_entry r) → sending c (next_entry r) item ≡ Some sends
     → AllByRecursion (IsImplied item) made → final.sent ≡ r.world.sent ++ item ∷ more
     → Ahead table c.fates final (here ++ (made ++ sends ∷ rest)) r.world
-    → IsSent table c.fates final item (length here + (length made + 1)) rest r (item_replayed table c fate item r)
+    → IsSent table c.fates final item (length here + (length made + 1)) rest r (item_by None table c fate item r)
 item_goes table c final fate (Sent side message) here made rest sends more r has in_order are is all ends ahead =
     sent_goes table c final fate side message here made rest sends more r (in_order r.world.sent more side message fate ends has) are is all ends ahead
 item_goes table c final fate Item.Quiet here made rest sends more r has in_order are is all ends ahead =
@@ -143,7 +143,7 @@ some_at (x ∷ xs) (suc i) h = some_at xs i (omega (arith, h))
 entries_go : (table : Table) (c : Certificate) (final : World) (count : ℕ) → FatesFit count 0 c.fates → length c.fates ≡ length final.sent
     → InOrder c final.sent → (more : List Item) (steps : List Event) (r : Replay) → final.sent ≡ r.world.sent ++ more
     → FollowsFrom c final.sent (next_entry r) more steps → Ahead table c.fates final steps r.world
-    → AreDone r (length steps) (entries_replayed table c (map ok_item more) r)
+    → AreDone r (length steps) (entries_by None table c (map ok_item more) r)
 entries_go table c final count fit counted in_order [] steps r ends follows ahead =
     let items = r.world.sent in
     let same : final.sent ≡ items = ends ∙ append-nil items in
@@ -152,7 +152,7 @@ entries_go table c final count fit counted in_order [] steps r ends follows ahea
     (subst (λ (x : List Event). Ahead table c.fates final x r.world) (sym (append-nil steps)) ahead) in
     record {
       next = gap.next;
-      is = ok_needs (next_entry r == length c.fates) (fault_at FateCount (next_entry r)) (gap_replayed table c r) gap.next
+      is = ok_needs (next_entry r == length c.fates) (fault_at FateCount (next_entry r)) (gap_by None table c r) gap.next
           (eq-eqb (next_entry r) (length c.fates) number) gap.is;
       count = gap.steps;
     }
@@ -182,7 +182,7 @@ entries_go table c final count fit counted in_order (item ∷ more) steps r ends
       is =
           ok_then (ok_or (slice_get c.fates (next_entry r)) (fault_at FateCount (next_entry r))) _ fate.0 behind.next
           (ok_some (slice_get c.fates (next_entry r)) (fault_at FateCount (next_entry r)) fate.0 fate.1)
-          (ok_then (item_replayed table c fate.0 item r) (entries_replayed table c (map ok_item more)) mid behind.next one.is behind.is);
+          (ok_then (item_by None table c fate.0 item r) (entries_by None table c (map ok_item more)) mid behind.next one.is behind.is);
       count = omega (arith, in_all, first, second);
     }
   where
@@ -223,7 +223,7 @@ as_long xs ys same losses =
 -- Where a certificate describes a run of the items that the entries are, it gives a run of as many steps.
 pub followed_is_given : (table : Table) (c : Certificate) (entries : List Entry) (items : List Item) (events : List Event)
     → AreItems entries items → IsRunOf items table events → Follows c items events
-    → (given : List Event) × (replayed table c entries ≡ Ok given) × (length given ≡ length events)
+    → (given : List Event) × (replayed_by None table c entries ≡ Ok given) × (length given ≡ length events)
 followed_is_given table c entries items events are (final, runs, sends) follows =
     let lost = λ (side : Side). subst (AllByRecursion (λ (k : ℕ). slice_get c.fates k ≡ Some Lost)) (sym (follows.losses side))
     (lost_are c.fates c.fates side 0 items (from_start c.fates)) in
@@ -243,10 +243,10 @@ followed_is_given table c entries items events are (final, runs, sends) follows 
     items (without_losses events) nothing_replayed sends
     (subst (λ (x : List Item). FollowsFrom c x 0 items (without_losses events)) (sym sends) follows.gaps) ahead in
     let given = (lost_from_both c done.next).events in
-    let is : replayed table c entries ≡ Ok given =
+    let is : replayed_by None table c entries ≡ Ok given =
     ok_both (certificate_fits c) _ tt given (described_fits c items events follows)
-    (ok_then (entries_replayed table c (map item_of entries) nothing_replayed) _ done.next given
-    (ap (λ (x : List (Result Item Reason)). entries_replayed table c x nothing_replayed) (items_of entries items are) ∙ done.is) refl) in
+    (ok_then (entries_by None table c (map item_of entries) nothing_replayed) _ done.next given
+    (ap (λ (x : List (Result Item Reason)). entries_by None table c x nothing_replayed) (items_of entries items are) ∙ done.is) refl) in
     let run = gives table c entries given is in
     let same : run.items ≡ items =
     items_same run.items items (sym (items_of entries run.items run.are) ∙ items_of entries items are) in

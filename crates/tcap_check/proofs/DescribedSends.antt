@@ -24,7 +24,7 @@ use Rattle.tcap_check.specs.declared.fault.CheckFault.{CheckFault}
 use Rattle.tcap_model.specs.declared.reason.Reason.TheVariants.{BadReply}
 use Rattle.tcap_check.specs.Certificate.{Certificate}
 use Rattle.tcap_check.specs.Follows.{IsImplied, invoke_id, invoking_half, sending, sending_by, taken_by}
-use Rattle.tcap_check.specs.Replayed.{Replay, fault_at, happens, implied, implied_over, is_abort, lost_before, message_by, message_replayed, next_entry, or_same, reply_replayed, send_replayed, stepped, with_step}
+use Rattle.tcap_check.specs.Replayed.{Replay, fault_at, happens, implied, implied_over, is_abort, lost_before, message_by, next_entry, or_same, own_message, reply_replayed, send_replayed, stepped, with_step}
 use Rattle.tcap_model.proofs.ChannelLaws.{get_new}
 use Rattle.tcap_model.proofs.RunLaws.{expiry, grows, map_some, sending as sending_of, sound}
 use Rattle.tcap_check.proofs.ReplayLaws.{reply_replays, send_replays}
@@ -295,7 +295,7 @@ pub message_goes : (table : Table) (c : Certificate) (final : World) (side : Sid
     (more : List Item) (r : Replay) → sending c (next_entry r) (Sent side message) ≡ Some sends
     → AllByRecursion (IsImplied (Sent side message)) made → final.sent ≡ r.world.sent ++ Sent side message ∷ more
     → Ahead table c.fates final (made ++ sends ∷ rest) r.world
-    → IsSent table c.fates final (Sent side message) (length made + 1) rest r (message_replayed table c side message r)
+    → IsSent table c.fates final (Sent side message) (length made + 1) rest r (own_message None table c side message r)
 message_goes table c final side message made rest sends more r is all ends ahead =
     by (message_event c (next_entry r) side message (taken_by (next_entry r) 0 c.fates) sends is)
   where

@@ -25,7 +25,7 @@ use Rattle.tcap_check.specs.Certificate.{Certificate}
 use Rattle.tcap_model.specs.Entries.{AreItems, count_components, item_of}
 use Rattle.tcap_check.specs.Follows.{FatesFit, Follows, FollowsFrom, deliveries, taken_by, without_losses}
 use Rattle.tcap_check.specs.Given.{IsGiven}
-use Rattle.tcap_check.specs.Replayed.{Replay, all_fit, certificate_fits, entries_replayed, fates_fit, if_lost, lost_from_both, lost_front, nothing_replayed, replayed}
+use Rattle.tcap_check.specs.Replayed.{Replay, all_fit, certificate_fits, entries_by, fates_fit, if_lost, lost_from_both, lost_front, nothing_replayed, replayed_by}
 use Rattle.tcap_check.proofs.GivenBound.{described_bound}
 use Rattle.tcap_check.proofs.NumberLaws.{IsAmong, among_plain, among_right, taken_right}
 use Rattle.tcap_check.proofs.GivenLosses.{IsFated, IsSettled, fated_keeps, fits_gap, fits_reply, is_lost, left_lost, losses_are, says_lost, taken_sent}
@@ -286,7 +286,7 @@ are_fit c is =
 
 -- Entries that are replayed are given.
 entries_given : (table : Table) (c : Certificate) (entries : List Entry) (r : Replay) → AreFit c (length c.fates)
-    → entries_replayed table c (map item_of entries) nothing_replayed ≡ Ok r
+    → entries_by None table c (map item_of entries) nothing_replayed ≡ Ok r
     → IsGiven table c entries (lost_from_both c r).events
 entries_given table c entries r fit is =
     let done = entries_replay table c (map item_of entries) nothing_replayed r (length c.fates) fit.fates is in
@@ -301,11 +301,11 @@ entries_given table c entries r fit is =
 
 -- What is replayed is a run that sends the entries, as the certificate describes it.
 pub gives : (table : Table) (c : Certificate) (entries : List Entry) (events : List Event)
-    → replayed table c entries ≡ Ok events
+    → replayed_by None table c entries ≡ Ok events
     → IsGiven table c entries events
 gives table c entries events is =
     let fits = both_ok (certificate_fits c) _ events is in
-    let r = then_ok (entries_replayed table c (map item_of entries) nothing_replayed) _ events fits.2 in
+    let r = then_ok (entries_by None table c (map item_of entries) nothing_replayed) _ events fits.2 in
     subst (IsGiven table c entries) (ok_same {F = CheckFault} (lost_from_both c r.0).events events r.2)
     (entries_given table c entries r.0 (are_fit c fits.1) r.1)
 

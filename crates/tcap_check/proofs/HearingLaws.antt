@@ -1,26 +1,16 @@
 -- Steps over what is kept, one after the other: what is left, and what it does to what is kept now, tell of all.
-use Rattle.std.proofs.Common.{◌≡◌, ℕ, true, false, ◌+◌, ◌^◌, ◌<◌, ◌≤◌, ◌==◌, List, [], ◌∷◌, length, drop, Option, Some, None, Result, Ok, Err, refl, sym, ap, subst, ◌∙◌, arith}
-use Rattle.std.specs.Prelude.{OnOk, slice_get}
-use Rattle.std.proofs.lemmas.Bool.{eq-eqb, ne_eqb}
+use Rattle.std.proofs.Common.{◌≡◌, ℕ, true, false, ◌+◌, ◌^◌, ◌<◌, List, ◌∷◌, length, drop, Option, Some, None, Result, refl}
 use Rattle.tcap_record.specs.declared.entry.End.{End as Side}
-use Rattle.tcap_record.specs.declared.entry.End.TheVariants as sides
-use Rattle.tcap_end.specs.declared.fault.EndFault.{EndFault}
-use Rattle.tcap_end.specs.End.{End}
-use Rattle.tcap_end.specs.Message.{receive}
-use Rattle.tcap_end.proofs.AnsweringLaws.{needs_ok, ok_same, then_ok}
 use Rattle.tcap_check.specs.declared.fault.CheckFault.{CheckFault}
-use Rattle.tcap_model.specs.declared.reason.Reason.TheVariants.{BadReply}
 use Rattle.tcap_check.specs.declared.progress.Progress.{Progress}
-use Rattle.tcap_check.specs.declared.progress.Waiting.{Waiting}
 use Rattle.tcap_end.specs.Step.{◌>>=◌}
 use Rattle.tcap_end.specs.Table.{Table}
 use Rattle.tcap_check.specs.declared.outline.Outline.{Outline}
-use Rattle.tcap_record.specs.Ends.{other}
 use Rattle.tcap_check.specs.declared.certificate.Closing.{Closing}
 use Rattle.tcap_check.specs.declared.certificate.Expiry.{Expiry}
-use Rattle.tcap_check.specs.Replayed.{closings_judged, expiries_judged, fault_at, is_judged}
-use Rattle.tcap_check.specs.Progress.{HasNoMore, closing_kept, closings_kept, expiries_kept, expiry_kept, lost_told, moved, seat_at, with_seat_end, with_waiting}
-use Rattle.tcap_check.specs.Hearing.{deliveries_kept, first_heard, first_received}
+use Rattle.tcap_check.specs.Replayed.{closings_judged, expiries_judged, is_judged}
+use Rattle.tcap_check.specs.Progress.{HasNoMore, closing_kept, closings_kept, expiries_kept, expiry_kept}
+use Rattle.tcap_check.specs.Hearing.{deliveries_kept}
 
 -- What the items from that index on do to what is kept now is what all do to what was kept first; there is room for them.
 pub record Going {X : Type 0} (all : List X → Progress → Result Progress CheckFault) (first : Progress) (xs : List X)

@@ -10,7 +10,7 @@ use Rattle.tcap_end.specs.Table.{Table}
 use Rattle.tcap_end.specs.Step.{needs, ◌>>◌, ◌>>=◌}
 use Rattle.tcap_record.specs.Ends.{other}
 use Rattle.tcap_model.specs.World.{Item, OnItsWay, Sent, channel_from, end_at, with_channel, with_end}
-use Rattle.tcap_model.specs.Run.{Loses, Receives}
+use Rattle.tcap_model.specs.Run.{Receives}
 use Rattle.tcap_check.specs.declared.certificate.Fate.{Fate}
 use Rattle.tcap_check.specs.declared.certificate.Fate.TheVariants.{Gap, Lost, By}
 use Rattle.tcap_check.specs.declared.fault.CheckFault.{CheckFault}
@@ -21,10 +21,10 @@ use Rattle.tcap_check.specs.declared.progress.Waiting.{Waiting}
 use Rattle.tcap_check.specs.Certificate.{Certificate}
 use Rattle.tcap_check.specs.Replayed.{Replay, deliveries_by, delivery_by, fault_at, if_lost, is_due, lost_from_front, lost_front, next_entry, received, refused, with_step}
 use Rattle.tcap_check.specs.Outlines.{outlines_from}
-use Rattle.tcap_check.specs.Progress.{due_in, lost_told, map_ok, moved, seat_at, with_seat_end, with_waiting}
+use Rattle.tcap_check.specs.Progress.{discard_told, due_in, lost_counted, map_ok, moved, seat_at, with_seat_end, with_waiting}
 use Rattle.tcap_check.specs.Hearing.{deliveries_kept, delivery_kept, first_received, is_heard, received_or_not}
 use Rattle.tcap_check.specs.Checking.{fate_of, kept_by, progress_of, waiting_at}
-use Rattle.tcap_check.proofs.KeptBasics.{channel_put, end_kept, end_step_is, front_is, lost_step_is, not_alone, then_is, waiting_kept}
+use Rattle.tcap_check.proofs.KeptBasics.{channel_put, end_kept, end_step_is, front_is, discard_step_is, discarding, not_alone, then_is, waiting_kept}
 use Rattle.tcap_check.proofs.ReplaySteps.{channel_with}
 
 -- ---- one message
@@ -58,17 +58,17 @@ pub record HasFront (c : Certificate) (sender : Side) (head : OnItsWay) (left : 
   pub channel : channel_from sender (lost_from_front c sender r).world ≡ head ∷ left
 
 -- Of the head all is kept.
-pub front_waits : (judged : Option Side) (c : Certificate) (sender : Side) (head : OnItsWay) (left : List OnItsWay) (r : Replay)
+pub front_waits : (listing : Bool) (judged : Option Side) (c : Certificate) (sender : Side) (head : OnItsWay) (left : List OnItsWay) (r : Replay)
     → is_heard judged sender ≡ true → HasFront c sender head left r
-    → (seat_at sender (progress_of judged c (lost_from_front c sender r))).waiting
+    → (seat_at sender (progress_of listing judged c (lost_from_front c sender r))).waiting
     ≡ (record { number = head.number; message = Some head.message }) ∷ waiting_at judged sender c.fates left
-front_waits judged c sender head left r heard front =
+front_waits listing judged c sender head left r heard front =
     let behind = drop (length (lost_front c.fates (channel_from sender r.world))) (channel_from sender r.world) in
     let stands : behind ≡ head ∷ left = sym (channel_with sender behind r.world) ∙ front.channel in
     let whole : kept_by (fate_of judged sender (slice_get c.fates head.number)) head ≡ record { number = head.number; message = Some head.message } =
     rw (not_alone judged sender heard)
     (kept_whole (slice_get c.fates head.number) head (head_stays c.fates (channel_from sender r.world) head left stands)) in
-    waiting_kept judged c sender (lost_from_front c sender r)
+    waiting_kept listing judged c sender (lost_from_front c sender r)
     ∙ ap (waiting_at judged sender c.fates) front.channel
     ∙ ap (λ (w : Waiting). w ∷ waiting_at judged sender c.fates left) whole
 
@@ -76,6 +76,7 @@ front_waits judged c sender head left r heard front =
 abbrev pub without_head : Side → Certificate → List OnItsWay → Replay → Replay
 without_head sender c left r = record {
   events = (lost_from_front c sender r).events;
+  discards = (lost_from_front c sender r).discards;
   world = with_channel sender left (lost_from_front c sender r).world;
 }
 
@@ -86,107 +87,108 @@ same_end c sides.B sides.A r = refl
 same_end c sides.B sides.B r = refl
 
 -- Losses leave the end as it is.
-pub end_behind : (judged : Option Side) (c : Certificate) (sender : Side) (r : Replay)
-    → (seat_at (other sender) (progress_of judged c (lost_from_front c sender r))).end ≡ end_at (other sender) r.world
-end_behind judged c sender r =
-    end_kept judged c (other sender) (lost_from_front c sender r)
+pub end_behind : (listing : Bool) (judged : Option Side) (c : Certificate) (sender : Side) (r : Replay)
+    → (seat_at (other sender) (progress_of listing judged c (lost_from_front c sender r))).end ≡ end_at (other sender) r.world
+end_behind listing judged c sender r =
+    end_kept listing judged c (other sender) (lost_from_front c sender r)
     ∙ same_end c sender (other sender) r
 
 abbrev kept : Progress → Result Progress CheckFault
 kept p = Ok p
 
-module _ (judged : Option Side) (c : Certificate) (sender : Side) (number : ℕ) (head : OnItsWay) (left : List OnItsWay) (r : Replay) where
+module _ (listing : Bool) (judged : Option Side) (c : Certificate) (sender : Side) (number : ℕ) (head : OnItsWay) (left : List OnItsWay) (r : Replay) where
   abbrev behind : Replay
   behind = without_head sender c left r
 
   abbrev kept_behind : Progress
-  kept_behind = with_waiting sender (waiting_at judged sender c.fates left) (progress_of judged c (lost_from_front c sender r))
+  kept_behind = with_waiting sender (waiting_at judged sender c.fates left) (progress_of listing judged c (lost_from_front c sender r))
 
   -- An end receives it,
-  received_is : (e : End) → kept (moved (with_seat_end (other sender) e kept_behind))
-      ≡ Ok (progress_of judged c (with_step (Receives (other sender) number) behind (with_end (other sender) e behind.world)))
+  received_is : (e : End) → kept (moved (Receives (other sender) number) (with_seat_end (other sender) e kept_behind))
+      ≡ Ok (progress_of listing judged c (with_step (Receives (other sender) number) behind (with_end (other sender) e behind.world)))
   received_is e =
-      ap kept (ap (λ (p : Progress). moved (with_seat_end (other sender) e p)) (sym (channel_put judged c sender left (lost_from_front c sender r)))
-      ∙ sym (end_step_is judged c (Receives (other sender) number) (other sender) e behind (λ at. refl)))
+      ap kept (ap (λ (p : Progress). moved (Receives (other sender) number) (with_seat_end (other sender) e p)) (sym (channel_put listing judged c sender left (lost_from_front c sender r)))
+      ∙ sym (end_step_is listing judged c (Receives (other sender) number) (other sender) e behind (λ at. refl)))
 
-  -- or it is lost, where that end alone is judged.
-  dropped_is : kept (lost_told judged sender kept_behind)
-      ≡ Ok (progress_of judged c (with_step (Loses sender number) behind behind.world))
-  dropped_is =
-      ap kept (ap (lost_told judged sender) (sym (channel_put judged c sender left (lost_from_front c sender r)))
-      ∙ sym (lost_step_is judged c sender number behind))
+  -- or it is discarded, where that end alone is judged.
+  dropped_is : (reason : EndFault) → kept (lost_counted judged sender (discard_told sender number reason kept_behind))
+      ≡ Ok (progress_of listing judged c (discarding sender number reason behind))
+  dropped_is reason =
+      ap kept (ap (λ (p : Progress). lost_counted judged sender (discard_told sender number reason p))
+      (sym (channel_put listing judged c sender left (lost_from_front c sender r)))
+      ∙ sym (discard_step_is listing judged c sender number reason behind))
 
 -- The head is there, and it is that of the number, or not.
-head_is : (judged : Option Side) (table : Table) (c : Certificate) (sender : Side) (number : ℕ) (head : OnItsWay) (left : List OnItsWay) (r : Replay)
+head_is : (listing : Bool) (judged : Option Side) (table : Table) (c : Certificate) (sender : Side) (number : ℕ) (head : OnItsWay) (left : List OnItsWay) (r : Replay)
     (front : HasFront c sender head left r) (so : Bool) (o : Result End EndFault) → is_heard judged sender ≡ true
     → (head.number == number) ≡ so → receive table (end_at (other sender) r.world) head.message ≡ o
-    → (needs so (fault_at BadReply number) >> received_or_not judged (other sender) number (kept_behind judged c sender number head left r) o)
-    ≡ map_ok (progress_of judged c) (received judged table c sender number r)
-head_is (Some sides.A) table c sides.A number head left r front so o heard is step = cc
-head_is (Some sides.B) table c sides.B number head left r front so o heard is step = cc
-head_is None table c sides.A number head left r front false o heard is step = rw (front.channel, is) refl
-head_is None table c sides.B number head left r front false o heard is step = rw (front.channel, is) refl
-head_is (Some sides.A) table c sides.B number head left r front false o heard is step = rw (front.channel, is) refl
-head_is (Some sides.B) table c sides.A number head left r front false o heard is step = rw (front.channel, is) refl
-head_is None table c sides.A number head left r front true (Ok e) heard is step =
-    rw (front.channel, is, step) (received_is None c sides.A number head left r e)
-head_is None table c sides.B number head left r front true (Ok e) heard is step =
-    rw (front.channel, is, step) (received_is None c sides.B number head left r e)
-head_is (Some sides.A) table c sides.B number head left r front true (Ok e) heard is step =
-    rw (front.channel, is, step) (received_is (Some sides.A) c sides.B number head left r e)
-head_is (Some sides.B) table c sides.A number head left r front true (Ok e) heard is step =
-    rw (front.channel, is, step) (received_is (Some sides.B) c sides.A number head left r e)
-head_is None table c sides.A number head left r front true (Err reason) heard is step = rw (front.channel, is, step) refl
-head_is None table c sides.B number head left r front true (Err reason) heard is step = rw (front.channel, is, step) refl
-head_is (Some sides.A) table c sides.B number head left r front true (Err reason) heard is step =
-    rw (front.channel, is, step) (dropped_is (Some sides.A) c sides.B number head left r)
-head_is (Some sides.B) table c sides.A number head left r front true (Err reason) heard is step =
-    rw (front.channel, is, step) (dropped_is (Some sides.B) c sides.A number head left r)
+    → (needs so (fault_at BadReply number) >> received_or_not judged (other sender) number (kept_behind listing judged c sender number head left r) o)
+    ≡ map_ok (progress_of listing judged c) (received judged table c sender number r)
+head_is listing (Some sides.A) table c sides.A number head left r front so o heard is step = cc
+head_is listing (Some sides.B) table c sides.B number head left r front so o heard is step = cc
+head_is listing None table c sides.A number head left r front false o heard is step = rw (front.channel, is) refl
+head_is listing None table c sides.B number head left r front false o heard is step = rw (front.channel, is) refl
+head_is listing (Some sides.A) table c sides.B number head left r front false o heard is step = rw (front.channel, is) refl
+head_is listing (Some sides.B) table c sides.A number head left r front false o heard is step = rw (front.channel, is) refl
+head_is listing None table c sides.A number head left r front true (Ok e) heard is step =
+    rw (front.channel, is, step) (received_is listing None c sides.A number head left r e)
+head_is listing None table c sides.B number head left r front true (Ok e) heard is step =
+    rw (front.channel, is, step) (received_is listing None c sides.B number head left r e)
+head_is listing (Some sides.A) table c sides.B number head left r front true (Ok e) heard is step =
+    rw (front.channel, is, step) (received_is listing (Some sides.A) c sides.B number head left r e)
+head_is listing (Some sides.B) table c sides.A number head left r front true (Ok e) heard is step =
+    rw (front.channel, is, step) (received_is listing (Some sides.B) c sides.A number head left r e)
+head_is listing None table c sides.A number head left r front true (Err reason) heard is step = rw (front.channel, is, step) refl
+head_is listing None table c sides.B number head left r front true (Err reason) heard is step = rw (front.channel, is, step) refl
+head_is listing (Some sides.A) table c sides.B number head left r front true (Err reason) heard is step =
+    rw (front.channel, is, step) (dropped_is listing (Some sides.A) c sides.B number head left r reason)
+head_is listing (Some sides.B) table c sides.A number head left r front true (Err reason) heard is step =
+    rw (front.channel, is, step) (dropped_is listing (Some sides.B) c sides.A number head left r reason)
 
-nothing_is : (judged : Option Side) (table : Table) (c : Certificate) (sender : Side) (number : ℕ) (r : Replay) → is_heard judged sender ≡ true
+nothing_is : (listing : Bool) (judged : Option Side) (table : Table) (c : Certificate) (sender : Side) (number : ℕ) (r : Replay) → is_heard judged sender ≡ true
     → channel_from sender (lost_from_front c sender r).world ≡ []
     → (let x : Result Progress CheckFault = refused BadReply number in x)
-    ≡ map_ok (progress_of judged c) (received judged table c sender number r)
-nothing_is None table c sides.A number r heard none = rw none refl
-nothing_is None table c sides.B number r heard none = rw none refl
-nothing_is (Some sides.A) table c sides.A number r heard none = cc
-nothing_is (Some sides.A) table c sides.B number r heard none = rw none refl
-nothing_is (Some sides.B) table c sides.A number r heard none = rw none refl
-nothing_is (Some sides.B) table c sides.B number r heard none = cc
+    ≡ map_ok (progress_of listing judged c) (received judged table c sender number r)
+nothing_is listing None table c sides.A number r heard none = rw none refl
+nothing_is listing None table c sides.B number r heard none = rw none refl
+nothing_is listing (Some sides.A) table c sides.A number r heard none = cc
+nothing_is listing (Some sides.A) table c sides.B number r heard none = rw none refl
+nothing_is listing (Some sides.B) table c sides.A number r heard none = rw none refl
+nothing_is listing (Some sides.B) table c sides.B number r heard none = cc
 
 needs_then : (so : Bool) (fault : CheckFault) (o : Result End EndFault) (step : Result End EndFault → Result Progress CheckFault)
     → ((needs so fault >> (let x : Result (Result End EndFault) CheckFault = Ok o in x)) >>= step) ≡ (needs so fault >> step o)
 needs_then true fault o step = refl
 needs_then false fault o step = refl
 
-delivered_is : (judged : Option Side) (table : Table) (c : Certificate) (sender : Side) (number : ℕ) (r : Replay) → is_heard judged sender ≡ true
-    → delivery_kept judged table number (Some sender) (progress_of judged c r)
-    ≡ map_ok (progress_of judged c) (received judged table c sender number r)
-delivered_is judged table c sender number r heard =
-    ap (λ (p : Progress). first_received judged table sender number (seat_at sender p).waiting p) (front_is judged c sender r heard)
+delivered_is : (listing : Bool) (judged : Option Side) (table : Table) (c : Certificate) (sender : Side) (number : ℕ) (r : Replay) → is_heard judged sender ≡ true
+    → delivery_kept judged table number (Some sender) (progress_of listing judged c r)
+    ≡ map_ok (progress_of listing judged c) (received judged table c sender number r)
+delivered_is listing judged table c sender number r heard =
+    ap (λ (p : Progress). first_received judged table sender number (seat_at sender p).waiting p) (front_is listing judged c sender r heard)
     ∙ by (channel_from sender before.world) refl
   where
     before : Replay
     before = lost_from_front c sender r
 
     by : (messages : List OnItsWay) → channel_from sender before.world ≡ messages
-        → first_received judged table sender number (seat_at sender (progress_of judged c before)).waiting (progress_of judged c before)
-        ≡ map_ok (progress_of judged c) (received judged table c sender number r)
+        → first_received judged table sender number (seat_at sender (progress_of listing judged c before)).waiting (progress_of listing judged c before)
+        ≡ map_ok (progress_of listing judged c) (received judged table c sender number r)
     by [] is =
-        ap (λ (messages : List Waiting). first_received judged table sender number messages (progress_of judged c before))
-        (waiting_kept judged c sender before ∙ ap (waiting_at judged sender c.fates) is)
-        ∙ nothing_is judged table c sender number r heard is
+        ap (λ (messages : List Waiting). first_received judged table sender number messages (progress_of listing judged c before))
+        (waiting_kept listing judged c sender before ∙ ap (waiting_at judged sender c.fates) is)
+        ∙ nothing_is listing judged table c sender number r heard is
     by (head ∷ left) is =
         let front : HasFront c sender head left r = record { channel = is } in
-        ap (λ (messages : List Waiting). first_received judged table sender number messages (progress_of judged c before))
-        (front_waits judged c sender head left r heard front)
+        ap (λ (messages : List Waiting). first_received judged table sender number messages (progress_of listing judged c before))
+        (front_waits listing judged c sender head left r heard front)
         ∙ needs_then (head.number == number) (fault_at BadReply number)
-        (receive table (seat_at (other sender) (progress_of judged c before)).end head.message)
-        (received_or_not judged (other sender) number (kept_behind judged c sender number head left r))
+        (receive table (seat_at (other sender) (progress_of listing judged c before)).end head.message)
+        (received_or_not judged (other sender) number (kept_behind listing judged c sender number head left r))
         ∙ ap (λ (e : End). needs (head.number == number) (fault_at BadReply number)
-        >> received_or_not judged (other sender) number (kept_behind judged c sender number head left r) (receive table e head.message))
-        (end_behind judged c sender r)
-        ∙ head_is judged table c sender number head left r front (head.number == number)
+        >> received_or_not judged (other sender) number (kept_behind listing judged c sender number head left r) (receive table e head.message))
+        (end_behind listing judged c sender r)
+        ∙ head_is listing judged table c sender number head left r front (head.number == number)
         (receive table (end_at (other sender) r.world) head.message) heard refl refl
 
 -- ---- all that is due
@@ -235,31 +237,31 @@ due_is None gap g sender = by (g == gap)
     by false = refl
 due_is (Some judged) gap g sender = refl
 
-deliveries_from : (judged : Option Side) (table : Table) (c : Certificate) (entries : List Outline) (gap n : ℕ) (fates : List Fate)
+deliveries_from : (listing : Bool) (judged : Option Side) (table : Table) (c : Certificate) (entries : List Outline) (gap n : ℕ) (fates : List Fate)
     (items : List Item) (r : Replay) → StandsFrom entries n (outlines_from c n items)
-    → deliveries_kept judged table entries (due_in gap n fates) (progress_of judged c r)
-    ≡ map_ok (progress_of judged c) (deliveries_by judged table c gap n fates items r)
-deliveries_from judged table c entries gap n [] items r stands = refl
-deliveries_from judged table c entries gap n (fate ∷ fates) [] r stands =
-    none_due judged table entries gap n (fate ∷ fates) (progress_of judged c r) stands
-deliveries_from judged table c entries gap n (Lost ∷ fates) (item ∷ items) r stands =
-    deliveries_from judged table c entries gap (n + 1) fates items r (stands_next entries n _ _ stands)
-deliveries_from judged table c entries gap n (By k ∷ fates) (item ∷ items) r stands =
-    deliveries_from judged table c entries gap (n + 1) fates items r (stands_next entries n _ _ stands)
-deliveries_from judged table c entries gap n (Gap g ∷ fates) (Item.Quiet ∷ items) r stands =
-    by (deliveries_from judged table c entries gap (n + 1) fates items r (stands_next entries n _ _ stands)) (g == gap)
+    → deliveries_kept judged table entries (due_in gap n fates) (progress_of listing judged c r)
+    ≡ map_ok (progress_of listing judged c) (deliveries_by judged table c gap n fates items r)
+deliveries_from listing judged table c entries gap n [] items r stands = refl
+deliveries_from listing judged table c entries gap n (fate ∷ fates) [] r stands =
+    none_due judged table entries gap n (fate ∷ fates) (progress_of listing judged c r) stands
+deliveries_from listing judged table c entries gap n (Lost ∷ fates) (item ∷ items) r stands =
+    deliveries_from listing judged table c entries gap (n + 1) fates items r (stands_next entries n _ _ stands)
+deliveries_from listing judged table c entries gap n (By k ∷ fates) (item ∷ items) r stands =
+    deliveries_from listing judged table c entries gap (n + 1) fates items r (stands_next entries n _ _ stands)
+deliveries_from listing judged table c entries gap n (Gap g ∷ fates) (Item.Quiet ∷ items) r stands =
+    by (deliveries_from listing judged table c entries gap (n + 1) fates items r (stands_next entries n _ _ stands)) (g == gap)
   where
     rest_of : Result Progress CheckFault
-    rest_of = map_ok (progress_of judged c) (deliveries_by judged table c gap (n + 1) fates items r)
+    rest_of = map_ok (progress_of listing judged c) (deliveries_by judged table c gap (n + 1) fates items r)
 
-    by : deliveries_kept judged table entries (due_in gap (n + 1) fates) (progress_of judged c r) ≡ rest_of
+    by : deliveries_kept judged table entries (due_in gap (n + 1) fates) (progress_of listing judged c r) ≡ rest_of
         → (b : Bool)
-        → deliveries_kept judged table entries (cond b (n ∷ due_in gap (n + 1) fates) (due_in gap (n + 1) fates)) (progress_of judged c r)
+        → deliveries_kept judged table entries (cond b (n ∷ due_in gap (n + 1) fates) (due_in gap (n + 1) fates)) (progress_of listing judged c r)
         ≡ rest_of
     by rest true = rw (first_stands entries n _ _ stands) rest
     by rest false = rest
-deliveries_from judged table c entries gap n (Gap g ∷ fates) (Sent sender message ∷ items) r stands =
-    by (λ next. deliveries_from judged table c entries gap (n + 1) fates items next (stands_next entries n _ _ stands)) (g == gap) refl
+deliveries_from listing judged table c entries gap n (Gap g ∷ fates) (Sent sender message ∷ items) r stands =
+    by (λ next. deliveries_from listing judged table c entries gap (n + 1) fates items next (stands_next entries n _ _ stands)) (g == gap) refl
     (is_heard judged sender) refl
   where
     due : List ℕ
@@ -268,22 +270,22 @@ deliveries_from judged table c entries gap n (Gap g ∷ fates) (Sent sender mess
     more : Replay → Result Replay CheckFault
     more = deliveries_by judged table c gap (n + 1) fates items
 
-    by : ((next : Replay) → deliveries_kept judged table entries due (progress_of judged c next) ≡ map_ok (progress_of judged c) (more next))
+    by : ((next : Replay) → deliveries_kept judged table entries due (progress_of listing judged c next) ≡ map_ok (progress_of listing judged c) (more next))
         → (b : Bool) → (g == gap) ≡ b → (so : Bool) → is_heard judged sender ≡ so
-        → deliveries_kept judged table entries (cond b (n ∷ due) due) (progress_of judged c r)
-        ≡ map_ok (progress_of judged c) (delivery_by judged table c gap n (Gap g) (Sent sender message) r >>= more)
+        → deliveries_kept judged table entries (cond b (n ∷ due) due) (progress_of listing judged c r)
+        ≡ map_ok (progress_of listing judged c) (delivery_by judged table c gap n (Gap g) (Sent sender message) r >>= more)
     by rest false is so told = rw (due_is judged gap g sender, is) (rest r)
     by rest true is false told = rw (due_is judged gap g sender, is, first_stands entries n _ _ stands, told) (rest r)
     by rest true is true told =
         rw (due_is judged gap g sender, is, first_stands entries n _ _ stands, told)
-        (ap (λ (x : Result Progress CheckFault). x >>= deliveries_kept judged table entries due) (delivered_is judged table c sender n r told)
-        ∙ then_is (progress_of judged c) (received judged table c sender n r) (deliveries_kept judged table entries due) more
+        (ap (λ (x : Result Progress CheckFault). x >>= deliveries_kept judged table entries due) (delivered_is listing judged table c sender n r told)
+        ∙ then_is (progress_of listing judged c) (received judged table c sender n r) (deliveries_kept judged table entries due) more
         (λ next _. rest next))
 
 -- Nothing is delivered whose entry did not come yet: the list of what is due may name it.
-pub deliveries_are : (judged : Option Side) (table : Table) (c : Certificate) (r : Replay)
-    → deliveries_kept judged table (outlines_from c 0 r.world.sent) (due_in (next_entry r) 0 c.fates) (progress_of judged c r)
-    ≡ map_ok (progress_of judged c) (deliveries_by judged table c (next_entry r) 0 c.fates r.world.sent r)
-deliveries_are judged table c r =
-    deliveries_from judged table c (outlines_from c 0 r.world.sent) (next_entry r) 0 c.fates r.world.sent r
+pub deliveries_are : (listing : Bool) (judged : Option Side) (table : Table) (c : Certificate) (r : Replay)
+    → deliveries_kept judged table (outlines_from c 0 r.world.sent) (due_in (next_entry r) 0 c.fates) (progress_of listing judged c r)
+    ≡ map_ok (progress_of listing judged c) (deliveries_by judged table c (next_entry r) 0 c.fates r.world.sent r)
+deliveries_are listing judged table c r =
+    deliveries_from listing judged table c (outlines_from c 0 r.world.sent) (next_entry r) 0 c.fates r.world.sent r
     (λ i. let same : 0 + i ≡ i = omega arith in ap (slice_get (outlines_from c 0 r.world.sent)) same)

@@ -89,9 +89,9 @@ same_filter : {A : Type 0} (p q : A → Bool) (xs : List A) → ((x : A) → p x
 same_filter p q [] same = refl
 same_filter p q (x ∷ xs) same = ap₂ (λ (b : Bool) (more : List _). cond b (x ∷ more) more) (same x) (same_filter p q xs same)
 
-tied_is : (judged : Option Side) (c : Certificate) (r : Replay) → tied_now judged c (kept_of judged c r) ≡ tied judged c r
-tied_is None c r = ap (λ (k : ℕ). taken_by k 0 c.fates) (outlines_count c 0 r.world.sent)
-tied_is (Some judged) c r =
+tied_is : (listing : Bool) (judged : Option Side) (c : Certificate) (r : Replay) → tied_now judged c (kept_of listing judged c r) ≡ tied judged c r
+tied_is listing None c r = ap (λ (k : ℕ). taken_by k 0 c.fates) (outlines_count c 0 r.world.sent)
+tied_is listing (Some judged) c r =
     ap (λ (k : ℕ). told_among (other judged) (outlines_from c 0 r.world.sent) (taken_by k 0 c.fates)) (outlines_count c 0 r.world.sent)
     ∙ same_filter (λ n. is_told (other judged) (slice_get (outlines_from c 0 r.world.sent) n))
     (λ n. is_sent_by (other judged) (slice_get r.world.sent n)) (taken_by (next_entry r) 0 c.fates)
@@ -106,7 +106,7 @@ tied_still (Some judged) c r behind sent =
 
 -- ---- an entry
 
-module _ (judged : Option Side) (table : Table) (c : Certificate) (r : Replay) where
+module _ (listing : Bool) (judged : Option Side) (table : Table) (c : Certificate) (r : Replay) where
   abbrev n : ℕ
   n = next_entry r
 
@@ -114,97 +114,97 @@ module _ (judged : Option Side) (table : Table) (c : Certificate) (r : Replay) w
   takes = tied judged c r
 
   abbrev gap : Result Progress CheckFault
-  gap = gap_before judged table c (kept_of judged c r)
+  gap = gap_before judged table c (kept_of listing judged c r)
 
   abbrev kept_now : List ℕ
-  kept_now = tied_now judged c (kept_of judged c r)
+  kept_now = tied_now judged c (kept_of listing judged c r)
 
   abbrev count : ℕ
   count = length (outlines_from c 0 r.world.sent)
 
   -- A step behind the gap that is counted over the outlines, and by what they say of the messages that it takes.
   behind_gap : (on : ℕ → List ℕ → Progress → Result Progress CheckFault) (more : Replay → Result Replay CheckFault)
-      → ((next : Replay) → gap_by judged table c r ≡ Ok next → on n takes (progress_of judged c next) ≡ map_ok (progress_of judged c) (more next))
-      → (gap >>= on count kept_now) ≡ map_ok (progress_of judged c) (gap_by judged table c r >>= more)
+      → ((next : Replay) → gap_by judged table c r ≡ Ok next → on n takes (progress_of listing judged c next) ≡ map_ok (progress_of listing judged c) (more next))
+      → (gap >>= on count kept_now) ≡ map_ok (progress_of listing judged c) (gap_by judged table c r >>= more)
   behind_gap on more same =
-      ap₂ (λ (k : ℕ) (numbers : List ℕ). gap >>= on k numbers) (outlines_count c 0 r.world.sent) (tied_is judged c r)
-      ∙ ap (λ (x : Result Progress CheckFault). x >>= on n takes) (gap_is judged table c r)
-      ∙ then_is (progress_of judged c) (gap_by judged table c r) (on n takes) more same
+      ap₂ (λ (k : ℕ) (numbers : List ℕ). gap >>= on k numbers) (outlines_count c 0 r.world.sent) (tied_is listing judged c r)
+      ∙ ap (λ (x : Result Progress CheckFault). x >>= on n takes) (gap_is listing judged table c r)
+      ∙ then_is (progress_of listing judged c) (gap_by judged table c r) (on n takes) more same
 
   -- A message of an end that is judged,
   own_entry : (fate : Fate) (side : Side) (message : Message) → is_heard judged (other side) ≡ true → slice_get c.fates n ≡ Some fate
       → (gap >>= own_taken judged table side fate count message kept_now)
-      ≡ map_ok (progress_of judged c)
+      ≡ map_ok (progress_of listing judged c)
       (gap_by judged table c r >>= λ behind. behind_sending judged (own_message judged table c side message behind))
   own_entry fate side message so has =
       behind_gap (λ k numbers. own_taken judged table side fate k message numbers)
       (λ behind. behind_sending judged (own_message judged table c side message behind))
       (λ next is. let sent = gap_sends judged table c r next is in
       let same : next_entry next ≡ n = ap (length {A = Item}) sent in
-      ap₂ (λ (k : ℕ) (numbers : List ℕ). own_taken judged table side fate k message numbers (progress_of judged c next))
+      ap₂ (λ (k : ℕ) (numbers : List ℕ). own_taken judged table side fate k message numbers (progress_of listing judged c next))
       (sym same) (sym (tied_still judged c r next sent))
-      ∙ own_is judged table c fate side message (tied judged c next) next so (ap (slice_get c.fates) same ∙ has))
+      ∙ own_is listing judged table c fate side message (tied judged c next) next so (ap (slice_get c.fates) same ∙ has))
 
   -- and a mark.
   mark_entry : (fate : Fate)
-      → item_kept judged table c fate Item.Quiet (kept_of judged c r) ≡ map_ok (progress_of judged c) (mark_judged judged table c fate r)
+      → item_kept judged table c fate Item.Quiet (kept_of listing judged c r) ≡ map_ok (progress_of listing judged c) (mark_judged judged table c fate r)
   mark_entry fate =
       ap (λ (k : ℕ). needs (is_gap (k + 1) fate) (fault_at FateRange k) >> gap >>= mark_taken judged table count kept_now)
       (outlines_count c 0 r.world.sent)
       ∙ by (is_gap (n + 1) fate)
     where
       gone : (gap >>= mark_taken judged table count kept_now)
-          ≡ map_ok (progress_of judged c) (gap_by judged table c r >>= marked_by judged table c n takes)
+          ≡ map_ok (progress_of listing judged c) (gap_by judged table c r >>= marked_by judged table c n takes)
       gone = behind_gap (λ k numbers. mark_taken judged table k numbers) (marked_by judged table c n takes)
-          (λ next is. mark_is judged table c n takes next)
+          (λ next is. mark_is listing judged table c n takes next)
 
       by : (b : Bool)
           → (needs b (fault_at FateRange n) >> gap >>= mark_taken judged table count kept_now)
-          ≡ map_ok (progress_of judged c) (needs b (fault_at FateRange n) >> (gap_by judged table c r >>= marked_by judged table c n takes))
+          ≡ map_ok (progress_of listing judged c) (needs b (fault_at FateRange n) >> (gap_by judged table c r >>= marked_by judged table c n takes))
       by true = gone
       by false = refl
 
   -- The order of what comes to an end that is judged.
   in_order : (fate : Fate) (side : Side) (step : Progress → Result Progress CheckFault) (on : Result Replay CheckFault)
-      → is_heard judged side ≡ true → (gap >>= step) ≡ map_ok (progress_of judged c) on
-      → (needs (not (overtakes fate (seat_at side (progress_of judged c r)))) (fault_at OutOfOrder count) >> gap >>= step)
-      ≡ map_ok (progress_of judged c) (needs (not (is_overtaking side fate c.fates r.world.sent)) (fault_at OutOfOrder n) >> on)
+      → is_heard judged side ≡ true → (gap >>= step) ≡ map_ok (progress_of listing judged c) on
+      → (needs (not (overtakes fate (seat_at side (progress_of listing judged c r)))) (fault_at OutOfOrder count) >> gap >>= step)
+      ≡ map_ok (progress_of listing judged c) (needs (not (is_overtaking side fate c.fates r.world.sent)) (fault_at OutOfOrder n) >> on)
   in_order fate side step on so same =
       ap₂ (λ (b : Bool) (k : ℕ). needs (not b) (fault_at OutOfOrder k) >> gap >>= step)
-      (overtakes_is judged c side fate r (not_alone judged side so)) (outlines_count c 0 r.world.sent)
+      (overtakes_is listing judged c side fate r (not_alone judged side so)) (outlines_count c 0 r.world.sent)
       ∙ by (not (is_overtaking side fate c.fates r.world.sent))
     where
-      by : (b : Bool) → (needs b (fault_at OutOfOrder n) >> gap >>= step) ≡ map_ok (progress_of judged c) (needs b (fault_at OutOfOrder n) >> on)
+      by : (b : Bool) → (needs b (fault_at OutOfOrder n) >> gap >>= step) ≡ map_ok (progress_of listing judged c) (needs b (fault_at OutOfOrder n) >> on)
       by true = same
       by false = refl
 
 -- A message that the peer tells of the end that alone is judged.
-told_entry : (table : Table) (c : Certificate) (side : Side) (r : Replay) (fate : Fate) (message : Message)
+told_entry : (listing : Bool) (table : Table) (c : Certificate) (side : Side) (r : Replay) (fate : Fate) (message : Message)
     → is_heard (Some side) (other side) ≡ true → slice_get c.fates (next_entry r) ≡ Some fate
-    → (needs (not (overtakes fate (seat_at (other side) (progress_of (Some side) c r)))) (fault_at OutOfOrder (count (Some side) table c r))
-    >> gap (Some side) table c r
-    >>= told_taken (other side) fate (count (Some side) table c r) message (kept_now (Some side) table c r))
-    ≡ map_ok (progress_of (Some side) c) (told_replayed table c fate side message r)
-told_entry table c side r fate message so has =
-    in_order (Some side) table c r fate (other side) _ (gap_by (Some side) table c r >>= made) so
-    (behind_gap (Some side) table c r (λ k numbers. told_taken (other side) fate k message numbers) made
+    → (needs (not (overtakes fate (seat_at (other side) (progress_of listing (Some side) c r)))) (fault_at OutOfOrder (count listing (Some side) table c r))
+    >> gap listing (Some side) table c r
+    >>= told_taken (other side) fate (count listing (Some side) table c r) message (kept_now listing (Some side) table c r))
+    ≡ map_ok (progress_of listing (Some side) c) (told_replayed table c fate side message r)
+told_entry listing table c side r fate message so has =
+    in_order listing (Some side) table c r fate (other side) _ (gap_by (Some side) table c r >>= made) so
+    (behind_gap listing (Some side) table c r (λ k numbers. told_taken (other side) fate k message numbers) made
     (λ next is. let same : next_entry next ≡ next_entry r = ap (length {A = Item}) (gap_sends (Some side) table c r next is) in
-    subst (λ (k : ℕ). told_taken (other side) fate k message (tied (Some side) c r) (progress_of (Some side) c next)
-    ≡ map_ok (progress_of (Some side) c) (needs (is_nothing (tied (Some side) c r)) (fault_at BadReply k)
+    subst (λ (k : ℕ). told_taken (other side) fate k message (tied (Some side) c r) (progress_of listing (Some side) c next)
+    ≡ map_ok (progress_of listing (Some side) c) (needs (is_nothing (tied (Some side) c r)) (fault_at BadReply k)
     >> Ok (with_step (Tells (other side) message) next (joined (other side) message next.world)))) same
-    (told_is c fate side message (tied (Some side) c r) next (ap (slice_get c.fates) same ∙ has))))
+    (told_is listing c fate side message (tied (Some side) c r) next (ap (slice_get c.fates) same ∙ has))))
   where
     made : Replay → Result Replay CheckFault
     made behind = needs (is_nothing (tied (Some side) c r)) (fault_at BadReply (next_entry r))
         >> Ok (with_step (Tells (other side) message) behind (joined (other side) message behind.world))
 
-pub item_is : (judged : Option Side) (table : Table) (c : Certificate) (fate : Fate) (item : Item) (r : Replay)
+pub item_is : (listing : Bool) (judged : Option Side) (table : Table) (c : Certificate) (fate : Fate) (item : Item) (r : Replay)
     → slice_get c.fates (next_entry r) ≡ Some fate
-    → item_kept judged table c fate item (kept_of judged c r) ≡ map_ok (progress_of judged c) (item_by judged table c fate item r)
-item_is judged table c fate Item.Quiet r has = mark_entry judged table c r fate
-item_is None table c fate (Sent side message) r has =
-    in_order None table c r fate side _ _ refl (own_entry None table c r fate side message refl has)
-item_is (Some sides.A) table c fate (Sent sides.A message) r has = own_entry (Some sides.A) table c r fate sides.A message refl has
-item_is (Some sides.A) table c fate (Sent sides.B message) r has = told_entry table c sides.A r fate message refl has
-item_is (Some sides.B) table c fate (Sent sides.A message) r has = told_entry table c sides.B r fate message refl has
-item_is (Some sides.B) table c fate (Sent sides.B message) r has = own_entry (Some sides.B) table c r fate sides.B message refl has
+    → item_kept judged table c fate item (kept_of listing judged c r) ≡ map_ok (progress_of listing judged c) (item_by judged table c fate item r)
+item_is listing judged table c fate Item.Quiet r has = mark_entry listing judged table c r fate
+item_is listing None table c fate (Sent side message) r has =
+    in_order listing None table c r fate side _ _ refl (own_entry listing None table c r fate side message refl has)
+item_is listing (Some sides.A) table c fate (Sent sides.A message) r has = own_entry listing (Some sides.A) table c r fate sides.A message refl has
+item_is listing (Some sides.A) table c fate (Sent sides.B message) r has = told_entry listing table c sides.A r fate message refl has
+item_is listing (Some sides.B) table c fate (Sent sides.A message) r has = told_entry listing table c sides.B r fate message refl has
+item_is listing (Some sides.B) table c fate (Sent sides.B message) r has = own_entry listing (Some sides.B) table c r fate sides.B message refl has

@@ -1,5 +1,5 @@
 -- The gap before an entry, over what is kept, is that of the replay.
-use Rattle.std.proofs.Common.{◌≡◌, ℕ, ◌==◌, List, filter, length, Option, Result, refl, ap, subst, ◌∙◌, append-nil, Ok}
+use Rattle.std.proofs.Common.{◌≡◌, Bool, ℕ, ◌==◌, List, filter, length, Option, Result, refl, ap, subst, ◌∙◌, append-nil, Ok}
 use Rattle.tcap_record.specs.declared.entry.End.{End as Side}
 use Rattle.tcap_end.specs.Table.{Table}
 use Rattle.tcap_end.specs.Step.{◌>>=◌}
@@ -20,7 +20,7 @@ use Rattle.tcap_check.proofs.KeptDeliveries.{deliveries_are}
 use Rattle.tcap_check.proofs.KeptHidden.{closings_are, expiries_are, outlines_count}
 use Rattle.tcap_check.proofs.ReplayLaws.{closings_replay, expiries_replay}
 
-module _ (judged : Option Side) (table : Table) (c : Certificate) (r : Replay) where
+module _ (listing : Bool) (judged : Option Side) (table : Table) (c : Certificate) (r : Replay) where
   abbrev items : List Item
   items = r.world.sent
 
@@ -31,7 +31,7 @@ module _ (judged : Option Side) (table : Table) (c : Certificate) (r : Replay) w
   since = since_from 0 0 items
 
   abbrev p : Progress
-  p = progress_of judged c r
+  p = progress_of listing judged c r
 
   abbrev closings : List Closing
   closings = closings_judged judged (filter (λ x. x.gap == next_entry r) c.close)
@@ -64,25 +64,25 @@ module _ (judged : Option Side) (table : Table) (c : Certificate) (r : Replay) w
 
   -- What is delivered,
   deliveries : (next : Replay) → next.world.sent ≡ items
-      → delivered_kept (progress_of judged c next) ≡ map_ok (progress_of judged c) (delivered next)
+      → delivered_kept (progress_of listing judged c next) ≡ map_ok (progress_of listing judged c) (delivered next)
   deliveries next sent = subst (λ (xs : List Item).
-      deliveries_kept judged table (outlines_from c 0 xs) (due_in (length xs) 0 c.fates) (progress_of judged c next)
-      ≡ map_ok (progress_of judged c) (deliveries_by judged table c (length xs) 0 c.fates xs next)) sent
-      (deliveries_are judged table c next)
+      deliveries_kept judged table (outlines_from c 0 xs) (due_in (length xs) 0 c.fates) (progress_of listing judged c next)
+      ≡ map_ok (progress_of listing judged c) (deliveries_by judged table c (length xs) 0 c.fates xs next)) sent
+      (deliveries_are listing judged table c next)
 
   -- behind what is listed.
   behind_closed : (next : Replay) → closed ≡ Ok next
-      → (expired_kept (progress_of judged c next) >>= delivered_kept) ≡ map_ok (progress_of judged c) (expired next >>= delivered)
+      → (expired_kept (progress_of listing judged c next) >>= delivered_kept) ≡ map_ok (progress_of listing judged c) (expired next >>= delivered)
   behind_closed next is =
-      ap (λ (x : Result Progress CheckFault). x >>= delivered_kept) (expiries_are judged table c items next (closed_sends next is))
-      ∙ then_is (progress_of judged c) (expired next) delivered_kept delivered
+      ap (λ (x : Result Progress CheckFault). x >>= delivered_kept) (expiries_are listing judged table c items next (closed_sends next is))
+      ∙ then_is (progress_of listing judged c) (expired next) delivered_kept delivered
       (λ last so. deliveries last (expired_sends next last (closed_sends next is) so))
 
-  pub gap_is : gap_kept judged table c entries since p ≡ map_ok (progress_of judged c) (gap_by judged table c r)
+  pub gap_is : gap_kept judged table c entries since p ≡ map_ok (progress_of listing judged c) (gap_by judged table c r)
   gap_is =
       ap (λ (n : ℕ). closings_kept table entries since (closings_judged judged (filter (λ x. x.gap == n) c.close)) p
       >>= expiries_kept table entries since (expiries_judged judged (filter (λ x. x.gap == n) c.expire))
       >>= deliveries_kept judged table entries (due_in n 0 c.fates)) (outlines_count c 0 items)
-      ∙ ap (λ (x : Result Progress CheckFault). x >>= expired_kept >>= delivered_kept) (closings_are judged table c items r refl)
-      ∙ then_then (map_ok (progress_of judged c) closed) expired_kept delivered_kept
-      ∙ then_is (progress_of judged c) closed (λ (x : Progress). expired_kept x >>= delivered_kept) (λ (x : Replay). expired x >>= delivered) behind_closed
+      ∙ ap (λ (x : Result Progress CheckFault). x >>= expired_kept >>= delivered_kept) (closings_are listing judged table c items r refl)
+      ∙ then_then (map_ok (progress_of listing judged c) closed) expired_kept delivered_kept
+      ∙ then_is (progress_of listing judged c) closed (λ (x : Progress). expired_kept x >>= delivered_kept) (λ (x : Replay). expired x >>= delivered) behind_closed

@@ -18,15 +18,16 @@ use Rattle.tcap_check.specs.declared.certificate.Closing.{Closing}
 use Rattle.tcap_check.specs.declared.certificate.Expiry.{Expiry}
 use Rattle.tcap_check.specs.declared.certificate.Fate.{Fate}
 use Rattle.tcap_check.specs.declared.certificate.Fate.TheVariants.{Gap, Lost, By}
-use Rattle.tcap_model.specs.declared.reason.Reason.TheVariants.{BadReply, FateRange, HiddenRefused}
+use Rattle.tcap_model.specs.declared.reason.Reason.TheVariants.{BadReply, FateRange, HiddenRefused, NotQuiet}
 use Rattle.tcap_record.specs.Ends.{other}
 use Rattle.tcap_check.specs.declared.outline.Outline.{Outline}
 use Rattle.tcap_check.specs.declared.progress.Progress.{Progress}
 use Rattle.tcap_check.specs.declared.progress.Waiting.{Waiting}
 use Rattle.tcap_model.specs.World.{is_side}
 use Rattle.tcap_check.specs.Outlines.{half_closed, invocation_ended}
-use Rattle.tcap_check.specs.Progress.{GrewBy, HasNoMore, YieldsInMemory, closing_kept, closings_kept, due_in, end_moved, expiries_kept, expiry_kept, first_answered, front_lost, half_closes, invocation_ends, is_none_kept, load, losing_kept, lost_told, may_be_answered, moved, on_way, reply_kept, seat_at, sent_by, unheard_load, unless_lost, with_seat_end, with_waiting}
-use Rattle.tcap_check.specs.Hearing.{first_heard, first_received, message_received, received_or_not}
+use Rattle.tcap_check.specs.Progress.{GrewBy, HasNoMore, YieldsInMemory, closing_kept, closings_kept, discard_told, due_in, end_moved, expiries_kept, expiry_kept, first_answered, front_lost, half_closes, invocation_ends, is_none_kept, losing_kept, lost_counted, lost_told, may_be_answered, moved, on_way, reply_kept, seat_at, sent_by, unless_lost, with_seat_end, with_told, with_waiting}
+use Rattle.tcap_model.specs.Run.{Event, Closes, Expires, Loses, Receives, Replies}
+use Rattle.tcap_check.specs.Hearing.{first_heard, first_received, halves_shut, message_received, received_or_not}
 use Rattle.tcap_check.specs.Replayed.{closings_judged, expiries_judged, fault_at}
 
 -- ---- one step
@@ -36,11 +37,11 @@ abbrev pub IsMoved : ℕ → Progress → Progress → Type 0
 IsMoved n p q = (q.moves ≡ p.moves + n) × (on_way q ≡ on_way p) × (q.unheard ≡ p.unheard)
 
 -- A step of an end is one.
-end_moves : {F : Type 0} (side : Side) (fault : F) (p next : Progress) (answer : Result End EndFault)
-    → end_moved side fault p answer ≡ Ok next → IsMoved 1 p next
-end_moves sides.A fault p next (Ok e) is = subst (IsMoved 1 p) (ok_same _ next is) (refl, refl, refl)
-end_moves sides.B fault p next (Ok e) is = subst (IsMoved 1 p) (ok_same _ next is) (refl, refl, refl)
-end_moves side fault p next (Err reason) is = cc
+end_moves : {F : Type 0} (side : Side) (event : Event) (fault : F) (p next : Progress) (answer : Result End EndFault)
+    → end_moved side event fault p answer ≡ Ok next → IsMoved 1 p next
+end_moves sides.A event fault p next (Ok e) is = subst (IsMoved 1 p) (ok_same _ next is) (refl, refl, refl)
+end_moves sides.B event fault p next (Ok e) is = subst (IsMoved 1 p) (ok_same _ next is) (refl, refl, refl)
+end_moves side event fault p next (Err reason) is = cc
 
 closing_grows : (table : Table) (entries : List Outline) (since : ℕ) (x : Closing) (p next : Progress)
     → closing_kept table entries since x p ≡ Ok next → IsMoved 1 p next
@@ -50,7 +51,7 @@ closing_grows table entries since x p next is = by (half_closed entries since x)
         → IsMoved 1 p next
     by None is = cc
     by (Some name) is =
-        end_moves x.side (fault_at (HiddenRefused faults.CannotClose) x.entry) p next
+        end_moves x.side (Closes x.side name) (fault_at (HiddenRefused faults.CannotClose) x.entry) p next
         (close table (seat_at x.side p).end name) is
 
 expiry_grows : (table : Table) (entries : List Outline) (since : ℕ) (x : Expiry) (p next : Progress)
@@ -62,7 +63,7 @@ expiry_grows table entries since x p next is = by (invocation_ended entries sinc
         → IsMoved 1 p next
     by None is = cc
     by (Some invocation) is =
-        end_moves x.side (fault_at (HiddenRefused faults.CannotExpire) x.entry) p next
+        end_moves x.side (Expires x.side invocation.0 invocation.1) (fault_at (HiddenRefused faults.CannotExpire) x.entry) p next
         (expire table (seat_at x.side p).end invocation.0 invocation.1) is
 
 -- ---- losses
@@ -79,30 +80,30 @@ taken_counts sides.A messages p = (refl, refl)
 taken_counts sides.B messages p = (refl, refl)
 
 lost_way : (judged : Option Side) (side : Side) (p : Progress)
-    → (on_way (lost_told judged side p) ≡ on_way p) × ((lost_told judged side p).moves ≤ p.moves + 1)
-    × ((lost_told judged side p).unheard ≤ p.unheard + 1)
+    → (on_way (lost_counted judged side p) ≡ on_way p) × ((lost_counted judged side p).moves ≤ p.moves + 1)
+    × ((lost_counted judged side p).unheard ≤ p.unheard + 1)
 lost_way None side p = (refl, omega arith, omega arith)
 lost_way (Some sides.A) sides.A p = (refl, omega arith, omega arith)
 lost_way (Some sides.A) sides.B p = (refl, omega arith, omega arith)
 lost_way (Some sides.B) sides.A p = (refl, omega arith, omega arith)
 lost_way (Some sides.B) sides.B p = (refl, omega arith, omega arith)
 
-pub lost_waits : (judged : Option Side) (side : Side) (more : List Waiting) (p : Progress)
-    → (seat_at side (lost_told judged side (with_waiting side more p))).waiting ≡ more
-lost_waits None sides.A more p = refl
-lost_waits None sides.B more p = refl
-lost_waits (Some sides.A) sides.A more p = refl
-lost_waits (Some sides.A) sides.B more p = refl
-lost_waits (Some sides.B) sides.A more p = refl
-lost_waits (Some sides.B) sides.B more p = refl
+pub lost_waits : (judged : Option Side) (side : Side) (number : ℕ) (more : List Waiting) (p : Progress)
+    → (seat_at side (lost_told judged side number (with_waiting side more p))).waiting ≡ more
+lost_waits None sides.A number more p = refl
+lost_waits None sides.B number more p = refl
+lost_waits (Some sides.A) sides.A number more p = refl
+lost_waits (Some sides.A) sides.B number more p = refl
+lost_waits (Some sides.B) sides.A number more p = refl
+lost_waits (Some sides.B) sides.B number more p = refl
 
 -- A message that is lost was on its way.
 pub one_lost_grows : (judged : Option Side) (side : Side) (first : Waiting) (more : List Waiting) (p : Progress)
-    → (seat_at side p).waiting ≡ first ∷ more → HasNoMore p (lost_told judged side (with_waiting side more p))
+    → (seat_at side p).waiting ≡ first ∷ more → HasNoMore p (lost_told judged side first.number (with_waiting side more p))
 one_lost_grows judged side first more p is =
     let way = taken_way side first more p is in
     let counts = taken_counts side more p in
-    let lost = lost_way judged side (with_waiting side more p) in
+    let lost = lost_way judged side (with_told (Loses side first.number ∷ []) (with_waiting side more p)) in
     let a = counts.0 in let b = counts.1 in let l0 = lost.0 in let l1 = lost.1 in let l2 = lost.2 in
     (omega (arith, way, a, l0, l1), omega (arith, way, b, l0, l2))
 
@@ -116,10 +117,10 @@ losing_grows judged side [] p is = (omega arith, omega arith)
 losing_grows judged side (first ∷ more) p is =
     by (is_none_kept first.message)
     (no_more p next (losing_kept judged side more next) (one_lost_grows judged side first more p is)
-    (losing_grows judged side more next (lost_waits judged side more p)))
+    (losing_grows judged side more next (lost_waits judged side first.number more p)))
   where
     next : Progress
-    next = lost_told judged side (with_waiting side more p)
+    next = lost_told judged side first.number (with_waiting side more p)
 
     by : (b : Bool) → HasNoMore p (losing_kept judged side more next) → HasNoMore p (cond b (losing_kept judged side more next) p)
     by true rest = rest
@@ -130,11 +131,11 @@ front_grows judged side p = losing_grows judged side (seat_at side p).waiting p 
 
 -- ---- what is received
 
-end_way : (side : Side) (e : End) (p : Progress)
-    → (on_way (moved (with_seat_end side e p)) ≡ on_way p) × ((moved (with_seat_end side e p)).moves ≡ p.moves + 1)
-    × ((moved (with_seat_end side e p)).unheard ≡ p.unheard)
-end_way sides.A e p = (refl, refl, refl)
-end_way sides.B e p = (refl, refl, refl)
+end_way : (side : Side) (event : Event) (e : End) (p : Progress)
+    → (on_way (moved event (with_seat_end side e p)) ≡ on_way p) × ((moved event (with_seat_end side e p)).moves ≡ p.moves + 1)
+    × ((moved event (with_seat_end side e p)).unheard ≡ p.unheard)
+end_way sides.A event e p = (refl, refl, refl)
+end_way sides.B event e p = (refl, refl, refl)
 
 -- One step at most, and one message that is not received at most.
 received_way : (judged : Option Side) (side : Side) (number : ℕ) (p next : Progress) (o : Result End EndFault)
@@ -145,12 +146,12 @@ received_way judged side number p next (Ok e) is = subst Counts (ok_same {F = Ch
     Counts : Progress → Type 0
     Counts x = (on_way x ≡ on_way p) × (x.moves ≤ p.moves + 1) × (x.unheard ≤ p.unheard + 1)
 
-    here : Counts (moved (with_seat_end side e p))
-    here = let way = end_way side e p in let a = way.0 in let b = way.1 in let d = way.2 in (a, omega (arith, b), omega (arith, d))
+    here : Counts (moved (Receives side number) (with_seat_end side e p))
+    here = let way = end_way side (Receives side number) e p in let a = way.0 in let b = way.1 in let d = way.2 in (a, omega (arith, b), omega (arith, d))
 received_way None side number p next (Err reason) is = cc
 received_way (Some judged) side number p next (Err reason) is =
     subst (λ (x : Progress). (on_way x ≡ on_way p) × (x.moves ≤ p.moves + 1) × (x.unheard ≤ p.unheard + 1))
-    (ok_same {F = CheckFault} _ next is) (lost_way (Some judged) (other side) p)
+    (ok_same {F = CheckFault} _ next is) (lost_way (Some judged) (other side) (discard_told (other side) number reason p))
 
 first_grows : (judged : Option Side) (table : Table) (sender : Side) (number : ℕ) (messages : List Waiting) (p next : Progress)
     → (seat_at sender p).waiting ≡ messages → first_received judged table sender number messages p ≡ Ok next → HasNoMore p next
@@ -182,12 +183,13 @@ on_ok (Err fault) p f = tt
 -- ---- what is sent
 
 -- A message that joins is on its way, and a step.
-pub sent_grows : (side : Side) (fate : Fate) (number : ℕ) (message : Message) (p : Progress) → GrewBy 2 1 p (sent_by side fate number message p)
-sent_grows sides.A fate number message p =
+pub sent_grows : (event : Event) (side : Side) (fate : Fate) (number : ℕ) (message : Message) (p : Progress)
+    → GrewBy 2 1 p (sent_by event side fate number message p)
+sent_grows event sides.A fate number message p =
     let w : Waiting = record { number = number; message = unless_lost fate message } in
     let more : length (p.a.waiting ++ w ∷ []) ≡ length p.a.waiting + 1 = length-append p.a.waiting (w ∷ []) in
     (omega (arith, more), omega (arith, more))
-sent_grows sides.B fate number message p =
+sent_grows event sides.B fate number message p =
     let w : Waiting = record { number = number; message = unless_lost fate message } in
     let more : length (p.b.waiting ++ w ∷ []) ≡ length p.b.waiting + 1 = length-append p.b.waiting (w ∷ []) in
     (omega (arith, more), omega (arith, more))
@@ -198,10 +200,10 @@ answered_grows side fate number abort taken [] p next at is = cc
 answered_grows side fate number abort taken (first ∷ more) p next at is =
     let left = with_waiting (other side) more p in
     let so = needs_ok ((first.number == taken) && may_be_answered (seat_at side p).end first.message abort) (fault_at BadReply number)
-    (Ok (sent_by side fate number abort left)) next is in
+    (Ok (sent_by (Replies side taken) side fate number abort left)) next is in
     let way = taken_way (other side) first more p at in
     let counts = taken_counts (other side) more p in
-    let sent = sent_grows side fate number abort left in
+    let sent = sent_grows (Replies side taken) side fate number abort left in
     let a = counts.0 in let b = counts.1 in let s0 = sent.0 in let s1 = sent.1 in
     subst (GrewBy 2 1 p) (ok_same {F = CheckFault} _ next so.1) (omega (arith, way, a, s0), omega (arith, way, b, s1))
 
@@ -234,6 +236,16 @@ expiries_grow table entries since (x ∷ xs) p next is =
     let found = then_ok _ _ next is in
     let one = expiry_grows table entries since x p found.0 found.1 in
     let rest = expiries_grow table entries since xs found.0 next found.2 in
+    let m0 = one.0 in let m1 = rest.0 in (omega (arith, m0, m1), rest.1 ∙ one.1, rest.2 ∙ one.2)
+
+-- Halves that close are so many steps.
+pub shut_grows : (side : Side) (table : Table) (number : ℕ) (names : List HalfName) (p next : Progress)
+    → halves_shut side table number names p ≡ Ok next → IsMoved (length names) p next
+shut_grows side table number [] p next is = subst (IsMoved 0 p) (ok_same p next is) (omega arith, refl, refl)
+shut_grows side table number (name ∷ more) p next is =
+    let found = then_ok (end_moved side (Closes side name) (fault_at NotQuiet number) p (close table (seat_at side p).end name)) _ next is in
+    let one = end_moves side (Closes side name) (fault_at NotQuiet number) p found.0 (close table (seat_at side p).end name) found.1 in
+    let rest = shut_grows side table number more found.0 next found.2 in
     let m0 = one.0 in let m1 = rest.0 in (omega (arith, m0, m1), rest.1 ∙ one.1, rest.2 ∙ one.2)
 
 -- what is listed for a gap is no more than all that is listed

@@ -196,13 +196,13 @@ expiries_listed c count =
 -- ---- steps
 
 -- A step of an end alone.
-end_is : (judged : Option Side) (c : Certificate) (side : Side) (event : Event) (fault : CheckFault) (r : Replay) (step : Result End EndFault)
+end_is : (listing : Bool) (judged : Option Side) (c : Certificate) (side : Side) (event : Event) (fault : CheckFault) (r : Replay) (step : Result End EndFault)
     → ((at : Side) → is_lost_from at event ≡ false)
-    → end_moved side fault (progress_of judged c r) step
-    ≡ map_ok (progress_of judged c) (ok_or (option_map (with_step event r)
+    → end_moved side event fault (progress_of listing judged c r) step
+    ≡ map_ok (progress_of listing judged c) (ok_or (option_map (with_step event r)
     (option_map (λ e. with_end side e r.world) (result_ok step))) fault)
-end_is judged c side event fault r (Ok e) none = ap Ok (sym (end_step_is judged c event side e r none))
-end_is judged c side event fault r (Err reason) none = refl
+end_is listing judged c side event fault r (Ok e) none = ap Ok (sym (end_step_is listing judged c event side e r none))
+end_is listing judged c side event fault r (Err reason) none = refl
 
 -- ---- closings
 
@@ -234,22 +234,22 @@ abbrev closing_replayed : Table → Certificate → Closing → Replay → Resul
 closing_replayed table c x r = ok_or (closing_event r.world.sent x) (fault_at FateRange x.entry)
     >>= λ event. happens table c event (HiddenRefused faults.CannotClose) x.entry r
 
-half_closes_is : (judged : Option Side) (table : Table) (c : Certificate) (x : Closing) (name : HalfName) (r : Replay)
-    → half_closes table x name (progress_of judged c r)
-    ≡ map_ok (progress_of judged c) (happens table c (Closes x.side name) (HiddenRefused faults.CannotClose) x.entry r)
-half_closes_is judged table c x name r =
+half_closes_is : (listing : Bool) (judged : Option Side) (table : Table) (c : Certificate) (x : Closing) (name : HalfName) (r : Replay)
+    → half_closes table x name (progress_of listing judged c r)
+    ≡ map_ok (progress_of listing judged c) (happens table c (Closes x.side name) (HiddenRefused faults.CannotClose) x.entry r)
+half_closes_is listing judged table c x name r =
     let fault = fault_at (HiddenRefused faults.CannotClose) x.entry in
-    ap (λ (e : End). end_moved x.side fault (progress_of judged c r) (close table e name)) (end_kept judged c x.side r)
-    ∙ end_is judged c x.side (Closes x.side name) fault r (close table (end_at x.side r.world) name) (λ at. refl)
+    ap (λ (e : End). end_moved x.side (Closes x.side name) fault (progress_of listing judged c r) (close table e name)) (end_kept listing judged c x.side r)
+    ∙ end_is listing judged c x.side (Closes x.side name) fault r (close table (end_at x.side r.world) name) (λ at. refl)
 
-closing_is : (judged : Option Side) (table : Table) (c : Certificate) (items : List Item) (x : Closing) (r : Replay)
+closing_is : (listing : Bool) (judged : Option Side) (table : Table) (c : Certificate) (items : List Item) (x : Closing) (r : Replay)
     → IsListed c (length items) x.gap x.entry
     → r.world.sent ≡ items
-    → closing_kept table (outlines_from c 0 items) (since_from 0 0 items) x (progress_of judged c r)
-    ≡ map_ok (progress_of judged c) (closing_replayed table c x r)
-closing_is judged table c items x r is sent =
+    → closing_kept table (outlines_from c 0 items) (since_from 0 0 items) x (progress_of listing judged c r)
+    ≡ map_ok (progress_of listing judged c) (closing_replayed table c x r)
+closing_is listing judged table c items x r is sent =
     by (half_closed (outlines_from c 0 items) (since_from 0 0 items) x)
-    ∙ ap (λ o. map_ok (progress_of judged c) (ok_or o none >>= step))
+    ∙ ap (λ o. map_ok (progress_of listing judged c) (ok_or o none >>= step))
     (sym (ap (λ s. closing_event s x) sent ∙ closing_named c items x is))
   where
     none : CheckFault
@@ -258,24 +258,24 @@ closing_is judged table c items x r is sent =
     step : Event → Result Replay CheckFault
     step event = happens table c event (HiddenRefused faults.CannotClose) x.entry r
 
-    by : (o : Option HalfName) → (ok_or o none >>= λ name. half_closes table x name (progress_of judged c r))
-        ≡ map_ok (progress_of judged c) (ok_or (option_map (Closes x.side) o) none >>= step)
+    by : (o : Option HalfName) → (ok_or o none >>= λ name. half_closes table x name (progress_of listing judged c r))
+        ≡ map_ok (progress_of listing judged c) (ok_or (option_map (Closes x.side) o) none >>= step)
     by None = refl
-    by (Some name) = half_closes_is judged table c x name r
+    by (Some name) = half_closes_is listing judged table c x name r
 
 -- Closings that are listed for the gap behind these items.
-closings_from : (judged : Option Side) (table : Table) (c : Certificate) (items : List Item) (listed : List Closing) (r : Replay)
+closings_from : (listing : Bool) (judged : Option Side) (table : Table) (c : Certificate) (items : List Item) (listed : List Closing) (r : Replay)
     → AllByRecursion (λ (x : Closing). IsListed c (length items) x.gap x.entry) listed → r.world.sent ≡ items
-    → closings_kept table (outlines_from c 0 items) (since_from 0 0 items) listed (progress_of judged c r)
-    ≡ map_ok (progress_of judged c) (closings_replayed table c listed r)
-closings_from judged table c items [] r all sent = refl
-closings_from judged table c items (x ∷ more) r all sent =
+    → closings_kept table (outlines_from c 0 items) (since_from 0 0 items) listed (progress_of listing judged c r)
+    ≡ map_ok (progress_of listing judged c) (closings_replayed table c listed r)
+closings_from listing judged table c items [] r all sent = refl
+closings_from listing judged table c items (x ∷ more) r all sent =
     ap (λ s. s >>= closings_kept table (outlines_from c 0 items) (since_from 0 0 items) more)
-    (closing_is judged table c items x r all.0 sent)
-    ∙ then_is (progress_of judged c) (closing_replayed table c x r)
+    (closing_is listing judged table c items x r all.0 sent)
+    ∙ then_is (progress_of listing judged c) (closing_replayed table c x r)
     (closings_kept table (outlines_from c 0 items) (since_from 0 0 items) more)
-    (closings_replayed table c more) (λ next is. closings_from judged table c items more next all.1 (still next is ∙ sent))
-    ∙ ap (map_ok (progress_of judged c))
+    (closings_replayed table c more) (λ next is. closings_from listing judged table c items more next all.1 (still next is ∙ sent))
+    ∙ ap (map_ok (progress_of listing judged c))
     (then_then (ok_or (closing_event r.world.sent x) (fault_at FateRange x.entry))
     (λ event. happens table c event (HiddenRefused faults.CannotClose) x.entry r) (closings_replayed table c more))
   where
@@ -288,12 +288,12 @@ closings_from judged table c items (x ∷ more) r all sent =
     still next is =
         (closings_replay table c (x ∷ []) r.world.sent r next refl (alone ∙ is)).2.sent ∙ append-nil r.world.sent
 
-pub closings_are : (judged : Option Side) (table : Table) (c : Certificate) (items : List Item) (r : Replay) → r.world.sent ≡ items
+pub closings_are : (listing : Bool) (judged : Option Side) (table : Table) (c : Certificate) (items : List Item) (r : Replay) → r.world.sent ≡ items
     → closings_kept table (outlines_from c 0 items) (since_from 0 0 items)
-    (closings_judged judged (filter (λ x. x.gap == length items) c.close)) (progress_of judged c r)
-    ≡ map_ok (progress_of judged c) (closings_replayed table c (closings_judged judged (filter (λ x. x.gap == length items) c.close)) r)
-closings_are judged table c items r sent =
-    closings_from judged table c items (closings_judged judged (filter (λ x. x.gap == length items) c.close)) r (by judged) sent
+    (closings_judged judged (filter (λ x. x.gap == length items) c.close)) (progress_of listing judged c r)
+    ≡ map_ok (progress_of listing judged c) (closings_replayed table c (closings_judged judged (filter (λ x. x.gap == length items) c.close)) r)
+closings_are listing judged table c items r sent =
+    closings_from listing judged table c items (closings_judged judged (filter (λ x. x.gap == length items) c.close)) r (by judged) sent
   where
     by : (judged : Option Side) → AllByRecursion (λ (x : Closing). IsListed c (length items) x.gap x.entry)
         (closings_judged judged (filter (λ x. x.gap == length items) c.close))
@@ -364,23 +364,24 @@ abbrev expiry_replayed : Table → Certificate → Expiry → Replay → Result 
 expiry_replayed table c x r = ok_or (expiry_event r.world.sent x) (fault_at FateRange x.entry)
     >>= λ event. happens table c event (HiddenRefused faults.CannotExpire) x.entry r
 
-invocation_ends_is : (judged : Option Side) (table : Table) (c : Certificate) (x : Expiry) (invocation : HalfName × ℤ) (r : Replay)
-    → invocation_ends table x invocation (progress_of judged c r)
-    ≡ map_ok (progress_of judged c) (happens table c (expires_by x invocation) (HiddenRefused faults.CannotExpire) x.entry r)
-invocation_ends_is judged table c x invocation r =
+invocation_ends_is : (listing : Bool) (judged : Option Side) (table : Table) (c : Certificate) (x : Expiry) (invocation : HalfName × ℤ) (r : Replay)
+    → invocation_ends table x invocation (progress_of listing judged c r)
+    ≡ map_ok (progress_of listing judged c) (happens table c (expires_by x invocation) (HiddenRefused faults.CannotExpire) x.entry r)
+invocation_ends_is listing judged table c x invocation r =
     let fault = fault_at (HiddenRefused faults.CannotExpire) x.entry in
-    ap (λ (e : End). end_moved x.side fault (progress_of judged c r) (expire table e invocation.0 invocation.1))
-    (end_kept judged c x.side r)
-    ∙ end_is judged c x.side (expires_by x invocation) fault r (expire table (end_at x.side r.world) invocation.0 invocation.1) (λ at. refl)
+    ap (λ (e : End). end_moved x.side (Expires x.side invocation.0 invocation.1) fault (progress_of listing judged c r)
+    (expire table e invocation.0 invocation.1))
+    (end_kept listing judged c x.side r)
+    ∙ end_is listing judged c x.side (expires_by x invocation) fault r (expire table (end_at x.side r.world) invocation.0 invocation.1) (λ at. refl)
 
-expiry_is : (judged : Option Side) (table : Table) (c : Certificate) (items : List Item) (x : Expiry) (r : Replay)
+expiry_is : (listing : Bool) (judged : Option Side) (table : Table) (c : Certificate) (items : List Item) (x : Expiry) (r : Replay)
     → IsListed c (length items) x.gap x.entry
     → r.world.sent ≡ items
-    → expiry_kept table (outlines_from c 0 items) (since_from 0 0 items) x (progress_of judged c r)
-    ≡ map_ok (progress_of judged c) (expiry_replayed table c x r)
-expiry_is judged table c items x r is sent =
+    → expiry_kept table (outlines_from c 0 items) (since_from 0 0 items) x (progress_of listing judged c r)
+    ≡ map_ok (progress_of listing judged c) (expiry_replayed table c x r)
+expiry_is listing judged table c items x r is sent =
     by (invocation_ended (outlines_from c 0 items) (since_from 0 0 items) x)
-    ∙ ap (λ o. map_ok (progress_of judged c) (ok_or o none >>= step))
+    ∙ ap (λ o. map_ok (progress_of listing judged c) (ok_or o none >>= step))
     (sym (ap (λ s. expiry_event s x) sent ∙ expiry_named c items x is))
   where
     none : CheckFault
@@ -390,24 +391,24 @@ expiry_is judged table c items x r is sent =
     step event = happens table c event (HiddenRefused faults.CannotExpire) x.entry r
 
     by : (o : Option (HalfName × ℤ))
-        → (ok_or o none >>= λ invocation. invocation_ends table x invocation (progress_of judged c r))
-        ≡ map_ok (progress_of judged c) (ok_or (option_map (expires_by x) o) none >>= step)
+        → (ok_or o none >>= λ invocation. invocation_ends table x invocation (progress_of listing judged c r))
+        ≡ map_ok (progress_of listing judged c) (ok_or (option_map (expires_by x) o) none >>= step)
     by None = refl
-    by (Some invocation) = invocation_ends_is judged table c x invocation r
+    by (Some invocation) = invocation_ends_is listing judged table c x invocation r
 
 -- Expiries that are listed for it.
-expiries_from : (judged : Option Side) (table : Table) (c : Certificate) (items : List Item) (listed : List Expiry) (r : Replay)
+expiries_from : (listing : Bool) (judged : Option Side) (table : Table) (c : Certificate) (items : List Item) (listed : List Expiry) (r : Replay)
     → AllByRecursion (λ (x : Expiry). IsListed c (length items) x.gap x.entry) listed → r.world.sent ≡ items
-    → expiries_kept table (outlines_from c 0 items) (since_from 0 0 items) listed (progress_of judged c r)
-    ≡ map_ok (progress_of judged c) (expiries_replayed table c listed r)
-expiries_from judged table c items [] r all sent = refl
-expiries_from judged table c items (x ∷ more) r all sent =
+    → expiries_kept table (outlines_from c 0 items) (since_from 0 0 items) listed (progress_of listing judged c r)
+    ≡ map_ok (progress_of listing judged c) (expiries_replayed table c listed r)
+expiries_from listing judged table c items [] r all sent = refl
+expiries_from listing judged table c items (x ∷ more) r all sent =
     ap (λ s. s >>= expiries_kept table (outlines_from c 0 items) (since_from 0 0 items) more)
-    (expiry_is judged table c items x r all.0 sent)
-    ∙ then_is (progress_of judged c) (expiry_replayed table c x r)
+    (expiry_is listing judged table c items x r all.0 sent)
+    ∙ then_is (progress_of listing judged c) (expiry_replayed table c x r)
     (expiries_kept table (outlines_from c 0 items) (since_from 0 0 items) more)
-    (expiries_replayed table c more) (λ next is. expiries_from judged table c items more next all.1 (still next is ∙ sent))
-    ∙ ap (map_ok (progress_of judged c))
+    (expiries_replayed table c more) (λ next is. expiries_from listing judged table c items more next all.1 (still next is ∙ sent))
+    ∙ ap (map_ok (progress_of listing judged c))
     (then_then (ok_or (expiry_event r.world.sent x) (fault_at FateRange x.entry))
     (λ event. happens table c event (HiddenRefused faults.CannotExpire) x.entry r) (expiries_replayed table c more))
   where
@@ -420,12 +421,12 @@ expiries_from judged table c items (x ∷ more) r all sent =
     still next is =
         (expiries_replay table c (x ∷ []) r.world.sent r next refl (alone ∙ is)).2.sent ∙ append-nil r.world.sent
 
-pub expiries_are : (judged : Option Side) (table : Table) (c : Certificate) (items : List Item) (r : Replay) → r.world.sent ≡ items
+pub expiries_are : (listing : Bool) (judged : Option Side) (table : Table) (c : Certificate) (items : List Item) (r : Replay) → r.world.sent ≡ items
     → expiries_kept table (outlines_from c 0 items) (since_from 0 0 items)
-    (expiries_judged judged (filter (λ x. x.gap == length items) c.expire)) (progress_of judged c r)
-    ≡ map_ok (progress_of judged c) (expiries_replayed table c (expiries_judged judged (filter (λ x. x.gap == length items) c.expire)) r)
-expiries_are judged table c items r sent =
-    expiries_from judged table c items (expiries_judged judged (filter (λ x. x.gap == length items) c.expire)) r (by judged) sent
+    (expiries_judged judged (filter (λ x. x.gap == length items) c.expire)) (progress_of listing judged c r)
+    ≡ map_ok (progress_of listing judged c) (expiries_replayed table c (expiries_judged judged (filter (λ x. x.gap == length items) c.expire)) r)
+expiries_are listing judged table c items r sent =
+    expiries_from listing judged table c items (expiries_judged judged (filter (λ x. x.gap == length items) c.expire)) r (by judged) sent
   where
     by : (judged : Option Side) → AllByRecursion (λ (x : Expiry). IsListed c (length items) x.gap x.entry)
         (expiries_judged judged (filter (λ x. x.gap == length items) c.expire))

@@ -42,16 +42,16 @@ use Rattle.tcap_check.proofs.WorldLaws.{apart, sent_with_end}
 
 -- ---- expiries that a message implies
 
-one_implied : (table : Table) (judged : Option Side) (c : Certificate) (side : Side) (name : HalfName) (id : ℤ) (r : Replay)
-    → end_tried table side name id (progress_of judged c r)
-    ≡ progress_of judged c (or_same r (stepped table (Expires side name id) r))
-one_implied table judged c side name id r =
-    ap (λ (e : End). or_still side (progress_of judged c r) (expire table e name id)) (end_kept judged c side r)
+one_implied : (listing : Bool) (table : Table) (judged : Option Side) (c : Certificate) (side : Side) (name : HalfName) (id : ℤ) (r : Replay)
+    → end_tried table side name id (progress_of listing judged c r)
+    ≡ progress_of listing judged c (or_same r (stepped table (Expires side name id) r))
+one_implied listing table judged c side name id r =
+    ap (λ (e : End). or_still side (Expires side name id) (progress_of listing judged c r) (expire table e name id)) (end_kept listing judged c side r)
     ∙ by (expire table (end_at side r.world) name id) refl
   where
     by : (o : Result End EndFault) → expire table (end_at side r.world) name id ≡ o
-        → or_still side (progress_of judged c r) o ≡ progress_of judged c (or_same r (stepped table (Expires side name id) r))
-    by (Ok e) is = rw is (sym (end_step_is judged c (Expires side name id) side e r (λ at. refl)))
+        → or_still side (Expires side name id) (progress_of listing judged c r) o ≡ progress_of listing judged c (or_same r (stepped table (Expires side name id) r))
+    by (Ok e) is = rw is (sym (end_step_is listing judged c (Expires side name id) side e r (λ at. refl)))
     by (Err reason) is = rw is refl
 
 one_sends_nothing : (table : Table) (side : Side) (name : HalfName) (id : ℤ) (r : Replay)
@@ -65,12 +65,12 @@ one_sends_nothing table side name id r = by side (expire table (end_at side r.wo
     by sides.A (Err reason) is = rw is refl
     by sides.B (Err reason) is = rw is refl
 
-implied_is : (table : Table) (judged : Option Side) (c : Certificate) (side : Side) (name : HalfName) (ids : List ℤ) (r : Replay)
-    → ids_ended table side name ids (progress_of judged c r) ≡ progress_of judged c (implied table side name ids r)
-implied_is table judged c side name [] r = refl
-implied_is table judged c side name (id ∷ ids) r =
-    ap (ids_ended table side name ids) (one_implied table judged c side name id r)
-    ∙ implied_is table judged c side name ids (or_same r (stepped table (Expires side name id) r))
+implied_is : (listing : Bool) (table : Table) (judged : Option Side) (c : Certificate) (side : Side) (name : HalfName) (ids : List ℤ) (r : Replay)
+    → ids_ended table side name ids (progress_of listing judged c r) ≡ progress_of listing judged c (implied table side name ids r)
+implied_is listing table judged c side name [] r = refl
+implied_is listing table judged c side name (id ∷ ids) r =
+    ap (ids_ended table side name ids) (one_implied listing table judged c side name id r)
+    ∙ implied_is listing table judged c side name ids (or_same r (stepped table (Expires side name id) r))
 
 implied_sends_nothing : (table : Table) (side : Side) (name : HalfName) (ids : List ℤ) (r : Replay)
     → (implied table side name ids r).world.sent ≡ r.world.sent
@@ -79,11 +79,11 @@ implied_sends_nothing table side name (id ∷ ids) r =
     implied_sends_nothing table side name ids (or_same r (stepped table (Expires side name id) r))
     ∙ one_sends_nothing table side name id r
 
-over_is : (table : Table) (judged : Option Side) (c : Certificate) (side : Side) (message : Message) (half : Option HalfName) (r : Replay)
-    → ids_ended_over table side half (filter_map invoke_id (components_in message)) (progress_of judged c r)
-    ≡ progress_of judged c (implied_over table side message half r)
-over_is table judged c side message None r = refl
-over_is table judged c side message (Some name) r = implied_is table judged c side name (filter_map invoke_id (components_in message)) r
+over_is : (listing : Bool) (table : Table) (judged : Option Side) (c : Certificate) (side : Side) (message : Message) (half : Option HalfName) (r : Replay)
+    → ids_ended_over table side half (filter_map invoke_id (components_in message)) (progress_of listing judged c r)
+    ≡ progress_of listing judged c (implied_over table side message half r)
+over_is listing table judged c side message None r = refl
+over_is listing table judged c side message (Some name) r = implied_is listing table judged c side name (filter_map invoke_id (components_in message)) r
 
 over_sends_nothing : (table : Table) (side : Side) (message : Message) (half : Option HalfName) (r : Replay)
     → (implied_over table side message half r).world.sent ≡ r.world.sent
@@ -102,39 +102,39 @@ own_fate_is (Some sides.B) sides.A fate so = cc
 own_fate_is (Some sides.B) sides.B fate so = refl
 
 -- It joins what is on its way.
-own_joined : (judged : Option Side) (c : Certificate) (side : Side) (event : Event) (message : Message) (fate : Fate) (r : Replay)
+own_joined : (listing : Bool) (judged : Option Side) (c : Certificate) (side : Side) (event : Event) (message : Message) (fate : Fate) (r : Replay)
     → is_heard judged (other side) ≡ true → ((at : Side) → is_lost_from at event ≡ false) → slice_get c.fates (next_entry r) ≡ Some fate
-    → progress_of judged c (with_step event r (joined side message r.world))
-    ≡ sent_by side (own_fate judged fate) (next_entry r) message (progress_of judged c r)
-own_joined judged c side event message fate r so none has =
-    joined_is judged c side event message fate r none has
-    ∙ ap (λ (f : Fate). sent_by side f (next_entry r) message (progress_of judged c r)) (own_fate_is judged side fate so)
+    → progress_of listing judged c (with_step event r (joined side message r.world))
+    ≡ sent_by event side (own_fate judged fate) (next_entry r) message (progress_of listing judged c r)
+own_joined listing judged c side event message fate r so none has =
+    joined_is listing judged c side event message fate r none has
+    ∙ ap (λ (f : Fate). sent_by event side f (next_entry r) message (progress_of listing judged c r)) (own_fate_is judged side fate so)
 
-sent_is : (judged : Option Side) (c : Certificate) (fate : Fate) (side : Side) (message : Message) (number : ℕ) (r : Replay)
+sent_is : (listing : Bool) (judged : Option Side) (c : Certificate) (fate : Fate) (side : Side) (message : Message) (number : ℕ) (r : Replay)
     (o : Result End EndFault) → is_heard judged (other side) ≡ true → next_entry r ≡ number → slice_get c.fates number ≡ Some fate
-    → sent_or_not side (own_fate judged fate) number message (progress_of judged c r) o
-    ≡ map_ok (progress_of judged c) (sent_or_refused side message r o)
-sent_is judged c fate side message number r (Err reason) so is has =
+    → sent_or_not side (own_fate judged fate) number message (progress_of listing judged c r) o
+    ≡ map_ok (progress_of listing judged c) (sent_or_refused side message r o)
+sent_is listing judged c fate side message number r (Err reason) so is has =
     ap (λ (n : ℕ). let x : Result Progress CheckFault = refused (SendRefused reason) n in x) (sym is)
-sent_is judged c fate side message number r (Ok e) so is has =
-    let x : Replay = record { events = r.events; world = with_end side e r.world } in
+sent_is listing judged c fate side message number r (Ok e) so is has =
+    let x : Replay = record { events = r.events; discards = r.discards; world = with_end side e r.world } in
     let count : next_entry x ≡ number = ap length (sent_with_end side e r.world) ∙ is in
-    let joins = own_joined judged c side (Sends side message) message fate x so (λ at. refl) (ap (slice_get c.fates) count ∙ has) in
+    let joins = own_joined listing judged c side (Sends side message) message fate x so (λ at. refl) (ap (slice_get c.fates) count ∙ has) in
     ap (λ (p : Progress). let z : Result Progress CheckFault = Ok p in z)
-    (sym (joins ∙ ap₂ (λ (n : ℕ) (p : Progress). sent_by side (own_fate judged fate) n message p) count (end_put judged c side e r)))
+    (sym (joins ∙ ap₂ (λ (n : ℕ) (p : Progress). sent_by (Sends side message) side (own_fate judged fate) n message p) count (end_put listing judged c side e r)))
 
-send_is : (table : Table) (judged : Option Side) (c : Certificate) (fate : Fate) (side : Side) (message : Message) (r : Replay)
+send_is : (listing : Bool) (table : Table) (judged : Option Side) (c : Certificate) (fate : Fate) (side : Side) (message : Message) (r : Replay)
     → is_heard judged (other side) ≡ true → slice_get c.fates (next_entry r) ≡ Some fate
-    → send_kept table side (own_fate judged fate) (next_entry r) message (progress_of judged c r)
-    ≡ map_ok (progress_of judged c) (send_replayed table side message (implied_over table side message (invoking_half message) r))
-send_is table judged c fate side message r so has =
+    → send_kept table side (own_fate judged fate) (next_entry r) message (progress_of listing judged c r)
+    ≡ map_ok (progress_of listing judged c) (send_replayed table side message (implied_over table side message (invoking_half message) r))
+send_is listing table judged c fate side message r so has =
     let before = implied_over table side message (invoking_half message) r in
     let number : next_entry before ≡ next_entry r = ap length (over_sends_nothing table side message (invoking_half message) r) in
     ap (λ (p : Progress). sent_or_not side (own_fate judged fate) (next_entry r) message p (send table (seat_at side p).end message))
-    (over_is table judged c side message (invoking_half message) r)
-    ∙ ap (λ (e : End). sent_or_not side (own_fate judged fate) (next_entry r) message (progress_of judged c before) (send table e message))
-    (end_kept judged c side before)
-    ∙ sent_is judged c fate side message (next_entry r) before (send table (end_at side before.world) message) so number has
+    (over_is listing table judged c side message (invoking_half message) r)
+    ∙ ap (λ (e : End). sent_or_not side (own_fate judged fate) (next_entry r) message (progress_of listing judged c before) (send table e message))
+    (end_kept listing judged c side before)
+    ∙ sent_is listing judged c fate side message (next_entry r) before (send table (end_at side before.world) message) so number has
 
 -- ---- a reply
 
@@ -198,70 +198,70 @@ joined_last : (side : Side) (abort : Message) (w : World) → slice_get (joined 
 joined_last sides.A abort w = get_new w.sent (Sent sides.A abort)
 joined_last sides.B abort w = get_new w.sent (Sent sides.B abort)
 
-module _ (table : Table) (judged : Option Side) (c : Certificate) (fate : Fate) (side : Side) (abort : Message) (taken : ℕ) (r : Replay)
+module _ (listing : Bool) (table : Table) (judged : Option Side) (c : Certificate) (fate : Fate) (side : Side) (abort : Message) (taken : ℕ) (r : Replay)
     (head : OnItsWay) (left : List OnItsWay) where
   -- what is kept without the first message on its way
   abbrev kept_left : Progress
-  kept_left = with_waiting (other side) (waiting_at judged (other side) c.fates left) (progress_of judged c (lost_from_front c (other side) r))
+  kept_left = with_waiting (other side) (waiting_at judged (other side) c.fates left) (progress_of listing judged c (lost_from_front c (other side) r))
 
   -- what is kept of the answer to it, where that is the one that is taken
   abbrev answered : Result Progress CheckFault
   answered = needs ((head.number == taken) && may_refuse (end_at side r.world) head.message abort) (fault_at BadReply (next_entry r))
-      >> Ok (sent_by side (own_fate judged fate) (next_entry r) abort kept_left)
+      >> Ok (sent_by (Replies side taken) side (own_fate judged fate) (next_entry r) abort kept_left)
 
   -- The Abort joins behind it.
   abort_joins : (event : Event) (made : Message) → made ≡ abort → is_heard judged (other side) ≡ true → ((at : Side) → is_lost_from at event ≡ false)
       → slice_get c.fates (next_entry (without_head (other side) c left r)) ≡ Some fate
       → next_entry (without_head (other side) c left r) ≡ next_entry r
-      → (let x : Result Progress CheckFault = Ok (sent_by side (own_fate judged fate) (next_entry r) abort kept_left) in x)
-      ≡ Ok (progress_of judged c (with_step event (without_head (other side) c left r) (joined side made (without_head (other side) c left r).world)))
+      → (let x : Result Progress CheckFault = Ok (sent_by event side (own_fate judged fate) (next_entry r) abort kept_left) in x)
+      ≡ Ok (progress_of listing judged c (with_step event (without_head (other side) c left r) (joined side made (without_head (other side) c left r).world)))
   abort_joins event made same so none has count =
       let behind = without_head (other side) c left r in
       ap (λ (p : Progress). let x : Result Progress CheckFault = Ok p in x)
-      (sym (own_joined judged c side event made fate behind so none has
-      ∙ ap (λ (n : ℕ). sent_by side (own_fate judged fate) n made (progress_of judged c behind)) count
-      ∙ ap₂ (λ (m : Message) (p : Progress). sent_by side (own_fate judged fate) (next_entry r) m p) same
-      (channel_put judged c (other side) left (lost_from_front c (other side) r))))
+      (sym (own_joined listing judged c side event made fate behind so none has
+      ∙ ap (λ (n : ℕ). sent_by event side (own_fate judged fate) n made (progress_of listing judged c behind)) count
+      ∙ ap₂ (λ (m : Message) (p : Progress). sent_by event side (own_fate judged fate) (next_entry r) m p) same
+      (channel_put listing judged c (other side) left (lost_from_front c (other side) r))))
 
 -- The head is there, and it is that of the number, or not.
-answers_head : (table : Table) (judged : Option Side) (c : Certificate) (fate : Fate) (side : Side) (abort : Message) (taken : ℕ) (r : Replay)
+answers_head : (listing : Bool) (table : Table) (judged : Option Side) (c : Certificate) (fate : Fate) (side : Side) (abort : Message) (taken : ℕ) (r : Replay)
     (head : OnItsWay) (left : List OnItsWay) (front : HasFront c (other side) head left r) (b : Bool) → is_heard judged (other side) ≡ true
     → (head.number == taken) ≡ b → slice_get c.fates (next_entry r) ≡ Some fate
     → IsAnswerable (end_at side r.world) head.message abort
-    → answered table judged c fate side abort taken r head left ≡ map_ok (progress_of judged c) (reply_replayed table c side abort taken r)
-answers_head table judged c fate sides.A abort taken r head left front false so is has can = rw (front.channel, is) refl
-answers_head table judged c fate sides.A abort taken r head left front true so is has can = by can.so (aborts can.cause can.id abort) can.reply can.may refl
+    → answered listing table judged c fate side abort taken r head left ≡ map_ok (progress_of listing judged c) (reply_replayed table c side abort taken r)
+answers_head listing table judged c fate sides.A abort taken r head left front false so is has can = rw (front.channel, is) refl
+answers_head listing table judged c fate sides.A abort taken r head left front true so is has can = by can.so (aborts can.cause can.id abort) can.reply can.may refl
   where
     made : Message
     made = provider_abort can.id can.cause
 
     by : (made_so x : Bool) → reply_to r.world.a head.message ≡ where_so made_so (Some made)
         → may_refuse r.world.a head.message abort ≡ (aborts can.cause can.id abort && made_so) → aborts can.cause can.id abort ≡ x
-        → answered table judged c fate sides.A abort taken r head left ≡ map_ok (progress_of judged c) (reply_replayed table c sides.A abort taken r)
+        → answered listing table judged c fate sides.A abort taken r head left ≡ map_ok (progress_of listing judged c) (reply_replayed table c sides.A abort taken r)
     by false false reply may e = rw (front.channel, is, reply, may, e) refl
     by false true reply may e = rw (front.channel, is, reply, may, e) refl
     by true false reply may e =
         rw (front.channel, is, reply, may, e, joined_last sides.A made (without_head sides.B c left r).world, e) refl
     by true true reply may e =
         rw (front.channel, is, reply, may, e, joined_last sides.A made (without_head sides.B c left r).world, e)
-        (abort_joins table judged c fate sides.A abort taken r head left (Replies sides.A taken) made (abort_of abort made sides.A e) so (λ at. refl)
+        (abort_joins listing table judged c fate sides.A abort taken r head left (Replies sides.A taken) made (abort_of abort made sides.A e) so (λ at. refl)
         has refl)
-answers_head table judged c fate sides.B abort taken r head left front false so is has can = rw (front.channel, is) refl
-answers_head table judged c fate sides.B abort taken r head left front true so is has can = by can.so (aborts can.cause can.id abort) can.reply can.may refl
+answers_head listing table judged c fate sides.B abort taken r head left front false so is has can = rw (front.channel, is) refl
+answers_head listing table judged c fate sides.B abort taken r head left front true so is has can = by can.so (aborts can.cause can.id abort) can.reply can.may refl
   where
     made : Message
     made = provider_abort can.id can.cause
 
     by : (made_so x : Bool) → reply_to r.world.b head.message ≡ where_so made_so (Some made)
         → may_refuse r.world.b head.message abort ≡ (aborts can.cause can.id abort && made_so) → aborts can.cause can.id abort ≡ x
-        → answered table judged c fate sides.B abort taken r head left ≡ map_ok (progress_of judged c) (reply_replayed table c sides.B abort taken r)
+        → answered listing table judged c fate sides.B abort taken r head left ≡ map_ok (progress_of listing judged c) (reply_replayed table c sides.B abort taken r)
     by false false reply may e = rw (front.channel, is, reply, may, e) refl
     by false true reply may e = rw (front.channel, is, reply, may, e) refl
     by true false reply may e =
         rw (front.channel, is, reply, may, e, joined_last sides.B made (without_head sides.A c left r).world, e) refl
     by true true reply may e =
         rw (front.channel, is, reply, may, e, joined_last sides.B made (without_head sides.A c left r).world, e)
-        (abort_joins table judged c fate sides.B abort taken r head left (Replies sides.B taken) made (abort_of abort made sides.B e) so (λ at. refl)
+        (abort_joins listing table judged c fate sides.B abort taken r head left (Replies sides.B taken) made (abort_of abort made sides.B e) so (λ at. refl)
         has refl)
 
 own_end : (c : Certificate) (side : Side) (r : Replay) → end_at side (lost_from_front c (other side) r).world ≡ end_at side r.world
@@ -269,13 +269,13 @@ own_end c sides.A r = refl
 own_end c sides.B r = refl
 
 -- A provider's answer.
-reply_is : (table : Table) (judged : Option Side) (c : Certificate) (fate : Fate) (side : Side) (abort : Message) (taken : ℕ) (r : Replay)
+reply_is : (listing : Bool) (table : Table) (judged : Option Side) (c : Certificate) (fate : Fate) (side : Side) (abort : Message) (taken : ℕ) (r : Replay)
     → is_heard judged (other side) ≡ true → slice_get c.fates (next_entry r) ≡ Some fate
-    → reply_kept judged side (own_fate judged fate) (next_entry r) abort taken (progress_of judged c r)
-    ≡ map_ok (progress_of judged c) (reply_replayed table c side abort taken r)
-reply_is table judged c fate side abort taken r so has =
+    → reply_kept judged side (own_fate judged fate) (next_entry r) abort taken (progress_of listing judged c r)
+    ≡ map_ok (progress_of listing judged c) (reply_replayed table c side abort taken r)
+reply_is listing table judged c fate side abort taken r so has =
     ap (λ (p : Progress). first_answered side (own_fate judged fate) (next_entry r) abort taken (seat_at (other side) p).waiting p)
-    (front_is judged c (other side) r so)
+    (front_is listing judged c (other side) r so)
     ∙ by (channel_from (other side) before.world) refl
   where
     before : Replay
@@ -283,48 +283,48 @@ reply_is table judged c fate side abort taken r so has =
 
     none : (side : Side) → channel_from (other side) (lost_from_front c (other side) r).world ≡ []
         → (let x : Result Progress CheckFault = refused BadReply (next_entry r) in x)
-        ≡ map_ok (progress_of judged c) (reply_replayed table c side abort taken r)
+        ≡ map_ok (progress_of listing judged c) (reply_replayed table c side abort taken r)
     none sides.A is = rw is refl
     none sides.B is = rw is refl
 
     by : (messages : List OnItsWay) → channel_from (other side) before.world ≡ messages
-        → first_answered side (own_fate judged fate) (next_entry r) abort taken (seat_at (other side) (progress_of judged c before)).waiting
-        (progress_of judged c before)
-        ≡ map_ok (progress_of judged c) (reply_replayed table c side abort taken r)
+        → first_answered side (own_fate judged fate) (next_entry r) abort taken (seat_at (other side) (progress_of listing judged c before)).waiting
+        (progress_of listing judged c before)
+        ≡ map_ok (progress_of listing judged c) (reply_replayed table c side abort taken r)
     by [] is =
-        ap (λ (messages : List Waiting). first_answered side (own_fate judged fate) (next_entry r) abort taken messages (progress_of judged c before))
-        (waiting_kept judged c (other side) before ∙ ap (waiting_at judged (other side) c.fates) is)
+        ap (λ (messages : List Waiting). first_answered side (own_fate judged fate) (next_entry r) abort taken messages (progress_of listing judged c before))
+        (waiting_kept listing judged c (other side) before ∙ ap (waiting_at judged (other side) c.fates) is)
         ∙ none side is
     by (head ∷ left) is =
         let front : HasFront c (other side) head left r = record { channel = is } in
-        ap (λ (messages : List Waiting). first_answered side (own_fate judged fate) (next_entry r) abort taken messages (progress_of judged c before))
-        (front_waits judged c (other side) head left r so front)
+        ap (λ (messages : List Waiting). first_answered side (own_fate judged fate) (next_entry r) abort taken messages (progress_of listing judged c before))
+        (front_waits listing judged c (other side) head left r so front)
         ∙ ap (λ (e : End). needs ((head.number == taken) && may_refuse e head.message abort) (fault_at BadReply (next_entry r))
-        >> sent_so (sent_by side (own_fate judged fate) (next_entry r) abort (kept_left table judged c fate side abort taken r head left)))
-        (end_kept judged c side before ∙ own_end c side r)
-        ∙ answers_head table judged c fate side abort taken r head left front (head.number == taken) so refl has
+        >> sent_so (sent_by (Replies side taken) side (own_fate judged fate) (next_entry r) abort (kept_left listing table judged c fate side abort taken r head left)))
+        (end_kept listing judged c side before ∙ own_end c side r)
+        ∙ answers_head listing table judged c fate side abort taken r head left front (head.number == taken) so refl has
         (answerable (end_at side r.world) head.message abort)
       where
         sent_so : Progress → Result Progress CheckFault
         sent_so p = Ok p
 
 -- A message that takes these.
-pub message_by_is : (table : Table) (judged : Option Side) (c : Certificate) (fate : Fate) (side : Side) (message : Message) (takes : List ℕ)
+pub message_by_is : (listing : Bool) (table : Table) (judged : Option Side) (c : Certificate) (fate : Fate) (side : Side) (message : Message) (takes : List ℕ)
     (r : Replay) → is_heard judged (other side) ≡ true → slice_get c.fates (next_entry r) ≡ Some fate
-    → message_kept judged table side (own_fate judged fate) (next_entry r) message takes (progress_of judged c r)
-    ≡ map_ok (progress_of judged c) (message_by table c side message (sending_by c (next_entry r) (Sent side message) takes) r)
-message_by_is table judged c fate side message takes r so has = by message takes
+    → message_kept judged table side (own_fate judged fate) (next_entry r) message takes (progress_of listing judged c r)
+    ≡ map_ok (progress_of listing judged c) (message_by table c side message (sending_by c (next_entry r) (Sent side message) takes) r)
+message_by_is listing table judged c fate side message takes r so has = by message takes
   where
     sends : (message : Message)
-        → send_kept table side (own_fate judged fate) (next_entry r) message (progress_of judged c r)
-        ≡ map_ok (progress_of judged c) (send_replayed table side message (implied_over table side message (invoking_half message) r))
-    sends message = send_is table judged c fate side message r so has
+        → send_kept table side (own_fate judged fate) (next_entry r) message (progress_of listing judged c r)
+        ≡ map_ok (progress_of listing judged c) (send_replayed table side message (implied_over table side message (invoking_half message) r))
+    sends message = send_is listing table judged c fate side message r so has
 
     by : (message : Message) (taken : List ℕ)
-        → message_kept judged table side (own_fate judged fate) (next_entry r) message taken (progress_of judged c r)
-        ≡ map_ok (progress_of judged c) (message_by table c side message (sending_by c (next_entry r) (Sent side message) taken) r)
+        → message_kept judged table side (own_fate judged fate) (next_entry r) message taken (progress_of listing judged c r)
+        ≡ map_ok (progress_of listing judged c) (message_by table c side message (sending_by c (next_entry r) (Sent side message) taken) r)
     by (Abort dtid (Some (Cause n))) [] = refl
-    by (Abort dtid (Some (Cause n))) (taken ∷ []) = reply_is table judged c fate side (Abort dtid (Some (Cause n))) taken r so has
+    by (Abort dtid (Some (Cause n))) (taken ∷ []) = reply_is listing table judged c fate side (Abort dtid (Some (Cause n))) taken r so has
     by (Abort dtid (Some (Cause n))) (taken ∷ second ∷ more) = refl
     by (Abort dtid (Some (ByDialogue d))) [] = sends (Abort dtid (Some (ByDialogue d)))
     by (Abort dtid (Some (ByDialogue d))) (taken ∷ more) = refl
@@ -342,29 +342,29 @@ message_by_is table judged c fate side message takes r so has = by message takes
 -- ---- whoever is judged
 
 -- What an end sends that alone is judged is lost.
-pub own_is : (judged : Option Side) (table : Table) (c : Certificate) (fate : Fate) (side : Side) (message : Message) (takes : List ℕ) (r : Replay)
+pub own_is : (listing : Bool) (judged : Option Side) (table : Table) (c : Certificate) (fate : Fate) (side : Side) (message : Message) (takes : List ℕ) (r : Replay)
     → is_heard judged (other side) ≡ true → slice_get c.fates (next_entry r) ≡ Some fate
-    → own_taken judged table side fate (next_entry r) message takes (progress_of judged c r)
-    ≡ map_ok (progress_of judged c)
+    → own_taken judged table side fate (next_entry r) message takes (progress_of listing judged c r)
+    ≡ map_ok (progress_of listing judged c)
     (behind_sending judged (message_by table c side message (sending_by c (next_entry r) (Sent side message) takes) r))
-own_is judged table c fate side message takes r so has =
-    ap (map_ok (sent_lost judged)) (message_by_is table judged c fate side message takes r so has)
+own_is listing judged table c fate side message takes r so has =
+    ap (map_ok (sent_lost judged)) (message_by_is listing table judged c fate side message takes r so has)
     ∙ by judged (message_by table c side message (sending_by c (next_entry r) (Sent side message) takes) r)
   where
     by : (judged : Option Side) (s : Result Replay CheckFault)
-        → map_ok (sent_lost judged) (map_ok (progress_of judged c) s) ≡ map_ok (progress_of judged c) (behind_sending judged s)
+        → map_ok (sent_lost judged) (map_ok (progress_of listing judged c) s) ≡ map_ok (progress_of listing judged c) (behind_sending judged s)
     by None (Ok next) = refl
     by None (Err reason) = refl
-    by (Some at) (Ok next) = ap (λ (p : Progress). let x : Result Progress CheckFault = Ok p in x) (sent_lost_is at c next)
+    by (Some at) (Ok next) = ap (λ (p : Progress). let x : Result Progress CheckFault = Ok p in x) (sent_lost_is listing at c next)
     by (Some at) (Err reason) = refl
 
 -- What its peer tells waits behind the others.
-pub told_is : (c : Certificate) (fate : Fate) (side : Side) (message : Message) (takes : List ℕ) (r : Replay)
+pub told_is : (listing : Bool) (c : Certificate) (fate : Fate) (side : Side) (message : Message) (takes : List ℕ) (r : Replay)
     → slice_get c.fates (next_entry r) ≡ Some fate
-    → told_taken (other side) fate (next_entry r) message takes (progress_of (Some side) c r)
-    ≡ map_ok (progress_of (Some side) c) (needs (is_nothing takes) (fault_at BadReply (next_entry r))
+    → told_taken (other side) fate (next_entry r) message takes (progress_of listing (Some side) c r)
+    ≡ map_ok (progress_of listing (Some side) c) (needs (is_nothing takes) (fault_at BadReply (next_entry r))
     >> Ok (with_step (Tells (other side) message) r (joined (other side) message r.world)))
-told_is c fate side message takes r has = by (is_nothing takes)
+told_is listing c fate side message takes r has = by (is_nothing takes)
   where
     next : Replay
     next = with_step (Tells (other side) message) r (joined (other side) message r.world)
@@ -372,13 +372,13 @@ told_is c fate side message takes r has = by (is_nothing takes)
     fate_told : fate_at (Some side) (other side) fate ≡ fate
     fate_told = rw (apart side) refl
 
-    told : sent_by (other side) fate (next_entry r) message (progress_of (Some side) c r) ≡ progress_of (Some side) c next
+    told : sent_by (Tells (other side) message) (other side) fate (next_entry r) message (progress_of listing (Some side) c r) ≡ progress_of listing (Some side) c next
     told =
-        ap (λ (f : Fate). sent_by (other side) f (next_entry r) message (progress_of (Some side) c r)) (sym fate_told)
-        ∙ sym (joined_is (Some side) c (other side) (Tells (other side) message) message fate r (λ at. refl) has)
+        ap (λ (f : Fate). sent_by (Tells (other side) message) (other side) f (next_entry r) message (progress_of listing (Some side) c r)) (sym fate_told)
+        ∙ sym (joined_is listing (Some side) c (other side) (Tells (other side) message) message fate r (λ at. refl) has)
 
     by : (b : Bool)
-        → (needs b (fault_at BadReply (next_entry r)) >> Ok (sent_by (other side) fate (next_entry r) message (progress_of (Some side) c r)))
-        ≡ map_ok (progress_of (Some side) c) (needs b (fault_at BadReply (next_entry r)) >> Ok next)
+        → (needs b (fault_at BadReply (next_entry r)) >> Ok (sent_by (Tells (other side) message) (other side) fate (next_entry r) message (progress_of listing (Some side) c r)))
+        ≡ map_ok (progress_of listing (Some side) c) (needs b (fault_at BadReply (next_entry r)) >> Ok next)
     by true = ap (λ (p : Progress). let x : Result Progress CheckFault = Ok p in x) told
     by false = refl

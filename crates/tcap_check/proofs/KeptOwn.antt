@@ -20,13 +20,12 @@ use Rattle.tcap_model.specs.World.{Item, OnItsWay, Sent, World, channel_from, en
 use Rattle.tcap_model.specs.Run.{Loses, Quiet, Receives, Tells, after, joined, numbers_of}
 use Rattle.tcap_check.specs.Certificate.{Certificate}
 use Rattle.tcap_check.specs.Follows.{sending_by}
-use Rattle.tcap_check.specs.Alone.{deliveries_heard, delivery_heard, entry_heard, gap_heard, item_heard, mark_replayed, own_replayed, tied_to_next}
-use Rattle.tcap_check.specs.Replayed.{Replay, all_lost_from, certificate_fits, closed_at_mark, closings_replayed, expiries_replayed, fault_at, heard, is_gap, is_nothing, is_overtaking, lost_from_front, message_by, next_entry, nothing_replayed, or_else, stepped, told_replayed, with_step}
+use Rattle.tcap_check.specs.Replayed.{Replay, all_lost_from, certificate_fits, closed_at_mark, closings_replayed, deliveries_by, delivery_by, discarded, entry_by, expiries_replayed, fault_at, gap_by, heard, is_gap, is_nothing, is_overtaking, item_by, lost_from_front, mark_judged, message_by, next_entry, nothing_replayed, or_else, own_judged, stepped, tied, told_replayed, with_step}
 use Rattle.tcap_check.specs.Checking.{taken, taken_from, taken_next}
 use Rattle.tcap_model.proofs.RunLaws.{delivery, loss, map_some}
 use Rattle.tcap_check.proofs.KeptStays.{closings_stay, expiries_stay}
 use Rattle.tcap_check.proofs.KeptMarks.{quiet_empty}
-use Rattle.tcap_check.proofs.ReplaySteps.{channel_with}
+use Rattle.tcap_check.proofs.ReplaySteps.{channel_with, discard_is}
 use Rattle.tcap_check.proofs.WorldLaws.{own_with_channel, own_with_end}
 
 -- ---- what is on its way from the end
@@ -56,14 +55,14 @@ heard_keeps : (side : Side) (table : Table) (c : Certificate) (n : ℕ) (r next 
     → channel_from side next.world ≡ channel_from side r.world
 heard_keeps side table c n r next is =
     by (stepped table (Receives side n) before) refl
-    (some_ok (or_else (stepped table (Receives side n) before) (stepped table (Loses (other side) n) before)) (fault_at BadReply n) next is)
+    (some_ok (or_else (stepped table (Receives side n) before) (discarded table side n before)) (fault_at BadReply n) next is)
     ∙ own_with_channel side _ r.world
   where
     before : Replay
     before = lost_from_front c (other side) r
 
     by : (o : Option Replay) → stepped table (Receives side n) before ≡ o
-        → or_else o (stepped table (Loses (other side) n) before) ≡ Some next
+        → or_else o (discarded table side n before) ≡ Some next
         → channel_from side next.world ≡ channel_from side before.world
     by (Some x) at found =
         let event = Receives side n in
@@ -73,15 +72,17 @@ heard_keeps side table c n r next is =
         ∙ own_with_end side d.made (with_channel (other side) d.more before.world) ∙ own_with_channel side d.more before.world
     by None at found =
         let event = Loses (other side) n in
-        let step = map_some _ (after table event before.world) next found in
+        let d = discard_is table side n before next found in
+        let step = map_some _ (after table event before.world) d.lost d.step in
         let l = loss table (other side) n before.world step.0 step.1 in
-        ap (λ (x : Replay). channel_from side x.world) (sym step.2) ∙ ap (channel_from side) l.next_is ∙ own_with_channel side l.more before.world
+        ap (channel_from side) d.world ∙ ap (λ (x : Replay). channel_from side x.world) (sym step.2) ∙ ap (channel_from side) l.next_is
+        ∙ own_with_channel side l.more before.world
 
 same_channel : (side : Side) (r next : Replay) → r ≡ next → channel_from side next.world ≡ channel_from side r.world
 same_channel side r next is = ap (λ (x : Replay). channel_from side x.world) (sym is)
 
 delivery_keeps : (side : Side) (table : Table) (c : Certificate) (gap n : ℕ) (fate : Fate) (item : Item) (r next : Replay)
-    → delivery_heard table c side gap n fate item r ≡ Ok next → channel_from side next.world ≡ channel_from side r.world
+    → delivery_by (Some side) table c gap n fate item r ≡ Ok next → channel_from side next.world ≡ channel_from side r.world
 delivery_keeps side table c gap n (Gap g) (Sent sender message) r next is = by ((g == gap) && is_side (other side) sender) is
   where
     by : (b : Bool) → cond b (heard table c side n r) (Ok r) ≡ Ok next → channel_from side next.world ≡ channel_from side r.world
@@ -92,14 +93,14 @@ delivery_keeps side table c gap n (By k) item r next is = same_channel side r ne
 delivery_keeps side table c gap n Lost item r next is = same_channel side r next (ok_same {F = CheckFault} r next is)
 
 deliveries_keep : (side : Side) (table : Table) (c : Certificate) (gap n : ℕ) (fates : List Fate) (items : List Item) (r next : Replay)
-    → deliveries_heard table c side gap n fates items r ≡ Ok next → channel_from side next.world ≡ channel_from side r.world
+    → deliveries_by (Some side) table c gap n fates items r ≡ Ok next → channel_from side next.world ≡ channel_from side r.world
 deliveries_keep side table c gap n [] items r next is = same_channel side r next (ok_same {F = CheckFault} r next is)
 deliveries_keep side table c gap n (fate ∷ fates) [] r next is = same_channel side r next (ok_same {F = CheckFault} r next is)
 deliveries_keep side table c gap n (fate ∷ fates) (item ∷ items) r next is =
-    let one = then_ok (delivery_heard table c side gap n fate item r) _ next is in
+    let one = then_ok (delivery_by (Some side) table c gap n fate item r) _ next is in
     deliveries_keep side table c gap (n + 1) fates items one.0 next one.2 ∙ delivery_keeps side table c gap n fate item r one.0 one.1
 
-pub gap_keeps : (side : Side) (table : Table) (c : Certificate) (r next : Replay) → gap_heard table c side r ≡ Ok next
+pub gap_keeps : (side : Side) (table : Table) (c : Certificate) (r next : Replay) → gap_by (Some side) table c r ≡ Ok next
     → channel_from side next.world ≡ channel_from side r.world
 gap_keeps side table c r next is =
     let closings : List Closing = filter (λ x. is_side side x.side) (filter (λ x. x.gap == next_entry r) c.close) in
@@ -113,10 +114,10 @@ gap_keeps side table c r next is =
 -- ---- entries
 
 own_empty : (side : Side) (table : Table) (c : Certificate) (message : Message) (r next : Replay)
-    → own_replayed table c side message r ≡ Ok next → channel_from side next.world ≡ []
+    → own_judged (Some side) table c Lost side message r ≡ Ok next → channel_from side next.world ≡ []
 own_empty side table c message r next is =
-    let gap = then_ok (gap_heard table c side r) _ next is in
-    let event = sending_by c (next_entry gap.0) (Sent side message) (tied_to_next side c gap.0) in
+    let gap = then_ok (gap_by (Some side) table c r) _ next is in
+    let event = sending_by c (next_entry gap.0) (Sent side message) (tied (Some side) c gap.0) in
     let sent = then_ok (message_by table c side message event gap.0) _ next gap.2 in
     same_channel side (all_lost_from side sent.0) next (ok_same {F = CheckFault} (all_lost_from side sent.0) next sent.2)
     ∙ nothing_left side sent.0
@@ -125,30 +126,30 @@ told_empty : (side : Side) (table : Table) (c : Certificate) (fate : Fate) (mess
     → told_replayed table c fate side message r ≡ Ok next → channel_from side r.world ≡ [] → channel_from side next.world ≡ []
 told_empty side table c fate message r next is empty =
     let so = needs_ok (not (is_overtaking (other side) fate c.fates r.world.sent)) (fault_at OutOfOrder (next_entry r)) _ next is in
-    let gap = then_ok (gap_heard table c side r) _ next so.1 in
-    let free = needs_ok (is_nothing (tied_to_next side c r)) (fault_at BadReply (next_entry r)) _ next gap.2 in
+    let gap = then_ok (gap_by (Some side) table c r) _ next so.1 in
+    let free = needs_ok (is_nothing (tied (Some side) c r)) (fault_at BadReply (next_entry r)) _ next gap.2 in
     let made = with_step (Tells (other side) message) gap.0 (joined (other side) message gap.0.world) in
     same_channel side made next (ok_same {F = CheckFault} made next free.1)
     ∙ own_told side message gap.0.world ∙ gap_keeps side table c r gap.0 gap.1 ∙ empty
 
 mark_empty : (side : Side) (table : Table) (c : Certificate) (fate : Fate) (r next : Replay)
-    → mark_replayed table c fate side r ≡ Ok next → channel_from side next.world ≡ []
+    → mark_judged (Some side) table c fate r ≡ Ok next → channel_from side next.world ≡ []
 mark_empty side table c fate r next is =
     let entry = next_entry r in
     let so = needs_ok (is_gap (entry + 1) fate) (fault_at FateRange entry) _ next is in
-    let gap = then_ok (gap_heard table c side r) _ next so.1 in
-    let free = needs_ok (is_nothing (tied_to_next side c r)) (fault_at NotQuiet entry) _ next gap.2 in
+    let gap = then_ok (gap_by (Some side) table c r) _ next so.1 in
+    let free = needs_ok (is_nothing (tied (Some side) c r)) (fault_at NotQuiet entry) _ next gap.2 in
     let halves = open_halves (end_at side gap.0.world) in
     let closed = then_ok (closed_at_mark table side entry halves gap.0) _ next free.1 in
     let before = lost_from_front c (other side) closed.0 in
     quiet_empty table side before next (some_ok (stepped table Quiet before) (fault_at NotQuiet entry) next closed.2)
 
 item_empty : (side : Side) (table : Table) (c : Certificate) (fate : Fate) (item : Item) (r next : Replay)
-    → item_heard table c fate side item r ≡ Ok next → channel_from side r.world ≡ [] → channel_from side next.world ≡ []
+    → item_by (Some side) table c fate item r ≡ Ok next → channel_from side r.world ≡ [] → channel_from side next.world ≡ []
 item_empty side table c fate Item.Quiet r next is empty = mark_empty side table c fate r next is
 item_empty side table c fate (Sent sender message) r next is empty = by (is_side side sender) is
   where
-    by : (b : Bool) → cond b (own_replayed table c side message r) (told_replayed table c fate side message r) ≡ Ok next
+    by : (b : Bool) → cond b (own_judged (Some side) table c Lost side message r) (told_replayed table c fate side message r) ≡ Ok next
         → channel_from side next.world ≡ []
     by true e = own_empty side table c message r next e
     by false e = told_empty side table c fate message r next e empty
@@ -158,7 +159,7 @@ entry_empty : (side : Side) (table : Table) (c : Certificate) (entry : Result It
 entry_empty side table c entry r next is empty =
     let fate = then_ok (ok_or (slice_get c.fates (next_entry r)) (fault_at FateCount (next_entry r))) _ next is in by entry fate.0 fate.2
   where
-    by : (x : Result Item Reason) (fate : Fate) → entry_heard table c fate side x r ≡ Ok next → channel_from side next.world ≡ []
+    by : (x : Result Item Reason) (fate : Fate) → entry_by (Some side) table c fate x r ≡ Ok next → channel_from side next.world ≡ []
     by (Ok item) fate e = item_empty side table c fate item r next e empty
     by (Err reason) fate e = cc
 

@@ -1,7 +1,6 @@
 -- What waits behind entries for the ends that are judged is what is delivered to them, or taken, behind them; at the end nothing does.
-use Rattle.std.proofs.Common.{◌≡◌, ℕ, ◌+◌, ◌==◌, arith, Bool, true, false, cond, List, [], ◌∷◌, ◌++◌, map, length, Option, Some, None, Result, Ok, Err, refl, sym, ap, ap₂, subst, ◌∙◌, append_assoc, append-nil}
+use Rattle.std.proofs.Common.{◌≡◌, ℕ, ◌+◌, arith, Bool, true, false, cond, List, [], ◌∷◌, ◌++◌, map, length, Option, Some, None, Result, Ok, Err, refl, sym, ap, ap₂, subst, ◌∙◌, append_assoc, append-nil}
 use Rattle.std.specs.Prelude.{ok_or, not, slice_get}
-use Rattle.std.proofs.lemmas.Bool.{eqb-true}
 use Rattle.std.proofs.lemmas.List.{length-append, length-map, map-append}
 use Rattle.tcap_msg.specs.declared.message.Message.{Message}
 use Rattle.tcap_record.specs.declared.entry.End.{End as Side}
@@ -19,7 +18,7 @@ use Rattle.tcap_model.specs.World.{Item, OnItsWay, Sent}
 use Rattle.tcap_model.specs.Run.{Tells, joined}
 use Rattle.tcap_check.specs.Certificate.{Certificate}
 use Rattle.tcap_check.specs.Follows.{FatesFit, taken_by}
-use Rattle.tcap_check.specs.Replayed.{Replay, certificate_fits, comes_in_order, entries_by, entry_by, fates_fit, fault_at, gap_by, is_gap, is_nothing, is_overtaking, item_by, lost_from_both, lost_from_front, mark_judged, next_entry, nothing_replayed, own_judged, own_message, tied, told_replayed, with_step}
+use Rattle.tcap_check.specs.Replayed.{Replay, certificate_fits, comes_in_order, entry_by, fates_fit, fault_at, gap_by, is_gap, is_nothing, is_overtaking, item_by, mark_judged, next_entry, nothing_replayed, own_judged, own_message, tied, told_replayed, with_step}
 use Rattle.tcap_check.specs.Progress.{count_kept}
 use Rattle.tcap_check.specs.Checking.{count_ahead, count_waiting, is_alone, kept_by, progress_of, taken, taken_from, taken_next, waiting_at}
 use Rattle.tcap_check.specs.Hearing.{is_heard}
@@ -229,10 +228,10 @@ kept_whole judged side fates (m ∷ more) so = rw so (by (slice_get fates m.numb
     by (Some Lost) rest = rest
 
 -- What waits behind entries is what is delivered, or taken, behind them.
-pub pending_is : (table : Table) (c : Certificate) (entries : List (Result Item Reason)) (r : Replay)
+pub pending_is : (listing : Bool) (table : Table) (c : Certificate) (entries : List (Result Item Reason)) (r : Replay)
     → taken None table c entries ≡ Ok r
-    → count_waiting None (progress_of None c r) ≡ count_ahead (length entries) c.fates entries
-pending_is table c entries r is =
+    → count_waiting None (progress_of listing None c r) ≡ count_ahead (length entries) c.fates entries
+pending_is listing table c entries r is =
     let both = both_ok (certificate_fits c) (taken_from None table c entries nothing_replayed) is in
     let behind = entries_wait None table c entries nothing_replayed r (fit_by c both.0) (none_yet None c) both.1 in
     let are : map ok_item r.world.sent ≡ entries = behind.1 in

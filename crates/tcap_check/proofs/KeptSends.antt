@@ -122,13 +122,13 @@ nothing_lost side (first ∷ fates) (Sent sender message ∷ items) = by (is_sid
     by false rest = rest
 
 -- Whether it overtakes is told by the greatest time.
-pub overtakes_is : (judged : Option Side) (c : Certificate) (side : Side) (fate : Fate) (r : Replay) → is_alone judged side ≡ false
-    → overtakes fate (seat_at side (progress_of judged c r)) ≡ is_overtaking side fate c.fates r.world.sent
-overtakes_is judged c side Lost r so = sym (nothing_lost side c.fates r.world.sent)
-overtakes_is judged c sides.A (Gap g) r so = rw so (overtaking sides.A (Gap g) (2 * g) c.fates r.world.sent refl)
-overtakes_is judged c sides.B (Gap g) r so = rw so (overtaking sides.B (Gap g) (2 * g) c.fates r.world.sent refl)
-overtakes_is judged c sides.A (By k) r so = rw so (overtaking sides.A (By k) (2 * k + 1) c.fates r.world.sent refl)
-overtakes_is judged c sides.B (By k) r so = rw so (overtaking sides.B (By k) (2 * k + 1) c.fates r.world.sent refl)
+pub overtakes_is : (listing : Bool) (judged : Option Side) (c : Certificate) (side : Side) (fate : Fate) (r : Replay) → is_alone judged side ≡ false
+    → overtakes fate (seat_at side (progress_of listing judged c r)) ≡ is_overtaking side fate c.fates r.world.sent
+overtakes_is listing judged c side Lost r so = sym (nothing_lost side c.fates r.world.sent)
+overtakes_is listing judged c sides.A (Gap g) r so = rw so (overtaking sides.A (Gap g) (2 * g) c.fates r.world.sent refl)
+overtakes_is listing judged c sides.B (Gap g) r so = rw so (overtaking sides.B (Gap g) (2 * g) c.fates r.world.sent refl)
+overtakes_is listing judged c sides.A (By k) r so = rw so (overtaking sides.A (By k) (2 * k + 1) c.fates r.world.sent refl)
+overtakes_is listing judged c sides.B (By k) r so = rw so (overtaking sides.B (By k) (2 * k + 1) c.fates r.world.sent refl)
 
 -- ---- one message more
 
@@ -215,23 +215,23 @@ latest_peer judged side message fates items fate is =
     differ sides.B = refl
 
 -- A step by which a message joins what is on its way from an end.
-pub joined_is : (judged : Option Side) (c : Certificate) (side : Side) (event : Event) (message : Message) (fate : Fate) (r : Replay)
+pub joined_is : (listing : Bool) (judged : Option Side) (c : Certificate) (side : Side) (event : Event) (message : Message) (fate : Fate) (r : Replay)
     → ((at : Side) → is_lost_from at event ≡ false) → slice_get c.fates (next_entry r) ≡ Some fate
-    → progress_of judged c (with_step event r (joined side message r.world))
-    ≡ sent_by side (fate_at judged side fate) (next_entry r) message (progress_of judged c r)
-joined_is judged c sides.A event message fate r none has =
+    → progress_of listing judged c (with_step event r (joined side message r.world))
+    ≡ sent_by event side (fate_at judged side fate) (next_entry r) message (progress_of listing judged c r)
+joined_is listing judged c sides.A event message fate r none has =
     let m : OnItsWay = record { number = next_entry r; message = message } in
-    moved_counts judged r.events event
-    (let x : Replay = record { events = r.events; world = joined sides.A message r.world } in progress_of judged c x) none
+    moved_counts listing judged r.events r.discards event
+    (let x : Replay = record { events = r.events; discards = r.discards; world = joined sides.A message r.world } in progress_of listing judged c x) none
     ∙ rw (
       waiting_more judged sides.A c.fates r.world.from_a m (fate_at judged sides.A fate) (fate_is judged sides.A fate (slice_get c.fates m.number) has),
       latest_own judged sides.A message c.fates r.world.sent fate has,
       latest_peer judged sides.A message c.fates r.world.sent fate has,
     ) refl
-joined_is judged c sides.B event message fate r none has =
+joined_is listing judged c sides.B event message fate r none has =
     let m : OnItsWay = record { number = next_entry r; message = message } in
-    moved_counts judged r.events event
-    (let x : Replay = record { events = r.events; world = joined sides.B message r.world } in progress_of judged c x) none
+    moved_counts listing judged r.events r.discards event
+    (let x : Replay = record { events = r.events; discards = r.discards; world = joined sides.B message r.world } in progress_of listing judged c x) none
     ∙ rw (
       waiting_more judged sides.B c.fates r.world.from_b m (fate_at judged sides.B fate) (fate_is judged sides.B fate (slice_get c.fates m.number) has),
       latest_own judged sides.B message c.fates r.world.sent fate has,

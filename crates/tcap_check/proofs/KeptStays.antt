@@ -22,7 +22,7 @@ use Rattle.tcap_model.specs.Run.{Event, Closes, Expires, after, then_so}
 use Rattle.tcap_check.specs.Certificate.{Certificate}
 use Rattle.tcap_model.specs.Since.{originating}
 use Rattle.tcap_check.specs.Follows.{closing_by, closing_event, expiry_by, expiry_event, half_begun, invoke_id, named_entry}
-use Rattle.tcap_check.specs.Alone.{is_lost_from}
+use Rattle.tcap_check.specs.Unheard.{is_lost_from}
 use Rattle.tcap_check.specs.Replayed.{Replay, closings_replayed, expiries_replayed, fault_at, happens, implied, implied_over, or_same, stepped, with_step}
 use Rattle.tcap_model.proofs.RunLaws.{closing, expiry, map_some, some_is, then_some, where_some}
 

@@ -26,7 +26,8 @@ use Rattle.tcap_model.specs.World.{Item, OnItsWay, Sent, World, channel_from, en
 use Rattle.tcap_model.specs.Run.{Sends, Receives, Replies, Loses, Closes, Quiet, after, joined}
 use Rattle.tcap_check.specs.Certificate.{Certificate}
 use Rattle.tcap_check.specs.Follows.{invoking_half, sending_by}
-use Rattle.tcap_check.specs.Replayed.{Replay, all_lost_from, behind_sending, closed_at_mark, closed_before, closings_judged, closings_replayed, deliveries_by, expiries_judged, expiries_replayed, fault_at, gap_by, happens, heard, implied_over, is_abort, lost_from_front, lost_last, message_by, next_entry, or_else, received, send_replayed, sent_or_refused, stepped, with_step}
+use Rattle.tcap_check.specs.Replayed.{Replay, all_lost_from, behind_sending, closed_at_mark, closed_before, closings_judged, closings_replayed, deliveries_by, discarded, expiries_judged, expiries_replayed, fault_at, gap_by, happens, heard, implied_over, is_abort, lost_from_front, lost_last, message_by, next_entry, or_else, received, send_replayed, sent_or_refused, stepped, with_step}
+use Rattle.tcap_check.proofs.ReplaySteps.{discard_is}
 use Rattle.tcap_check.specs.Hearing.{is_heard}
 use Rattle.tcap_model.proofs.RunLaws.{delivery, loss, map_some, quiet as quiet_step, reply}
 use Rattle.tcap_check.proofs.KeptCounts.{count_behind, count_for, counts_same, is_next, joined_waits, losses_wait, new_by, not_next, taken_waits, waiting}
@@ -114,20 +115,22 @@ heard_waits : (table : Table) (c : Certificate) (side : Side) (n : ℕ) (r next 
     → count_for (Some side) c.fates next.world + 1 ≡ count_for (Some side) c.fates r.world
 heard_waits table c side n r next is =
     by (stepped table (Receives side n) before) refl
-    (some_ok (or_else (stepped table (Receives side n) before) (stepped table (Loses (other side) n) before)) (fault_at BadReply n) next is)
+    (some_ok (or_else (stepped table (Receives side n) before) (discarded table side n before)) (fault_at BadReply n) next is)
   where
     before : Replay
     before = lost_from_front c (other side) r
 
     by : (o : Option Replay) → stepped table (Receives side n) before ≡ o
-        → or_else o (stepped table (Loses (other side) n) before) ≡ Some next
+        → or_else o (discarded table side n before) ≡ Some next
         → count_for (Some side) c.fates next.world + 1 ≡ count_for (Some side) c.fates r.world
     by (Some x) at found = receives_wait (Some side) table c side n before next r (itself (other side)) refl (at ∙ found)
     by None at found =
         let event = Loses (other side) n in
-        let step = map_some _ (after table event before.world) next found in
+        let d = discard_is table side n before next found in
+        let step = map_some _ (after table event before.world) d.lost d.step in
         let l = loss table (other side) n before.world step.0 step.1 in
-        ap (λ (x : Replay). count_for (Some side) c.fates x.world + 1) (sym step.2)
+        ap (λ (x : World). count_for (Some side) c.fates x + 1) d.world
+        ∙ ap (λ (x : Replay). count_for (Some side) c.fates x.world + 1) (sym step.2)
         ∙ ap (λ (x : World). count_for (Some side) c.fates x + 1) l.next_is
         ∙ taken_waits (Some side) c (other side) r l.head l.more (itself (other side)) l.channel
 

@@ -41,6 +41,10 @@ pub mod CertificateTextLaws
 pub mod SendingLaws
 pub mod PlanLaws
 pub mod HearingLaws
+pub mod ToldLaws
+pub mod ReplayKeeps
+pub mod DiscardLaws
+pub mod DiscardReasons
 pub mod KeptBasics
 pub mod KeptCounts
 pub mod KeptDeliveries

@@ -1,19 +1,34 @@
 -- What is lost at the front of a channel is lost one after the other.
-use Rattle.std.proofs.Common.{◌≡◌, ℕ, Bor, suc, ◌+◌, ◌≤◌, Bool, true, false, cond, List, [], ◌∷◌, ◌++◌, drop, map, length, Option, Some, None, refl, sym, ap, ◌∙◌, arith}
+use Rattle.std.proofs.Common.{◌≡◌, ℕ, Bor, ◌+◌, ◌≤◌, Bool, true, false, cond, List, [], ◌∷◌, ◌++◌, drop, map, length, Option, Some, None, refl, sym, ap, subst, ◌∙◌, arith}
 use Rattle.tcap_record.specs.declared.entry.End.{End as Side}
 use Rattle.tcap_record.specs.declared.entry.End.TheVariants as sides
 use Rattle.tcap_check.specs.declared.progress.Progress.{Progress}
 use Rattle.tcap_check.specs.declared.progress.Waiting.{Waiting}
-use Rattle.tcap_check.specs.Progress.{HasNoMore, count_kept, front_lost, is_first_lost, is_none_kept, losing_kept, lost_told, on_way, seat_at, with_waiting}
+use Rattle.tcap_check.specs.Progress.{HasNoMore, count_kept, front_lost, first_lost, is_none_kept, losing_kept, lost_told, on_way, seat_at, with_waiting}
 use Rattle.tcap_check.proofs.KeptGrowth.{lost_waits, one_lost_grows}
 
 -- Where the first is not lost, none is.
-none_in : (judged : Option Side) (side : Side) (messages : List Waiting) (p : Progress) → is_first_lost messages ≡ false
+none_in : (judged : Option Side) (side : Side) (messages : List Waiting) (p : Progress) → first_lost messages ≡ None
     → losing_kept judged side messages p ≡ p
 none_in judged side [] p is = refl
-none_in judged side (first ∷ more) p is = rw is refl
+none_in judged side (first ∷ more) p is = by (is_none_kept first.message) refl is
+  where
+    by : (b : Bool) → is_none_kept first.message ≡ b → cond b (Some first.number) None ≡ None
+        → losing_kept judged side (first ∷ more) p ≡ p
+    by true at e = cc
+    by false at e = rw at refl
 
-pub none_lost : (judged : Option Side) (side : Side) (p : Progress) → is_first_lost (seat_at side p).waiting ≡ false
+-- the first, where it is lost
+first_is : (first : Waiting) (more : List Waiting) (number : ℕ) → first_lost (first ∷ more) ≡ Some number
+    → (is_none_kept first.message ≡ true) × (first.number ≡ number)
+first_is first more number is = by (is_none_kept first.message) refl is
+  where
+    by : (b : Bool) → is_none_kept first.message ≡ b → cond b (Some first.number) None ≡ Some number
+        → (is_none_kept first.message ≡ true) × (first.number ≡ number)
+    by true at e = (at, cc)
+    by false at e = cc
+
+pub none_lost : (judged : Option Side) (side : Side) (p : Progress) → first_lost (seat_at side p).waiting ≡ None
     → front_lost judged side p ≡ p
 none_lost judged side p is = none_in judged side (seat_at side p).waiting p is
 
@@ -26,43 +41,48 @@ none_left judged side p is = by (seat_at side p).waiting is
     by (first ∷ more) e = cc
 
 -- the replay behind the loss of the first
-abbrev pub behind_first : Option Side → Side → Progress → Progress
-behind_first judged side p = lost_told judged side (with_waiting side (drop 1 (seat_at side p).waiting) p)
+abbrev pub behind_first : Option Side → Side → ℕ → Progress → Progress
+behind_first judged side number p = lost_told judged side number (with_waiting side (drop 1 (seat_at side p).waiting) p)
 
 -- One is lost, and then the others;
-pub one_lost : (judged : Option Side) (side : Side) (p : Progress) → is_first_lost (seat_at side p).waiting ≡ true
-    → front_lost judged side (behind_first judged side p) ≡ front_lost judged side p
-one_lost judged side p is = by (seat_at side p).waiting is
+pub one_lost : (judged : Option Side) (side : Side) (number : ℕ) (p : Progress) → first_lost (seat_at side p).waiting ≡ Some number
+    → front_lost judged side (behind_first judged side number p) ≡ front_lost judged side p
+one_lost judged side number p is = by (seat_at side p).waiting is
   where
-    by : (messages : List Waiting) → is_first_lost messages ≡ true
-        → front_lost judged side (lost_told judged side (with_waiting side (drop 1 messages) p)) ≡ losing_kept judged side messages p
+    by : (messages : List Waiting) → first_lost messages ≡ Some number
+        → front_lost judged side (lost_told judged side number (with_waiting side (drop 1 messages) p)) ≡ losing_kept judged side messages p
     by [] e = cc
     by (first ∷ more) e =
-        let next = lost_told judged side (with_waiting side more p) in
-        rw e (ap (λ (x : List Waiting). losing_kept judged side x next) (lost_waits judged side more p))
+        let so = first_is first more number e in
+        let next = lost_told judged side number (with_waiting side more p) in
+        let one : losing_kept judged side (first ∷ more) p ≡ losing_kept judged side more next =
+        rw so.0 (ap (λ (n : ℕ). losing_kept judged side more (lost_told judged side n (with_waiting side more p))) so.1) in
+        ap (λ (x : List Waiting). losing_kept judged side x next) (lost_waits judged side number more p) ∙ sym one
 
 -- one message less is on its way,
-pub one_left : (judged : Option Side) (side : Side) (p : Progress) → is_first_lost (seat_at side p).waiting ≡ true
-    → length (seat_at side p).waiting ≡ length (seat_at side (behind_first judged side p)).waiting + 1
-one_left judged side p is = by (seat_at side p).waiting is
+pub one_left : (judged : Option Side) (side : Side) (number : ℕ) (p : Progress) → first_lost (seat_at side p).waiting ≡ Some number
+    → length (seat_at side p).waiting ≡ length (seat_at side (behind_first judged side number p)).waiting + 1
+one_left judged side number p is = by (seat_at side p).waiting is
   where
-    by : (messages : List Waiting) → is_first_lost messages ≡ true
-        → length messages ≡ length (seat_at side (lost_told judged side (with_waiting side (drop 1 messages) p))).waiting + 1
+    by : (messages : List Waiting) → first_lost messages ≡ Some number
+        → length messages ≡ length (seat_at side (lost_told judged side number (with_waiting side (drop 1 messages) p))).waiting + 1
     by [] e = cc
     by (first ∷ more) e =
-        let left : length (seat_at side (lost_told judged side (with_waiting side more p))).waiting ≡ length more =
-        ap length (lost_waits judged side more p) in
+        let left : length (seat_at side (lost_told judged side number (with_waiting side more p))).waiting ≡ length more =
+        ap length (lost_waits judged side number more p) in
         omega (arith, left)
 
 -- and no more is counted than may be lost.
-pub one_grows : (judged : Option Side) (side : Side) (p : Progress) → is_first_lost (seat_at side p).waiting ≡ true
-    → HasNoMore p (behind_first judged side p)
-one_grows judged side p is = by (seat_at side p).waiting refl is
+pub one_grows : (judged : Option Side) (side : Side) (number : ℕ) (p : Progress) → first_lost (seat_at side p).waiting ≡ Some number
+    → HasNoMore p (behind_first judged side number p)
+one_grows judged side number p is = by (seat_at side p).waiting refl is
   where
-    by : (messages : List Waiting) → (seat_at side p).waiting ≡ messages → is_first_lost messages ≡ true
-        → HasNoMore p (lost_told judged side (with_waiting side (drop 1 messages) p))
+    by : (messages : List Waiting) → (seat_at side p).waiting ≡ messages → first_lost messages ≡ Some number
+        → HasNoMore p (lost_told judged side number (with_waiting side (drop 1 messages) p))
     by [] at e = cc
-    by (first ∷ more) at e = one_lost_grows judged side first more p at
+    by (first ∷ more) at e =
+        subst (λ (n : ℕ). HasNoMore p (lost_told judged side n (with_waiting side more p))) (first_is first more number e).1
+        (one_lost_grows judged side first more p at)
 
 pub seat_way : (side : Side) (p : Progress) → length (seat_at side p).waiting ≤ on_way p
 seat_way sides.A p = omega arith

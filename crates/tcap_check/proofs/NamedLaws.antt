@@ -18,7 +18,7 @@ use Rattle.tcap_check.specs.Certificate.{Certificate}
 use Rattle.tcap_model.specs.Entries.{AreItems}
 use Rattle.tcap_check.specs.Follows.{Follows}
 use Rattle.tcap_check.specs.Named.{AreSameEvents, IsDescribedBy, IsSameEvent}
-use Rattle.tcap_check.specs.Replayed.{replayed}
+use Rattle.tcap_check.specs.Replayed.{replayed_by}
 use Rattle.tcap_check.proofs.DescribedRuns.{followed_is_given}
 
 -- What an expiry leaves is said by the half alone that the name finds,
@@ -83,7 +83,7 @@ same_count table w v (event ∷ events) others (first, rest, joined, same, on) p
 -- so what is described is given, whichever names it uses.
 pub described_is_given : (table : Table) (c : Certificate) (entries : List Entry) (items : List Item) (events : List Event)
     → AreItems entries items → IsRunOf items table events → IsDescribedBy table c items events
-    → (given : List Event) × (replayed table c entries ≡ Ok given) × (length given ≡ length events)
+    → (given : List Event) × (replayed_by None table c entries ≡ Ok given) × (length given ≡ length events)
 described_is_given table c entries items events are (w, runs, sent) (others, same, follows) =
     let (given, is, count) = followed_is_given table c entries items others are (w, same_runs table empty events others same ∙ runs, sent) follows in
     (given, is, count ∙ same_count table empty w events others same runs)

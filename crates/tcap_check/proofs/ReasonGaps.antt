@@ -17,12 +17,12 @@ use Rattle.tcap_check.specs.declared.certificate.Fate.{Fate}
 use Rattle.tcap_check.specs.declared.certificate.Fate.TheVariants.{Gap, Lost, By}
 use Rattle.tcap_record.specs.Ends.{other}
 use Rattle.tcap_model.specs.World.{Item, Sent, is_side}
-use Rattle.tcap_model.specs.Run.{Event, Receives, Loses}
+use Rattle.tcap_model.specs.Run.{Event, Receives}
 use Rattle.tcap_check.specs.Certificate.{Certificate}
 use Rattle.tcap_model.specs.Entries.{AreItems, IsItem}
 use Rattle.tcap_check.specs.Follows.{closing_event, expiry_event}
 use Rattle.tcap_check.specs.Given.{IsAt, IsOutside, IsReason}
-use Rattle.tcap_check.specs.Replayed.{Replay, all_fit, certificate_fits, closings_judged, closings_replayed, deliveries_by, delivery_by, expiries_judged, expiries_replayed, fate_fits, fates_fit, fault_at, gap_by, happens, is_due, is_judged, lost_before, lost_from_front, next_entry, or_else, received, stepped}
+use Rattle.tcap_check.specs.Replayed.{Replay, all_fit, certificate_fits, closings_judged, closings_replayed, deliveries_by, delivery_by, discarded, expiries_judged, expiries_replayed, fate_fits, fates_fit, fault_at, gap_by, happens, is_due, is_judged, lost_before, lost_from_front, next_entry, or_else, received, stepped}
 use Rattle.tcap_check.proofs.ReplayLaws.{closings_replay, expiries_replay}
 use Rattle.tcap_check.proofs.TakenLaws.{IsIn, contained}
 
@@ -309,7 +309,7 @@ received_refused None table c sender number r fault is =
     (none_err (stepped table event (lost_before c event r)) (fault_at reasons.BadReply number) fault is).1
 received_refused (Some side) table c sender number r fault is =
     let before = lost_from_front c (other side) r in
-    (none_err (or_else (stepped table (Receives side number) before) (stepped table (Loses (other side) number) before))
+    (none_err (or_else (stepped table (Receives side number) before) (discarded table side number before))
     (fault_at reasons.BadReply number) fault is).1
 
 -- A delivery that may not happen.

@@ -25,7 +25,7 @@ use Rattle.tcap_model.specs.Entries.{IsItem, item_by, item_of}
 use Rattle.tcap_check.specs.Follows.{FatesFit, quiet_by, sending, sending_by, taken_by}
 use Rattle.tcap_check.specs.Given.{IsNoItem, IsReason}
 use Rattle.tcap_check.specs.Checking.{taken, taken_from, taken_next}
-use Rattle.tcap_check.specs.Replayed.{Replay, certificate_fits, entries_by, entry_by, fates_fit, fault_at, gap_by, gap_replayed, is_gap, is_nothing, is_overtaking, lost_last, next_entry, nothing_replayed, quiet_replayed, replayed_by, sent_replayed}
+use Rattle.tcap_check.specs.Replayed.{Replay, certificate_fits, entries_by, entry_by, fates_fit, fault_at, gap_by, is_gap, is_nothing, is_overtaking, lost_last, mark_judged, next_entry, nothing_replayed, own_judged, replayed_by}
 use Rattle.tcap_check.proofs.ReplayGaps.{fates_ok}
 use Rattle.tcap_check.proofs.ReplayLaws.{IsSentBy, message_replays}
 use Rattle.tcap_check.proofs.FollowingLaws.{follows_nothing}
@@ -82,7 +82,7 @@ entry_says judged table c front rest entry fate r fault fit old took has is = by
 item_stands : (table : Table) (c : Certificate) (front : List Entry) (entry : Entry) (item : Item) (fate : Fate) (r mid next : Replay)
     → FatesFit (length c.fates) 0 c.fates → Stands None table c front (next_entry r) r → IsItem entry item
     → slice_get c.fates (next_entry r) ≡ Some fate → (item ≡ Item.Quiet → fate ≡ Gap (next_entry r + 1))
-    → gap_replayed table c r ≡ Ok mid → IsSentBy table c item mid next
+    → gap_by None table c r ≡ Ok mid → IsSentBy table c item mid next
     → Stands None table c (front ++ entry ∷ []) (next_entry next) next
 item_stands table c front entry item fate r mid next fit old is has mark goes sent =
     let number : next_entry mid ≡ next_entry r = ap length (gap_sent None table c r mid goes) in
@@ -99,12 +99,12 @@ gap_of gap (By k) is = cc
 -- Behind a mark,
 quiet_stands : (table : Table) (c : Certificate) (front : List Entry) (entry : Entry) (fate : Fate) (r next : Replay)
     → FatesFit (length c.fates) 0 c.fates → Stands None table c front (next_entry r) r → IsItem entry Item.Quiet
-    → slice_get c.fates (next_entry r) ≡ Some fate → quiet_replayed table c fate r ≡ Ok next
+    → slice_get c.fates (next_entry r) ≡ Some fate → mark_judged None table c fate r ≡ Ok next
     → Stands None table c (front ++ entry ∷ []) (next_entry next) next
 quiet_stands table c front entry fate r next fit old is has goes =
     let number = next_entry r in
     let so = needs_ok (is_gap (number + 1) fate) (fault_at reasons.FateRange number) _ next goes in
-    let gap = then_ok (gap_replayed table c r) _ next so.1 in
+    let gap = then_ok (gap_by None table c r) _ next so.1 in
     let free = needs_ok (is_nothing (taken_by number 0 c.fates)) (fault_at reasons.NotQuiet number) _ next gap.2 in
     let fate_is = gap_of (number + 1) fate so.0 in
     let same : next_entry gap.0 ≡ number = ap length (gap_sent None table c r gap.0 gap.1) in
@@ -124,11 +124,11 @@ quiet_stands table c front entry fate r next fit old is has goes =
 -- and behind a message, what was replayed stands.
 sent_stands : (table : Table) (c : Certificate) (front : List Entry) (entry : Entry) (fate : Fate) (side : Side) (message : Message)
     (r next : Replay) → FatesFit (length c.fates) 0 c.fates → Stands None table c front (next_entry r) r → IsItem entry (Sent side message)
-    → slice_get c.fates (next_entry r) ≡ Some fate → sent_replayed table c fate side message r ≡ Ok next
+    → slice_get c.fates (next_entry r) ≡ Some fate → own_judged None table c fate side message r ≡ Ok next
     → Stands None table c (front ++ entry ∷ []) (next_entry next) next
 sent_stands table c front entry fate side message r next fit old is has goes =
     let so = needs_ok (not (is_overtaking side fate c.fates r.world.sent)) (fault_at reasons.OutOfOrder (next_entry r)) _ next goes in
-    let gap = then_ok (gap_replayed table c r) _ next so.1 in
+    let gap = then_ok (gap_by None table c r) _ next so.1 in
     item_stands table c front entry (Sent side message) fate r gap.0 next fit old is has (λ e. cc) gap.1
     (message_replays table c side message gap.0 next gap.2)
 

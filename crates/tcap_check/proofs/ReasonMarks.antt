@@ -49,12 +49,12 @@ closed_refused : (judged : Option Side) (table : Table) (c : Certificate) (front
     → (fault_at reasons.NotQuiet (next_entry r) ≡ fault) × IsStillOpen judged table c (front ++ rest) (next_entry r)
 closed_refused None table c front rest r mid fault took goes refuses = cc
 closed_refused (Some side) table c front rest r mid fault took goes refuses =
-    by (close_each table halves (end_at side mid.world)) refl (closings_are table c side (next_entry r) halves mid)
+    by (close_each table halves (end_at side mid.world)) refl (closings_are false table c side (next_entry r) halves mid)
   where
     halves : List HalfName
     halves = open_halves (end_at side mid.world)
 
-    by : (o : Result End EndFault) → close_each table halves (end_at side mid.world) ≡ o → Closings table c side (next_entry r) halves mid o
+    by : (o : Result End EndFault) → close_each table halves (end_at side mid.world) ≡ o → Closings false table c side (next_entry r) halves mid o
         → (fault_at reasons.NotQuiet (next_entry r) ≡ fault) × IsStillOpen (Some side) table c (front ++ rest) (next_entry r)
     by (Ok e) at closed = let both = sym closed.closes ∙ refuses in cc
     by (Err reason) at none =
@@ -67,12 +67,12 @@ alone_open : (side : Side) (table : Table) (c : Certificate) (mark : ℕ) (r clo
     → quiet (end_at side (lost_last (Some side) c closed).world) ≡ Err faults.StillOpen
     → quiet_unseen table (end_at side r.world) ≡ Err faults.StillOpen
 alone_open side table c mark r closed is not_closed =
-    by (close_each table halves (end_at side r.world)) refl (closings_are table c side mark halves r)
+    by (close_each table halves (end_at side r.world)) refl (closings_are false table c side mark halves r)
   where
     halves : List HalfName
     halves = open_halves (end_at side r.world)
 
-    by : (o : Result End EndFault) → close_each table halves (end_at side r.world) ≡ o → Closings table c side mark halves r o
+    by : (o : Result End EndFault) → close_each table halves (end_at side r.world) ≡ o → Closings false table c side mark halves r o
         → quiet_unseen table (end_at side r.world) ≡ Err faults.StillOpen
     by (Err reason) at none = let both = sym none ∙ is in cc
     by (Ok e) at made =

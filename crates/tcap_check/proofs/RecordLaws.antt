@@ -1,10 +1,11 @@
 -- A record that is checked, entry by entry.
-use Rattle.std.proofs.Common.{◌≡◌, ◌<◌, ◌≤◌, get_or, ℕ, ◌+◌, suc, zero, List, [], ◌∷◌, ◌++◌, map, take, drop, length, Option, Some, None, Result, Ok, Err, refl, sym, ap, subst, ◌∙◌, append_assoc, append-nil, arith}
-use Rattle.std.specs.Prelude.{slice_get}
+use Rattle.std.proofs.Common.{◌≡◌, ◌<◌, ◌≤◌, get_or, ℕ, Bool, ◌+◌, suc, zero, List, [], ◌∷◌, ◌++◌, map, take, drop, length, Option, Some, None, Result, Ok, Err, refl, sym, ap, ap₂, subst, ◌∙◌, append_assoc, append-nil, arith}
+use Rattle.std.specs.Prelude.{◌≢◌, IfOk, slice_get}
 use Rattle.std.proofs.lemmas.List.{map-append, take-append-drop, take_all}
 use Rattle.std.proofs.lemmas.Option.{slice_get-get_or}
 use Rattle.tcap_record.specs.declared.entry.End.{End as Side}
 use Rattle.tcap_record.specs.declared.entry.Entry.{Entry}
+use Rattle.tcap_end.specs.declared.fault.EndFault.{EndFault}
 use Rattle.tcap_end.specs.Table.{Table}
 use Rattle.tcap_end.specs.Step.{◌>>=◌}
 use Rattle.tcap_check.specs.declared.replaying.Replaying.{Replaying}
@@ -15,12 +16,16 @@ use Rattle.tcap_model.specs.World.{Item}
 use Rattle.tcap_model.specs.Run.{Event}
 use Rattle.tcap_check.specs.Certificate.{Certificate}
 use Rattle.tcap_model.specs.Entries.{AreItems, item_of}
+use Rattle.tcap_check.specs.AloneGiven.{IsGivenTo}
 use Rattle.tcap_check.specs.Given.{SaysLawful}
-use Rattle.tcap_check.specs.Replayed.{Replay, replayed_by}
-use Rattle.tcap_check.specs.Checking.{Checking, Kept, Took, ended, kept_next, kept_of, map_ok, reported, taken, taken_next}
+use Rattle.tcap_check.specs.Replayed.{Replay, discards_by, fault_at, replay_by, replayed_by}
+use Rattle.tcap_check.specs.Told.{MayAllBeDiscarded}
+use Rattle.tcap_model.specs.declared.reason.Reason.TheVariants.{Memory}
+use Rattle.tcap_check.specs.Checking.{Checking, Kept, TookListed, ended, kept_next, kept_of, map_ok, reported, taken, taken_next}
 use Rattle.tcap_check.specs.Ready.{checking_of, kept_in}
 use Rattle.tcap_check.proofs.AloneRuns.{gives_for}
 use Rattle.tcap_check.proofs.CheckerLaws.{checking, ends_so, given, refusing, took_err, took_ok}
+use Rattle.tcap_check.proofs.DiscardLaws.{all_may}
 use Rattle.tcap_check.proofs.EntryLaws.{replayed_is, taken_more}
 use Rattle.tcap_check.proofs.GivenRuns.{gives}
 
@@ -37,40 +42,73 @@ taken_short judged table c entries (entry ∷ more) fault is =
     (taken_more judged table c entries entry ∙ ap (λ (o : Result Replay CheckFault). o >>= taken_next judged table c entry) is))
 
 -- A checker that refuses stands for a replay that is refused.
-pub refused_is : (s : Checking) (entries : List (Result Item Reason)) (fault : CheckFault) → Took s entries → s.so_far ≡ Err fault
+pub refused_is : (listing : Bool) (s : Checking) (entries : List (Result Item Reason)) (fault : CheckFault) → TookListed listing s entries → s.so_far ≡ Err fault
     → taken s.judged s.table s.certificate entries ≡ Err fault
-refused_is s entries fault took is = by (taken s.judged s.table s.certificate entries) (sym is ∙ took)
+refused_is listing s entries fault took is = by (taken s.judged s.table s.certificate entries) (sym is ∙ took)
   where
-    by : (o : Result Replay CheckFault) → (let a : Result Kept CheckFault = Err fault in a) ≡ map_ok (kept_of s.judged s.certificate) o
+    by : (o : Result Replay CheckFault) → (let a : Result Kept CheckFault = Err fault in a) ≡ map_ok (kept_of listing s.judged s.certificate) o
         → o ≡ Err fault
     by (Ok r) same = cc
     by (Err other) same = let is : fault ≡ other = cc in ap (λ (f : CheckFault). let a : Result Replay CheckFault = Err f in a) (sym is)
 
-refused_short : (s : Checking) (entries more all : List (Result Item Reason)) (fault : CheckFault) → Took s entries
-    → s.so_far ≡ Err fault → entries ++ more ≡ all → refusing fault ≡ given s.judged s.table s.certificate all
-refused_short s entries more all fault took is whole =
-    let short = taken_short s.judged s.table s.certificate entries more fault (refused_is s entries fault took is) in
+refused_short : (listing : Bool) (s : Checking) (entries more all : List (Result Item Reason)) (fault : CheckFault) → TookListed listing s entries
+    → s.so_far ≡ Err fault → entries ++ more ≡ all → replay_by s.judged s.table s.certificate all ≡ Err fault
+refused_short listing s entries more all fault took is whole =
+    let short = taken_short s.judged s.table s.certificate entries more fault (refused_is listing s entries fault took is) in
     let at : taken s.judged s.table s.certificate all ≡ Err fault = ap (taken s.judged s.table s.certificate) (sym whole) ∙ short in
-    let behind = replayed_is s.judged s.table s.certificate all
-    ∙ ap (λ (o : Result Replay CheckFault). o >>= ended s.judged s.table s.certificate) at in
-    sym (ap (map_ok (reported s.judged)) (ends_so s.judged s.table s.certificate all (Err fault) behind))
+    replayed_is s.judged s.table s.certificate all ∙ ap (λ (o : Result Replay CheckFault). o >>= ended s.judged s.table s.certificate) at
 
 -- A replay that took these entries takes one more.
-pub took_more : (x y : Replaying) (entry : Result Item Reason) → y.judged ≡ x.judged → y.table ≡ x.table → y.certificate ≡ x.certificate
+pub took_more : (listing : Bool) (x y : Replaying) (entry : Result Item Reason) → y.judged ≡ x.judged → y.table ≡ x.table → y.certificate ≡ x.certificate
     → kept_next x.judged x.table.now x.certificate.now entry (kept_in x) ≡ Ok (kept_in y) → (before : List (Result Item Reason))
-    → Took (checking_of x) before → Took (checking_of y) (before ++ entry ∷ [])
-took_more x y entry judged table certificate is before took =
+    → TookListed listing (checking_of x) before → TookListed listing (checking_of y) (before ++ entry ∷ [])
+took_more listing x y entry judged table certificate is before took =
     rw (judged, table, certificate)
-    (took_ok x.judged x.table.now x.certificate.now (kept_in x) (kept_in y) entry is before took)
+    (took_ok listing x.judged x.table.now x.certificate.now (kept_in x) (kept_in y) entry is before took)
 
 -- An entry that a replay refuses is the reason for all of them.
-pub refused_at : (judged : Option Side) (table : Table) (c : Certificate) (k : Kept) (entry : Result Item Reason) (fault : CheckFault)
+pub refused_at : (listing : Bool) (judged : Option Side) (table : Table) (c : Certificate) (k : Kept) (entry : Result Item Reason) (fault : CheckFault)
     → kept_next judged table c entry k ≡ Err fault → (before more all : List (Result Item Reason))
-    → Took (checking judged table c None k) before → (before ++ entry ∷ []) ++ more ≡ all
-    → refusing fault ≡ given judged table c all
-refused_at judged table c k entry fault is before more all took whole =
-    refused_short (checking judged table c (Some fault) k) (before ++ entry ∷ []) more all fault
-    (took_err judged table c k k entry fault is before took) refl whole
+    → TookListed listing (checking judged table c None k) before → (before ++ entry ∷ []) ++ more ≡ all
+    → replay_by judged table c all ≡ Err fault
+refused_at listing judged table c k entry fault is before more all took whole =
+    refused_short listing (checking judged table c (Some fault) k) (before ++ entry ∷ []) more all fault
+    (took_err listing judged table c k k entry fault is before took) refl whole
+
+-- What is refused gives no report, no run and no discards.
+pub no_report : (judged : Option Side) (table : Table) (c : Certificate) (entries : List (Result Item Reason)) (fault : CheckFault)
+    → replay_by judged table c entries ≡ Err fault → refusing fault ≡ given judged table c entries
+no_report judged table c entries fault is = sym (ap (map_ok (reported judged)) (ends_so judged table c entries (Err fault) is))
+
+-- What a replay is refused by, in the words of what it was made of.
+pub refused_for : (r : Replaying) (judged : Option Side) (table : Table) (c : Certificate) (entries : List (Result Item Reason)) (fault other : CheckFault)
+    → r.judged ≡ judged → r.table.now ≡ table → r.certificate.now ≡ c → fault ≡ other
+    → replay_by r.judged r.table.now r.certificate.now entries ≡ Err fault → replay_by judged table c entries ≡ Err other
+refused_for r judged table c entries fault other is_judged is_table is_c is refused =
+    ap (λ (j : Option Side). replay_by j table c entries) (sym is_judged)
+    ∙ ap₂ (λ (t : Table) (x : Certificate). replay_by r.judged t x entries) (sym is_table) (sym is_c)
+    ∙ refused ∙ ap (λ (f : CheckFault). let x : Result Replay CheckFault = Err f in x) is
+
+-- Whoever is judged, what is given is a run.
+pub given_to : (judged : Option Side) (table : Table) (c : Certificate) (entries : List Entry) (events : List Event)
+    → replayed_by judged table c entries ≡ Ok events → IsGivenTo judged table c entries events
+given_to None table c entries events is = gives table c entries events is
+given_to (Some side) table c entries events is = gives_for side table c entries events is
+
+pub run_given : {A : Type 0} (events : A → List Event) (judged : Option Side) (table : Table) (c : Certificate) (entries : List Entry)
+    (result : Result A CheckFault)
+    → (result ≢ Err (fault_at Memory 0) → map_ok events result ≡ replayed_by judged table c entries)
+    → IfOk result (λ x. IsGivenTo judged table c entries (events x))
+run_given events judged table c entries (Ok x) exact = given_to judged table c entries (events x) (sym (exact (λ e. cc)))
+run_given events judged table c entries (Err fault) exact = tt
+
+-- What is discarded in it may be.
+pub run_may : {A : Type 0} (discards : A → List (ℕ × EndFault)) (judged : Option Side) (table : Table) (c : Certificate) (entries : List (Result Item Reason))
+    (result : Result A CheckFault)
+    → (result ≢ Err (fault_at Memory 0) → map_ok discards result ≡ discards_by judged table c entries)
+    → IfOk result (λ x. MayAllBeDiscarded judged c (discards x))
+run_may discards judged table c entries (Ok x) exact = all_may judged table c entries (discards x) (sym (exact (λ e. cc)))
+run_may discards judged table c entries (Err fault) exact = tt
 
 -- ---- a run
 

@@ -1,5 +1,5 @@
 -- What a checker refuses is refused whatever comes behind it; what it passes is lawful.
-use Rattle.std.proofs.Common.{◌≡◌, List, [], ◌∷◌, ◌++◌, map, length, Option, Some, None, Result, Ok, Err, refl, sym, ap, ap₂, subst, ◌∙◌}
+use Rattle.std.proofs.Common.{◌≡◌, List, [], ◌∷◌, ◌++◌, map, length, Option, Some, None, Result, Ok, Err, refl, sym, ap, ap₂, subst, ◌∙◌, false}
 use Rattle.std.specs.Prelude.{◌≢◌}
 use Rattle.std.proofs.lemmas.List.{map-append}
 use Rattle.tcap_record.specs.declared.entry.End.{End as Side}
@@ -38,7 +38,7 @@ stays_refused s entries fault took is = λ more.
     let c = s.certificate in
     let all = map item_of (entries ++ more) in
     let whole : all ≡ map item_of entries ++ map item_of more = map-append item_of entries more in
-    let short = taken_short judged table c (map item_of entries) (map item_of more) fault (refused_is s (map item_of entries) fault took is) in
+    let short = taken_short judged table c (map item_of entries) (map item_of more) fault (refused_is false s (map item_of entries) fault took is) in
     let at : taken judged table c all ≡ Err fault = ap (taken judged table c) whole ∙ short in
     let behind = replayed_is judged table c all ∙ ap (λ (o : Result Replay CheckFault). o >>= ended judged table c) at in
     let run : replayed_by judged table c (entries ++ more) ≡ Err fault = ends_so judged table c all (Err fault) behind in

@@ -10,7 +10,7 @@ use Rattle.tcap_record.specs.declared.entry.Body.TheVariants.{Good, Bad, Quiet a
 use Rattle.tcap_record.specs.declared.entry.Entry.{Entry}
 use Rattle.tcap_end.specs.Table.{Table}
 use Rattle.tcap_end.proofs.AnsweringLaws.{needs_ok, some_ok, then_ok}
-use Rattle.tcap_model.specs.Entries.{IsItem, item_by, item_of}
+use Rattle.tcap_model.specs.Entries.{IsItem, item_by as item_read, item_of}
 use Rattle.tcap_model.specs.World.{Item, Sent}
 use Rattle.tcap_model.specs.Run.{Event, Quiet, after}
 use Rattle.tcap_check.specs.declared.certificate.Fate.{Fate}
@@ -19,7 +19,7 @@ use Rattle.tcap_check.specs.Certificate.{Certificate}
 use Rattle.tcap_check.specs.Follows.{FatesFit, FollowsFrom, gap_events, quiet_by, sending, sending_by, taken_by, without_losses}
 use Rattle.tcap_model.specs.declared.reason.Reason.{Reason}
 use Rattle.tcap_model.specs.declared.reason.Reason.TheVariants.{FateCount, FateRange, NotQuiet, OutOfOrder}
-use Rattle.tcap_check.specs.Replayed.{Replay, entries_replayed, entry_replayed, fault_at, gap_replayed, happens, is_gap, is_nothing, is_overtaking, item_replayed, lost_from_both, quiet_replayed, next_entry, sent_replayed, stepped}
+use Rattle.tcap_check.specs.Replayed.{Replay, entries_by, entry_by, fault_at, gap_by, happens, is_gap, is_nothing, is_overtaking, item_by, lost_from_both, mark_judged, next_entry, own_judged, stepped}
 use Rattle.tcap_model.proofs.RunLaws.{grows, map_some}
 use Rattle.tcap_check.proofs.ReplaySteps.{Extends, Replays, both_replay, extends_then, replays_then, stepped_replays, without_both}
 use Rattle.tcap_check.proofs.ReplayLaws.{IsSentBy, gap_replays, message_replays}
@@ -55,11 +55,11 @@ quiet_is number Lost is = cc
 quiet_is number (By k) is = cc
 
 quiet_replays : (table : Table) (c : Certificate) (fate : Fate) (r next : Replay) → slice_get c.fates (next_entry r) ≡ Some fate
-    → quiet_replayed table c fate r ≡ Ok next → IsReplayedBy table c Item.Quiet r next
+    → mark_judged None table c fate r ≡ Ok next → IsReplayedBy table c Item.Quiet r next
 quiet_replays table c fate r next has is =
     let number = next_entry r in
     let so = needs_ok (is_gap (number + 1) fate) (fault_at FateRange number) _ next is in
-    let gap = then_ok (gap_replayed table c r) _ next so.1 in
+    let gap = then_ok (gap_by None table c r) _ next so.1 in
     let here = gap_replays table c r gap.0 gap.1 in
     let free = needs_ok (is_nothing (taken_by number 0 c.fates)) (fault_at NotQuiet number) _ next gap.2 in
     let same : next_entry gap.0 ≡ number = ap length (here.2.sent ∙ append-nil r.world.sent) in
@@ -81,15 +81,15 @@ quiet_replays table c fate r next has is =
     }
 
 sent_replays : (table : Table) (c : Certificate) (fate : Fate) (side : Side) (message : Message) (r next : Replay)
-    → sent_replayed table c fate side message r ≡ Ok next → IsReplayedBy table c (Sent side message) r next
+    → own_judged None table c fate side message r ≡ Ok next → IsReplayedBy table c (Sent side message) r next
 sent_replays table c fate side message r next is =
     let so = needs_ok (not (is_overtaking side fate c.fates r.world.sent)) (fault_at OutOfOrder (next_entry r)) _ next is in
-    let gap = then_ok (gap_replayed table c r) _ next so.1 in
+    let gap = then_ok (gap_by None table c r) _ next so.1 in
     let here = gap_replays table c r gap.0 gap.1 in
     record { here = here.0; mid = gap.0; here_is = here.1; gap = here.2; sent = message_replays table c side message gap.0 next gap.2 }
 
 pub item_replays : (table : Table) (c : Certificate) (fate : Fate) (item : Item) (r next : Replay) → slice_get c.fates (next_entry r) ≡ Some fate
-    → item_replayed table c fate item r ≡ Ok next → IsReplayedBy table c item r next
+    → item_by None table c fate item r ≡ Ok next → IsReplayedBy table c item r next
 item_replays table c fate (Sent side message) r next has is = sent_replays table c fate side message r next is
 item_replays table c fate Item.Quiet r next has is = quiet_replays table c fate r next has is
 
@@ -102,7 +102,7 @@ ok_item item = Ok item
 pub item_is : (entry : Entry) (item : Item) → item_of entry ≡ Ok item → IsItem entry item
 item_is entry item is = by entry.side entry.body refl refl is
   where
-    by : (side : Option Side) (body : Body) → entry.side ≡ side → entry.body ≡ body → item_by side body ≡ Ok item → IsItem entry item
+    by : (side : Option Side) (body : Body) → entry.side ≡ side → entry.body ≡ body → item_read side body ≡ Ok item → IsItem entry item
     by (Some side) (Good message) of at is = let same : Sent side message ≡ item = cc in subst (IsItem entry) same (of, at)
     by (Some side) (Bad fault) of at is = cc
     by (Some side) QuietMark of at is = cc
@@ -160,9 +160,9 @@ one_entry table c entry entries item r mid next count fit is one rest =
     }
 
 pub entries_replay : (table : Table) (c : Certificate) (entries : List (Result Item Reason)) (r next : Replay) (count : ℕ) → FatesFit count 0 c.fates
-    → entries_replayed table c entries r ≡ Ok next → AreReplayed table c entries r next
+    → entries_by None table c entries r ≡ Ok next → AreReplayed table c entries r next
 entries_replay table c [] r next count fit is =
-    let so = needs_ok (next_entry r == length c.fates) (fault_at FateCount (next_entry r)) (gap_replayed table c r) next is in
+    let so = needs_ok (next_entry r == length c.fates) (fault_at FateCount (next_entry r)) (gap_by None table c r) next is in
     let gap = gap_replays table c r next so.1 in
     record {
       items = [];
@@ -176,12 +176,12 @@ entries_replay table c [] r next count fit is =
 entries_replay table c (entry ∷ entries) r next count fit is =
     let fate = then_ok (ok_or (slice_get c.fates (next_entry r)) (fault_at FateCount (next_entry r))) _ next is in
     let has = some_ok (slice_get c.fates (next_entry r)) (fault_at FateCount (next_entry r)) fate.0 fate.1 in
-    let one = then_ok (entry_replayed table c fate.0 entry r) _ next fate.2 in
+    let one = then_ok (entry_by None table c fate.0 entry r) _ next fate.2 in
     let rest = entries_replay table c entries one.0 next count fit one.2 in
     by fate.0 one.0 entry refl has one.1 rest
   where
     by : (fate : Fate) (mid : Replay) (x : Result Item Reason) → entry ≡ x → slice_get c.fates (next_entry r) ≡ Some fate
-        → entry_replayed table c fate x r ≡ Ok mid → AreReplayed table c entries mid next → AreReplayed table c (entry ∷ entries) r next
+        → entry_by None table c fate x r ≡ Ok mid → AreReplayed table c entries mid next → AreReplayed table c (entry ∷ entries) r next
     by fate mid (Ok item) e has is rest =
         one_entry table c entry entries item r mid next count fit (sym e) (item_replays table c fate item r mid has is) rest
     by fate mid (Err reason) e has is rest = cc

@@ -36,7 +36,7 @@ use Rattle.tcap_check.specs.declared.fault.CheckFault.{CheckFault}
 use Rattle.tcap_model.specs.declared.reason.Reason.{Reason}
 use Rattle.tcap_model.specs.declared.reason.Reason.TheVariants.{BadReply, FateRange, HiddenRefused}
 use Rattle.tcap_model.proofs.ChannelLaws.{get_new}
-use Rattle.tcap_check.specs.Replayed.{closings_replayed, deliveries_replayed, expiries_replayed, fault_at, gap_replayed, implied, implied_over, is_abort, message_by, message_replayed, reply_replayed, next_entry, or_same, send_replayed, sent_or_refused, Replay, happens, lost_before, lost_from_front, stepped, with_step}
+use Rattle.tcap_check.specs.Replayed.{Replay, closings_replayed, deliveries_by, expiries_replayed, fault_at, gap_by, happens, implied, implied_over, is_abort, lost_before, lost_from_front, message_by, next_entry, or_same, own_message, reply_replayed, send_replayed, sent_or_refused, stepped, with_step}
 use Rattle.tcap_check.proofs.ReplaySteps.{Replays, before_replays, losing_replays, replays_nothing, replays_then, stepped_replays}
 
 -- ---- a gap
@@ -74,7 +74,7 @@ gap_event table c event reason entry r next in_gap is =
     let sent : next.world.sent ≡ before.world.sent ++ [] = ap (λ (x : Replay). x.world.sent) (sym found.2) ∙ in_gap.adds table before.world found.0 found.1 in
     replays_then table r before next [] (event ∷ []) [] [] (before_replays table c event r) (stepped_replays table event [] before next in_gap.plain step sent)
 
-closing_in_gap : (items : List Item) (x : Closing) (event : Event) → closing_event items x ≡ Some event → IsGapEvent event
+pub closing_in_gap : (items : List Item) (x : Closing) (event : Event) → closing_event items x ≡ Some event → IsGapEvent event
 closing_in_gap items x event is = let found = then_some (named_entry items x.gap x.entry) (closing_by x) event is in by found.0 found.2
   where
     by : (item : Item) → closing_by x item ≡ Some event → IsGapEvent event
@@ -85,7 +85,7 @@ closing_in_gap items x event is = let found = then_some (named_entry items x.gap
     by (Sent sender (Abort dtid reason)) e = cc
     by Item.Quiet e = cc
 
-expiry_in_gap : (items : List Item) (x : Expiry) (event : Event) → expiry_event items x ≡ Some event → IsGapEvent event
+pub expiry_in_gap : (items : List Item) (x : Expiry) (event : Event) → expiry_event items x ≡ Some event → IsGapEvent event
 expiry_in_gap items x event is = let found = then_some (named_entry items x.gap x.entry) (expiry_by x) event is in by found.0 found.2
   where
     by : (item : Item) → expiry_by x item ≡ Some event → IsGapEvent event
@@ -134,17 +134,17 @@ expiries_replay table c (x ∷ more) items r next so is =
 
 -- Deliveries, by number.
 pub deliveries_replay : (table : Table) (c : Certificate) (gap number : ℕ) (fates : List Fate) (items : List Item) (r next : Replay)
-    → deliveries_replayed table c gap number fates items r ≡ Ok next → Replays table r (deliveries gap number fates items) [] next
+    → deliveries_by None table c gap number fates items r ≡ Ok next → Replays table r (deliveries gap number fates items) [] next
 deliveries_replay table c gap number [] items r next is = let same : r ≡ next = cc in subst (Replays table r [] []) same (replays_nothing table r)
 deliveries_replay table c gap number (fate ∷ fates) [] r next is = let same : r ≡ next = cc in subst (Replays table r [] []) same (replays_nothing table r)
 deliveries_replay table c gap number (Gap g ∷ fates) (Sent side message ∷ items) r next is =
     by (g == gap) (λ mid. deliveries_replay table c gap (number + 1) fates items mid next) is
   where
     by : (b : Bool)
-        → ((mid : Replay) → deliveries_replayed table c gap (number + 1) fates items mid ≡ Ok next
+        → ((mid : Replay) → deliveries_by None table c gap (number + 1) fates items mid ≡ Ok next
         → Replays table mid (deliveries gap (number + 1) fates items) [] next)
         → (cond b (happens table c (Receives (other side) number) BadReply number r) (Ok r)
-        >>= deliveries_replayed table c gap (number + 1) fates items) ≡ Ok next
+        >>= deliveries_by None table c gap (number + 1) fates items) ≡ Ok next
         → Replays table r
         (cond b (Receives (other side) number ∷ deliveries gap (number + 1) fates items) (deliveries gap (number + 1) fates items)) [] next
     by true on is =
@@ -172,7 +172,7 @@ three_parts xs ys zs firsts seconds a b =
     map_both Some (xs ++ ys) zs ∙ ap (λ (x : List (Option Event)). x ++ map Some zs) (map_both Some xs ys ∙ ap₂ (λ (x y : List (Option Event)). x ++ y) a b)
 
 -- The gap before the next entry.
-pub gap_replays : (table : Table) (c : Certificate) (r next : Replay) → gap_replayed table c r ≡ Ok next
+pub gap_replays : (table : Table) (c : Certificate) (r next : Replay) → gap_by None table c r ≡ Ok next
     → (events : List Event) × (map Some events ≡ gap_events c r.world.sent (next_entry r)) × Replays table r events [] next
 gap_replays table c r next is =
     let items = r.world.sent in
@@ -343,7 +343,7 @@ implied_by table side message r = by (invoking_half message) refl
     by (Some name) is = implied_replay table side message name (filter_map invoke_id (components_in message)) r is (λ id h. h)
 
 pub message_replays : (table : Table) (c : Certificate) (side : Side) (message : Message) (r next : Replay)
-    → message_replayed table c side message r ≡ Ok next → IsSentBy table c (Sent side message) r next
+    → own_message None table c side message r ≡ Ok next → IsSentBy table c (Sent side message) r next
 message_replays table c side message r next is = by (sending c (next_entry r) (Sent side message)) refl is
   where
     by : (o : Option Event) → sending c (next_entry r) (Sent side message) ≡ o → message_by table c side message o r ≡ Ok next

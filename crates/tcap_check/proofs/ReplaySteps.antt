@@ -13,7 +13,7 @@ use Rattle.tcap_check.specs.declared.certificate.Fate.TheVariants.{Gap, Lost, By
 use Rattle.tcap_check.specs.Certificate.{Certificate}
 use Rattle.tcap_check.specs.Follows.{is_loss, without_losses}
 use Rattle.tcap_model.proofs.RunLaws.{map_some, played_on}
-use Rattle.tcap_check.specs.Replayed.{Replay, lost_before, lost_from_both, lost_from_front, if_lost, lost_front, stepped}
+use Rattle.tcap_check.specs.Replayed.{Replay, discarded, lost_before, lost_from_both, lost_from_front, if_lost, lost_front, stepped}
 use Rattle.tcap_check.proofs.WorldLaws.{sent_with_channel, with_same}
 
 -- ---- runs, one behind the other
@@ -43,6 +43,23 @@ stepped_extends table event r next is =
     }
 
 -- ---- losses
+
+-- A discard is the loss of the message, and is noted.
+pub record IsDiscard (table : Table) (side : Side) (number : ℕ) (r next : Replay) : Type 0 where
+  pub lost : Replay
+  pub step : stepped table (Loses (other side) number) r ≡ Some lost
+  pub world : next.world ≡ lost.world
+  pub events : next.events ≡ lost.events
+
+pub discard_is : (table : Table) (side : Side) (number : ℕ) (r next : Replay) → discarded table side number r ≡ Some next
+    → IsDiscard table side number r next
+discard_is table side number r next is =
+    let found = map_some _ (stepped table (Loses (other side) number) r) next is in record {
+      lost = found.0;
+      step = found.1;
+      world = ap (λ (x : Replay). x.world) (sym found.2);
+      events = ap (λ (x : Replay). x.events) (sym found.2);
+    }
 
 with_twice : (side : Side) (a b : List OnItsWay) (w : World) → with_channel side a (with_channel side b w) ≡ with_channel side a w
 with_twice sides.A a b w = refl

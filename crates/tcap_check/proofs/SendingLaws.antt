@@ -17,6 +17,7 @@ use Rattle.tcap_check.specs.Replayed.{fault_at}
 use Rattle.tcap_end.specs.declared.fault.EndFault.{EndFault}
 use Rattle.tcap_end.specs.End.{End}
 use Rattle.tcap_end.specs.Hidden.{expire}
+use Rattle.tcap_model.specs.Run.{Event, Expires, Replies}
 use Rattle.tcap_check.specs.Progress.{IsAsMany, end_tried, moved, or_still, seat_at, with_seat_end, with_waiting, first_answered, first_may_be_answered, ids_ended_over, invoked_ended, sent_by}
 
 -- A provider that may not answer is refused,
@@ -30,7 +31,7 @@ not_answered side fate number abort taken (first ∷ more) p is = rw is refl
 pub answered : (side : Side) (fate : Fate) (number : ℕ) (abort : Message) (taken : ℕ) (messages : List Waiting) (p : Progress)
     → first_may_be_answered side abort taken messages p ≡ true
     → first_answered side fate number abort taken messages p
-    ≡ Ok (sent_by side fate number abort (with_waiting (other side) (drop 1 messages) p))
+    ≡ Ok (sent_by (Replies side taken) side fate number abort (with_waiting (other side) (drop 1 messages) p))
 answered side fate number abort taken [] p is = cc
 answered side fate number abort taken (m ∷ more) p is = rw is refl
 
@@ -52,18 +53,24 @@ ends_all table side half all start = record { same = refl; room = omega arith; s
 tried : (table : Table) (side : Side) (name : HalfName) (id : ℤ) (p : Progress) → (end_tried table side name id p).moves ≤ p.moves + 1
 tried table side name id p = by (expire table (seat_at side p).end name id)
   where
-    sides_moves : (side : Side) (e : End) → (moved (with_seat_end side e p)).moves ≡ p.moves + 1
+    event : Event
+    event = Expires side name id
+
+    sides_moves : (side : Side) (e : End) → (moved event (with_seat_end side e p)).moves ≡ p.moves + 1
     sides_moves sides.A e = refl
     sides_moves sides.B e = refl
 
-    by : (o : Result End EndFault) → (or_still side p o).moves ≤ p.moves + 1
-    by (Ok e) = let is : (moved (with_seat_end side e p)).moves ≡ p.moves + 1 = sides_moves side e in omega (arith, is)
+    by : (o : Result End EndFault) → (or_still side event p o).moves ≤ p.moves + 1
+    by (Ok e) = let is : (moved event (with_seat_end side e p)).moves ≡ p.moves + 1 = sides_moves side e in omega (arith, is)
     by (Err reason) = omega arith
 
 tried_still : (table : Table) (side : Side) (name : HalfName) (id : ℤ) (p : Progress) → IsAsMany p (end_tried table side name id p)
 tried_still table side name id p = by side (expire table (seat_at side p).end name id)
   where
-    by : (side : Side) (o : Result End EndFault) → IsAsMany p (or_still side p o)
+    event : Event
+    event = Expires side name id
+
+    by : (side : Side) (o : Result End EndFault) → IsAsMany p (or_still side event p o)
     by sides.A (Ok e) = (refl, refl)
     by sides.B (Ok e) = (refl, refl)
     by side (Err reason) = (refl, refl)

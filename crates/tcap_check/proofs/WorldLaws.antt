@@ -1,11 +1,11 @@
 -- What a change of a world leaves as it was.
-use Rattle.std.proofs.Common.{◌≡◌, Bool, true, false, List, [], ◌∷◌, ◌++◌, refl}
+use Rattle.std.proofs.Common.{◌≡◌, true, false, List, [], ◌∷◌, ◌++◌, refl}
 use Rattle.tcap_msg.specs.declared.message.Message.{Message}
 use Rattle.tcap_record.specs.declared.entry.End.{End as Side}
 use Rattle.tcap_record.specs.declared.entry.End.TheVariants as sides
 use Rattle.tcap_end.specs.End.{End}
 use Rattle.tcap_record.specs.Ends.{other}
-use Rattle.tcap_model.specs.World.{Item, OnItsWay, Sent, World, channel_from, end_at, is_side, with_channel, with_end}
+use Rattle.tcap_model.specs.World.{OnItsWay, Sent, World, channel_from, end_at, is_side, with_channel, with_end}
 use Rattle.tcap_model.specs.Run.{joined}
 
 pub itself : (side : Side) → is_side side side ≡ true

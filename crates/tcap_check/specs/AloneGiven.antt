@@ -1,5 +1,5 @@
 -- What a certificate gives for one end alone: a run in which that end keeps the rules.
-use Rattle.std.specs.Prelude.{◌≡◌, ◌+◌, ◌*◌, ◌≤◌, List, [], length}
+use Rattle.std.specs.Prelude.{◌≡◌, ◌+◌, ◌*◌, ◌≤◌, List, [], length, Option, Some, None}
 use Rattle.tcap_record.specs.declared.entry.End.{End as Side}
 use Rattle.tcap_record.specs.declared.entry.Entry.{Entry}
 use Rattle.tcap_end.specs.Table.{Table}
@@ -9,7 +9,8 @@ use Rattle.tcap_model.specs.Run.{Event, IsRunOf, KeepsRules}
 use Rattle.tcap_check.specs.Certificate.{Certificate}
 use Rattle.tcap_model.specs.Entries.{AreItems, count_components}
 use Rattle.tcap_check.specs.Follows.{losses_from, lost_from}
-use Rattle.tcap_check.specs.Alone.{steps_of, unheard_of}
+use Rattle.tcap_check.specs.Given.{IsGiven}
+use Rattle.tcap_check.specs.Unheard.{steps_of, unheard_of}
 
 -- The entries are items, and these events are a run that sends them, in which that end keeps the rules, whatever its peer sends, and
 -- that leaves nothing on its way to it.
@@ -21,6 +22,11 @@ pub record IsGivenFor (side : Side) (table : Table) (c : Certificate) (entries :
   pub left : channel_from (other side) run.0 ≡ []
   pub bound : steps_of side events ≤ 3 * length entries + count_components items
   pub unheard : unheard_of side events ≤ length entries
+
+-- The same of whoever is judged: of both ends, or of that one.
+abbrev pub IsGivenTo : Option Side → Table → Certificate → List Entry → List Event → Type 0
+IsGivenTo None table c entries events = IsGiven table c entries events
+IsGivenTo (Some side) table c entries events = IsGivenFor side table c entries events
 
 -- Of the peer's messages exactly those are lost whose fates say so: none is discarded.
 abbrev pub DiscardsNothing : Side → Certificate → List Item → List Event → Type 0

@@ -1,8 +1,9 @@
 -- Worked replays of one end: the run that a certificate gives for it, or why it gives none.
-use Rattle.std.specs.Prelude.{◌≡◌, ℕ, List, [], ◌∷◌, map, None, Ok}
+use Rattle.std.specs.Prelude.{◌≡◌, ℕ, List, [], ◌∷◌, map, None, Ok, Some}
 use Rattle.tcap_msg.specs.declared.message.Message.TheVariants.{Unidirectional, Begin, Continue}
 use Rattle.tcap_record.specs.declared.entry.End.{End as Side}
 use Rattle.tcap_record.specs.declared.entry.End.TheVariants.{A, B}
+use Rattle.tcap_end.specs.declared.fault.EndFault.{EndFault}
 use Rattle.tcap_end.specs.declared.fault.EndFault.TheVariants as faults
 use Rattle.tcap_end.specs.declared.half.HalfName.TheVariants.{Own, Peer}
 use Rattle.tcap_end.specs.Table.{Table}
@@ -12,12 +13,12 @@ use Rattle.tcap_model.specs.declared.reason.Reason.TheVariants.{BadReply, NotQui
 use Rattle.tcap_model.specs.World.{Item, Sent}
 use Rattle.tcap_model.specs.Run.{Event, Sends, Receives, Replies, Loses, Closes, Quiet, Tells}
 use Rattle.tcap_check.specs.Certificate.{Certificate}
-use Rattle.tcap_model.specs.Entries.{entry_of}
-use Rattle.tcap_check.specs.Replayed.{refused}
+use Rattle.tcap_model.specs.Entries.{entry_of, item_of}
+use Rattle.tcap_check.specs.Replayed.{discards_by, refused, replayed_by}
 use Rattle.tcap_check.specs.Worked as worked
 use Rattle.tcap_model.specs.WorkedItems.{answer, begin, end_to, id, invoke}
 use Rattle.tcap_check.specs.Worked.{both_close, by_fates, continues_behind_its_end, end_is_not_heard}
-use Rattle.tcap_check.specs.Alone.{replayed_for, steps_of, unheard_of}
+use Rattle.tcap_check.specs.Unheard.{steps_of, unheard_of}
 
 -- A record, a certificate, and the run that it gives for one end.
 pub record WorkedAlone : Type 0 where
@@ -30,13 +31,13 @@ pub record WorkedAlone : Type 0 where
 -- the end does not receive.
 abbrev pub IsGivenAlone : Table → WorkedAlone → ℕ → ℕ → Type 0
 IsGivenAlone table w steps unheard =
-    (replayed_for w.side table w.certificate (map entry_of w.items) ≡ Ok w.events)
+    (replayed_by (Some w.side) table w.certificate (map entry_of w.items) ≡ Ok w.events)
     × (steps_of w.side w.events ≡ steps) × (unheard_of w.side w.events ≡ unheard)
 
 -- It gives none, for that reason, at that entry.
 abbrev pub RefusesAlone : Side → Table → Certificate → List Item → Reason → ℕ → Type 0
 RefusesAlone side table certificate items reason entry =
-    replayed_for side table certificate (map entry_of items) ≡ refused reason entry
+    replayed_by (Some side) table certificate (map entry_of items) ≡ refused reason entry
 
 -- ---- a peer that continues behind its End
 
@@ -76,6 +77,18 @@ discards_what_it_cannot_receive = record {
   events = Tells B (begin None None) ∷ Receives A 0 ∷ Sends A (answer None None) ∷ Loses A 1 ∷ Tells B (end_to 2 None)
       ∷ Receives A 2 ∷ Tells B (Continue (id 1) (id 2) None None) ∷ Loses B 3 ∷ [];
 }
+
+-- Its certificate discards these messages, for these reasons.
+abbrev pub Discards : Table → WorkedAlone → List (ℕ × EndFault) → Type 0
+Discards table w discards = discards_by (Some w.side) table w.certificate (map item_of (map entry_of w.items)) ≡ Ok discards
+
+-- There is no half of it.
+abbrev pub discards_it_for_that : Type 0
+discards_it_for_that = Discards worked.table discards_what_it_cannot_receive ((3, faults.NoTransaction) ∷ [])
+
+-- What the certificate says is lost is not discarded.
+abbrev pub loses_without_a_discard : Type 0
+loses_without_a_discard = Discards worked.table goes_on_behind_a_lost_end []
 
 -- What was discarded is not answered.
 abbrev pub answers_what_it_discards : Type 0

@@ -26,6 +26,7 @@ use Rattle.tcap_check.specs.Outlines.{is_named, outline_of, outlines_from, since
 pub use Rattle.tcap_check.specs.Progress.{map_ok}
 use Rattle.tcap_check.specs.Progress.{count_kept, greater, last_lost, overtakes, seat_at, time_or_zero}
 use Rattle.tcap_check.specs.Replayed.{Replay, certificate_fits, entry_by, fault_at, gap_by, is_gap, next_entry, nothing_replayed, refused}
+use Rattle.tcap_check.specs.Told.{told_if}
 use Rattle.tcap_check.specs.Unheard.{steps_of, unheard_of}
 
 -- ---- the replay of entries, one after the other
@@ -96,18 +97,19 @@ abbrev pub reported : Option Side → List Event → Report
 reported None events = record { moves = length events; unheard = 0 }
 reported (Some judged) events = record { moves = steps_of judged events; unheard = unheard_of judged events }
 
--- both ends, what is on its way, and what is counted of the steps
-abbrev pub progress_of : Option Side → Certificate → Replay → Progress
-progress_of judged c r = record {
+-- both ends, what is on its way, what is counted of the steps, and the steps, where they are listed
+abbrev pub progress_of : Bool → Option Side → Certificate → Replay → Progress
+progress_of listed judged c r = record {
   a = seat_of judged c sides.A r;
   b = seat_of judged c sides.B r;
   moves = (reported judged r.events).moves;
   unheard = (reported judged r.events).unheard;
+  steps = told_if listed r.events r.discards;
 }
 
-abbrev pub kept_of : Option Side → Certificate → Replay → Kept
-kept_of judged c r = record {
-  progress = progress_of judged c r;
+abbrev pub kept_of : Bool → Option Side → Certificate → Replay → Kept
+kept_of listed judged c r = record {
+  progress = progress_of listed judged c r;
   entries = outlines_from c 0 r.world.sent;
   since = since_from 0 0 r.world.sent;
 }
@@ -136,10 +138,14 @@ abbrev pub reading : Side → Result Message Fault → Result Item Reason
 reading side (Ok message) = Ok (Sent side message)
 reading side (Err fault) = Err (BadMessage fault)
 
--- A checker took these entries: it stands for their replay.
+-- A checker took these entries: it stands for their replay, and lists the steps of it, or not.
+abbrev pub TookListed : Bool → Checking → List (Result Item Reason) → Type 0
+TookListed listed checking entries = checking.so_far ≡ map_ok (kept_of listed checking.judged checking.certificate)
+    (taken checking.judged checking.table checking.certificate entries)
+
+-- A checker lists none for its caller.
 abbrev pub Took : Checking → List (Result Item Reason) → Type 0
-Took checking entries = checking.so_far
-    ≡ map_ok (kept_of checking.judged checking.certificate) (taken checking.judged checking.table checking.certificate entries)
+Took = TookListed false
 
 -- ---- its steps, over what is kept
 

@@ -1,12 +1,13 @@
 -- What a checker keeps of a replay, and its steps, for both ends or for the one that is judged: those of `Replayed`, over what is kept.
 -- What an end sends that alone is judged is lost at once, so nothing of it waits; what waits is what its peer told.
-use Rattle.std.specs.Prelude.{ℕ, ◌+◌, Bool, true, false, ◌≡◌, ◌≢◌, List, [], ◌∷◌, drop, filter, slice_get, length, Option, Some, None, Result, Ok, Err, ◌==◌, cond}
+use Rattle.std.specs.Prelude.{ℕ, ◌+◌, Bool, false, ◌≡◌, ◌≢◌, List, [], ◌∷◌, drop, filter, map, slice_get, length, Option, Some, None, Result, Ok, Err, ◌==◌, cond}
 use Rattle.tcap_msg.specs.declared.message.Message.{Message}
 use Rattle.tcap_record.specs.declared.entry.End.{End as Side}
 use Rattle.tcap_end.specs.declared.fault.EndFault.{EndFault}
 use Rattle.tcap_end.specs.Table.{Table}
 use Rattle.tcap_end.specs.End.{End}
-use Rattle.tcap_end.specs.Hidden.{open_halves, quiet_unseen}
+use Rattle.tcap_end.specs.declared.half.HalfName.{HalfName}
+use Rattle.tcap_end.specs.Hidden.{close, open_halves, quiet_unseen}
 use Rattle.tcap_end.specs.Message.{receive}
 use Rattle.tcap_end.specs.Step.{needs, ◌>>◌, ◌>>=◌}
 use Rattle.tcap_check.specs.declared.certificate.Fate.{Fate}
@@ -19,11 +20,11 @@ use Rattle.tcap_check.specs.declared.progress.Progress.{Progress}
 use Rattle.tcap_check.specs.declared.progress.Waiting.{Waiting}
 use Rattle.tcap_record.specs.Ends.{other}
 use Rattle.tcap_model.specs.World.{is_side}
-use Rattle.tcap_model.specs.Run.{where_so}
+use Rattle.tcap_model.specs.Run.{Closes, Receives, Tells, where_so}
 use Rattle.tcap_check.specs.Certificate.{Certificate}
 pub use Rattle.tcap_check.specs.Replayed.{is_heard, is_judged}
 use Rattle.tcap_check.specs.Replayed.{closings_judged, expiries_judged, fault_at, is_nothing, refused}
-use Rattle.tcap_check.specs.Progress.{closings_kept, due_in, expiries_kept, front_lost, last_lost, lost_told, map_ok, message_kept, moved, quiet_kept, seat_at, sent_by, with_seat_end, with_waiting}
+use Rattle.tcap_check.specs.Progress.{closings_kept, discard_told, due_in, end_moved, expiries_kept, front_lost, last_lost, lost_counted, map_ok, message_kept, moved, quiet_kept, seat_at, sent_by, with_seat_end, with_told, with_waiting}
 
 -- ---- who is judged
 
@@ -44,9 +45,10 @@ told_among side entries numbers = filter (λ n. is_told side (slice_get entries 
 
 -- An end receives a message; what it can't receive is refused, or lost where it alone is judged.
 abbrev pub received_or_not : Option Side → Side → ℕ → Progress → Result End EndFault → Result Progress CheckFault
-received_or_not judged side number p (Ok e) = Ok (moved (with_seat_end side e p))
+received_or_not judged side number p (Ok e) = Ok (moved (Receives side number) (with_seat_end side e p))
 received_or_not None side number p (Err reason) = refused BadReply number
-received_or_not (Some judged) side number p (Err reason) = Ok (lost_told (Some judged) (other side) p)
+received_or_not (Some judged) side number p (Err reason) =
+    Ok (lost_counted (Some judged) (other side) (discard_told (other side) number reason p))
 
 -- what is kept of a message comes to an end: what will be lost does not
 abbrev pub message_heard : Table → ℕ → Option Message → End → Result (Result End EndFault) CheckFault
@@ -59,10 +61,10 @@ first_heard table number [] e = refused BadReply number
 first_heard table number (first ∷ more) e =
     needs (first.number == number) (fault_at BadReply number) >> message_heard table number first.message e
 
--- A call says whether it is received; the end is behind it, or as it was.
-abbrev pub Hears : End → Result (Result End EndFault) CheckFault → Result Bool CheckFault → End → Type 0
-Hears before step (Ok true) left = step ≡ Ok (Ok left)
-Hears before step (Ok false) left = ((reason : EndFault) × (step ≡ Ok (Err reason))) × (left ≡ before)
+-- A call says why it is not received, or nothing; the end is as it was, or behind it.
+abbrev pub Hears : End → Result (Result End EndFault) CheckFault → Result (Option EndFault) CheckFault → End → Type 0
+Hears before step (Ok None) left = step ≡ Ok (Ok left)
+Hears before step (Ok (Some reason)) left = (step ≡ Ok (Err reason)) × (left ≡ before)
 Hears before step (Err fault) left = fault ≢ fault_at Memory 0 → step ≡ Err fault
 
 -- so it does on its way from an end, and is taken from there
@@ -115,7 +117,7 @@ own_taken judged table side fate number message takes p =
 -- The peer of the end that alone is judged tells it; it takes no message.
 abbrev pub told_taken : Side → Fate → ℕ → Message → List ℕ → Progress → Result Progress CheckFault
 told_taken side fate number message takes p =
-    needs (is_nothing takes) (fault_at BadReply number) >> Ok (sent_by side fate number message p)
+    needs (is_nothing takes) (fault_at BadReply number) >> Ok (sent_by (Tells side message) side fate number message p)
 
 -- a message with that number and fate, which takes these
 abbrev pub message_taken : Option Side → Table → Side → Fate → ℕ → Message → List ℕ → Progress → Result Progress CheckFault
@@ -133,10 +135,27 @@ abbrev pub closed_or_not : Side → ℕ → Progress → Result End EndFault →
 closed_or_not side number p (Ok e) = Ok (quieted side e p)
 closed_or_not side number p (Err reason) = refused NotQuiet number
 
--- The open halves of the end that alone is judged close unseen.
+-- All open halves of an end close unseen, and it is quiet,
+abbrev pub halves_quieted : Side → Table → ℕ → Progress → Result Progress CheckFault
+halves_quieted side table number p = closed_or_not side number p (quiet_unseen table (seat_at side p).end)
+
+-- those of the end that alone is judged, and that each closes is told.
 abbrev pub halves_closed : Option Side → Table → ℕ → Progress → Result Progress CheckFault
 halves_closed None table number p = Ok p
-halves_closed (Some judged) table number p = closed_or_not judged number p (quiet_unseen table (seat_at judged p).end)
+halves_closed (Some judged) table number p =
+    map_ok (with_told (map (Closes judged) (open_halves (seat_at judged p).end))) (halves_quieted judged table number p)
+
+-- Halves of an end close unseen, one after the other, before that mark.
+abbrev pub halves_shut : Side → Table → ℕ → List HalfName → Progress → Result Progress CheckFault
+halves_shut side table number [] p = Ok p
+halves_shut side table number (name ∷ more) p =
+    end_moved side (Closes side name) (fault_at NotQuiet number) p (close table (seat_at side p).end name)
+    >>= halves_shut side table number more
+
+-- All open halves of the end that alone is judged do, nothing waits, and all is quiet.
+abbrev pub alone_marked : Side → Table → ℕ → Progress → Result Progress CheckFault
+alone_marked side table number p =
+    halves_shut side table number (open_halves (seat_at side p).end) p >>= λ closed. quiet_kept number (last_lost (Some side) closed)
 
 -- The mark takes no message, nothing waits, and all is quiet.
 abbrev pub mark_taken : Option Side → Table → ℕ → List ℕ → Progress → Result Progress CheckFault

@@ -5,12 +5,12 @@ pub mod Named
 pub mod Worked
 pub mod Refused
 pub mod Replayed
-pub mod Alone
 pub mod AloneGiven
 pub mod Unheard
 pub mod AloneWorked
 pub mod Given
 pub mod Replays
+pub mod Told
 pub mod Noted
 pub mod Outlines
 pub mod Held

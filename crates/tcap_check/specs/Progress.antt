@@ -1,5 +1,5 @@
 -- What a checker keeps of two ends and two channels, and single steps: those of `Replayed`, over what is kept.
-use Rattle.std.specs.Prelude.{◌≡◌, ◌≢◌, ℕ, ℤ, ◌+◌, ◌*◌, Bool, true, false, List, [], ◌∷◌, ◌++◌, ◌≤◌, filter_map, length, Option, Some, None, Result, Ok, Err, ok_or, ◌==◌, ◌&&◌, nat_lt, cond}
+use Rattle.std.specs.Prelude.{◌≡◌, ◌≢◌, ℕ, ℤ, ◌+◌, ◌*◌, Bool, true, false, List, [], ◌∷◌, ◌++◌, ◌≤◌, filter_map, length, Option, Some, None, Result, Ok, Err, ok_or, option_map, ◌==◌, ◌&&◌, nat_lt, cond}
 use Rattle.tcap_msg.specs.declared.message.AbortReason.TheVariants.{Cause}
 use Rattle.tcap_msg.specs.declared.message.Message.{Message}
 use Rattle.tcap_msg.specs.declared.message.Message.TheVariants.{Abort}
@@ -25,11 +25,14 @@ use Rattle.tcap_check.specs.declared.progress.Progress.{Progress}
 use Rattle.tcap_check.specs.declared.progress.Seat.{Seat}
 use Rattle.tcap_check.specs.declared.progress.Waiting.{Waiting}
 use Rattle.tcap_record.specs.Ends.{other}
-use Rattle.tcap_model.specs.Run.{may_refuse}
+use Rattle.tcap_model.specs.Run.{Event, Closes, Expires, Loses, Quiet, Replies, Sends, Tells, may_refuse}
+use Rattle.tcap_check.specs.declared.sending.Way.{Way}
+use Rattle.tcap_check.specs.declared.sending.Way.TheVariants as ways
 use Rattle.tcap_model.specs.World.{is_side}
 use Rattle.tcap_check.specs.Follows.{invoke_id, invoking_half}
 use Rattle.tcap_check.specs.Replayed.{fault_at, refused}
 use Rattle.tcap_check.specs.Outlines.{half_closed, invocation_ended}
+use Rattle.tcap_check.specs.Told.{Told, discard_more, more_told}
 
 -- ---- answers
 
@@ -42,6 +45,11 @@ Yields step (Err fault) left = step ≡ Err fault
 abbrev pub YieldsInMemory : {A : Type 0} → Result A CheckFault → Result (Unit {0}) CheckFault → A → Type 0
 YieldsInMemory step (Ok done) left = step ≡ Ok left
 YieldsInMemory step (Err fault) left = fault ≢ fault_at Memory 0 → step ≡ Err fault
+
+-- It fails for want of memory alone.
+abbrev pub IsMemory : Result (Unit {0}) CheckFault → Type 0
+IsMemory (Ok done) = Unit {0}
+IsMemory (Err fault) = fault ≡ fault_at Memory 0
 
 -- what is Ok, by that function; a reason stays as it is
 abbrev pub map_ok : {A B F : Type 0} → (A → B) → Result A F → Result B F
@@ -68,41 +76,55 @@ with_waiting side messages p = with_seat side (record (seat_at side p) { waiting
 abbrev pub empty_seat : Seat
 empty_seat = record { end = nothing; waiting = []; latest = 0 }
 
--- two of them
-abbrev pub nothing_kept : Progress
-nothing_kept = record { a = empty_seat; b = empty_seat; moves = 0; unheard = 0 }
+-- two of them, of whose steps that is told
+abbrev pub nothing_kept : Option Told → Progress
+nothing_kept told = record { a = empty_seat; b = empty_seat; moves = 0; unheard = 0; steps = told }
+
+-- These steps more are told, where steps are.
+abbrev pub with_told : List Event → Progress → Progress
+with_told events p = record p { steps = option_map (more_told events) p.steps }
 
 -- one step more
-abbrev pub moved : Progress → Progress
-moved p = record p { moves = p.moves + 1 }
+abbrev pub moved : Event → Progress → Progress
+moved event p = record (with_told (event ∷ []) p) { moves = p.moves + 1 }
 
 -- what an end is behind a step, or the reason why it is refused
-abbrev pub end_moved : {F : Type 0} → Side → F → Progress → Result End EndFault → Result Progress F
-end_moved side fault p (Ok e) = Ok (moved (with_seat_end side e p))
-end_moved side fault p (Err reason) = Err fault
+abbrev pub end_moved : {F : Type 0} → Side → Event → F → Progress → Result End EndFault → Result Progress F
+end_moved side event fault p (Ok e) = Ok (moved event (with_seat_end side e p))
+end_moved side event fault p (Err reason) = Err fault
 
 -- ---- losses
 
--- A message is lost that an end sent: that is a step, and where the other end alone is judged, it is one that it does not hear. What the
--- end sent that alone is judged comes to nobody: its loss counts as nothing.
-abbrev pub lost_told : Option Side → Side → Progress → Progress
-lost_told None side p = moved p
-lost_told (Some judged) side p = cond (is_side judged side) p (record (moved p) { unheard = p.unheard + 1 })
+-- A message is lost that an end sent: it counts as a step, and where the other end alone is judged, as one that it does not hear. What
+-- the end sent that alone is judged comes to nobody: its loss counts as nothing.
+abbrev pub lost_counted : Option Side → Side → Progress → Progress
+lost_counted None side p = record p { moves = p.moves + 1 }
+lost_counted (Some judged) side p =
+    cond (is_side judged side) p (record p { moves = p.moves + 1; unheard = p.unheard + 1 })
+
+-- The message of that number is, and that is told.
+abbrev pub lost_told : Option Side → Side → ℕ → Progress → Progress
+lost_told judged side number p = lost_counted judged side (with_told (Loses side number ∷ []) p)
+
+-- That it is discarded is told so, and why.
+abbrev pub discard_told : Side → ℕ → EndFault → Progress → Progress
+discard_told side number reason p =
+    record p { steps = option_map (λ told. discard_more number reason (more_told (Loses side number ∷ []) told)) p.steps }
 
 abbrev pub is_none_kept : Option Message → Bool
 is_none_kept None = true
 is_none_kept (Some message) = false
 
--- whether the first will be lost
-abbrev pub is_first_lost : List Waiting → Bool
-is_first_lost [] = false
-is_first_lost (first ∷ more) = is_none_kept first.message
+-- the number of the first, where it will be lost
+abbrev pub first_lost : List Waiting → Option ℕ
+first_lost [] = None
+first_lost (first ∷ more) = cond (is_none_kept first.message) (Some first.number) None
 
 -- Those of these at the front of what is on its way from an end are lost that will be lost.
 abbrev pub losing_kept : Option Side → Side → List Waiting → Progress → Progress
 losing_kept judged side [] p = p
 losing_kept judged side (first ∷ more) p =
-    cond (is_none_kept first.message) (losing_kept judged side more (lost_told judged side (with_waiting side more p))) p
+    cond (is_none_kept first.message) (losing_kept judged side more (lost_told judged side first.number (with_waiting side more p))) p
 
 abbrev pub front_lost : Option Side → Side → Progress → Progress
 front_lost judged side p = losing_kept judged side (seat_at side p).waiting p
@@ -144,7 +166,8 @@ HasNoMore p q = (load q ≤ load p) × (unheard_load q ≤ unheard_load p)
 -- A half closes.
 abbrev pub half_closes : Table → Closing → HalfName → Progress → Result Progress CheckFault
 half_closes table x name p =
-    end_moved x.side (fault_at (HiddenRefused faults.CannotClose) x.entry) p (close table (seat_at x.side p).end name)
+    end_moved x.side (Closes x.side name) (fault_at (HiddenRefused faults.CannotClose) x.entry) p
+    (close table (seat_at x.side p).end name)
 
 abbrev pub closing_kept : Table → List Outline → ℕ → Closing → Progress → Result Progress CheckFault
 closing_kept table entries since x p =
@@ -158,7 +181,7 @@ closings_kept table entries since (x ∷ more) p =
 -- An invocation ends.
 abbrev pub invocation_ends : Table → Expiry → HalfName × ℤ → Progress → Result Progress CheckFault
 invocation_ends table x invocation p =
-    end_moved x.side (fault_at (HiddenRefused faults.CannotExpire) x.entry) p
+    end_moved x.side (Expires x.side invocation.0 invocation.1) (fault_at (HiddenRefused faults.CannotExpire) x.entry) p
     (expire table (seat_at x.side p).end invocation.0 invocation.1)
 
 abbrev pub expiry_kept : Table → List Outline → ℕ → Expiry → Progress → Result Progress CheckFault
@@ -205,17 +228,23 @@ seat_with fate number message seat = record seat {
   latest = greater seat.latest (time_or_zero fate);
 }
 
--- that message was sent
-abbrev pub sent_by : Side → Fate → ℕ → Message → Progress → Progress
-sent_by side fate number message p = moved (with_seat side (seat_with fate number message (seat_at side p)) p)
+-- the step by which a message is sent
+abbrev pub sending : Way → Side → Message → Event
+sending ways.Sends side message = Sends side message
+sending ways.Tells side message = Tells side message
+sending (ways.Replies number) side message = Replies side number
 
-abbrev pub or_still : Side → Progress → Result End EndFault → Progress
-or_still side p (Ok e) = moved (with_seat_end side e p)
-or_still side p (Err reason) = p
+-- that message was sent, by that step
+abbrev pub sent_by : Event → Side → Fate → ℕ → Message → Progress → Progress
+sent_by event side fate number message p = moved event (with_seat side (seat_with fate number message (seat_at side p)) p)
+
+abbrev pub or_still : Side → Event → Progress → Result End EndFault → Progress
+or_still side event p (Ok e) = moved event (with_seat_end side e p)
+or_still side event p (Err reason) = p
 
 -- that ID, where its invocation may end unseen
 abbrev pub end_tried : Table → Side → HalfName → ℤ → Progress → Progress
-end_tried table side name id p = or_still side p (expire table (seat_at side p).end name id)
+end_tried table side name id p = or_still side (Expires side name id) p (expire table (seat_at side p).end name id)
 
 -- each of these
 abbrev pub ids_ended : Table → Side → HalfName → List ℤ → Progress → Progress
@@ -234,7 +263,7 @@ ids_ended_over table side (Some name) ids p = ids_ended table side name ids p
 
 -- The end sends it.
 abbrev pub sent_or_not : Side → Fate → ℕ → Message → Progress → Result End EndFault → Result Progress CheckFault
-sent_or_not side fate number message p (Ok e) = Ok (sent_by side fate number message (with_seat_end side e p))
+sent_or_not side fate number message p (Ok e) = Ok (sent_by (Sends side message) side fate number message (with_seat_end side e p))
 sent_or_not side fate number message p (Err reason) = refused (SendRefused reason) number
 
 abbrev pub send_kept : Table → Side → Fate → ℕ → Message → Progress → Result Progress CheckFault
@@ -258,7 +287,7 @@ abbrev pub first_answered : Side → Fate → ℕ → Message → ℕ → List W
 first_answered side fate number abort taken [] p = refused BadReply number
 first_answered side fate number abort taken (first ∷ more) p = do
   needs ((first.number == taken) && may_be_answered (seat_at side p).end first.message abort) (fault_at BadReply number)
-  Ok (sent_by side fate number abort (with_waiting (other side) more p))
+  Ok (sent_by (Replies side taken) side fate number abort (with_waiting (other side) more p))
 
 -- The same, behind what is lost before it.
 abbrev pub reply_kept : Option Side → Side → Fate → ℕ → Message → ℕ → Progress → Result Progress CheckFault
@@ -282,7 +311,7 @@ is_empty (first ∷ more) = false
 
 -- both ends are quiet, or not
 abbrev pub both_quiet : ℕ → Progress → Result End EndFault → Result End EndFault → Result Progress CheckFault
-both_quiet number p (Ok a) (Ok b) = Ok (moved (with_seat_end sides.B b (with_seat_end sides.A a p)))
+both_quiet number p (Ok a) (Ok b) = Ok (moved Quiet (with_seat_end sides.B b (with_seat_end sides.A a p)))
 both_quiet number p _ _ = refused NotQuiet number
 
 -- Nothing is on its way, and both ends are quiet.

@@ -16,7 +16,7 @@ use Rattle.tcap_end.specs.declared.half.HalfName.{HalfName}
 use Rattle.tcap_end.specs.Table.{Table}
 use Rattle.tcap_end.specs.End.{End}
 use Rattle.tcap_end.specs.Hidden.{open_halves}
-use Rattle.tcap_end.specs.Message.{send}
+use Rattle.tcap_end.specs.Message.{receive, send}
 use Rattle.tcap_end.specs.Reply.{aborts}
 use Rattle.tcap_end.specs.Step.{needs, ◌>>◌, ◌>>=◌}
 use Rattle.tcap_check.specs.declared.fault.CheckFault.{CheckFault}
@@ -73,25 +73,26 @@ certificate_fits c = do
 
 -- ---- who is judged: both ends, or one alone
 
--- whether an end is
+-- whether an end is judged
 abbrev pub is_judged : Option Side → Side → Bool
 is_judged None side = true
 is_judged (Some judged) side = is_side judged side
 
--- whether what an end sends comes to one that is
+-- whether what an end sends comes to an end that is judged
 abbrev pub is_heard : Option Side → Side → Bool
 is_heard None sender = true
 is_heard (Some judged) sender = is_side (other judged) sender
 
 -- ---- steps
 
--- What was built so far: the steps, and the world behind them.
+-- What was built so far: the steps; the number of each message that was discarded, and why; and the world behind them.
 pub record Replay : Type 0 where
   pub events : List Event
+  pub discards : List (ℕ × EndFault)
   pub world : World
 
 abbrev pub nothing_replayed : Replay
-nothing_replayed = record { events = []; world = empty }
+nothing_replayed = record { events = []; discards = []; world = empty }
 
 -- the number of the next entry
 abbrev pub next_entry : Replay → ℕ
@@ -99,7 +100,7 @@ next_entry r = length r.world.sent
 
 -- one step more, and the world behind it
 abbrev pub with_step : Event → Replay → World → Replay
-with_step event r world = record { events = r.events ++ event ∷ []; world = world }
+with_step event r world = record { events = r.events ++ event ∷ []; discards = r.discards; world = world }
 
 -- the same, where it may happen
 abbrev pub stepped : Table → Event → Replay → Option Replay
@@ -118,10 +119,11 @@ lost_front fates (first ∷ more) = if_lost (slice_get fates first.number) (firs
 abbrev pub losing : Side → List ℕ → Replay → Replay
 losing side numbers r = record {
   events = r.events ++ map (Loses side) numbers;
+  discards = r.discards;
   world = with_channel side (drop (length numbers) (channel_from side r.world)) r.world;
 }
 
--- those are whose fate says so
+-- Those at the front of a channel are lost whose fate says so.
 abbrev pub lost_from_front : Certificate → Side → Replay → Replay
 lost_from_front c side r = losing side (lost_front c.fates (channel_from side r.world)) r
 
@@ -160,13 +162,32 @@ abbrev pub or_else : {A : Type 0} → Option A → Option A → Option A
 or_else None other = other
 or_else (Some a) other = Some a
 
--- The message of that number, which its peer sent, is received, or, where it can't be, lost: a discard.
+-- why an end can't receive a message, where it can't
+abbrev pub why_not : Result End EndFault → List EndFault
+why_not (Ok e) = []
+why_not (Err reason) = reason ∷ []
+
+-- why an end can't receive the first of these messages
+abbrev pub why_not_first : Table → End → List OnItsWay → List EndFault
+why_not_first table e [] = []
+why_not_first table e (first ∷ more) = why_not (receive table e first.message)
+
+abbrev pub with_discards : List (ℕ × EndFault) → Replay → Replay
+with_discards more r = record r { discards = r.discards ++ more }
+
+-- The message of that number, which its peer sent, is lost where the end can't receive it: a discard.
+abbrev pub discarded : Table → Side → ℕ → Replay → Option Replay
+discarded table side number r = option_map
+    (with_discards (map (λ reason. (number, reason)) (why_not_first table (end_at side r.world) (channel_from (other side) r.world))))
+    (stepped table (Loses (other side) number) r)
+
+-- It is received, or, where it can't be, discarded.
 abbrev pub heard : Table → Certificate → Side → ℕ → Replay → Result Replay CheckFault
 heard table c side number r = by (lost_from_front c (other side) r)
   where
     by : Replay → Result Replay CheckFault
     by before = ok_or
-        (or_else (stepped table (Receives side number) before) (stepped table (Loses (other side) number) before))
+        (or_else (stepped table (Receives side number) before) (discarded table side number before))
         (fault_at BadReply number)
 
 -- Whether a message of that gap is delivered to an end that is judged.
@@ -342,7 +363,7 @@ abbrev pub closed_before : Option Side → Table → ℕ → Replay → Result R
 closed_before None table mark r = Ok r
 closed_before (Some judged) table mark r = closed_at_mark table judged mark (open_halves (end_at judged r.world)) r
 
--- what is still on its way to an end that is judged is lost
+-- What is at the front on its way to an end that is judged is lost, where its fate says so.
 abbrev pub lost_last : Option Side → Certificate → Replay → Replay
 lost_last None c r = lost_from_both c r
 lost_last (Some judged) c r = lost_from_front c (other judged) r
@@ -375,49 +396,28 @@ entries_by judged table c (entry ∷ entries) r = do
   next ← entry_by judged table c fate entry r
   entries_by judged table c entries next
 
--- The run that the certificate gives for what entries are read as; what is still on its way behind the last gap is lost.
+-- the replay of what entries are read as, up to the last gap
+abbrev pub replay_by : Option Side → Table → Certificate → List (Result Item Reason) → Result Replay CheckFault
+replay_by judged table c entries = certificate_fits c >> entries_by judged table c entries nothing_replayed
+
+-- The run that the certificate gives for what entries are read as; what is then at the front of a channel is lost, where its fate says so.
 abbrev pub run_by : Option Side → Table → Certificate → List (Result Item Reason) → Result (List Event) CheckFault
 run_by judged table c entries = do
   certificate_fits c
   r ← entries_by judged table c entries nothing_replayed
   Ok (lost_last judged c r).events
 
--- the same for the entries of a record: where an end is named it alone is judged, else both are
+-- which messages are discarded in it, and why
+abbrev pub discards_by : Option Side → Table → Certificate → List (Result Item Reason) → Result (List (ℕ × EndFault)) CheckFault
+discards_by judged table c entries = do
+  certificate_fits c
+  r ← entries_by judged table c entries nothing_replayed
+  Ok (lost_last judged c r).discards
+
+-- the run that it gives for the entries of a record: where an end is named it alone is judged, else both are
 abbrev pub replayed_by : Option Side → Table → Certificate → List Entry → Result (List Event) CheckFault
 replayed_by judged table c entries = run_by judged table c (map item_of entries)
 
--- ---- two ends
-
-abbrev pub delivery_replayed : Table → Certificate → ℕ → ℕ → Fate → Item → Replay → Result Replay CheckFault
-delivery_replayed = delivery_by None
-
-abbrev pub deliveries_replayed : Table → Certificate → ℕ → ℕ → List Fate → List Item → Replay → Result Replay CheckFault
-deliveries_replayed = deliveries_by None
-
-abbrev pub gap_replayed : Table → Certificate → Replay → Result Replay CheckFault
-gap_replayed = gap_by None
-
-abbrev pub message_replayed : Table → Certificate → Side → Message → Replay → Result Replay CheckFault
-message_replayed = own_message None
-
-abbrev pub sent_replayed : Table → Certificate → Fate → Side → Message → Replay → Result Replay CheckFault
-sent_replayed = own_judged None
-
-abbrev pub quiet_replayed : Table → Certificate → Fate → Replay → Result Replay CheckFault
-quiet_replayed = mark_judged None
-
-abbrev pub item_replayed : Table → Certificate → Fate → Item → Replay → Result Replay CheckFault
-item_replayed = item_by None
-
-abbrev pub entry_replayed : Table → Certificate → Fate → Result Item Reason → Replay → Result Replay CheckFault
-entry_replayed = entry_by None
-
-abbrev pub entries_replayed : Table → Certificate → List (Result Item Reason) → Replay → Result Replay CheckFault
-entries_replayed = entries_by None
-
-abbrev pub replayed : Table → Certificate → List Entry → Result (List Event) CheckFault
-replayed = replayed_by None
-
--- how many steps it has
+-- how many steps the run of both ends has
 abbrev pub moves_of : Table → Certificate → List Entry → Result ℕ CheckFault
-moves_of table c entries = replayed table c entries >>= λ events. Ok (length events)
+moves_of table c entries = replayed_by None table c entries >>= λ events. Ok (length events)

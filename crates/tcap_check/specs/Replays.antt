@@ -22,11 +22,11 @@ use Rattle.tcap_check.specs.Worked.{Worked, by_fates, crossing, late_reject, two
 use Rattle.tcap_model.specs.declared.reason.Reason.{Reason}
 use Rattle.tcap_model.specs.declared.reason.Reason.TheVariants.{FateCount, FateRange, OutOfOrder, BadReply, SendRefused, HiddenRefused, NotQuiet, BadMessage, NoItem}
 use Rattle.tcap_model.specs.Entries.{entry_of}
-use Rattle.tcap_check.specs.Replayed.{moves_of, refused, replayed}
+use Rattle.tcap_check.specs.Replayed.{moves_of, refused, replayed_by}
 
 -- The certificate of a worked run gives that run.
 abbrev pub IsReplayed : Table → Worked → Type 0
-IsReplayed table w = replayed table w.certificate (map entry_of w.items) ≡ Ok w.events
+IsReplayed table w = replayed_by None table w.certificate (map entry_of w.items) ≡ Ok w.events
 
 -- It gives a run of so many steps.
 abbrev pub Gives : Table → Certificate → List Item → ℕ → Type 0
@@ -34,7 +34,7 @@ Gives table certificate items moves = moves_of table certificate (map entry_of i
 
 -- It gives none, for that reason, at that entry.
 abbrev pub Refuses : Table → Certificate → List Item → Reason → ℕ → Type 0
-Refuses table certificate items reason entry = replayed table certificate (map entry_of items) ≡ refused reason entry
+Refuses table certificate items reason entry = replayed_by None table certificate (map entry_of items) ≡ refused reason entry
 
 abbrev expiring : List Expiry → Certificate → Certificate
 expiring listed c = record c { expire = listed }
@@ -264,7 +264,7 @@ mark_behind_a_lost_begin =
 -- ---- an entry that is no message
 
 abbrev pub no_message : Type 0
-no_message = replayed table (by_fates (Gap 1 ∷ [])) (bad ∷ []) ≡ refused (BadMessage fault) 0
+no_message = replayed_by None table (by_fates (Gap 1 ∷ [])) (bad ∷ []) ≡ refused (BadMessage fault) 0
   where
     fault : Fault
     fault = record { reason = element.EmptyComponents; place = 6 }
@@ -274,12 +274,12 @@ no_message = replayed table (by_fates (Gap 1 ∷ [])) (bad ∷ []) ≡ refused (
 
 -- There is no fate for an entry that is no message.
 abbrev pub no_fate_for_no_message : Type 0
-no_fate_for_no_message = replayed table (by_fates []) (bad ∷ []) ≡ refused FateCount 0
+no_fate_for_no_message = replayed_by None table (by_fates []) (bad ∷ []) ≡ refused FateCount 0
   where
     bad : Entry
     bad = record { side = Some A; place = 1; body = Bad (record { reason = element.EmptyComponents; place = 6 }) }
 
 -- an entry with a message and no end, and one with an end and a quiet mark
 abbrev pub no_item : Type 0
-no_item = (replayed table (by_fates (Gap 1 ∷ [])) (record { side = None; place = 1; body = Good (begin None None) } ∷ []) ≡ refused NoItem 0)
-    × (replayed table (by_fates (Gap 1 ∷ [])) (record { side = Some A; place = 0; body = QuietMark } ∷ []) ≡ refused NoItem 0)
+no_item = (replayed_by None table (by_fates (Gap 1 ∷ [])) (record { side = None; place = 1; body = Good (begin None None) } ∷ []) ≡ refused NoItem 0)
+    × (replayed_by None table (by_fates (Gap 1 ∷ [])) (record { side = Some A; place = 0; body = QuietMark } ∷ []) ≡ refused NoItem 0)

@@ -24,6 +24,14 @@ pub fn discards_what_it_cannot_receive()
     ensures { IsGivenAlone worked.table alone.discards_what_it_cannot_receive 7 1 }
 {}
 
+pub fn discards_it_for_that()
+    ensures { alone.discards_it_for_that }
+{}
+
+pub fn loses_without_a_discard()
+    ensures { alone.loses_without_a_discard }
+{}
+
 pub fn answers_what_it_discards()
     ensures { alone.answers_what_it_discards }
 {}

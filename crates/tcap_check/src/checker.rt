@@ -98,7 +98,7 @@ impl<'a> Checker<'a> {
         ensures refused { (f : Refusal) → result ≡ Err f → f ≢ fault_at reasons.Memory 0
             → certificate_fits certificate.entry.now ≡ Err f }
     {
-        let replaying = Replaying::new(alloc, table, certificate, judged)?;
+        let replaying = Replaying::new(alloc, table, certificate, judged, false)?;
         Ok(Checker {
             replaying,
             fault: None,

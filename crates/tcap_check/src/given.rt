@@ -1,7 +1,7 @@
 //! What a certificate gives: a run of two ends that sends the items of a record, or the reason why it gives none. Each
 //! function says by its contract alone what holds of the definitions.
 
-ghost use Rattle.std.specs.Prelude.{◌≡◌, ℕ, ℤ, List, [], length, filter_map, Contains, Option, Some, Ok, Err};
+ghost use Rattle.std.specs.Prelude.{◌≡◌, ℕ, ℤ, List, [], length, filter_map, Contains, Option, Some, Ok, Err, None};
 ghost use Rattle.std.specs.List.{AllByRecursion};
 ghost use Rattle.tcap_msg.specs.declared.message.Message.{Message};
 ghost use Rattle.tcap_msg.specs.Parts.{components_in};
@@ -19,21 +19,21 @@ ghost use Rattle.tcap_model.specs.Entries.{AreItems};
 ghost use Rattle.tcap_check.specs.Follows.{Follows, IsImplied, IsPlain, invoke_id, invoking_half};
 ghost use Rattle.tcap_check.specs.Named.{AreSameEvents, IsDescribedBy};
 ghost use Rattle.tcap_check.specs.Given.{DeliversAtOnce, IsGiven, IsInUse, IsReason, IsSeen};
-ghost use Rattle.tcap_check.specs.Replayed.{replayed, replayed_by};
+ghost use Rattle.tcap_check.specs.Replayed.{replayed_by};
 
 /// A run from any certificate: what it gives is a run of two ends, from the empty world, which sends the items that the
 /// entries are, in their order, and nothing else; the certificate describes it. It has at most twice as many steps as
 /// there are entries, one for each component, and one for each listed event.
 pub fn gives_a_run()
     ensures { (table : Table) (c : Certificate) (entries : List Entry) (events : List Event)
-        → replayed table c entries ≡ Ok events
+        → replayed_by None table c entries ≡ Ok events
         → IsGiven table c entries events }
 {}
 
 /// So two lawful ends may have sent these items, in this order, by so many steps.
 pub fn what_is_given_is_lawful()
     ensures { (table : Table) (c : Certificate) (entries : List Entry) (events : List Event)
-        → replayed table c entries ≡ Ok events
+        → replayed_by None table c entries ≡ Ok events
         → (items : List Item) × AreItems entries items × IsLawful items table (length events) }
 {}
 
@@ -42,7 +42,7 @@ pub fn what_is_given_is_lawful()
 pub fn gives_where_a_run_is_described()
     ensures { (table : Table) (c : Certificate) (entries : List Entry) (items : List Item) (events : List Event)
         → AreItems entries items → IsRunOf items table events → IsDescribedBy table c items events
-        → (given : List Event) × (replayed table c entries ≡ Ok given) × (length given ≡ length events) }
+        → (given : List Event) × (replayed_by None table c entries ≡ Ok given) × (length given ≡ length events) }
 {}
 
 /// A run that a certificate describes, and that sends the items, takes every message: it is delivered, answered or lost,
@@ -87,7 +87,7 @@ pub fn implied_are_needed()
 /// loss, no provider's reply and no closing.
 pub fn prompt_certificates_deliver_at_once()
     ensures { (table : Table) (c : Certificate) (entries : List Entry) (events : List Event) → IsPrompt c
-        → replayed table c entries ≡ Ok events
+        → replayed_by None table c entries ≡ Ok events
         → DeliversAtOnce table events × AllByRecursion IsPlain events }
 {}
 
@@ -97,7 +97,7 @@ pub fn prompt_runs_are_given()
     ensures { (table : Table) (entries : List Entry) (items : List Item) (events : List Event)
         → AreItems entries items → IsRunOf items table events → AllByRecursion IsSeen events
         → DeliversAtOnce table events
-        → (given : List Event) × (replayed table (prompt (length items)) entries ≡ Ok given) }
+        → (given : List Event) × (replayed_by None table (prompt (length items)) entries ≡ Ok given) }
 {}
 
 /// What a refusal says of the certificate and the entries, where both ends are judged, or one alone.

@@ -5,13 +5,14 @@ ghost use Rattle.tcap_record.specs.Ends.{other};
 ghost use Rattle.tcap_check.specs.Hearing.{Hears, deliveries_kept, first_heard, first_received, gap_kept, heard_from, is_told, message_received};
 ghost use Rattle.tcap_check.specs.Hearing.{told_among};
 ghost use Rattle.tcap_check.specs.Plan.{IsPlan};
-ghost use Rattle.tcap_check.specs.Progress.{GrewBy, HasNoMore, Yields, YieldsInMemory, load, seat_at, unheard_load};
+ghost use Rattle.tcap_check.specs.Progress.{GrewBy, HasNoMore, YieldsInMemory, load, seat_at, unheard_load};
 
 use crate::certificate::Certificate;
 use crate::fault::CheckFault;
 use crate::outline::Outline;
 use crate::plan::Plan;
 use crate::progress::{OUT_OF_MEMORY, Progress, Waiting, receive};
+use crate::step::Step;
 use std::alloc::{AllocError, Global};
 use std::collections::LinkedList;
 use tcap_end::{EndFault, EndState, Table};
@@ -60,13 +61,13 @@ pub(crate) fn told_among(
     Ok(told)
 }
 
-/// An end receives the first of these messages on their way to it, which has to be that of the number; or it can't.
+/// An end receives the first of these messages on their way to it, which has to be that of the number; or the reason why it can't.
 fn hear(
     end: &mut EndState,
     table: &Table,
     waiting: &LinkedList<Waiting>,
     number: u32,
-) -> Result<bool, CheckFault>
+) -> Result<Option<EndFault>, CheckFault>
     ensures { Hears end.old (first_heard table.now number waiting.now end.old) result end.new }
 {
     let refused = CheckFault {
@@ -83,14 +84,14 @@ fn hear(
         return Err(refused);
     };
     match receive(end, table, message) {
-        Ok(()) => Ok(true),
+        Ok(()) => Ok(None),
         Err(EndFault::Memory) => Err(OUT_OF_MEMORY),
-        Err(_) => Ok(false),
+        Err(reason) => Ok(Some(reason)),
     }
 }
 
 impl<'r> Progress<'r> {
-    /// The first message on its way from an end, which has to be that of the number, is received; or it is refused, or lost where the
+    /// The first message on its way from an end, which has to be that of the number, is received; or it is refused, or discarded where the
     /// end that can't receive it is judged alone.
     fn deliver_first(
         &mut self,
@@ -104,23 +105,24 @@ impl<'r> Progress<'r> {
         ensures delivered { YieldsInMemory (first_received judged table.now sender number (seat_at sender self.old).waiting self.old)
             result self.new }
     {
-        let heard = match sender {
+        let refused = match sender {
             End::A => hear(&mut self.b.end, table, &self.a.waiting, number)?,
             End::B => hear(&mut self.a.end, table, &self.b.waiting, number)?,
         };
-        if !heard && judged.is_none() {
+        if refused.is_some() && judged.is_none() {
             return Err(CheckFault {
                 reason: Reason::BadReply,
                 entry: u64::from(number),
             });
         }
         self.drop_first(sender);
-        if heard {
-            self.moves += 1;
-        } else {
-            self.count_lost(judged, sender);
+        match refused {
+            None => {
+                self.moves += 1;
+                self.tell(Step::Receives(sender.other(), u64::from(number)))
+            }
+            Some(reason) => self.discard(judged, sender, u64::from(number), reason),
         }
-        Ok(())
     }
 
     /// The message of that number from an end is delivered, behind what is lost before it.
@@ -136,7 +138,7 @@ impl<'r> Progress<'r> {
         ensures delivered { YieldsInMemory (message_received judged table.now sender number self.old) result self.new }
         ensures grows { OnOk result (HasNoMore self.old self.new) }
     {
-        self.lose_front(judged, sender);
+        self.lose_front(judged, sender)?;
         self.deliver_first(table, judged, sender, number)
     }
 

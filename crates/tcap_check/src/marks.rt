@@ -1,14 +1,18 @@
 //! What a checker does at a quiet mark (Q.774 3.2 and 3.3).
 
-ghost use Rattle.std.specs.Prelude.{◌≡◌, ◌<◌, ◌+◌, ◌^◌, OnOk};
-ghost use Rattle.tcap_check.specs.Hearing.{halves_closed, mark_taken};
-ghost use Rattle.tcap_check.specs.Progress.{GrewBy, Yields, load, quiet_kept, unheard_load};
+ghost use Rattle.std.specs.Prelude.{◌≡◌, ◌<◌, ◌+◌, ◌^◌, length, None, OnOk, Some};
+ghost use Rattle.tcap_end.specs.Hidden.{close};
+ghost use Rattle.tcap_model.specs.Run.{Closes};
+ghost use Rattle.tcap_check.specs.Hearing.{alone_marked, halves_closed, halves_quieted, halves_shut, mark_taken};
+ghost use Rattle.tcap_check.specs.Progress.{GrewBy, Yields, YieldsInMemory, end_moved, load, quiet_kept, seat_at, unheard_load};
 ghost use Rattle.tcap_check.specs.Replayed.{fault_at};
 ghost use Rattle.tcap_model.specs.declared.reason.Reason.TheVariants.{NotQuiet};
 
 use crate::fault::CheckFault;
-use crate::progress::Progress;
-use tcap_end::Table;
+use crate::progress::{OUT_OF_MEMORY, Progress, copy_name};
+use crate::step::Step;
+use std::alloc::Global;
+use tcap_end::{HalfName, Table};
 use tcap_model::Reason;
 use tcap_record::End;
 
@@ -23,21 +27,15 @@ fn not_quiet(number: u64) -> CheckFault
 }
 
 impl Progress<'_> {
-    /// The open halves of the end that alone is judged close unseen before the mark of that number.
-    fn close_halves(
-        &mut self,
-        table: &Table,
-        judged: Option<End>,
-        number: u64,
-    ) -> Result<(), CheckFault>
+    /// All open halves of an end close unseen before the mark of that number.
+    fn quiet_halves(&mut self, table: &Table, side: End, number: u64) -> Result<(), CheckFault>
         requires room { self.old.moves < 2 ^ 126 }
-        ensures closed { Yields (halves_closed judged table.now number self.old) result self.new }
+        ensures closed { Yields (halves_quieted side table.now number self.old) result self.new }
         ensures grows { OnOk result (GrewBy (2 ^ 65) 0 self.old self.new) }
     {
-        let closed = match judged {
-            None => return Ok(()),
-            Some(End::A) => self.a.end.quiet_unseen(table),
-            Some(End::B) => self.b.end.quiet_unseen(table),
+        let closed = match side {
+            End::A => self.a.end.quiet_unseen(table),
+            End::B => self.b.end.quiet_unseen(table),
         };
         let Ok(count) = closed else {
             return Err(not_quiet(number));
@@ -46,24 +44,103 @@ impl Progress<'_> {
         Ok(())
     }
 
-    /// Nothing is on its way, and both ends are quiet at the mark of that number.
-    fn be_quiet(&mut self, number: u64) -> Result<(), CheckFault>
-        requires room { self.old.moves + 1 < 2 ^ 128 }
-        ensures quiet { Yields (quiet_kept number self.old) result self.new }
-        ensures grows { OnOk result (GrewBy 1 0 self.old self.new) }
+    /// The same, of the end that alone is judged, where steps are not listed.
+    fn close_unlisted(&mut self, table: &Table, alone: End, number: u64) -> Result<(), CheckFault>
+        requires unlisted { self.old.steps ≡ None }
+        requires room { self.old.moves < 2 ^ 126 }
+        ensures closed { Yields (halves_closed (Some «alone») table.now number self.old) result self.new }
+        ensures grows { OnOk result (GrewBy (2 ^ 65) 0 self.old self.new) }
     {
-        let nothing = self.a.waiting.is_empty() && self.b.waiting.is_empty();
-        if !nothing || self.a.end.quiet().is_err() || self.b.end.quiet().is_err() {
+        self.quiet_halves(table, alone, number)
+    }
+
+    /// A half of an end closes unseen before the mark of that number.
+    fn close_half(
+        &mut self,
+        table: &Table,
+        side: End,
+        name: HalfName,
+        number: u64,
+    ) -> Result<(), CheckFault>
+        requires room { self.old.moves + 1 < 2 ^ 128 }
+        ensures closed { YieldsInMemory (end_moved «side» (Closes «side» name) (fault_at NotQuiet number) self.old
+            (close table.now (seat_at «side» self.old).end name)) result self.new }
+    {
+        let own = copy_name(&name);
+        let closed = match side {
+            End::A => self.a.end.close(table, own),
+            End::B => self.b.end.close(table, own),
+        };
+        if closed.is_err() {
             return Err(not_quiet(number));
         }
         self.moves += 1;
+        self.tell(Step::Closes(side, name))
+    }
+
+    /// Halves of an end close unseen, one after the other, before the mark of that number.
+    fn close_each(
+        &mut self,
+        table: &Table,
+        side: End,
+        names: &[HalfName],
+        number: u64,
+    ) -> Result<(), CheckFault>
+        requires room { self.old.moves + length names.now < 2 ^ 128 }
+        ensures closed { YieldsInMemory (halves_shut side table.now number names.now self.old) result self.new }
+    {
+        for name in names {
+            self.close_half(table, side, copy_name(name), number)?;
+        }
         Ok(())
+    }
+
+    /// Nothing is on its way, and both ends are quiet at the mark of that number.
+    fn be_quiet(&mut self, number: u64) -> Result<(), CheckFault>
+        requires room { self.old.moves + 1 < 2 ^ 128 }
+        ensures quiet { YieldsInMemory (quiet_kept number self.old) result self.new }
+        ensures grows { OnOk result (GrewBy 1 0 self.old self.new) }
+    {
+        let nothing = self.a.waiting.is_empty() && self.b.waiting.is_empty();
+        // Neither end is changed where one of them is not quiet.
+        if !nothing || !self.a.end.is_quiet() || !self.b.end.is_quiet() {
+            return Err(not_quiet(number));
+        }
+        if self.a.end.quiet().is_err() || self.b.end.quiet().is_err() {
+            return Err(not_quiet(number));
+        }
+        self.moves += 1;
+        self.tell(Step::Quiet)
+    }
+
+    /// A quiet mark where one end alone is judged and steps are listed: its open halves close one after the other, so that it is known
+    /// which of them may not.
+    #[tactic(auto, using(crate::proofs::KeptGrowth::shut_grows))]
+    fn mark_listed(
+        &mut self,
+        alloc: Global,
+        table: &Table,
+        alone: End,
+        number: u64,
+    ) -> Result<(), CheckFault>
+        requires room { load self.old < 2 ^ 126 }
+        requires count { unheard_load self.old < 2 ^ 63 }
+        ensures taken { YieldsInMemory (alone_marked alone table.now number self.old) result self.new }
+        ensures grows { OnOk result (GrewBy (2 ^ 66) 0 self.old self.new) }
+    {
+        let Ok(names) = self.seat(alone).end.open_halves(alloc) else {
+            return Err(OUT_OF_MEMORY);
+        };
+        self.close_each(table, alone, &names, number)?;
+        self.lose_last(Some(alone))?;
+        self.be_quiet(number)
     }
 
     /// A quiet mark, which takes no message: the open halves of the end that alone is judged close unseen, nothing waits for an end that
     /// is judged, and all is quiet.
     pub(crate) fn take_mark(
         &mut self,
+        alloc: Global,
         table: &Table,
         judged: Option<End>,
         number: u64,
@@ -71,14 +148,18 @@ impl Progress<'_> {
     ) -> Result<(), CheckFault>
         requires room { load self.old < 2 ^ 126 }
         requires count { unheard_load self.old < 2 ^ 63 }
-        ensures taken { Yields (mark_taken judged table.now number takes.now self.old) result self.new }
+        ensures taken { YieldsInMemory (mark_taken judged table.now number takes.now self.old) result self.new }
         ensures grows { OnOk result (GrewBy (2 ^ 66) 0 self.old self.new) }
     {
         if !takes.is_empty() {
             return Err(not_quiet(number));
         }
-        self.close_halves(table, judged, number)?;
-        self.lose_last(judged);
+        match (judged, &self.steps) {
+            (Some(alone), Some(_)) => return self.mark_listed(alloc, table, alone, number),
+            (Some(alone), None) => self.close_unlisted(table, alone, number)?,
+            (None, _) => {}
+        }
+        self.lose_last(judged)?;
         self.be_quiet(number)
     }
 }

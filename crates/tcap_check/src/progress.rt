@@ -1,20 +1,21 @@
 //! What a checker keeps of two ends and two channels between them, and single steps (Q.774 3.2 and 3.3).
 
-ghost use Rattle.std.specs.Prelude.{◌≡◌, ◌<◌, ◌+◌, ◌^◌, IsSome, OnErr, OnOk, drop, length};
+ghost use Rattle.std.specs.Prelude.{◌≡◌, ◌<◌, ◌+◌, ◌^◌, [], ◌∷◌, None, IfSome, IsSome, OnErr, OnOk, length};
 ghost use Rattle.tcap_msg.specs.Parts.{otid_in};
 ghost use Rattle.tcap_end.specs.Step.{AnswersInMemory};
 ghost use Rattle.tcap_end.specs.Message.{receive};
 ghost use Rattle.tcap_check.specs.Hearing.{is_judged};
 ghost use Rattle.tcap_check.specs.Replayed.{closings_judged, expiries_judged};
-ghost use Rattle.tcap_check.specs.Progress.{HasNoMore, Yields, closing_kept, closings_kept, count_kept, empty_seat};
-ghost use Rattle.tcap_check.specs.Progress.{expiries_kept};
-ghost use Rattle.tcap_check.specs.Progress.{expiry_kept, front_lost, half_closes, invocation_ends, is_first_lost, last_lost};
-ghost use Rattle.tcap_check.specs.Progress.{load, lost_told, nothing_kept, seat_at, unheard_load, with_waiting};
+ghost use Rattle.tcap_check.specs.Progress.{IsMemory, YieldsInMemory, closing_kept, closings_kept, count_kept, discard_told, empty_seat};
+ghost use Rattle.tcap_check.specs.Progress.{expiries_kept, expiry_kept, half_closes, invocation_ends, nothing_kept, seat_at, with_told};
+ghost use Rattle.tcap_check.specs.Told.{discard_of, event_of, told_if, told_of};
 
 use crate::certificate::{Closing, Expiry};
 use crate::fault::CheckFault;
 use crate::held::Held;
 use crate::outline::{Outline, half_closed, invocation_ended};
+use crate::step::Step;
+use crate::steps::Steps;
 use std::alloc::Global;
 use std::collections::LinkedList;
 use tcap_end::{EndFault, EndState, HalfName, Table};
@@ -45,6 +46,8 @@ pub(crate) struct Progress<'r> {
     pub(crate) moves: u128,
     // How many messages of its peer were lost.
     pub(crate) unheard: u64,
+    // The steps themselves, where they are listed.
+    pub(crate) steps: Option<Steps>,
 }
 
 impl<'r> Seat<'r> {
@@ -91,6 +94,16 @@ pub(crate) const OUT_OF_MEMORY: CheckFault = CheckFault {
     entry: 0,
 };
 
+/// The same name, once more.
+pub(crate) fn copy_name(name: &HalfName) -> HalfName
+    ensures { result ≡ name.now }
+{
+    match name {
+        HalfName::Own(id) => HalfName::Own(id.view().to_transaction_id()),
+        HalfName::Peer(id) => HalfName::Peer(id.view().to_transaction_id()),
+    }
+}
+
 /// An end receives a message, which is lent once for all that is asked of it.
 pub(crate) fn receive(end: &mut EndState, table: &Table, message: &Held) -> Result<(), EndFault>
     ensures step { AnswersInMemory (receive table.now end.old message.now) result end.new }
@@ -102,16 +115,66 @@ pub(crate) fn receive(end: &mut EndState, table: &Table, message: &Held) -> Resu
 }
 
 impl<'r> Progress<'r> {
-    /// Two ends over which nothing went yet.
-    pub(crate) fn new(alloc: Global) -> Progress<'r>
-        ensures { result ≡ nothing_kept }
+    /// Two ends over which nothing went yet, whose steps are listed, or not.
+    pub(crate) fn new(alloc: Global, listed: bool) -> Progress<'r>
+        ensures { result ≡ nothing_kept (told_if listed [] []) }
     {
+        let steps = if listed {
+            Some(Steps::new(alloc))
+        } else {
+            None
+        };
         Progress {
             a: Seat::new(alloc),
             b: Seat::new(alloc),
             moves: 0,
             unheard: 0,
+            steps,
         }
+    }
+
+    /// The steps that were listed; none where they were not.
+    pub(crate) fn into_steps(self, alloc: Global) -> Vec<Step>
+        ensures { IfSome self.entry.steps (λ told. told_of result.items ≡ told) }
+    {
+        let Progress { steps, .. } = self;
+        match steps {
+            Some(steps) => steps.into_list(),
+            None => Vec::new(alloc),
+        }
+    }
+
+    /// A step, which is no discard, is told where steps are listed.
+    #[inline(always)]
+    pub(crate) fn tell(&mut self, step: Step) -> Result<(), CheckFault>
+        requires plain { discard_of step ≡ None }
+        ensures told { OnOk result (self.new ≡ with_told (event_of step ∷ []) self.old) }
+        ensures memory { IsMemory result }
+    {
+        if let Some(steps) = &mut self.steps {
+            if steps.push(step).is_err() {
+                return Err(OUT_OF_MEMORY);
+            }
+        }
+        Ok(())
+    }
+
+    /// That the message of that number, which an end sent, is discarded, and why, is told where steps are listed.
+    pub(crate) fn tell_discard(
+        &mut self,
+        sender: End,
+        number: u64,
+        reason: EndFault,
+    ) -> Result<(), CheckFault>
+        ensures told { OnOk result (self.new ≡ discard_told sender number reason self.old) }
+        ensures memory { IsMemory result }
+    {
+        if let Some(steps) = &mut self.steps {
+            if steps.push_discard(sender, number, reason).is_err() {
+                return Err(OUT_OF_MEMORY);
+            }
+        }
+        Ok(())
     }
 
     /// An end and what it sent.
@@ -127,11 +190,12 @@ impl<'r> Progress<'r> {
     /// Closes a half of an end unseen.
     fn close(&mut self, table: &Table, x: &Closing, name: HalfName) -> Result<(), CheckFault>
         requires room { self.old.moves + 1 < 2 ^ 128 }
-        ensures { Yields (half_closes table.now x.now name self.old) result self.new }
+        ensures { YieldsInMemory (half_closes table.now x.now name self.old) result self.new }
     {
+        let own = copy_name(&name);
         let closed = match x.side {
-            End::A => self.a.end.close(table, name),
-            End::B => self.b.end.close(table, name),
+            End::A => self.a.end.close(table, own),
+            End::B => self.b.end.close(table, own),
         };
         if closed.is_err() {
             return Err(CheckFault {
@@ -140,7 +204,7 @@ impl<'r> Progress<'r> {
             });
         }
         self.moves += 1;
-        Ok(())
+        self.tell(Step::Closes(x.side, name))
     }
 
     /// Ends an own invocation of an end unseen.
@@ -152,11 +216,12 @@ impl<'r> Progress<'r> {
         id: i8,
     ) -> Result<(), CheckFault>
         requires room { self.old.moves + 1 < 2 ^ 128 }
-        ensures { Yields (invocation_ends table.now x.now (name, id) self.old) result self.new }
+        ensures { YieldsInMemory (invocation_ends table.now x.now (name, id) self.old) result self.new }
     {
+        let own = copy_name(&name);
         let ended = match x.side {
-            End::A => self.a.end.expire(table, name, id),
-            End::B => self.b.end.expire(table, name, id),
+            End::A => self.a.end.expire(table, own, id),
+            End::B => self.b.end.expire(table, own, id),
         };
         if ended.is_err() {
             return Err(CheckFault {
@@ -165,7 +230,7 @@ impl<'r> Progress<'r> {
             });
         }
         self.moves += 1;
-        Ok(())
+        self.tell(Step::Expires(x.side, name, id))
     }
 
     /// Closes the half that a closing names unseen.
@@ -177,7 +242,7 @@ impl<'r> Progress<'r> {
         x: &Closing,
     ) -> Result<(), CheckFault>
         requires room { self.old.moves + 1 < 2 ^ 128 }
-        ensures closed { Yields (closing_kept table.now entries.now since x.now self.old) result self.new }
+        ensures closed { YieldsInMemory (closing_kept table.now entries.now since x.now self.old) result self.new }
         ensures grows { OnOk result (self.new.moves ≡ self.old.moves + 1) }
     {
         let Some(name) = half_closed(entries, since, x) else {
@@ -198,7 +263,7 @@ impl<'r> Progress<'r> {
         x: &Expiry,
     ) -> Result<(), CheckFault>
         requires room { self.old.moves + 1 < 2 ^ 128 }
-        ensures ended { Yields (expiry_kept table.now entries.now since x.now self.old) result self.new }
+        ensures ended { YieldsInMemory (expiry_kept table.now entries.now since x.now self.old) result self.new }
         ensures grows { OnOk result (self.new.moves ≡ self.old.moves + 1) }
     {
         let Some((name, id)) = invocation_ended(entries, since, x) else {
@@ -222,7 +287,7 @@ impl<'r> Progress<'r> {
         closings: &[Closing],
     ) -> Result<(), CheckFault>
         requires room { self.old.moves + length closings.now < 2 ^ 128 }
-        ensures { Yields (closings_kept table.now entries.now since (closings_judged judged closings.now) self.old) result
+        ensures { YieldsInMemory (closings_kept table.now entries.now since (closings_judged judged closings.now) self.old) result
             self.new }
     {
         for x in closings {
@@ -245,7 +310,7 @@ impl<'r> Progress<'r> {
         expiries: &[Expiry],
     ) -> Result<(), CheckFault>
         requires room { self.old.moves + length expiries.now < 2 ^ 128 }
-        ensures { Yields (expiries_kept table.now entries.now since (expiries_judged judged expiries.now) self.old) result
+        ensures { YieldsInMemory (expiries_kept table.now entries.now since (expiries_judged judged expiries.now) self.old) result
             self.new }
     {
         for x in expiries {
@@ -254,84 +319,5 @@ impl<'r> Progress<'r> {
             }
         }
         Ok(())
-    }
-
-    /// A message that an end sent is lost, which was taken from its channel.
-    pub(crate) fn count_lost(&mut self, judged: Option<End>, side: End)
-        requires room { self.old.moves + 1 < 2 ^ 128 }
-        requires count { self.old.unheard + 1 < 2 ^ 64 }
-        ensures { self.new ≡ lost_told judged side self.old }
-    {
-        match judged {
-            None => self.moves += 1,
-            Some(judged) if judged == side => {}
-            Some(_) => {
-                self.moves += 1;
-                self.unheard += 1;
-            }
-        }
-    }
-
-    /// The first message on its way from an end is dropped, if there is one.
-    pub(crate) fn drop_first(&mut self, side: End)
-        ensures left { self.new ≡ with_waiting side (drop 1 (seat_at side self.old).waiting) self.old }
-        ensures moves { self.new.moves ≡ self.old.moves }
-        ensures unheard { self.new.unheard ≡ self.old.unheard }
-    {
-        let _ = match side {
-            End::A => self.a.waiting.pop_front(),
-            End::B => self.b.waiting.pop_front(),
-        };
-    }
-
-    /// The first message on its way from an end is lost.
-    fn lose_first(&mut self, judged: Option<End>, side: End)
-        requires room { self.old.moves + 1 < 2 ^ 128 }
-        requires count { self.old.unheard + 1 < 2 ^ 64 }
-        ensures { self.new ≡ lost_told judged side (with_waiting side (drop 1 (seat_at side self.old).waiting) self.old) }
-    {
-        self.drop_first(side);
-        self.count_lost(judged, side);
-    }
-
-    /// Whether the first message on its way from an end is one that will be lost.
-    fn is_first_lost(&self, side: End) -> bool
-        ensures { result ≡ is_first_lost (seat_at side self.now).waiting }
-    {
-        match self.seat(side).waiting.front() {
-            Some(first) => first.message.is_none(),
-            None => false,
-        }
-    }
-
-    /// The messages at the front of what is on its way from an end that will be lost are lost.
-    pub(crate) fn lose_front(&mut self, judged: Option<End>, side: End)
-        requires room { load self.old < 2 ^ 128 }
-        requires count { unheard_load self.old < 2 ^ 64 }
-        ensures lost { self.new ≡ front_lost judged side self.old }
-        ensures grows { HasNoMore self.old self.new }
-    {
-        for _ in 0..self.seat(side).waiting.len() {
-            if !self.is_first_lost(side) {
-                return;
-            }
-            self.lose_first(judged, side);
-        }
-    }
-
-    /// What is lost before a quiet mark, or at the end.
-    pub(crate) fn lose_last(&mut self, judged: Option<End>)
-        requires room { load self.old < 2 ^ 128 }
-        requires count { unheard_load self.old < 2 ^ 64 }
-        ensures lost { self.new ≡ last_lost judged self.old }
-        ensures grows { HasNoMore self.old self.new }
-    {
-        match judged {
-            None => {
-                self.lose_front(None, End::A);
-                self.lose_front(None, End::B);
-            }
-            Some(alone) => self.lose_front(judged, alone.other()),
-        }
     }
 }

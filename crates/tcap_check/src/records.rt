@@ -1,20 +1,17 @@
 //! A certificate, replayed over a record.
 
-ghost use Rattle.std.specs.Prelude.{◌≡◌, ◌≢◌, ◌++◌, ◌∷◌, [], List, None, Some, Result, Ok, Err, OnOk};
+ghost use Rattle.std.specs.Prelude.{◌≡◌, ◌≢◌, ◌++◌, ◌∷◌, [], Bool, List, map, Result, Ok, Err, OnOk};
 ghost use Rattle.tcap_record.specs.Viewed.{entry_read};
 ghost use Rattle.tcap_check.specs.Given.{RefusesForGood, SaysLawful};
 ghost use Rattle.tcap_check.specs.declared.fault.CheckFault.{CheckFault as Refusal};
 ghost use Rattle.tcap_model.specs.declared.reason.Reason.{Reason as Why};
 ghost use Rattle.tcap_model.specs.declared.reason.Reason.TheVariants as reasons;
 ghost use Rattle.tcap_model.specs.World.{Item};
-ghost use Rattle.tcap_model.specs.Run.{IsLawful};
-ghost use Rattle.tcap_check.specs.Unheard.{IsLawfulUnheard};
 ghost use Rattle.tcap_model.specs.Entries.{AreItems, item_of};
-ghost use Rattle.tcap_check.specs.Replayed.{fault_at, replayed, replayed_by};
-ghost use Rattle.tcap_check.specs.Alone.{replayed_for};
-ghost use Rattle.tcap_check.specs.Checking.{Took, answer_of, kept_next, map_ok, reported};
+ghost use Rattle.tcap_check.specs.Replayed.{fault_at, replay_by, replayed_by};
+ghost use Rattle.tcap_check.specs.Checking.{Took, TookListed, answer_of, kept_next, map_ok, reported};
 ghost use Rattle.tcap_check.specs.Progress.{YieldsInMemory};
-ghost use Rattle.tcap_check.specs.Ready.{IsReady, kept_in};
+ghost use Rattle.tcap_check.specs.Ready.{IsReady, checking_of, kept_in};
 ghost use Rattle.tcap_check.specs.declared.checker.Report.{Report as Reported};
 
 use crate::certificate::Certificate;
@@ -67,10 +64,36 @@ impl<'r> Replaying<'_, 'r> {
             _ => Err(self.refuse(Reason::NoItem)),
         }
     }
+
+    /// Takes the entries of a record that outlives the replay, of which none was taken, up to one that is refused.
+    pub(crate) fn take_all(&mut self, record: &'r Record) -> Result<(), CheckFault>
+        requires ready { IsReady self.old }
+        ensures took { (listed : Bool) → TookListed listed (checking_of self.old) []
+            → OnOk result (TookListed listed (checking_of self.new) (map item_of «record».now.entries.items)) }
+        ensures refused { (listed : Bool) (f : Refusal) → TookListed listed (checking_of self.old) [] → result ≡ Err f
+            → f ≢ fault_at reasons.Memory 0 → replay_by self.old.judged self.old.table.now self.old.certificate.now
+            (map item_of «record».now.entries.items) ≡ Err f }
+        ensures ready { OnOk result (IsReady self.new) }
+        ensures judged { self.new.judged ≡ self.old.judged }
+        ensures table { self.new.table ≡ self.old.table }
+        ensures certificate { self.new.certificate ≡ self.old.certificate }
+    {
+        for entry in &record.entries {
+            self.take_entry(entry)?;
+        }
+        Ok(())
+    }
 }
 
-/// Whether a certificate gives a run for a record, of both ends, or of the one that is judged: `check` and `check_end` in one.
-pub fn check_judged(
+/// Whether a certificate gives a run for a record (Q.774 3.2 and 3.3). Where no end is named both are judged. On Ok the entries of the
+/// record are items, messages and quiet marks, and two lawful ends, over two channels in order that may lose messages, with hidden
+/// expiries and closings, may have sent exactly these, in this order, by so many steps. Where one end is named it alone is judged,
+/// whatever its peer sends: some run sends exactly these items, in this order, in which that end keeps the rules. What a certificate
+/// says of its peer's halves, and of what became of the messages of the end itself, is not asked, but for the ranges of its numbers; a
+/// message of its peer that the end can't receive is taken as lost; `unheard` is how many of the peer's the run loses. Else the first
+/// reason why the certificate gives no such run, at an entry (`CheckFault`); or memory ran out, and nothing is said. Nothing is
+/// assumed of who made the certificate.
+pub fn check(
     alloc: Global,
     record: &Record,
     table: &Table,
@@ -82,50 +105,7 @@ pub fn check_judged(
     ensures exact { result ≢ Err (fault_at reasons.Memory 0)
         → result ≡ map_ok (reported judged) (replayed_by judged table.now certificate.now «record».now.entries.items) }
 {
-    let mut replaying = Replaying::new(alloc, table, certificate, judged)?;
-    for entry in &record.entries {
-        replaying.take_entry(entry)?;
-    }
+    let mut replaying = Replaying::new(alloc, table, certificate, judged, false)?;
+    replaying.take_all(record)?;
     replaying.finish()
-}
-
-/// Whether a certificate gives a run of two ends for a record. On Ok the entries of the record are items, messages and
-/// quiet marks, and two lawful ends (Q.774 3.2 and 3.3), over two channels in order that may lose messages, with hidden
-/// expiries and closings, may have sent exactly these, in this order, by so many steps. Else the first reason why the
-/// certificate gives no run, at an entry (`CheckFault`); or memory ran out, and nothing is said. Nothing is assumed of
-/// who made the certificate.
-pub fn check(
-    alloc: Global,
-    record: &Record,
-    table: &Table,
-    certificate: &Certificate,
-) -> Result<Report, CheckFault>
-    ensures lawful { (report : Reported) → result ≡ Ok report
-        → (items : List Item) × AreItems «record».now.entries.items items × IsLawful items table.now report.moves }
-    ensures exact { result ≢ Err (fault_at reasons.Memory 0)
-        → result ≡ map_ok (reported None) (replayed table.now certificate.now «record».now.entries.items) }
-{
-    check_judged(alloc, record, table, certificate, None)
-}
-
-/// Whether a certificate gives a run for a record in which one end keeps the rules (Q.774 3.2 and 3.3), whatever its peer
-/// sends. On Ok the entries of the record are items, messages and quiet marks, and some run sends exactly these, in this
-/// order, in which that end keeps the rules. What a certificate says of its peer's halves, and of what became of the
-/// messages of the end itself, is not asked, but for the ranges of its numbers; a message of its peer that the end can't receive is taken as lost; `unheard` is
-/// how many of the peer's the run loses. Else the first reason why the certificate gives no such run, at an entry
-/// (`CheckFault`); or memory ran out, and nothing is said. Nothing is assumed of who made the certificate.
-pub fn check_end(
-    alloc: Global,
-    record: &Record,
-    table: &Table,
-    certificate: &Certificate,
-    end: End,
-) -> Result<Report, CheckFault>
-    ensures lawful { (report : Reported) → result ≡ Ok report
-        → (items : List Item) × AreItems «record».now.entries.items items
-        × IsLawfulUnheard «end» items table.now report.unheard }
-    ensures exact { result ≢ Err (fault_at reasons.Memory 0)
-        → result ≡ map_ok (reported (Some «end»)) (replayed_for «end» table.now certificate.now «record».now.entries.items) }
-{
-    check_judged(alloc, record, table, certificate, Some(end))
 }

@@ -1,14 +1,15 @@
 //! A certificate that is replayed over entries, for both ends or for the one that is judged: what a checker does with each.
 
-ghost use Rattle.std.specs.Prelude.{◌≡◌, ◌≢◌, ◌++◌, ◌∷◌, ◌+◌, ◌<◌, ◌≤◌, ◌^◌, [], List, length, not, slice_get, ◌||◌, Some, Result, Ok, Err, IfOk, IfSome, OnOk, ok_or};
+ghost use Rattle.std.specs.Prelude.{◌≡◌, ◌≢◌, ◌++◌, ◌∷◌, ◌+◌, ◌<◌, ◌≤◌, ◌^◌, [], List, length, not, slice_get, true, ◌||◌, Bool, Some, Result, Ok, Err, IfOk, IfSome, OnOk, ok_or};
 ghost use Rattle.tcap_check.specs.declared.fault.CheckFault.{CheckFault as Refusal};
 ghost use Rattle.tcap_model.specs.declared.reason.Reason.{Reason as Why};
 ghost use Rattle.tcap_model.specs.declared.reason.Reason.TheVariants as reasons;
 ghost use Rattle.tcap_model.specs.World.{Item, Sent};
 ghost use Rattle.tcap_check.specs.Outlines.{outline_of};
 ghost use Rattle.tcap_check.specs.Progress.{GrewBy, YieldsInMemory, load, overtakes, seat_at, unheard_load};
-ghost use Rattle.tcap_check.specs.Replayed.{certificate_fits, fault_at, is_gap, run_by};
-ghost use Rattle.tcap_check.specs.Checking.{Took, gap_before, is_alone, kept_ended, kept_next, map_ok, reading, reported, tied_now};
+ghost use Rattle.tcap_check.specs.Replayed.{certificate_fits, discards_by, fault_at, is_gap, run_by};
+ghost use Rattle.tcap_check.specs.Told.{discards_of, events_of};
+ghost use Rattle.tcap_check.specs.Checking.{TookListed, gap_before, is_alone, kept_ended, kept_next, map_ok, reading, reported, tied_now};
 ghost use Rattle.tcap_check.specs.Hearing.{mark_taken, message_taken};
 ghost use Rattle.tcap_check.specs.Plan.{IsPlan, flag_by};
 ghost use Rattle.tcap_check.specs.Ready.{IsReady, IsSameBesideEntries, IsSameBesideProgress, checking_of, kept_in};
@@ -20,6 +21,7 @@ use crate::hearing::told_among;
 use crate::outline::Outline;
 use crate::plan::{Plan, check_ranges};
 use crate::progress::{OUT_OF_MEMORY, Progress};
+use crate::step::Step;
 use std::alloc::Global;
 use tcap_ber::Fault;
 use tcap_end::Table;
@@ -43,16 +45,17 @@ pub(crate) struct Replaying<'a, 'r> {
 }
 
 impl<'a, 'r> Replaying<'a, 'r> {
-    /// A replay of that certificate for both ends or for the one that is judged, over which no entry went yet. `FateRange`
-    /// where a number of the certificate lies out of its range, at the entry of it; or `Memory`.
+    /// A replay of that certificate for both ends or for the one that is judged, over which no entry went yet, and whose steps are
+    /// listed, or not. `FateRange` where a number of the certificate lies out of its range, at the entry of it; or `Memory`.
     pub(crate) fn new(
         alloc: Global,
         table: &'a Table,
         certificate: &'a Certificate,
         judged: Option<End>,
+        listed: bool,
     ) -> Result<Replaying<'a, 'r>, CheckFault>
         ensures ready { IfOk result (λ replaying. IsReady replaying) }
-        ensures took { IfOk result (λ replaying. Took (checking_of replaying) [] × (replaying.judged ≡ judged)
+        ensures took { IfOk result (λ replaying. TookListed listed (checking_of replaying) [] × (replaying.judged ≡ judged)
             × (replaying.table.now ≡ table.entry.now) × (replaying.certificate.now ≡ certificate.entry.now)) }
         ensures fits { OnOk result (certificate_fits certificate.entry.now ≡ Ok tt) }
         ensures refused { (f : Refusal) → result ≡ Err f → f ≢ fault_at reasons.Memory 0
@@ -71,7 +74,7 @@ impl<'a, 'r> Replaying<'a, 'r> {
             table,
             certificate,
             plan,
-            progress: Progress::new(alloc),
+            progress: Progress::new(alloc, listed),
             entries,
             since: 0,
         })
@@ -260,11 +263,11 @@ impl<'a, 'r> Replaying<'a, 'r> {
             let takes = self.plan.taken.get(entry);
             return self
                 .progress
-                .take_mark(self.table, None, entry as u64, takes);
+                .take_mark(self.alloc, self.table, None, entry as u64, takes);
         };
         let tied = self.tied_to(judged)?;
         self.progress
-            .take_mark(self.table, Some(judged), entry as u64, &tied)
+            .take_mark(self.alloc, self.table, Some(judged), entry as u64, &tied)
     }
 
     /// The next entry is a quiet mark.
@@ -319,7 +322,7 @@ impl<'a, 'r> Replaying<'a, 'r> {
     }
 
     /// No entry is left: the last gap, and the loss of what is still on its way.
-    fn end(&mut self) -> Result<(), CheckFault>
+    pub(crate) fn end(&mut self) -> Result<(), CheckFault>
         requires ready { IsReady self.old }
         ensures { YieldsInMemory (kept_ended self.old.judged self.old.table.now self.old.certificate.now (kept_in self.old)) result
             self.new.progress }
@@ -328,14 +331,13 @@ impl<'a, 'r> Replaying<'a, 'r> {
             return Err(self.refusal(Reason::FateCount));
         }
         self.pass_gap()?;
-        self.progress.lose_last(self.judged);
-        Ok(())
+        self.progress.lose_last(self.judged)
     }
 
     /// No entry is left: the last gap, and what is said of the run.
     pub(crate) fn finish(self) -> Result<Report, CheckFault>
         requires ready { IsReady self }
-        ensures { (entries : List (Result Item Why)) → Took (checking_of self.entry) entries
+        ensures { (listed : Bool) (entries : List (Result Item Why)) → TookListed listed (checking_of self.entry) entries
             → result ≢ Err (fault_at reasons.Memory 0) → result ≡ map_ok (reported self.entry.judged)
             (run_by self.entry.judged self.entry.table.now self.entry.certificate.now entries) }
     {
@@ -347,6 +349,29 @@ impl<'a, 'r> Replaying<'a, 'r> {
             }),
             Err(fault) => Err(fault),
         }
+    }
+
+    /// No entry is left: the last gap, and the steps of the run, which are listed.
+    pub(crate) fn finish_listed(self) -> Result<Vec<Step>, CheckFault>
+        requires ready { IsReady self }
+        ensures events { (entries : List (Result Item Why)) → TookListed true (checking_of self.entry) entries
+            → result ≢ Err (fault_at reasons.Memory 0) → map_ok (λ steps. events_of steps.items) result
+            ≡ run_by self.entry.judged self.entry.table.now self.entry.certificate.now entries }
+        ensures discards { (entries : List (Result Item Why)) → TookListed true (checking_of self.entry) entries
+            → result ≢ Err (fault_at reasons.Memory 0) → map_ok (λ steps. discards_of steps.items) result
+            ≡ discards_by self.entry.judged self.entry.table.now self.entry.certificate.now entries }
+    {
+        let mut replaying = self;
+        replaying.end()?;
+        let alloc = replaying.alloc;
+        Ok(replaying.into_progress().into_steps(alloc))
+    }
+
+    /// What is kept.
+    pub(crate) fn into_progress(self) -> Progress<'r>
+        ensures { result ≡ self.entry.progress }
+    {
+        self.progress
     }
 }
 

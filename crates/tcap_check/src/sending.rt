@@ -1,26 +1,41 @@
 //! What a checker does where an end sends a message, or its provider answers one (Q.774 3.2 and 3.3).
 
-ghost use Rattle.std.specs.Prelude.{◌≡◌, ◌<◌, ◌≤◌, ◌+◌, ◌^◌, length, filter_map, IfSome, OnErr, OnOk};
+ghost use Rattle.std.specs.Prelude.{◌≡◌, ◌<◌, ◌≤◌, ◌+◌, ◌^◌, [], ◌∷◌, Err, length, filter_map, IfOk, IfSome, OnErr, OnOk};
 ghost use Rattle.tcap_parts.specs.Meaning.{component_of};
 ghost use Rattle.tcap_msg.specs.Parts.{components_in};
 ghost use Rattle.tcap_end.specs.Step.{AnswersInMemory};
 ghost use Rattle.tcap_end.specs.Message.{send};
 ghost use Rattle.tcap_record.specs.Ends.{other};
+ghost use Rattle.tcap_model.specs.declared.reason.Reason.TheVariants.{Memory};
 ghost use Rattle.tcap_check.specs.Follows.{invoke_id, invoking_half};
-ghost use Rattle.tcap_check.specs.Progress.{GrewBy, IsAsMany, YieldsInMemory, end_tried, first_answered, first_may_be_answered, ids_ended_over};
-ghost use Rattle.tcap_check.specs.Progress.{invoked_ended, load, may_be_answered, message_kept, overtakes, reply_kept, seat_at, seat_with};
-ghost use Rattle.tcap_check.specs.Progress.{send_kept, sent_by, time_or_zero, unheard_load, with_seat_end};
+ghost use Rattle.tcap_check.specs.Progress.{GrewBy, IsAsMany, IsMemory, YieldsInMemory, end_tried, first_answered, first_may_be_answered};
+ghost use Rattle.tcap_check.specs.Progress.{ids_ended_over, invoked_ended, load, may_be_answered, message_kept, overtakes, reply_kept};
+ghost use Rattle.tcap_check.specs.Progress.{seat_at, seat_with, send_kept, sending, sent_by, time_or_zero, unheard_load, with_seat};
+ghost use Rattle.tcap_check.specs.Progress.{with_seat_end, with_told};
+ghost use Rattle.tcap_check.specs.Replayed.{fault_at};
 
 use crate::certificate::Fate;
 use crate::fault::CheckFault;
 use crate::held::Held;
-use crate::progress::{OUT_OF_MEMORY, Progress, Seat, Waiting};
+use crate::progress::{OUT_OF_MEMORY, Progress, Seat, Waiting, copy_name};
+use crate::step::Step;
 use std::alloc::{AllocError, Global};
 use tcap_end::{EndFault, HalfName, Table};
 use tcap_model::Reason;
 use tcap_msg::{Kind, Message, MessageParts};
 use tcap_parts::ComponentView;
 use tcap_record::End;
+
+/// The step by which a message is sent.
+#[derive(Clone, Copy, Debug)]
+pub(crate) enum Way {
+    /// Its end sends it.
+    Sends,
+    /// Its end tells it, of which nothing is asked.
+    Tells,
+    /// The provider of its end answers the message of that number by it.
+    Replies(u64),
+}
 
 /// Where a fate stands in the order of what happens: gap g at 2g, the entry k at 2k + 1; 0 for what is lost.
 fn time_or_zero(fate: Fate) -> u64
@@ -94,9 +109,39 @@ impl<'r> Seat<'r> {
     }
 }
 
+/// A copy of a message.
+fn copied<M: MessageParts>(alloc: Global, message: &M) -> Result<Message, CheckFault>
+    ensures copied { IfOk result (λ copy. copy ≡ M.meaning message.now) }
+    ensures memory { OnErr result (result ≡ Err (fault_at Memory 0)) }
+{
+    message.to_message(alloc).map_err(|_| OUT_OF_MEMORY)
+}
+
 impl<'r> Progress<'r> {
-    /// A message was sent.
-    pub(crate) fn join<M: MessageParts>(
+    /// That a message is sent is told where steps are listed.
+    fn tell_sent<M: MessageParts>(
+        &mut self,
+        alloc: Global,
+        way: Way,
+        side: End,
+        message: &M,
+    ) -> Result<(), CheckFault>
+        ensures told { OnOk result (self.new ≡ with_told (sending way side (M.meaning message.now) ∷ []) self.old) }
+        ensures memory { IsMemory result }
+    {
+        if self.steps.is_none() {
+            return Ok(());
+        }
+        let step = match way {
+            Way::Sends => Step::Sends(side, copied(alloc, message)?),
+            Way::Tells => Step::Tells(side, copied(alloc, message)?),
+            Way::Replies(number) => Step::Replies(side, number),
+        };
+        self.tell(step)
+    }
+
+    /// A message is on its way from its end.
+    fn put<M: MessageParts>(
         &mut self,
         alloc: Global,
         side: End,
@@ -104,32 +149,64 @@ impl<'r> Progress<'r> {
         number: u64,
         message: &M,
         lent: Option<&'r Message>,
-    ) -> Result<(), AllocError>
+    ) -> Result<(), CheckFault>
+        requires same { IfSome lent (λ lent. lent.now ≡ M.meaning message.now) }
+        ensures put { OnOk result (self.new
+            ≡ with_seat side (seat_with fate number (M.meaning message.now) (seat_at side self.old)) self.old) }
+        ensures memory { IsMemory result }
+    {
+        let joined = match side {
+            End::A => self.a.join(alloc, fate, number, message, lent),
+            End::B => self.b.join(alloc, fate, number, message, lent),
+        };
+        joined.map_err(|_| OUT_OF_MEMORY)
+    }
+
+    /// A message was sent, in that way.
+    pub(crate) fn join<M: MessageParts>(
+        &mut self,
+        alloc: Global,
+        way: Way,
+        side: End,
+        fate: Fate,
+        number: u64,
+        message: &M,
+        lent: Option<&'r Message>,
+    ) -> Result<(), CheckFault>
         requires room { self.old.moves + 1 < 2 ^ 128 }
         requires same { IfSome lent (λ lent. lent.now ≡ M.meaning message.now) }
-        ensures sent { OnOk result (self.new ≡ sent_by side fate number (M.meaning message.now) self.old) }
+        ensures sent { OnOk result (self.new
+            ≡ sent_by (sending way side (M.meaning message.now)) side fate number (M.meaning message.now) self.old) }
+        ensures memory { IsMemory result }
         ensures grows { OnOk result (GrewBy 2 1 self.old self.new) }
     {
-        match side {
-            End::A => self.a.join(alloc, fate, number, message, lent)?,
-            End::B => self.b.join(alloc, fate, number, message, lent)?,
-        }
+        self.put(alloc, side, fate, number, message, lent)?;
         self.moves += 1;
-        Ok(())
+        self.tell_sent(alloc, way, side, message)
     }
 
     /// Ends an own invocation of an end unseen, where that may be.
-    fn try_end(&mut self, table: &Table, side: End, name: HalfName, id: i8)
+    fn try_end(
+        &mut self,
+        table: &Table,
+        side: End,
+        name: HalfName,
+        id: i8,
+    ) -> Result<(), CheckFault>
         requires room { self.old.moves + 1 < 2 ^ 128 }
-        ensures { self.new ≡ end_tried table.now side name id self.old }
+        ensures ended { OnOk result (self.new ≡ end_tried table.now side name id self.old) }
+        ensures memory { IsMemory result }
     {
+        let own = copy_name(&name);
         let ended = match side {
-            End::A => self.a.end.expire(table, name, id),
-            End::B => self.b.end.expire(table, name, id),
+            End::A => self.a.end.expire(table, own, id),
+            End::B => self.b.end.expire(table, own, id),
         };
-        if ended.is_ok() {
-            self.moves += 1;
+        if ended.is_err() {
+            return Ok(());
         }
+        self.moves += 1;
+        self.tell(Step::Expires(side, name, id))
     }
 
     /// Ends the earlier invocation whose ID a component of a message invokes anew, where that may be.
@@ -139,30 +216,39 @@ impl<'r> Progress<'r> {
         side: End,
         message: &M,
         component: ComponentView,
-    )
+    ) -> Result<(), CheckFault>
         requires room { self.old.moves + 1 < 2 ^ 128 }
-        ensures { self.new ≡ invoked_ended table.now side (invoking_half (M.meaning message.now))
-            (invoke_id (component_of component.entry)) self.old }
+        ensures ended { OnOk result (self.new ≡ invoked_ended table.now side (invoking_half (M.meaning message.now))
+            (invoke_id (component_of component.entry)) self.old) }
+        ensures memory { IsMemory result }
     {
         let ComponentView::Invoke { id, .. } = component else {
-            return;
+            return Ok(());
         };
-        if let Some(name) = invoking_half(message) {
-            self.try_end(table, side, name, id);
+        match invoking_half(message) {
+            Some(name) => self.try_end(table, side, name, id),
+            None => Ok(()),
         }
     }
 
     /// Ends each earlier invocation whose ID a message invokes anew, where that may be.
-    fn end_implied<M: MessageParts>(&mut self, table: &Table, side: End, message: &M)
+    fn end_implied<M: MessageParts>(
+        &mut self,
+        table: &Table,
+        side: End,
+        message: &M,
+    ) -> Result<(), CheckFault>
         requires room { self.old.moves + length (components_in (M.meaning message.now)) < 2 ^ 128 }
-        ensures ended { self.new ≡ ids_ended_over table.now side (invoking_half (M.meaning message.now))
-            (filter_map invoke_id (components_in (M.meaning message.now))) self.old }
-        ensures grows { self.new.moves ≤ self.old.moves + length (components_in (M.meaning message.now)) }
-        ensures still { IsAsMany self.old self.new }
+        ensures ended { OnOk result (self.new ≡ ids_ended_over table.now side (invoking_half (M.meaning message.now))
+            (filter_map invoke_id (components_in (M.meaning message.now))) self.old) }
+        ensures memory { IsMemory result }
+        ensures grows { OnOk result (self.new.moves ≤ self.old.moves + length (components_in (M.meaning message.now))) }
+        ensures still { OnOk result (IsAsMany self.old self.new) }
     {
         for component in message.components() {
-            self.end_invoked(table, side, message, component);
+            self.end_invoked(table, side, message, component)?;
         }
+        Ok(())
     }
 
     /// An end sends a message as it is.
@@ -205,9 +291,7 @@ impl<'r> Progress<'r> {
         ensures grows { OnOk result (GrewBy (2 ^ 65) 1 self.old self.new) }
     {
         match self.send_as_is(table, side, message) {
-            Ok(()) => self
-                .join(alloc, side, fate, number, message, lent)
-                .map_err(|_| OUT_OF_MEMORY),
+            Ok(()) => self.join(alloc, Way::Sends, side, fate, number, message, lent),
             Err(EndFault::Memory) => Err(OUT_OF_MEMORY),
             Err(_) => self.send_anew(alloc, table, side, fate, number, message, lent),
         }
@@ -231,16 +315,14 @@ impl<'r> Progress<'r> {
         ensures grows { OnOk result (GrewBy (2 ^ 65) 1 self.old self.new) }
     {
         if message.count() > 0 {
-            self.end_implied(table, side, message);
+            self.end_implied(table, side, message)?;
         }
         let sent = match side {
             End::A => self.a.end.send(table, message),
             End::B => self.b.end.send(table, message),
         };
         match sent {
-            Ok(()) => self
-                .join(alloc, side, fate, number, message, lent)
-                .map_err(|_| OUT_OF_MEMORY),
+            Ok(()) => self.join(alloc, Way::Sends, side, fate, number, message, lent),
             Err(EndFault::Memory) => Err(OUT_OF_MEMORY),
             Err(fault) => Err(CheckFault {
                 reason: Reason::SendRefused(fault),
@@ -287,8 +369,8 @@ impl<'r> Progress<'r> {
             });
         }
         self.drop_first(side.other());
-        self.join(alloc, side, fate, number, abort, lent)
-            .map_err(|_| OUT_OF_MEMORY)
+        let way = Way::Replies(u64::from(taken));
+        self.join(alloc, way, side, fate, number, abort, lent)
     }
 
     /// The same, behind what is lost before it.
@@ -309,7 +391,7 @@ impl<'r> Progress<'r> {
         ensures answered { YieldsInMemory (reply_kept judged side fate number (A.meaning abort.now) taken self.old) result self.new }
         ensures grows { OnOk result (GrewBy 2 1 self.old self.new) }
     {
-        self.lose_front(judged, side.other());
+        self.lose_front(judged, side.other())?;
         self.answer_first(alloc, side, fate, number, abort, lent, taken)
     }
 

@@ -6,7 +6,8 @@ ghost use Rattle.tcap_check.specs.Progress.{GrewBy, YieldsInMemory, load, unhear
 
 use crate::certificate::Fate;
 use crate::fault::CheckFault;
-use crate::progress::{OUT_OF_MEMORY, Progress, is_judged};
+use crate::progress::{Progress, is_judged};
+use crate::sending::Way;
 use std::alloc::Global;
 use tcap_end::Table;
 use tcap_model::Reason;
@@ -45,8 +46,7 @@ impl<'r> Progress<'r> {
             alloc, table, judged, side, fate, number, message, None, takes,
         );
         sent?;
-        self.lose_front(judged, alone);
-        Ok(())
+        self.lose_front(judged, alone)
     }
 
     /// A message with that number and fate that the peer of the judged end tells. It takes no message. It is lent, where it outlives
@@ -72,8 +72,7 @@ impl<'r> Progress<'r> {
                 entry: number,
             });
         }
-        self.join(alloc, side, fate, number, message, lent)
-            .map_err(|_| OUT_OF_MEMORY)
+        self.join(alloc, Way::Tells, side, fate, number, message, lent)
     }
 
     /// A message with that number and fate, which takes these: an end sends it, or the peer of the one that is judged tells it. It is

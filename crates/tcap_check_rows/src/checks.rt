@@ -4,7 +4,7 @@ use std::alloc::Global;
 use std::fmt::Write;
 use std::test::Fail;
 use tcap_ber::Counted;
-use tcap_check::{Certificate, CheckFault, Reason, Report, check, check_end};
+use tcap_check::{Certificate, CheckFault, Reason, Report, check};
 use tcap_end::Table;
 use tcap_msg_rows::{Row, each_row, octets_of, vector};
 use tcap_record::{End, Record, read_record};
@@ -97,7 +97,7 @@ fn checked(
     table: Table,
     certificate: Certificate,
 ) -> Result<Report, CheckFault> {
-    let answer = check(alloc, &record, &table, &certificate);
+    let answer = check(alloc, &record, &table, &certificate, None);
     drop(record);
     drop(table);
     drop(certificate);
@@ -147,7 +147,7 @@ fn checked_end(
     certificate: Certificate,
     end: End,
 ) -> Result<Report, CheckFault> {
-    let answer = check_end(alloc, &record, &table, &certificate, end);
+    let answer = check(alloc, &record, &table, &certificate, Some(end));
     drop(record);
     drop(table);
     drop(certificate);

@@ -4,12 +4,11 @@ use crate::checks::{TABLE, record_of, write_fault};
 use std::alloc::Global;
 use std::fmt::Write;
 use std::test::Fail;
-use tcap_check::{Certificate, CheckFault};
+use tcap_check::{Certificate, CheckFault, Partial, Step, run_of, run_until};
 use tcap_end::{EndState, HalfName, Table};
 use tcap_msg::TransactionId;
 use tcap_msg_rows::{Row, each_row};
 use tcap_record::{End, Record};
-use tcap_runs::{Partial, Step, run_of, run_of_end, run_until};
 
 /// The columns: the entries of a record, each an end and the name of a message, or a quiet mark; the certificate; and the
 /// steps of the run that it gives, or the entry and the number of the reason why it gives none. A half is called by the
@@ -72,10 +71,10 @@ A begin_with_invoke,A end_alone,B continue_alone;both;{"close":[],"expire":[],"f
 A begin_with_invoke,B end_with_result,Q;both;{"close":[],"expire":[],"fates":[1,"lost",3],"version":1};A sends,B receives 0,B sends,B loses 1;own 1;
 B begin_alone,Q;both;{"close":[],"expire":[],"fates":["lost",2],"version":1};B sends,B loses 0;;own 1
 # Fates that are too few, too many, or out of their ranges.
-A begin_with_invoke,B end_with_result;both;{"close":[],"expire":[],"fates":[1],"version":1};A sends,B receives 0,B sends;own 1;
-A begin_with_invoke;both;{"close":[],"expire":[],"fates":[1,2,3],"version":1};A sends,B receives 0;own 1;peer 1
-A begin_with_invoke,B end_with_result;both;{"close":[],"expire":[],"fates":[0,7],"version":1};A sends;own 1;
-A begin_with_invoke;both;{"close":[{"at":1,"end":"A","entry":5}],"expire":[],"fates":[1],"version":1};A sends;own 1;
+A begin_with_invoke,B end_with_result;both;{"close":[],"expire":[],"fates":[1],"version":1};A sends;own 1;
+A begin_with_invoke;both;{"close":[],"expire":[],"fates":[1,2,3],"version":1};A sends;own 1;
+A begin_with_invoke,B end_with_result;both;{"close":[],"expire":[],"fates":[0,7],"version":1};;;
+A begin_with_invoke;both;{"close":[{"at":1,"end":"A","entry":5}],"expire":[],"fates":[1],"version":1};;;
 # One end alone: the other stays new.
 A begin_with_invoke,B end_with_result;A;{"close":[],"expire":[],"fates":[1,2],"version":1};A sends,A loses 0,B tells,A receives 1;;
 B begin_alone,A continue_alone,Q;A;{"close":[],"expire":[],"fates":[1,2,3],"version":1};B tells,A receives 0,A sends,A loses 1;peer 1;
@@ -172,7 +171,7 @@ fn run(
     table: Table,
     certificate: Certificate,
 ) -> Result<Vec<Step>, CheckFault> {
-    let answer = run_of(alloc, &record, &table, &certificate);
+    let answer = run_of(alloc, &record, &table, &certificate, None);
     drop(record);
     drop(table);
     drop(certificate);
@@ -212,7 +211,7 @@ fn run_alone(
     certificate: Certificate,
     end: End,
 ) -> Result<Vec<Step>, CheckFault> {
-    let answer = run_of_end(alloc, &record, &table, &certificate, end);
+    let answer = run_of(alloc, &record, &table, &certificate, Some(end));
     drop(record);
     drop(table);
     drop(certificate);

@@ -6,11 +6,11 @@ use Rattle.tcap_record.specs.declared.entry.End.{End as Side}
 use Rattle.tcap_end.specs.Table.{Table}
 use Rattle.tcap_check.specs.declared.certificate.Fate.{Fate}
 use Rattle.tcap_check.specs.declared.certificate.Fate.TheVariants.{Gap, Lost, By}
-use Rattle.tcap_check.specs.Alone.{replayed_for, unheard_of}
+use Rattle.tcap_check.specs.Unheard.{unheard_of}
 use Rattle.tcap_check.specs.Certificate.{Certificate}
 use Rattle.tcap_model.specs.Entries.{AreItems, item_of}
 use Rattle.tcap_check.specs.Follows.{lost_from}
-use Rattle.tcap_check.specs.Replayed.{replayed}
+use Rattle.tcap_check.specs.Replayed.{replayed_by}
 use Rattle.tcap_model.specs.Run.{Event}
 use Rattle.tcap_record.specs.Ends.{other}
 use Rattle.tcap_model.specs.World.{Item, Sent, is_side}
@@ -33,10 +33,10 @@ use Rattle.tcap_judge.specs.Verdict.{verdict_by}
 -- all that is known of what is blamed is that no certificate gives a run for that end
 abbrev pub IsNeverGiven : Type 0
 IsNeverGiven = (table : Table) (side : Side) (c : Certificate) (entries : List Entry) (r : Refutation) (events : List Event)
-    → blamed table side entries ≡ Some r → replayed_for side table c entries ≡ Ok events → ⊥
+    → blamed table side entries ≡ Some r → replayed_by (Some side) table c entries ≡ Ok events → ⊥
 
 pub none_blamed : IsNeverGiven → (side : Side) (table : Table) (c : Certificate) (entries : List Entry) (own : List Event)
-    → replayed_for side table c entries ≡ Ok own → blamed table side entries ≡ None
+    → replayed_by (Some side) table c entries ≡ Ok own → blamed table side entries ≡ None
 none_blamed never side table c entries own given = by (blamed table side entries) refl
   where
     by : (named : Option Refutation) → blamed table side entries ≡ named → named ≡ None
@@ -87,7 +87,7 @@ lost_are side n (By r ∷ fates) (entry ∷ entries) (item ∷ items) are =
 -- ---- both
 
 pub found_alike : IsNeverGiven → (side : Side) (table : Table) (c : Certificate) (entries : List Entry)
-    → (events : List Event) × (replayed table c entries ≡ Ok events) → c ≡ proposed_for side entries
+    → (events : List Event) × (replayed_by None table c entries ≡ Ok events) → c ≡ proposed_for side entries
     → (count unheard : ℕ) → count ≡ length entries → unheard ≡ lost_of (other side) c.fates entries
     → (findings.Lawful count unheard ≡ finding table entries side) × AreLawful (Some side) table entries
 found_alike never side table c entries (events, is) alike count lost count_is lost_is =
@@ -96,8 +96,8 @@ found_alike never side table c entries (events, is) alike count lost count_is lo
     let mine = gives_for side table c entries own given in
     let unheard : unheard_of side own ≡ lost_of (other side) c.fates entries =
     unheard_are_lost side own ∙ ap length discards ∙ lost_are (other side) 0 c.fates entries both.items both.are in
-    let proposed : replayed_for side table (proposed_for side entries) entries ≡ Ok own =
-    subst (λ (d : Certificate). replayed_for side table d entries ≡ Ok own) alike given in (
+    let proposed : replayed_by (Some side) table (proposed_for side entries) entries ≡ Ok own =
+    subst (λ (d : Certificate). replayed_by (Some side) table d entries ≡ Ok own) alike given in (
       ap₂ findings.Lawful count_is lost_is
           ∙ sym (ap₂ (λ named replay. finding_by (items_before (map item_of entries)) (verdict_by (Some side) (length entries) named replay))
           (none_blamed never side table c entries own given) proposed
@@ -112,7 +112,7 @@ lost_none side (fate ∷ fates) [] none = refl
 lost_none side (fate ∷ fates) (entry ∷ entries) none = absurd (omega (arith, none))
 
 pub none_blamed_by_both : IsNeverGiven → (side : Side) (table : Table) (c : Certificate) (entries : List Entry)
-    → (events : List Event) × (replayed table c entries ≡ Ok events) → blamed table side entries ≡ None
+    → (events : List Event) × (replayed_by None table c entries ≡ Ok events) → blamed table side entries ≡ None
 none_blamed_by_both never side table c entries (events, is) =
     let both = gives table c entries events is in
     let (own, given, discards) = both_give side table c entries both.items events both.are is in

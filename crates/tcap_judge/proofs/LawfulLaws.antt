@@ -17,7 +17,7 @@ use Rattle.tcap_check.specs.Certificate.{Certificate}
 use Rattle.tcap_model.specs.Entries.{AreItems}
 use Rattle.tcap_check.specs.Given.{SaysLawful}
 use Rattle.tcap_check.specs.declared.checker.Report.{Report}
-use Rattle.tcap_check.specs.Alone.{unheard_of}
+use Rattle.tcap_check.specs.Unheard.{unheard_of}
 use Rattle.tcap_check.proofs.AloneRuns.{gives_for}
 use Rattle.tcap_check.proofs.GivenRuns.{gives}
 use Rattle.tcap_check.proofs.ReasonGaps.{as_many}

@@ -9,7 +9,7 @@ use Rattle.tcap_model.specs.World.{Item, Sent, World}
 use Rattle.tcap_model.specs.Run.{Event, KeepsRules, Runs}
 use Rattle.tcap_check.specs.Certificate.{Certificate}
 use Rattle.tcap_model.specs.Entries.{item_by, item_of}
-use Rattle.tcap_check.specs.Alone.{replayed_for}
+use Rattle.tcap_check.specs.Replayed.{replayed_by}
 use Rattle.tcap_check.proofs.AloneRuns.{gives_for}
 use Rattle.tcap_refute.specs.declared.kind.Refutation.{Refutation}
 use Rattle.tcap_refute.proofs.RefutedLaws.{are_oks, oks, split_oks}
@@ -50,7 +50,7 @@ not_in_a_run table side entries items r events w are runs sent keeps (inr (inr m
     mark.none events w behind runs keeps (sent ∙ all)
 
 pub never_given : (table : Table) (side : Side) (c : Certificate) (entries : List Entry) (r : Refutation) (events : List Event)
-    → blamed table side entries ≡ Some r → replayed_for side table c entries ≡ Ok events → ⊥
+    → blamed table side entries ≡ Some r → replayed_by (Some side) table c entries ≡ Ok events → ⊥
 never_given table side c entries r events is given =
     let g = gives_for side table c entries events given in
     let (w, runs, sent) = g.run in

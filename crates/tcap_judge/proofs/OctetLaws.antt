@@ -1,6 +1,6 @@
 -- Octets and the items that they spell: they are read as these and as no others, and what a prompt certificate says of
 -- what was read it says of these items.
-use Rattle.std.proofs.Common.{◌≡◌, ◌≢◌, ℕ, ◌+◌, ◌-◌, ◌<◌, ◌≤◌, ◌⊎◌, List, [], ◌∷◌, ◌++◌, length, Some, Result, Ok, Err, refl, sym, ap, subst, ◌∙◌, inl, inr, arith}
+use Rattle.std.proofs.Common.{◌≡◌, ◌≢◌, ℕ, ◌+◌, ◌-◌, ◌<◌, ◌≤◌, ◌⊎◌, List, [], ◌∷◌, ◌++◌, length, Some, Result, Ok, Err, refl, sym, ap, subst, ◌∙◌, inl, inr, arith, None}
 use Rattle.std.proofs.lemmas.List.{length-append, append-nil}
 use Rattle.std.specs.List.{AllByRecursion}
 use Rattle.tcap_ber.specs.declared.fault.Fault.{Fault}
@@ -33,7 +33,7 @@ use Rattle.tcap_end.specs.Table.{Table}
 use Rattle.tcap_check.specs.Certificate.{Certificate, IsPrompt, prompt}
 use Rattle.tcap_check.specs.Follows.{IsPlain}
 use Rattle.tcap_check.specs.Given.{DeliversAtOnce, IsSeen}
-use Rattle.tcap_check.specs.Replayed.{replayed}
+use Rattle.tcap_check.specs.Replayed.{replayed_by}
 use Rattle.tcap_check.proofs.AtOnceLaws.{at_once_follows, followed_at_once}
 use Rattle.tcap_check.proofs.DescribedRuns.{followed_is_given}
 use Rattle.tcap_check.proofs.GivenRuns.{gives}
@@ -284,7 +284,7 @@ read_spells items octets entries reads are =
 pub prompt_given : (table : Table) (items : List Item) (octets : List ℕ) (entries : List Entry) (events : List Event)
     → SpellsRecord items octets → length items ≤ entry_limit → IsReadAs entries (Ok tt) octets → IsRunOf items table events
     → AllByRecursion IsSeen events → DeliversAtOnce table events
-    → (given : List Event) × (replayed table (prompt (length items)) entries ≡ Ok given)
+    → (given : List Event) × (replayed_by None table (prompt (length items)) entries ≡ Ok given)
 prompt_given table items octets entries events spells few reads run seen at_once =
     let are = (read_as_items items octets entries (Ok tt) spells few reads tt).1 in
     let given = followed_is_given table (prompt (length items)) entries items events are run
@@ -292,7 +292,7 @@ prompt_given table items octets entries events spells few reads run seen at_once
     (given.0, given.1)
 
 pub prompt_says : (table : Table) (c : Certificate) (octets : List ℕ) (entries : List Entry) (events : List Event)
-    → IsReadAs entries (Ok tt) octets → IsPrompt c → replayed table c entries ≡ Ok events
+    → IsReadAs entries (Ok tt) octets → IsPrompt c → replayed_by None table c entries ≡ Ok events
     → (items : List Item) × SpellsRecord items octets × IsRunOf items table events
     × DeliversAtOnce table events × AllByRecursion IsPlain events
 prompt_says table c octets entries events reads is_prompt is =

@@ -7,7 +7,7 @@ use Rattle.tcap_model.specs.World.{Item}
 use Rattle.tcap_model.specs.Run.{Event, IsLawful, IsLawfulFor}
 use Rattle.tcap_model.specs.Entries.{AreItems}
 pub use Rattle.tcap_check.specs.Replayed.{replayed_by}
-use Rattle.tcap_check.specs.Alone.{unheard_of}
+use Rattle.tcap_check.specs.Unheard.{unheard_of}
 use Rattle.tcap_check.specs.Unheard.{IsLawfulUnheard}
 use Rattle.tcap_judge.specs.declared.outcome.Outcome.{Outcome}
 use Rattle.tcap_judge.specs.declared.outcome.Outcome.TheVariants.{Lawful, LawfulFor}

@@ -6,7 +6,7 @@ ghost use Rattle.std.specs.String.{string_bytes};
 ghost use Rattle.tcap_ber.specs.Device.{one_more};
 ghost use Rattle.tcap_record.specs.declared.entry.End.TheVariants as sides;
 ghost use Rattle.tcap_model.specs.Entries.{item_of};
-ghost use Rattle.tcap_check.specs.Replayed.{replayed};
+ghost use Rattle.tcap_check.specs.Replayed.{replayed_by};
 ghost use Rattle.tcap_model.specs.Run.{Event};
 ghost use Rattle.tcap_refute.specs.Kind.{refuted};
 ghost use Rattle.tcap_faults.specs.Fault.{blamed};
@@ -106,7 +106,7 @@ fn find_lawful_end(
     end: End,
 ) -> Result<Finding, AllocError>
     requires few { length read.now.entries.items ≤ 100000 }
-    requires given { (events : List Event) × (replayed table.now both.now read.now.entries.items ≡ Ok events) }
+    requires given { (events : List Event) × (replayed_by None table.now both.now read.now.entries.items ≡ Ok events) }
     requires proposed { or_both both.now alone.now ≡ proposed_for end read.now.entries.items }
     ensures { IfOk result (λ said. (said ≡ finding table.now read.now.entries.items end)
         × IsFound end table.now read.now.entries.items said) }
@@ -147,7 +147,7 @@ fn find_lawful_ends(
 ) -> Result<Ends, AllocError>
     requires few { length read.now.entries.items ≤ 100000 }
     requires given { (events : List Event)
-        × (replayed table.now proposals.now.both read.now.entries.items ≡ Ok events) }
+        × (replayed_by None table.now proposals.now.both read.now.entries.items ≡ Ok events) }
     requires a { or_both proposals.now.both proposals.now.a ≡ proposed_for sides.A read.now.entries.items }
     requires b { or_both proposals.now.both proposals.now.b ≡ proposed_for sides.B read.now.entries.items }
     ensures { IfOk result (λ ends. (ends ≡ ends_of table.now read.now.entries.items)

@@ -3,7 +3,7 @@
 ghost use Rattle.std.specs.Prelude.{◌≡◌, ◌≤◌, List, length, map, None, Ok, IfOk};
 ghost use Rattle.tcap_model.specs.Entries.{item_of};
 ghost use Rattle.tcap_model.specs.Run.{Event};
-ghost use Rattle.tcap_check.specs.Replayed.{replayed};
+ghost use Rattle.tcap_check.specs.Replayed.{replayed_by};
 ghost use Rattle.tcap_faults.specs.Fault.{blamed};
 ghost use Rattle.tcap_search.specs.Proposed.{proposed_for};
 ghost use Rattle.tcap_judge.specs.Blamed.{IsFound, finding, items_before};
@@ -57,7 +57,7 @@ pub(crate) fn find_alike(
     end: End,
 ) -> Finding
     requires few { length read.now.entries.items ≤ 100000 }
-    requires given { (events : List Event) × (replayed table.now certificate.now read.now.entries.items ≡ Ok events) }
+    requires given { (events : List Event) × (replayed_by None table.now certificate.now read.now.entries.items ≡ Ok events) }
     requires alike { certificate.now ≡ proposed_for end read.now.entries.items }
     ensures { (result ≡ finding table.now read.now.entries.items end)
         × IsFound end table.now read.now.entries.items result }
@@ -133,7 +133,7 @@ pub(crate) fn find_lawful(
     certificate: &Certificate,
     end: End,
 ) -> Result<Finding, AllocError>
-    requires given { (events : List Event) × (replayed table.now both.now read.now.entries.items ≡ Ok events) }
+    requires given { (events : List Event) × (replayed_by None table.now both.now read.now.entries.items ≡ Ok events) }
     requires proposed { certificate.now ≡ proposed_for end read.now.entries.items }
     ensures { IfOk result (λ said. (said ≡ finding table.now read.now.entries.items end)
         × IsFound end table.now read.now.entries.items said) }

@@ -1,7 +1,7 @@
 //! What is said of ends and of certificates together, and of octets and of what is read of them. Each function says by its
 //! contract alone what holds of the definitions.
 
-ghost use Rattle.std.specs.Prelude.{◌≡◌, ◌≤◌, ℕ, List, length, Result, Some, Ok};
+ghost use Rattle.std.specs.Prelude.{◌≡◌, ◌≤◌, ℕ, List, length, Result, Some, Ok, None};
 ghost use Rattle.std.specs.List.{AllByRecursion};
 ghost use Rattle.tcap_record.specs.declared.entry.End.{End as Side};
 ghost use Rattle.tcap_record.specs.declared.entry.Entry.{Entry};
@@ -15,8 +15,7 @@ ghost use Rattle.tcap_model.specs.World.{Item};
 ghost use Rattle.tcap_check.specs.Certificate.{Certificate, IsPrompt, prompt};
 ghost use Rattle.tcap_check.specs.Follows.{IsPlain};
 ghost use Rattle.tcap_check.specs.Given.{DeliversAtOnce, IsSeen};
-ghost use Rattle.tcap_check.specs.Replayed.{replayed};
-ghost use Rattle.tcap_check.specs.Alone.{replayed_for};
+ghost use Rattle.tcap_check.specs.Replayed.{replayed_by};
 ghost use Rattle.tcap_refute.specs.declared.kind.Refutation.{Refutation};
 ghost use Rattle.tcap_faults.specs.Fault.{blamed};
 ghost use Rattle.tcap_judge.specs.LawfulRecord.{SpellsRecord};
@@ -25,7 +24,7 @@ ghost use Rattle.tcap_judge.specs.OctetsRead.{IsOfOctets};
 /// No certificate gives a run for an end on which an entry is blamed, whoever made it: no end is both lawful alone and at fault.
 pub fn blamed_is_never_given()
     ensures { (table : Table) (side : Side) (c : Certificate) (entries : List Entry) (r : Refutation) (events : List Event)
-        → blamed table side entries ≡ Some r → replayed_for side table c entries ≡ Ok events → ⊥ }
+        → blamed table side entries ≡ Some r → replayed_by (Some side) table c entries ≡ Ok events → ⊥ }
 {}
 
 /// Octets that at most 100,000 items spell are read as entries that are these items, and nothing is wrong behind them, where
@@ -54,14 +53,14 @@ pub fn prompt_octets_are_given()
     ensures { (table : Table) (items : List Item) (octets : List ℕ) (entries : List Entry) (events : List Event)
         → SpellsRecord items octets → length items ≤ entry_limit → IsReadAs entries (Ok tt) octets
         → IsRunOf items table events → AllByRecursion IsSeen events → DeliversAtOnce table events
-        → (given : List Event) × (replayed table (prompt (length items)) entries ≡ Ok given) }
+        → (given : List Event) × (replayed_by None table (prompt (length items)) entries ≡ Ok given) }
 {}
 
 /// The other way: where a prompt certificate gives a run for what is read of octets, they spell items, and some run sends
 /// exactly these, each message delivered before another is sent, with no loss, no provider's reply and no closing.
 pub fn prompt_certificates_say_so_of_octets()
     ensures { (table : Table) (c : Certificate) (octets : List ℕ) (entries : List Entry) (events : List Event)
-        → IsReadAs entries (Ok tt) octets → IsPrompt c → replayed table c entries ≡ Ok events
+        → IsReadAs entries (Ok tt) octets → IsPrompt c → replayed_by None table c entries ≡ Ok events
         → (items : List Item) × SpellsRecord items octets × IsRunOf items table events
         × DeliversAtOnce table events × AllByRecursion IsPlain events }
 {}

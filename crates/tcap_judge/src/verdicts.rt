@@ -14,7 +14,7 @@ use crate::checking::lawful_of;
 use crate::laws;
 use crate::outcome::Outcome;
 use std::alloc::{AllocError, Global};
-use tcap_check::{Certificate, CheckFault, Reason, check_judged};
+use tcap_check::{Certificate, CheckFault, Reason, check};
 use tcap_end::Table;
 use tcap_faults::blame;
 use tcap_record::{End, Record};
@@ -87,7 +87,7 @@ pub fn replay(
         (replayed_by judged table.now certificate.now read.now.entries.items) }
     ensures shown { IfOk result (λ outcome. IsShown judged table.now read.now.entries.items outcome) }
 {
-    let report = check_judged(alloc, read, table, certificate, judged)?;
+    let report = check(alloc, read, table, certificate, judged)?;
     Ok(lawful_of(judged, read.entries.len(), report))
 }
 

@@ -1,5 +1,5 @@
 -- What a worked record says of each end alone, by the certificate that is proposed for that end.
-use Rattle.std.specs.Prelude.{◌≡◌, ℕ, List, map, Ok}
+use Rattle.std.specs.Prelude.{◌≡◌, ℕ, List, map, Ok, Some}
 use Rattle.tcap_record.specs.declared.entry.End.{End as Side}
 use Rattle.tcap_record.specs.declared.entry.End.TheVariants.{A, B}
 use Rattle.tcap_record.specs.declared.entry.Entry.{Entry}
@@ -8,8 +8,8 @@ use Rattle.tcap_model.specs.declared.reason.Reason.{Reason}
 use Rattle.tcap_model.specs.World.{Item}
 use Rattle.tcap_model.specs.Entries.{entry_of}
 use Rattle.tcap_check.specs.Checking.{map_ok}
-use Rattle.tcap_check.specs.Replayed.{refused}
-use Rattle.tcap_check.specs.Alone.{replayed_for, unheard_of}
+use Rattle.tcap_check.specs.Replayed.{refused, replayed_by}
+use Rattle.tcap_check.specs.Unheard.{unheard_of}
 use Rattle.tcap_search.specs.Proposed.{proposed_for}
 
 -- There is a run, in which so many of the peer's messages are not heard; or there is none, for that reason at that entry;
@@ -21,9 +21,9 @@ pub data Verdict : Type 0 where
 
 abbrev Says : Table → Side → List Entry → Verdict → Type 0
 Says table side entries (Heard count) =
-    map_ok (unheard_of side) (replayed_for side table (proposed_for side entries) entries) ≡ Ok count
+    map_ok (unheard_of side) (replayed_by (Some side) table (proposed_for side entries) entries) ≡ Ok count
 Says table side entries (Unheard entry reason) =
-    replayed_for side table (proposed_for side entries) entries ≡ refused reason entry
+    replayed_by (Some side) table (proposed_for side entries) entries ≡ refused reason entry
 Says table side entries AtFault = Unit {0}
 
 -- what the record of these items says of A, and of B

@@ -19,5 +19,5 @@ pub fn count_steps(
     ensures { IfOk result (λ steps. (items : List Item) × AreItems «record».now.entries.items items
         × IsLawful items table.now steps) }
 {
-    Ok(check(alloc, record, table, certificate)?.moves)
+    Ok(check(alloc, record, table, certificate, None)?.moves)
 }

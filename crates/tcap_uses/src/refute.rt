@@ -1,10 +1,10 @@
-ghost use Rattle.std.specs.Prelude.{◌≡◌, List, map, Some, Ok};
+ghost use Rattle.std.specs.Prelude.{◌≡◌, List, map, Some, Ok, None};
 ghost use Rattle.tcap_record.specs.declared.entry.Entry.{Entry};
 ghost use Rattle.tcap_end.specs.Table.{Table};
 ghost use Rattle.tcap_check.specs.Certificate.{Certificate};
 ghost use Rattle.tcap_model.specs.Entries.{item_of};
 ghost use Rattle.tcap_model.specs.Run.{Event};
-ghost use Rattle.tcap_check.specs.Replayed.{replayed};
+ghost use Rattle.tcap_check.specs.Replayed.{replayed_by};
 ghost use Rattle.tcap_refute.specs.declared.kind.Refutation.{Refutation};
 ghost use Rattle.tcap_refute.specs.Kind.{refuted};
 
@@ -14,7 +14,7 @@ use tcap_refute::laws;
 /// Where a record is refuted, no certificate gives a run for it.
 pub fn no_certificate_helps()
     ensures { (table : Table) (c : Certificate) (entries : List Entry) (r : Refutation) (events : List Event)
-        → refuted table (map item_of entries) ≡ Some r → replayed table c entries ≡ Ok events → ⊥ }
+        → refuted table (map item_of entries) ≡ Some r → replayed_by None table c entries ≡ Ok events → ⊥ }
 {
     given::what_is_given_is_lawful();
     laws::refuted_is_never_lawful();

@@ -19,7 +19,7 @@ pub fn is_shown_lawful(alloc: Global, record: &Record, table: &Table) -> bool
     let Ok(certificate) = search(alloc, record) else {
         return false;
     };
-    match check(alloc, record, table, &certificate) {
+    match check(alloc, record, table, &certificate, None) {
         Ok(_) => true,
         Err(_) => false,
     }

@@ -13,8 +13,8 @@ use Rattle.tcap_end.specs.declared.half.HalfName.TheVariants as names
 use Rattle.tcap_end.specs.Fault.{fault_number}
 use Rattle.tcap_record.specs.Ends.{other}
 use Rattle.tcap_model.specs.World.{is_side}
-use Rattle.tcap_runs.specs.declared.step.Step.{Step}
-use Rattle.tcap_runs.specs.declared.step.Step.TheVariants as steps
+use Rattle.tcap_check.specs.declared.step.Step.{Step}
+use Rattle.tcap_check.specs.declared.step.Step.TheVariants as steps
 use Rattle.tcap_record.specs.Ends.{letter}
 
 unfoldable pub own_label : List ℕ

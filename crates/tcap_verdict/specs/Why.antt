@@ -1,15 +1,16 @@
 -- What is said of a record, and why: behind the line of a record that is lawful stand the lines of the run that the certificate
 -- gives.
-use Rattle.std.specs.Prelude.{◌≡◌, ℕ, ◌⊎◌, List, [], ◌++◌, Option, Some, None, Result, Ok, Err}
+use Rattle.std.specs.Prelude.{◌≡◌, ℕ, ◌⊎◌, List, [], ◌++◌, map, Option, Some, None, Result, Ok, Err}
 use Rattle.std.specs.Io.KnownBytes.{Appends}
 use Rattle.tcap_record.specs.declared.entry.End.{End as Side}
 use Rattle.tcap_record.specs.declared.entry.Entry.{Entry}
 use Rattle.tcap_record.specs.declared.fault.FeedFault.{FeedFault}
 use Rattle.tcap_end.specs.Table.{Table}
 use Rattle.tcap_check.specs.Certificate.{Certificate}
-use Rattle.tcap_runs.specs.declared.step.Step.{Step}
-use Rattle.tcap_runs.specs.Steps.{events_of}
-use Rattle.tcap_runs.specs.Told.{AreTold}
+use Rattle.tcap_check.specs.declared.step.Step.{Step}
+use Rattle.tcap_check.specs.Replayed.{discards_by}
+use Rattle.tcap_check.specs.Told.{discards_of, events_of}
+use Rattle.tcap_model.specs.Entries.{item_of}
 use Rattle.tcap_judge.specs.declared.outcome.Outcome.{Outcome}
 use Rattle.tcap_judge.specs.declared.outcome.Outcome.TheVariants.{Lawful, LawfulFor, NotShown, Refuted, Undecided, Faulty}
 use Rattle.tcap_judge.specs.declared.status.Status.{Status}
@@ -22,11 +23,11 @@ use Rattle.tcap_verdict.specs.Faults.{IsFaultBehind}
 use Rattle.tcap_verdict.specs.Refuted.{both_text, refuted_lines}
 use Rattle.tcap_verdict.specs.StepLines.{run_lines}
 
--- The certificate gives a run for these entries, of both ends or of the one that is judged, and these are the lines of its steps, as
--- they are told.
+-- The certificate gives a run for these entries, of both ends or of the one that is judged, and these are the lines of its steps:
+-- of each discard as one, with its reason.
 abbrev pub AreLines : Option Side → Table → Certificate → List Entry → List ℕ → Type 0
 AreLines judged table c entries lines = (steps : List Step) × (replayed_by judged table c entries ≡ Ok (events_of steps))
-    × AreTold table c judged steps × (lines ≡ run_lines judged steps)
+    × (discards_by judged table c (map item_of entries) ≡ Ok (discards_of steps)) × (lines ≡ run_lines judged steps)
 
 -- Where both ends are judged, what is said of each of them stands last.
 abbrev pub EndsWithEnds : Option Side → Table → List Entry → List ℕ → Type 0

@@ -2,12 +2,11 @@
 
 use crate::step_lines::{is_entry, letter, push_half, push_owner, push_reason};
 use std::alloc::{AllocError, Global};
-use tcap_check::Certificate;
+use tcap_check::{Certificate, Step, run_until};
 use tcap_end::{HalfName, Table};
 use tcap_judge::{Outcome, push_outcome};
 use tcap_page::{FRAME_HEAD, FRAME_TAIL, push_entry, push_named};
 use tcap_record::{Body, End, Entry, Record};
-use tcap_runs::{Step, run_until};
 
 /// So many rows are told at most.
 const MOST: usize = 2_000;

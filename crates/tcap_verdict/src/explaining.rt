@@ -1,18 +1,18 @@
 //! What is said of a record, and why.
 
-ghost use Rattle.std.specs.Prelude.{◌≡◌, ◌≢◌, ◌⊎◌, ◌≤◌, [], ℕ, List, None, Some, Ok, Err, IfOk, OnOk, OnErr, length};
+ghost use Rattle.std.specs.Prelude.{◌≡◌, ◌≢◌, ◌⊎◌, ◌≤◌, [], ℕ, List, None, Some, Ok, Err, IfOk, OnOk, OnErr, length, map};
 ghost use Rattle.std.specs.String.{string_bytes};
 ghost use Rattle.tcap_ber.specs.Device.{one_more};
-ghost use Rattle.tcap_check.specs.Alone.{unheard_of};
+ghost use Rattle.tcap_check.specs.Unheard.{unheard_of};
 ghost use Rattle.tcap_check.specs.Checking.{map_ok};
-ghost use Rattle.tcap_check.specs.Replayed.{fault_at};
+ghost use Rattle.tcap_check.specs.Replayed.{discards_by, fault_at};
 ghost use Rattle.tcap_model.specs.declared.reason.Reason.TheVariants as reasons;
 ghost use Rattle.tcap_judge.specs.declared.outcome.Outcome.TheVariants.{Refuted};
 ghost use Rattle.tcap_judge.specs.Checked.{out_of_memory, replay_says};
 ghost use Rattle.tcap_judge.specs.Judged.{IsShown, lawful_by, replayed_by};
 ghost use Rattle.tcap_judge.specs.Verdict.{named_by, proposed_by, verdict_of};
-ghost use Rattle.tcap_runs.specs.Steps.{events_of};
-ghost use Rattle.tcap_runs.specs.Told.{AreTold};
+ghost use Rattle.tcap_check.specs.Told.{discards_of, events_of};
+ghost use Rattle.tcap_model.specs.Entries.{item_of};
 ghost use Rattle.tcap_verdict.specs.Faults.{IsFaultBehind};
 ghost use Rattle.tcap_verdict.specs.StepLines.{run_lines};
 ghost use Rattle.tcap_verdict.specs.Refuted.{refuted_lines};
@@ -25,7 +25,7 @@ use crate::step_lines::{is_lost_from, push_steps};
 use crate::stops::stop_text;
 use std::alloc::{AllocError, Global};
 use tcap_ber::{Read, Write};
-use tcap_check::{Certificate, CheckFault, Reason};
+use tcap_check::{Certificate, CheckFault, Reason, Step, run_of};
 use tcap_end::Table;
 use tcap_judge::{
     OUT_OF_MEMORY, Outcome, Status, WriteFailed, named, propose, read_certificate, read_table,
@@ -33,7 +33,6 @@ use tcap_judge::{
 };
 use tcap_record::{End, Record, read_record};
 use tcap_refute::Refutation;
-use tcap_runs::{Step, run_of, run_of_end};
 
 /// What is said, and why.
 #[derive(Debug, Drop)]
@@ -85,7 +84,6 @@ impl Why {
 
 /// The steps of the run that a certificate gives for a record, of both ends or of the one that is judged; else the first reason
 /// why it gives none, at an entry, or `Memory`.
-#[tactic(auto, using(crate::proofs::LawfulRuns::of_both, crate::proofs::LawfulRuns::of_one))]
 fn steps_of(
     alloc: Global,
     read: &Record,
@@ -97,12 +95,10 @@ fn steps_of(
         ≡ replayed_by judged table.now certificate.now read.now.entries.items }
     ensures lawful { IfOk result (λ steps. IsShown judged table.now read.now.entries.items
         (lawful_by judged (length read.now.entries.items) (events_of steps.items))) }
-    ensures told { IfOk result (λ steps. AreTold table.now certificate.now judged steps.items) }
+    ensures discards { result ≢ Err (fault_at reasons.Memory 0) → map_ok (λ steps. discards_of steps.items) result
+        ≡ discards_by judged table.now certificate.now (map item_of read.now.entries.items) }
 {
-    match judged {
-        None => run_of(alloc, read, table, certificate),
-        Some(end) => run_of_end(alloc, read, table, certificate, end),
-    }
+    run_of(alloc, read, table, certificate, judged)
 }
 
 /// How many of its peer's messages an end is taken not to have received in a run.

@@ -3,17 +3,17 @@
 ghost use Rattle.std.specs.Prelude.{◌≡◌, ◌++◌, OnOk, codes};
 ghost use Rattle.std.specs.String.{string_bytes};
 ghost use Rattle.hex.specs.Hex.{encode_lower};
-ghost use Rattle.tcap_check.specs.Alone.{is_lost_from};
+ghost use Rattle.tcap_check.specs.Unheard.{is_lost_from};
 ghost use Rattle.tcap_model.specs.World.{is_side};
 ghost use Rattle.tcap_record.specs.Ends.{letter};
-ghost use Rattle.tcap_runs.specs.Steps.{event_of};
+ghost use Rattle.tcap_check.specs.Told.{event_of};
 ghost use Rattle.tcap_verdict.specs.StepLines.{closing_line, deed_text, discard_line, discard_text, expiry_line, half_text, invocation_text, is_entry, lines_from, loss_line, own_label, owner_text, peer_label, reply_line, run_label, run_lines, sent_line, step_line};
 
 use std::alloc::AllocError;
+use tcap_check::Step;
 use tcap_end::{EndFault, HalfName};
 use tcap_msg::Message;
 use tcap_record::{End, push_head, push_hex};
-use tcap_runs::Step;
 
 /// The letter of an end.
 pub(crate) fn letter(end: End) -> &'static str

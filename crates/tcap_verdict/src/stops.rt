@@ -11,12 +11,11 @@ use crate::refuted::push_ends;
 use crate::step_lines::letter;
 use std::alloc::{AllocError, Global};
 use tcap_ber::Fault;
-use tcap_check::{Certificate, CheckFault, Fate, Reason};
+use tcap_check::{Certificate, CheckFault, Fate, Partial, Reason, run_until};
 use tcap_end::{EndFault, EndState, HalfName, OpenHalf, Table};
 use tcap_msg::{Kind, Message, MessageParts};
 use tcap_parts::ComponentView;
 use tcap_record::{Body, End, Entry, Record, push_view};
-use tcap_runs::{Partial, run_until};
 
 /// How many halves, or numbers, are told.
 const MOST: usize = 8;

@@ -5,4 +5,4 @@ pub returns-clause-shown : goal.returns-clause-shown
 returns-clause-shown c =
     rw c.lawful_of.ensures
     (shown_report c.args.judged c.args.table.now c.args.read.now.entries.items _ c.in_ok-report.report
-    (c.check_judged.ensures.lawful c.in_ok-report.report c.in_ok-report.was))
+    (c.check.ensures.lawful c.in_ok-report.report c.in_ok-report.was))

@@ -1,7 +1,7 @@
 -- Those so far, and those of the steps that are left, are all.
 use Rattle.std.proofs.Common.{◌≡◌, ◌≤◌, ◌+◌, drop}
-use Rattle.tcap_check.specs.Alone.{unheard_of}
-use Rattle.tcap_runs.specs.Steps.{events_of}
+use Rattle.tcap_check.specs.Unheard.{unheard_of}
+use Rattle.tcap_check.specs.Told.{events_of}
 use Rattle.tcap_verdict.proofs.explaining.count_unheard.Given as goal
 
 abbrev pub invariant-loop-step : goal.invariant-loop-step

@@ -1,4 +1,4 @@
-use Rattle.std.proofs.Common.{Option, Result, Err, sym, ap, ◌∙◌}
+use Rattle.std.proofs.Common.{Option, Result, Err, sym, ap, ◌∙◌, false}
 use Rattle.tcap_check.specs.declared.checker.Report.{Report}
 use Rattle.tcap_check.specs.declared.fault.CheckFault.{CheckFault}
 use Rattle.tcap_check.specs.Checking.{Checking, so_far_of}
@@ -12,15 +12,15 @@ refusal fault = Err fault
 
 pub returns-in-Some-clause-finished : goal.returns-in-Some-clause-finished
 returns-in-Some-clause-finished c = λ entries took other.
-    finishes_still c.args.self c.in-Some.fault
+    finishes_still false c.args.self c.in-Some.fault
     (ap (λ (x : Checking). x.so_far) (sym c.self.view_is) ∙ ap (λ (o : Option CheckFault). so_far_of o (kept_in c.self.inside.replaying)) c.in-Some.is)
     entries took
 
 pub returns-in-None-clause-finished : goal.returns-in-None-clause-finished
 returns-in-None-clause-finished c = λ entries took other.
     let r = c.self.inside.replaying in
-    finishes_so c.args.self r.judged r.table.now r.certificate.now c.self.inside.fault (kept_in r) c.finish.result
-    (sym c.self.view_is) c.in-None.is entries (λ so. c.finish.ensures entries so other) took
+    finishes_so false c.args.self r.judged r.table.now r.certificate.now c.self.inside.fault (kept_in r) c.finish.result
+    (sym c.self.view_is) c.in-None.is entries (λ so. c.finish.ensures false entries so other) took
 
 pub returns-in-Some-clause-for_ever : goal.returns-in-Some-clause-for_ever
 returns-in-Some-clause-for_ever c =

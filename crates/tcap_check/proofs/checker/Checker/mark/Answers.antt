@@ -1,4 +1,4 @@
-use Rattle.std.proofs.Common.{Option, None, Result, Err, refl, sym, ap, ◌∙◌}
+use Rattle.std.proofs.Common.{Option, None, Result, Err, refl, sym, ap, ◌∙◌, false}
 use Rattle.tcap_check.specs.declared.fault.CheckFault.{CheckFault}
 use Rattle.tcap_check.specs.Checking.{Checking, answer_of, so_far_of}
 use Rattle.tcap_check.specs.Ready.{kept_in}
@@ -11,7 +11,7 @@ refusal fault = Err fault
 
 pub returns-in-Some-clause-took : goal.returns-in-Some-clause-took
 returns-in-Some-clause-took c = λ entries took other.
-    stays c.args.self.now c.in-Some.fault _
+    stays false c.args.self.now c.in-Some.fault _
     (ap (λ (x : Checking). x.so_far) (sym c.self.view_is) ∙ ap (λ (o : Option CheckFault). so_far_of o (kept_in c.self.inside.replaying)) c.in-Some.is)
     entries took
 
@@ -19,16 +19,16 @@ pub returns-in-Err-clause-took : goal.returns-in-Err-clause-took
 returns-in-Err-clause-took c = λ entries took other.
     let r = c.self.inside.replaying in
     rw (c.take_mark-answer.ensures.judged, c.take_mark-answer.ensures.table, c.take_mark-answer.ensures.certificate)
-    (took_err r.judged r.table.now r.certificate.now (kept_in r) (kept_in r) _ c.in-Err.fault
+    (took_err false r.judged r.table.now r.certificate.now (kept_in r) (kept_in r) _ c.in-Err.fault
     (c.in-Err.ensures.taken (λ is. other (ap (λ (f : CheckFault). let x : Result (Unit {0}) CheckFault = Err f in x) is))) entries
-    (turned c.args.self.now r.judged r.table.now r.certificate.now c.self.inside.fault None (kept_in r) (sym c.self.view_is) c.in_default.is entries took))
+    (turned false c.args.self.now r.judged r.table.now r.certificate.now c.self.inside.fault None (kept_in r) (sym c.self.view_is) c.in_default.is entries took))
 
 pub returns-in_default-answer-clause-took : goal.returns-in_default-answer-clause-took
 returns-in_default-answer-clause-took c = λ entries took other.
     let r = c.self.inside.replaying in
     rw (c.in_default.is, c.take_mark-answer.ensures.judged, c.take_mark-answer.ensures.table, c.take_mark-answer.ensures.certificate)
-    (took_ok r.judged r.table.now r.certificate.now (kept_in r) (kept_in c.take_mark-answer.new.self) _ c.in_default-answer.ensures.taken entries
-    (turned c.args.self.now r.judged r.table.now r.certificate.now c.self.inside.fault None (kept_in r) (sym c.self.view_is) c.in_default.is entries took))
+    (took_ok false r.judged r.table.now r.certificate.now (kept_in r) (kept_in c.take_mark-answer.new.self) _ c.in_default-answer.ensures.taken entries
+    (turned false c.args.self.now r.judged r.table.now r.certificate.now c.self.inside.fault None (kept_in r) (sym c.self.view_is) c.in_default.is entries took))
 
 pub returns-in-Some-clause-refuses : goal.returns-in-Some-clause-refuses
 returns-in-Some-clause-refuses c =

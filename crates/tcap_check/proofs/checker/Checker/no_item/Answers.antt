@@ -1,4 +1,4 @@
-use Rattle.std.proofs.Common.{Option, None, Result, Err, refl, sym, ap, ◌∙◌}
+use Rattle.std.proofs.Common.{Option, None, Result, Err, refl, sym, ap, ◌∙◌, false}
 use Rattle.tcap_check.specs.declared.fault.CheckFault.{CheckFault}
 use Rattle.tcap_check.specs.Checking.{Checking, answer_of, so_far_of}
 use Rattle.tcap_check.specs.Ready.{kept_in}
@@ -11,14 +11,14 @@ refusal fault = Err fault
 
 pub returns-in-Some-clause-took : goal.returns-in-Some-clause-took
 returns-in-Some-clause-took c =
-    stays c.args.self.now c.in-Some.fault _
+    stays false c.args.self.now c.in-Some.fault _
     (ap (λ (x : Checking). x.so_far) (sym c.self.view_is) ∙ ap (λ (o : Option CheckFault). so_far_of o (kept_in c.self.inside.replaying)) c.in-Some.is)
 
 pub returns-clause-took : goal.returns-clause-took
 returns-clause-took c =
     let r = c.self.inside.replaying in
-    λ entries took. took_err r.judged r.table.now r.certificate.now (kept_in r) (kept_in r) _ c.refuse-fault.result c.refuse-fault.ensures entries
-    (turned c.args.self.now r.judged r.table.now r.certificate.now c.self.inside.fault None (kept_in r) (sym c.self.view_is) c.in_default.is entries took)
+    λ entries took. took_err false r.judged r.table.now r.certificate.now (kept_in r) (kept_in r) _ c.refuse-fault.result c.refuse-fault.ensures entries
+    (turned false c.args.self.now r.judged r.table.now r.certificate.now c.self.inside.fault None (kept_in r) (sym c.self.view_is) c.in_default.is entries took)
 
 pub returns-in-Some-clause-refuses : goal.returns-in-Some-clause-refuses
 returns-in-Some-clause-refuses c =

@@ -10,7 +10,7 @@ pub returns-clause-grows : goal.returns-clause-grows
 returns-clause-grows g c =
     let abort = g.A.MessageParts.meaning c.args.abort.now in
     let p = c.args.self.now in
-    let before = c.lose_front.ensures.lost ∙ ap (λ (s : Side). front_lost c.args.judged s p) c.other.ensures in
+    let before = c.in_ok-lose_front.ensures.lost ∙ ap (λ (s : Side). front_lost c.args.judged s p) c.other.ensures in
     yields_so (GrewBy 2 1 p) (reply_kept c.args.judged c.args.side c.args.fate c.args.number abort c.args.taken p)
     c.answer_first.result c.answer_first.new.self
     (subst (λ (x : Progress). YieldsInMemory (first_answered c.args.side c.args.fate c.args.number abort c.args.taken

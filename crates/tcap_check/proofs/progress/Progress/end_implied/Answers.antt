@@ -19,13 +19,14 @@ end_invoked-requires g c =
 
 pub loop-component-preserved : goal.loop-component-preserved
 loop-component-preserved g c =
-    rw (c.end_invoked.ensures) (ends_more c.loop-component.invariant c.in-Some.ensures.steps)
+    rw (c.in_ok-end_invoked.ensures.ended) (ends_more c.loop-component.invariant c.in-Some.ensures.steps)
 
 pub returns : goal.returns
 returns g c =
     let left : length (components_left c.loop-component.component-iterator) ≡ zero = ap length c.in-None.ensures.steps.0 in
     record {
       ended = ends_none c.loop-component.invariant c.in-None.ensures.steps.0;
+      memory = tt;
       grows = omega (arith, left, c.loop-component.invariant.room);
       still = c.loop-component.invariant.still;
     }

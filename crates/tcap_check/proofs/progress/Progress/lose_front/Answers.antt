@@ -1,10 +1,10 @@
-use Rattle.std.proofs.Common.{◌≡◌, ◌+◌, ap, subst, sym, refl, ◌∙◌, arith, length, List}
+use Rattle.std.proofs.Common.{◌≡◌, ◌+◌, ap, subst, sym, refl, ◌∙◌, arith, length}
 use Rattle.std.specs.LinkedList.{linked_list_len}
 use Rattle.tcap_check.specs.declared.progress.Progress.{Progress}
 use Rattle.tcap_check.specs.declared.progress.Seat.{Seat}
 use Rattle.tcap_check.specs.Progress.{HasNoMore, front_lost, seat_at}
 use Rattle.tcap_check.proofs.KeptGrowth.{no_more}
-use Rattle.tcap_check.proofs.LosingLaws.{behind_first, none_left, none_lost, one_grows, one_left, one_lost, seat_way}
+use Rattle.tcap_check.proofs.LosingLaws.{none_left, one_grows, one_left, one_lost, seat_way}
 use Rattle.tcap_check.proofs.progress.Progress.lose_front.Goals as goal
 
 pub loop-init : goal.loop-init
@@ -15,23 +15,23 @@ loop-init c =
 
 pub lose_first-requires : goal.lose_first-requires
 lose_first-requires c =
-    let first = sym c.is_first_lost.ensures ∙ c.if-not-is_first_lost.false in
-    let one = one_left c.args.judged c.args.side c.loop.self first in
+    let first = sym c.first_lost.ensures ∙ c.in-Some.is in
+    let one = one_left c.args.judged c.args.side c.in-Some.number c.loop.self first in
     let way = seat_way c.args.side c.loop.self in
     let a = c.loop.invariant.grown.0 in let b = c.loop.invariant.grown.1 in
     record { room = omega (arith, one, way, a, c.requires.room); count = omega (arith, one, way, b, c.requires.count) }
 
 pub loop-preserved : goal.loop-preserved
 loop-preserved c =
-    let first = sym c.is_first_lost.ensures ∙ c.if-not-is_first_lost.false in
-    let behind = c.lose_first.ensures in
-    let left = one_left c.args.judged c.args.side c.loop.self first
+    let first = sym c.first_lost.ensures ∙ c.in-Some.is in
+    let behind = c.in_ok-lose_first.ensures.lost in
+    let left = one_left c.args.judged c.args.side c.in-Some.number c.loop.self first
     ∙ ap (λ (p : Progress). length (seat_at c.args.side p).waiting + 1) (sym behind) in
     let before = c.loop.invariant.left in
-    let grows = subst (HasNoMore c.loop.self) (sym behind) (one_grows c.args.judged c.args.side c.loop.self first) in
+    let grows = subst (HasNoMore c.loop.self) (sym behind) (one_grows c.args.judged c.args.side c.in-Some.number c.loop.self first) in
     record {
       same = ap (front_lost c.args.judged c.args.side) behind
-          ∙ (one_lost c.args.judged c.args.side c.loop.self first ∙ c.loop.invariant.same);
+          ∙ (one_lost c.args.judged c.args.side c.in-Some.number c.loop.self first ∙ c.loop.invariant.same);
       left = omega (arith, left, before);
       grown = no_more c.args.self.now c.loop.self c.lose_first.new.self c.loop.invariant.grown grows;
     }
@@ -42,5 +42,6 @@ returns c =
     let over = c.loop-test.false in
     record {
       lost = sym (none_left c.args.judged c.args.side c.loop.self (omega (arith, left, over))) ∙ c.loop.invariant.same;
+      memory = tt;
       grows = c.loop.invariant.grown;
     }

@@ -6,11 +6,11 @@ use Rattle.tcap_check.proofs.CheckerLaws.{finished_err, finished_ok}
 use Rattle.tcap_check.proofs.replaying.Replaying.finish.Goals as goal
 
 pub returns-in-Ok : goal.returns-in-Ok
-returns-in-Ok c = λ entries took other.
-    let r = c.args.self in (finished_ok r.judged r.table.now r.certificate.now (kept_in r) c.end.new.self.progress c.in-Ok.ensures entries took)
+returns-in-Ok c = λ listed entries took other.
+    let r = c.args.self in (finished_ok listed r.judged r.table.now r.certificate.now (kept_in r) c.end.new.self.progress c.in-Ok.ensures entries took)
 
 pub returns : goal.returns
-returns c = λ entries took other.
+returns c = λ listed entries took other.
     let r = c.args.self in
-    finished_err r.judged r.table.now r.certificate.now (kept_in r) c.in-Err.fault
+    finished_err listed r.judged r.table.now r.certificate.now (kept_in r) c.in-Err.fault
     (c.in-Err.ensures (λ is. other (ap (λ (f : CheckFault). let x : Result Report CheckFault = Err f in x) is))) entries took

@@ -1,0 +1,77 @@
+-- What one step more tells.
+use Rattle.std.proofs.Common.{◌≡◌, ℕ, List, [], ◌∷◌, ◌++◌, Option, Some, None, refl, ap, ap₂, ◌∙◌, append-nil, append_assoc}
+use Rattle.std.specs.Prelude.{option_map, Bool, true, false}
+use Rattle.tcap_record.specs.declared.entry.End.{End as Side}
+use Rattle.tcap_end.specs.declared.fault.EndFault.{EndFault}
+use Rattle.tcap_model.specs.Run.{Event, Loses}
+use Rattle.tcap_check.specs.declared.step.Step.{Step}
+use Rattle.tcap_check.specs.declared.step.Step.TheVariants as steps
+use Rattle.tcap_check.specs.Told.{Told, discard_more, discard_of, discards_of, event_of, events_of, more_told, told_if, told_of}
+
+events_more : (list : List Step) (step : Step) → events_of (list ++ step ∷ []) ≡ events_of list ++ event_of step ∷ []
+events_more [] step = refl
+events_more (first ∷ list) step = ap (λ (x : List Event). event_of first ∷ x) (events_more list step)
+
+abbrev with_discard : Option (ℕ × EndFault) → List (ℕ × EndFault)
+with_discard None = []
+with_discard (Some x) = x ∷ []
+
+discards_more : (list : List Step) (step : Step) → discards_of (list ++ step ∷ []) ≡ discards_of list ++ with_discard (discard_of step)
+discards_more [] step = by (discard_of step) refl
+  where
+    by : (o : Option (ℕ × EndFault)) → discard_of step ≡ o → discards_of (step ∷ []) ≡ with_discard o
+    by None is = rw is refl
+    by (Some x) is = rw is refl
+discards_more (first ∷ list) step = by (discard_of first) refl (discards_more list step)
+  where
+    by : (o : Option (ℕ × EndFault)) → discard_of first ≡ o
+        → discards_of (list ++ step ∷ []) ≡ discards_of list ++ with_discard (discard_of step)
+        → discards_of (first ∷ (list ++ step ∷ [])) ≡ discards_of (first ∷ list) ++ with_discard (discard_of step)
+    by None is rest = rw is rest
+    by (Some x) is rest = rw is (ap (λ (y : List (ℕ × EndFault)). x ∷ y) rest)
+
+abbrev told : (events : List Event) (discards : List (ℕ × EndFault)) → Told
+told events discards = record { events = events; discards = discards }
+
+-- One that is no discard,
+pub one_more : (list : List Step) (step : Step) → discard_of step ≡ None
+    → told_of (list ++ step ∷ []) ≡ more_told (event_of step ∷ []) (told_of list)
+one_more list step none =
+    ap₂ told (events_more list step)
+    (discards_more list step ∙ ap (λ (o : Option (ℕ × EndFault)). discards_of list ++ with_discard o) none ∙ append-nil (discards_of list))
+
+-- and one that is.
+pub one_discard_more : (list : List Step) (side : Side) (number : ℕ) (reason : EndFault)
+    → told_of (list ++ steps.Discards side number reason ∷ [])
+    ≡ discard_more number reason (more_told (Loses side number ∷ []) (told_of list))
+one_discard_more list side number reason =
+    ap₂ told (events_more list (steps.Discards side number reason)) (discards_more list (steps.Discards side number reason))
+
+-- ---- what is told of a run
+
+-- Steps more of it,
+pub more_if : (listed : Bool) (more events : List Event) (discards : List (ℕ × EndFault))
+    → option_map (more_told more) (told_if listed events discards) ≡ told_if listed (events ++ more) discards
+more_if true more events discards = refl
+more_if false more events discards = refl
+
+-- and a discard more.
+pub discard_if : (listing : Bool) (side : Side) (number : ℕ) (reason : EndFault) (events : List Event) (discards : List (ℕ × EndFault))
+    → option_map (λ told. discard_more number reason (more_told (Loses side number ∷ []) told)) (told_if listing events discards)
+    ≡ told_if listing (events ++ Loses side number ∷ []) (discards ++ (number, reason) ∷ [])
+discard_if true side number reason events discards = refl
+discard_if false side number reason events discards = refl
+
+-- No step more tells nothing,
+pub told_still : (o : Option Told) → option_map (more_told []) o ≡ o
+told_still None = refl
+told_still (Some told) =
+    ap (λ (x : List Event). let y : Option Told = Some (record { events = x; discards = told.discards }) in y) (append-nil told.events)
+
+-- and steps more are told one after the other.
+pub told_both : (event : Event) (events : List Event) (o : Option Told)
+    → option_map (more_told events) (option_map (more_told (event ∷ [])) o) ≡ option_map (more_told (event ∷ events)) o
+told_both event events None = refl
+told_both event events (Some told) =
+    ap (λ (x : List Event). let y : Option Told = Some (record { events = x; discards = told.discards }) in y)
+    (append_assoc told.events (event ∷ []) events)

@@ -1,0 +1,8 @@
+-- what is left closes over what is kept now as all do over what was kept first
+use Rattle.tcap_check.specs.Hearing.{halves_shut}
+use Rattle.tcap_check.proofs.HearingLaws.{Going}
+use Rattle.tcap_check.proofs.progress.Progress.close_each.Given as goal
+
+abbrev pub invariant-loop-name : goal.invariant-loop-name
+invariant-loop-name l =
+    Going (λ names. halves_shut l.side l.table l.number names) l.fn.self l.names l.self l.name-index

@@ -1,0 +1,49 @@
+use Rattle.std.proofs.Common.{◌≡◌, List, Option, Result, Err, sym, ap, ap₂, subst, ◌∙◌, map, take, drop, ◌++◌, ◌+◌}
+use Rattle.std.proofs.lemmas.Result.{err_from_is_err_and}
+use Rattle.tcap_record.specs.declared.entry.End.{End as Side}
+use Rattle.tcap_model.specs.declared.reason.Reason.{Reason}
+use Rattle.tcap_model.specs.World.{Item}
+use Rattle.tcap_model.specs.Entries.{item_of}
+use Rattle.tcap_check.specs.declared.fault.CheckFault.{CheckFault}
+use Rattle.tcap_check.specs.Checking.{TookListed}
+use Rattle.tcap_check.specs.Ready.{checking_of, kept_in}
+use Rattle.tcap_check.specs.Replayed.{replay_by}
+use Rattle.tcap_check.proofs.RecordLaws.{refused_at, taken_at, took_more, whole_is}
+use Rattle.tcap_check.proofs.replaying.Replaying.take_all.Goals as goal
+
+pub returns-in_err-take_entry-clause-refused : goal.returns-in_err-take_entry-clause-refused
+returns-in_err-take_entry-clause-refused c =
+    let all = c.args.record.now.entries.items in
+    let i = c.loop-entry.entry-index in
+    let r = c.loop-entry.self in
+    let s = c.args.self.now in
+    let before = map item_of (take i all) in
+    let so_far = taken_at all c.deref-entry-items.result.now i c.entry-item.result c.deref-entry-items.ensures.value
+    c.loop-entry-test.true c.entry-item.is in
+    let p = err_from_is_err_and c.from_residual.result c.from_residual.ensures.1 in
+    let kept = c.loop-entry.invariant in
+    λ listed f start same other.
+    let fault : c.in_err-take_entry.field-0.0 ≡ f = cc in
+    ap (λ (judged : Option Side). replay_by judged s.table.now s.certificate.now (map item_of all)) (sym kept.judged)
+    ∙ ap₂ (λ t x. replay_by r.judged t x (map item_of all)) (sym (ap (λ x. x.now) kept.table)) (sym (ap (λ x. x.now) kept.certificate))
+    ∙ refused_at listed r.judged r.table.now r.certificate.now (kept_in r) (item_of c.entry-item.result) f
+    (c.in_err-take_entry.ensures.taken (λ is. other (sym fault ∙ is)) ∙ ap (λ (x : CheckFault). Err x) fault)
+    before (map item_of (drop (i + 1) all)) (map item_of all) (kept.took listed start)
+    (ap (λ (x : List (Result Item Reason)). x ++ map item_of (drop (i + 1) all)) (sym so_far) ∙ whole_is all (i + 1))
+
+pub loop-entry-preserved : goal.loop-entry-preserved
+loop-entry-preserved c =
+    let all = c.args.record.now.entries.items in
+    let i = c.loop-entry.entry-index in
+    let so_far = taken_at all c.deref-entry-items.result.now i c.entry-item.result c.deref-entry-items.ensures.value
+    c.loop-entry-test.true c.entry-item.is in
+    record {
+      ready = c.in_ok-take_entry.ensures.ready;
+      took = λ listed start. subst (λ (x : List (Result Item Reason)). TookListed listed (checking_of c.take_entry.new.self) x) (sym so_far)
+          (took_more listed c.loop-entry.self c.take_entry.new.self (item_of c.entry-item.result) c.take_entry.ensures.judged
+          c.take_entry.ensures.table c.take_entry.ensures.certificate c.in_ok-take_entry.ensures.taken (map item_of (take i all))
+          (c.loop-entry.invariant.took listed start));
+      judged = c.take_entry.ensures.judged ∙ c.loop-entry.invariant.judged;
+      table = c.take_entry.ensures.table ∙ c.loop-entry.invariant.table;
+      certificate = c.take_entry.ensures.certificate ∙ c.loop-entry.invariant.certificate;
+    }

@@ -1,0 +1,117 @@
+//! How messages are lost in a replay.
+
+ghost use Rattle.std.specs.Prelude.{◌≡◌, ◌<◌, ◌+◌, ◌^◌, OnOk, drop};
+ghost use Rattle.tcap_check.specs.Progress.{HasNoMore, IsMemory, discard_told, first_lost, front_lost, last_lost, load, lost_counted};
+ghost use Rattle.tcap_check.specs.Progress.{lost_told, seat_at, unheard_load, with_waiting};
+
+use crate::fault::CheckFault;
+use crate::progress::Progress;
+use crate::step::Step;
+use tcap_end::EndFault;
+use tcap_record::End;
+
+impl Progress<'_> {
+    /// A message that an end sent is lost, which was taken from its channel: that is counted.
+    pub(crate) fn count_lost(&mut self, judged: Option<End>, side: End)
+        requires room { self.old.moves + 1 < 2 ^ 128 }
+        requires count { self.old.unheard + 1 < 2 ^ 64 }
+        ensures { self.new ≡ lost_counted judged side self.old }
+    {
+        match judged {
+            None => self.moves += 1,
+            Some(judged) if judged == side => {}
+            Some(_) => {
+                self.moves += 1;
+                self.unheard += 1;
+            }
+        }
+    }
+
+    /// The first message on its way from an end is dropped, if there is one.
+    pub(crate) fn drop_first(&mut self, side: End)
+        ensures left { self.new ≡ with_waiting side (drop 1 (seat_at side self.old).waiting) self.old }
+        ensures moves { self.new.moves ≡ self.old.moves }
+        ensures unheard { self.new.unheard ≡ self.old.unheard }
+    {
+        let _ = match side {
+            End::A => self.a.waiting.pop_front(),
+            End::B => self.b.waiting.pop_front(),
+        };
+    }
+
+    /// The first message on its way from an end, which has that number, is lost.
+    fn lose_first(&mut self, judged: Option<End>, side: End, number: u64) -> Result<(), CheckFault>
+        requires room { self.old.moves + 1 < 2 ^ 128 }
+        requires count { self.old.unheard + 1 < 2 ^ 64 }
+        ensures lost { OnOk result (self.new
+            ≡ lost_told judged side number (with_waiting side (drop 1 (seat_at side self.old).waiting) self.old)) }
+        ensures memory { IsMemory result }
+    {
+        self.drop_first(side);
+        self.tell(Step::Loses(side, number))?;
+        self.count_lost(judged, side);
+        Ok(())
+    }
+
+    /// The message of that number, which an end sent and which was taken from its channel, is discarded for that reason.
+    pub(crate) fn discard(
+        &mut self,
+        judged: Option<End>,
+        sender: End,
+        number: u64,
+        reason: EndFault,
+    ) -> Result<(), CheckFault>
+        requires room { self.old.moves + 1 < 2 ^ 128 }
+        requires count { self.old.unheard + 1 < 2 ^ 64 }
+        ensures lost { OnOk result (self.new ≡ lost_counted judged sender (discard_told sender number reason self.old)) }
+        ensures memory { IsMemory result }
+    {
+        self.tell_discard(sender, number, reason)?;
+        self.count_lost(judged, sender);
+        Ok(())
+    }
+
+    /// The number of the first message on its way from an end, where it is one that will be lost.
+    fn first_lost(&self, side: End) -> Option<u64>
+        ensures { result ≡ first_lost (seat_at side self.now).waiting }
+    {
+        match self.seat(side).waiting.front() {
+            Some(first) if first.message.is_none() => Some(first.number),
+            _ => None,
+        }
+    }
+
+    /// The messages at the front of what is on its way from an end that will be lost are lost.
+    pub(crate) fn lose_front(&mut self, judged: Option<End>, side: End) -> Result<(), CheckFault>
+        requires room { load self.old < 2 ^ 128 }
+        requires count { unheard_load self.old < 2 ^ 64 }
+        ensures lost { OnOk result (self.new ≡ front_lost judged side self.old) }
+        ensures memory { IsMemory result }
+        ensures grows { OnOk result (HasNoMore self.old self.new) }
+    {
+        for _ in 0..self.seat(side).waiting.len() {
+            let Some(number) = self.first_lost(side) else {
+                return Ok(());
+            };
+            self.lose_first(judged, side, number)?;
+        }
+        Ok(())
+    }
+
+    /// What is lost before a quiet mark, or at the end.
+    pub(crate) fn lose_last(&mut self, judged: Option<End>) -> Result<(), CheckFault>
+        requires room { load self.old < 2 ^ 128 }
+        requires count { unheard_load self.old < 2 ^ 64 }
+        ensures lost { OnOk result (self.new ≡ last_lost judged self.old) }
+        ensures memory { IsMemory result }
+        ensures grows { OnOk result (HasNoMore self.old self.new) }
+    {
+        match judged {
+            None => {
+                self.lose_front(None, End::A)?;
+                self.lose_front(None, End::B)
+            }
+            Some(alone) => self.lose_front(judged, alone.other()),
+        }
+    }
+}

@@ -1,0 +1,112 @@
+//! The run that a certificate gives for a record, step by step.
+
+ghost use Rattle.std.specs.Prelude.{◌≡◌, ◌≢◌, map, Err, IfOk};
+ghost use Rattle.tcap_model.specs.declared.reason.Reason.TheVariants as reasons;
+ghost use Rattle.tcap_model.specs.Entries.{item_of};
+ghost use Rattle.tcap_check.specs.AloneGiven.{IsGivenTo};
+ghost use Rattle.tcap_check.specs.Checking.{map_ok};
+ghost use Rattle.tcap_check.specs.Ready.{IsReady};
+ghost use Rattle.tcap_check.specs.Replayed.{discards_by, fault_at, replayed_by};
+ghost use Rattle.tcap_check.specs.Told.{MayAllBeDiscarded, discards_of, events_of};
+
+use crate::certificate::Certificate;
+use crate::fault::CheckFault;
+use crate::progress::Progress;
+use crate::replaying::Replaying;
+use crate::step::Step;
+use std::alloc::{AllocError, Global};
+use tcap_end::{EndState, Table};
+use tcap_model::Reason;
+use tcap_record::{End, Record};
+
+/// The run that a certificate gives for a record, step by step (Q.774 3.2 and 3.3). Where no end is named both are judged: it is a run
+/// of two ends, over two channels that keep order and may lose messages, that sends the entries of the record, in their order, and
+/// nothing else. Where one is named it alone keeps the rules in it, whatever its peer sends: the peer's messages are told (`Tells`),
+/// those of the end are sent and lost at once, since nothing is asked of what the peer hears, and a message that the end can't receive
+/// is lost (`Discards`). Else the first reason why the certificate gives no such run, at an entry, as `check` answers it; or `Memory`.
+pub fn run_of(
+    alloc: Global,
+    record: &Record,
+    table: &Table,
+    certificate: &Certificate,
+    judged: Option<End>,
+) -> Result<Vec<Step>, CheckFault>
+    ensures given { IfOk result (λ steps. IsGivenTo judged table.now certificate.now «record».now.entries.items
+        (events_of steps.items)) }
+    ensures exact { result ≢ Err (fault_at reasons.Memory 0) → map_ok (λ steps. events_of steps.items) result
+        ≡ replayed_by judged table.now certificate.now «record».now.entries.items }
+    ensures discards { result ≢ Err (fault_at reasons.Memory 0) → map_ok (λ steps. discards_of steps.items) result
+        ≡ discards_by judged table.now certificate.now (map item_of «record».now.entries.items) }
+    ensures may { IfOk result (λ steps. MayAllBeDiscarded judged certificate.now (discards_of steps.items)) }
+{
+    let mut replaying = Replaying::new(alloc, table, certificate, judged, true)?;
+    replaying.take_all(record)?;
+    replaying.finish_listed()
+}
+
+/// A run as far as it goes.
+#[derive(Debug, Drop)]
+pub struct Partial {
+    /// Its steps, from the first on.
+    pub steps: Vec<Step>,
+    /// The end A behind them.
+    pub a: EndState,
+    /// The end B behind them.
+    pub b: EndState,
+}
+
+/// The entries of a record, as far as a replay goes, and the last gap where it goes so far.
+fn go_through<'r>(replaying: &mut Replaying<'_, 'r>, record: &'r Record) -> Result<(), CheckFault>
+    requires ready { IsReady replaying.old }
+{
+    replaying.take_all(record)?;
+    replaying.end()
+}
+
+/// The steps that a certificate says for the entries of a record, up to where it is refused, and the two ends behind them
+/// (Q.774 3.2 and 3.3): of a run of both ends, or of the one that is judged, whose peer then stays new. Where a step is refused,
+/// the ends are as they were before it. Where a number of the certificate is out of its range there are no steps.
+/// Fails where memory runs out.
+pub fn run_until(
+    alloc: Global,
+    record: &Record,
+    table: &Table,
+    certificate: &Certificate,
+    judged: Option<End>,
+) -> Result<Partial, AllocError> {
+    let mut replaying = match Replaying::new(alloc, table, certificate, judged, true) {
+        Ok(replaying) => replaying,
+        Err(
+            CheckFault {
+                reason: Reason::Memory,
+                ..
+            },
+        ) => return Err(AllocError),
+        Err(_) => {
+            return Ok(Partial {
+                steps: Vec::new(alloc),
+                a: EndState::new(alloc),
+                b: EndState::new(alloc),
+            });
+        }
+    };
+    if let Err(
+        CheckFault {
+            reason: Reason::Memory,
+            ..
+        },
+    ) = go_through(&mut replaying, record)
+    {
+        return Err(AllocError);
+    }
+    let Progress { a, b, steps, .. } = replaying.into_progress();
+    let steps = match steps {
+        Some(steps) => steps.into_list(),
+        None => Vec::new(alloc),
+    };
+    Ok(Partial {
+        steps,
+        a: a.end,
+        b: b.end,
+    })
+}

@@ -1,8 +1,0 @@
--- what is left decides
-use Rattle.std.proofs.Common.{◌≡◌, map, drop}
-use Rattle.tcap_check.specs.Replayed.{all_fit}
-use Rattle.tcap_runs.proofs.order.closings_fit.Given as goal
-
-abbrev pub invariant-loop-x : goal.invariant-loop-x
-invariant-loop-x l = all_fit l.count (map (λ x. (x.entry, x.gap)) (drop l.x-index l.close))
-    ≡ all_fit l.count (map (λ x. (x.entry, x.gap)) l.close)
