@@ -102,7 +102,7 @@ expiries_lead side table c listed r next is =
     (all_passed (λ x. is_side side x.side) listed) found.1)
 
 -- A message is received, or lost.
-heard_leads : (side : Side) (table : Table) (c : Certificate) (n : ℕ) (r next : Replay)
+pub heard_leads : (side : Side) (table : Table) (c : Certificate) (n : ℕ) (r next : Replay)
     → heard table c side n r ≡ Ok next
     → Leads side table r [] next
 heard_leads side table c n r next is =

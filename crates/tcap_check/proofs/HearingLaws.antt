@@ -1,5 +1,5 @@
 -- Steps over what is kept, one after the other: what is left, and what it does to what is kept now, tell of all.
-use Rattle.std.proofs.Common.{◌≡◌, ℕ, true, false, ◌+◌, ◌^◌, ◌<◌, List, ◌∷◌, length, drop, Option, Some, None, Result, refl}
+use Rattle.std.proofs.Common.{◌≡◌, ℕ, zero, suc, true, false, ◌+◌, ◌^◌, ◌≤◌, ◌<◌, List, [], ◌∷◌, length, drop, get_or, Option, Some, None, Result, refl, ap, ◌∙◌, arith}
 use Rattle.tcap_record.specs.declared.entry.End.{End as Side}
 use Rattle.tcap_check.specs.declared.fault.CheckFault.{CheckFault}
 use Rattle.tcap_check.specs.declared.progress.Progress.{Progress}
@@ -23,6 +23,34 @@ pub record Listening (judged : Option Side) (table : Table) (entries : List Outl
     (p : Progress) (index : ℕ) : Type 0 where
   pub same : deliveries_kept judged table entries numbers first ≡ deliveries_kept judged table entries (drop index numbers) p
   pub grown : HasNoMore first p
+
+-- What is left from an index on is the item there, and what is left behind it.
+pub next_left : {A : Type 0} (xs : List A) (i : ℕ) (default : A) → i < length xs → drop i xs ≡ get_or xs i default ∷ drop (i + 1) xs
+next_left [] i default less = absurd (omega (arith, less))
+next_left (x ∷ xs) zero default less = refl
+next_left (x ∷ xs) (suc i) default less =
+    let behind : suc i + 1 ≡ suc (i + 1) = omega arith in
+    rw behind (next_left xs i default (omega (arith, less)))
+
+-- So it goes on behind the item there,
+pub same_next : {X : Type 0} (all : List X → Progress → Result Progress CheckFault) (first : Progress) (xs : List X) (p q : Progress)
+    (i : ℕ) (default : X) → all xs first ≡ all (drop i xs) p → i < length xs
+    → all (get_or xs i default ∷ drop (i + 1) xs) p ≡ all (drop (i + 1) xs) q
+    → all xs first ≡ all (drop (i + 1) xs) q
+same_next all first xs p q i default same less step = same ∙ ap (λ left. all left p) (next_left xs i default less) ∙ step
+
+-- with room for what is left.
+pub going_next : {X : Type 0} (all : List X → Progress → Result Progress CheckFault) (first : Progress) (xs : List X) (p q : Progress)
+    (i : ℕ) (default : X) → Going all first xs p i → i < length xs
+    → all (get_or xs i default ∷ drop (i + 1) xs) p ≡ all (drop (i + 1) xs) q → q.moves ≤ p.moves + 1
+    → Going all first xs q (i + 1)
+going_next all first xs p q i default going less step grows =
+    let left = ap length (next_left xs i default less) in
+    let room = going.room in
+    record {
+      same = same_next all first xs p q i default going.same less step;
+      room = omega (arith, left, room, grows);
+    }
 
 -- ---- what is listed
 

@@ -161,7 +161,7 @@ needs_then : (so : Bool) (fault : CheckFault) (o : Result End EndFault) (step : 
 needs_then true fault o step = refl
 needs_then false fault o step = refl
 
-delivered_is : (listing : Bool) (judged : Option Side) (table : Table) (c : Certificate) (sender : Side) (number : ℕ) (r : Replay) → is_heard judged sender ≡ true
+pub delivered_is : (listing : Bool) (judged : Option Side) (table : Table) (c : Certificate) (sender : Side) (number : ℕ) (r : Replay) → is_heard judged sender ≡ true
     → delivery_kept judged table number (Some sender) (progress_of listing judged c r)
     ≡ map_ok (progress_of listing judged c) (received judged table c sender number r)
 delivered_is listing judged table c sender number r heard =

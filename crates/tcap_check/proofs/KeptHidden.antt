@@ -196,7 +196,7 @@ expiries_listed c count =
 -- ---- steps
 
 -- A step of an end alone.
-end_is : (listing : Bool) (judged : Option Side) (c : Certificate) (side : Side) (event : Event) (fault : CheckFault) (r : Replay) (step : Result End EndFault)
+pub end_is : (listing : Bool) (judged : Option Side) (c : Certificate) (side : Side) (event : Event) (fault : CheckFault) (r : Replay) (step : Result End EndFault)
     → ((at : Side) → is_lost_from at event ≡ false)
     → end_moved side event fault (progress_of listing judged c r) step
     ≡ map_ok (progress_of listing judged c) (ok_or (option_map (with_step event r)
@@ -234,7 +234,7 @@ abbrev closing_replayed : Table → Certificate → Closing → Replay → Resul
 closing_replayed table c x r = ok_or (closing_event r.world.sent x) (fault_at FateRange x.entry)
     >>= λ event. happens table c event (HiddenRefused faults.CannotClose) x.entry r
 
-half_closes_is : (listing : Bool) (judged : Option Side) (table : Table) (c : Certificate) (x : Closing) (name : HalfName) (r : Replay)
+pub half_closes_is : (listing : Bool) (judged : Option Side) (table : Table) (c : Certificate) (x : Closing) (name : HalfName) (r : Replay)
     → half_closes table x name (progress_of listing judged c r)
     ≡ map_ok (progress_of listing judged c) (happens table c (Closes x.side name) (HiddenRefused faults.CannotClose) x.entry r)
 half_closes_is listing judged table c x name r =
@@ -364,7 +364,7 @@ abbrev expiry_replayed : Table → Certificate → Expiry → Replay → Result 
 expiry_replayed table c x r = ok_or (expiry_event r.world.sent x) (fault_at FateRange x.entry)
     >>= λ event. happens table c event (HiddenRefused faults.CannotExpire) x.entry r
 
-invocation_ends_is : (listing : Bool) (judged : Option Side) (table : Table) (c : Certificate) (x : Expiry) (invocation : HalfName × ℤ) (r : Replay)
+pub invocation_ends_is : (listing : Bool) (judged : Option Side) (table : Table) (c : Certificate) (x : Expiry) (invocation : HalfName × ℤ) (r : Replay)
     → invocation_ends table x invocation (progress_of listing judged c r)
     ≡ map_ok (progress_of listing judged c) (happens table c (expires_by x invocation) (HiddenRefused faults.CannotExpire) x.entry r)
 invocation_ends_is listing judged table c x invocation r =

@@ -42,7 +42,7 @@ use Rattle.tcap_check.proofs.WorldLaws.{apart, sent_with_end}
 
 -- ---- expiries that a message implies
 
-one_implied : (listing : Bool) (table : Table) (judged : Option Side) (c : Certificate) (side : Side) (name : HalfName) (id : ℤ) (r : Replay)
+pub one_implied : (listing : Bool) (table : Table) (judged : Option Side) (c : Certificate) (side : Side) (name : HalfName) (id : ℤ) (r : Replay)
     → end_tried table side name id (progress_of listing judged c r)
     ≡ progress_of listing judged c (or_same r (stepped table (Expires side name id) r))
 one_implied listing table judged c side name id r =

@@ -45,6 +45,8 @@ pub mod ToldLaws
 pub mod ReplayKeeps
 pub mod DiscardLaws
 pub mod DiscardReasons
+pub mod StandsLaws
+pub mod StandsTaken
 pub mod KeptBasics
 pub mod KeptCounts
 pub mod KeptDeliveries

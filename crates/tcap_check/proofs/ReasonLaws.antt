@@ -133,7 +133,7 @@ sent_stands table c front entry fate side message r next fit old is has goes =
     (message_replays table c side message gap.0 next gap.2)
 
 -- So it does behind an entry, whoever is judged.
-entry_stands : (judged : Option Side) (table : Table) (c : Certificate) (front : List Entry) (entry : Entry) (fate : Fate) (r next : Replay)
+pub entry_stands : (judged : Option Side) (table : Table) (c : Certificate) (front : List Entry) (entry : Entry) (fate : Fate) (r next : Replay)
     → FatesFit (length c.fates) 0 c.fates → Stands judged table c front (next_entry r) r
     → slice_get c.fates (next_entry r) ≡ Some fate → entry_by judged table c fate (item_of entry) r ≡ Ok next
     → Stands judged table c (front ++ entry ∷ []) (next_entry next) next
@@ -220,7 +220,7 @@ entries_say judged table c front (entry ∷ rest) r fault fit old took is =
         behind fate has (then_err (entry_by judged table c fate (item_of entry) r) _ fault refuses) on
 
 -- In the beginning it stands.
-nothing_stands : (judged : Option Side) (table : Table) (c : Certificate)
+pub nothing_stands : (judged : Option Side) (table : Table) (c : Certificate)
     → Stands judged table c [] (next_entry nothing_replayed) nothing_replayed
 nothing_stands judged table c = record {
   runs = refl;
@@ -238,7 +238,7 @@ nothing_stands judged table c = record {
     by (Some side) = tt
 
 -- Of two steps that answer Ok the first does.
-first_ok : {B F : Type 0} (step : Result (Unit {0}) F) (rest : Result B F) {x : B} → (step >> rest) ≡ Ok x → step ≡ Ok tt
+pub first_ok : {B F : Type 0} (step : Result (Unit {0}) F) (rest : Result B F) {x : B} → (step >> rest) ≡ Ok x → step ≡ Ok tt
 first_ok (Ok tt) rest is = refl
 first_ok (Err reason) rest is = cc
 

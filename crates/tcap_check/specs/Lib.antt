@@ -19,4 +19,5 @@ pub mod Checking
 pub mod Buckets
 pub mod Plan
 pub mod Ready
+pub mod Stands
 pub mod Hearing

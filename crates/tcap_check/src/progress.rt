@@ -1,6 +1,6 @@
 //! What a checker keeps of two ends and two channels between them, and single steps (Q.774 3.2 and 3.3).
 
-ghost use Rattle.std.specs.Prelude.{◌≡◌, ◌<◌, ◌+◌, ◌^◌, [], ◌∷◌, None, IfSome, IsSome, OnErr, OnOk, length};
+ghost use Rattle.std.specs.Prelude.{◌≡◌, ◌<◌, ◌+◌, ◌^◌, [], ◌∷◌, None, Option, IfSome, IsSome, OnErr, OnOk, length};
 ghost use Rattle.tcap_msg.specs.Parts.{otid_in};
 ghost use Rattle.tcap_end.specs.Step.{AnswersInMemory};
 ghost use Rattle.tcap_end.specs.Message.{receive};
@@ -8,6 +8,8 @@ ghost use Rattle.tcap_check.specs.Hearing.{is_judged};
 ghost use Rattle.tcap_check.specs.Replayed.{closings_judged, expiries_judged};
 ghost use Rattle.tcap_check.specs.Progress.{IsMemory, YieldsInMemory, closing_kept, closings_kept, count_kept, discard_told, empty_seat};
 ghost use Rattle.tcap_check.specs.Progress.{expiries_kept, expiry_kept, half_closes, invocation_ends, nothing_kept, seat_at, with_told};
+ghost use Rattle.tcap_record.specs.declared.entry.End.{End as Side};
+ghost use Rattle.tcap_check.specs.Stands.{StopsSo};
 ghost use Rattle.tcap_check.specs.Told.{discard_of, event_of, told_if, told_of};
 
 use crate::certificate::{Closing, Expiry};
@@ -190,7 +192,8 @@ impl<'r> Progress<'r> {
     /// Closes a half of an end unseen.
     fn close(&mut self, table: &Table, x: &Closing, name: HalfName) -> Result<(), CheckFault>
         requires room { self.old.moves + 1 < 2 ^ 128 }
-        ensures { YieldsInMemory (half_closes table.now x.now name self.old) result self.new }
+        ensures closed { YieldsInMemory (half_closes table.now x.now name self.old) result self.new }
+        ensures stops { (judged : Option Side) → StopsSo table.now judged self.old result self.new }
     {
         let own = copy_name(&name);
         let closed = match x.side {
@@ -216,7 +219,8 @@ impl<'r> Progress<'r> {
         id: i8,
     ) -> Result<(), CheckFault>
         requires room { self.old.moves + 1 < 2 ^ 128 }
-        ensures { YieldsInMemory (invocation_ends table.now x.now (name, id) self.old) result self.new }
+        ensures ended { YieldsInMemory (invocation_ends table.now x.now (name, id) self.old) result self.new }
+        ensures stops { (judged : Option Side) → StopsSo table.now judged self.old result self.new }
     {
         let own = copy_name(&name);
         let ended = match x.side {
@@ -243,6 +247,7 @@ impl<'r> Progress<'r> {
     ) -> Result<(), CheckFault>
         requires room { self.old.moves + 1 < 2 ^ 128 }
         ensures closed { YieldsInMemory (closing_kept table.now entries.now since x.now self.old) result self.new }
+        ensures stops { (judged : Option Side) → StopsSo table.now judged self.old result self.new }
         ensures grows { OnOk result (self.new.moves ≡ self.old.moves + 1) }
     {
         let Some(name) = half_closed(entries, since, x) else {
@@ -264,6 +269,7 @@ impl<'r> Progress<'r> {
     ) -> Result<(), CheckFault>
         requires room { self.old.moves + 1 < 2 ^ 128 }
         ensures ended { YieldsInMemory (expiry_kept table.now entries.now since x.now self.old) result self.new }
+        ensures stops { (judged : Option Side) → StopsSo table.now judged self.old result self.new }
         ensures grows { OnOk result (self.new.moves ≡ self.old.moves + 1) }
     {
         let Some((name, id)) = invocation_ended(entries, since, x) else {
@@ -277,7 +283,7 @@ impl<'r> Progress<'r> {
 
     /// Closes halves of the ends that are judged unseen, in the order in which they are listed. What is listed of a peer that is not is
     /// passed over.
-    #[tactic(auto, using(crate::proofs::HearingLaws::closes_first, crate::proofs::HearingLaws::closes_none))]
+    #[tactic(auto, using(crate::proofs::HearingLaws::closes_first, crate::proofs::HearingLaws::closes_none, crate::proofs::StandsLaws::stands_closing))]
     pub(crate) fn close_all(
         &mut self,
         table: &Table,
@@ -287,8 +293,9 @@ impl<'r> Progress<'r> {
         closings: &[Closing],
     ) -> Result<(), CheckFault>
         requires room { self.old.moves + length closings.now < 2 ^ 128 }
-        ensures { YieldsInMemory (closings_kept table.now entries.now since (closings_judged judged closings.now) self.old) result
+        ensures closed { YieldsInMemory (closings_kept table.now entries.now since (closings_judged judged closings.now) self.old) result
             self.new }
+        ensures stops { StopsSo table.now judged self.old result self.new }
     {
         for x in closings {
             if is_judged(judged, x.side) {
@@ -300,7 +307,7 @@ impl<'r> Progress<'r> {
 
     /// Ends invocations of the ends that are judged unseen, in the order in which they are listed. What is listed of a peer that is not
     /// is passed over.
-    #[tactic(auto, using(crate::proofs::HearingLaws::ends_first, crate::proofs::HearingLaws::ends_none))]
+    #[tactic(auto, using(crate::proofs::HearingLaws::ends_first, crate::proofs::HearingLaws::ends_none, crate::proofs::StandsLaws::stands_expiry))]
     pub(crate) fn expire_all(
         &mut self,
         table: &Table,
@@ -310,8 +317,9 @@ impl<'r> Progress<'r> {
         expiries: &[Expiry],
     ) -> Result<(), CheckFault>
         requires room { self.old.moves + length expiries.now < 2 ^ 128 }
-        ensures { YieldsInMemory (expiries_kept table.now entries.now since (expiries_judged judged expiries.now) self.old) result
+        ensures ended { YieldsInMemory (expiries_kept table.now entries.now since (expiries_judged judged expiries.now) self.old) result
             self.new }
+        ensures stops { StopsSo table.now judged self.old result self.new }
     {
         for x in expiries {
             if is_judged(judged, x.side) {

@@ -7,11 +7,13 @@ ghost use Rattle.tcap_model.specs.declared.reason.Reason.TheVariants as reasons;
 ghost use Rattle.tcap_model.specs.World.{Item, Sent};
 ghost use Rattle.tcap_check.specs.Outlines.{outline_of};
 ghost use Rattle.tcap_check.specs.Progress.{GrewBy, YieldsInMemory, load, overtakes, seat_at, unheard_load};
-ghost use Rattle.tcap_check.specs.Replayed.{certificate_fits, discards_by, fault_at, is_gap, run_by};
+ghost use Rattle.tcap_check.specs.Replayed.{Replay, certificate_fits, discards_by, fault_at, is_gap, run_by};
 ghost use Rattle.tcap_check.specs.Told.{discards_of, events_of};
 ghost use Rattle.tcap_check.specs.Checking.{TookListed, gap_before, is_alone, kept_ended, kept_next, map_ok, reading, reported, tied_now};
 ghost use Rattle.tcap_check.specs.Hearing.{mark_taken, message_taken};
 ghost use Rattle.tcap_check.specs.Plan.{IsPlan, flag_by};
+ghost use Rattle.tcap_check.specs.Certificate.{Certificate as Certified};
+ghost use Rattle.tcap_check.specs.Stands.{IfMemory, StandsFor, StopsSo};
 ghost use Rattle.tcap_check.specs.Ready.{IsReady, IsSameBesideEntries, IsSameBesideProgress, checking_of, kept_in};
 
 use crate::certificate::{Certificate, Fate};
@@ -134,6 +136,7 @@ impl<'a, 'r> Replaying<'a, 'r> {
         requires ready { IsReady self.old }
         ensures passed { YieldsInMemory (gap_before self.old.judged self.old.table.now self.old.certificate.now
             (kept_in self.old)) result self.new.progress }
+        ensures stops { StopsSo self.old.table.now self.old.judged self.old.progress result self.new.progress }
         ensures grows { OnOk result (GrewBy (2 ^ 66) 0 self.old.progress self.new.progress) }
         ensures others { IsSameBesideProgress self.old self.new }
     {
@@ -190,6 +193,7 @@ impl<'a, 'r> Replaying<'a, 'r> {
         ensures taken { YieldsInMemory (message_taken self.old.judged self.old.table.now side fate (length self.old.entries.items)
             (M.meaning message.now) (tied_now self.old.judged self.old.certificate.now (kept_in self.old)) self.old.progress) result
             self.new.progress }
+        ensures stops { StopsSo self.old.table.now self.old.judged self.old.progress result self.new.progress }
         ensures grows { OnOk result (GrewBy (2 ^ 65) 1 self.old.progress self.new.progress) }
         ensures others { IsSameBesideProgress self.old self.new }
     {
@@ -209,6 +213,7 @@ impl<'a, 'r> Replaying<'a, 'r> {
     }
 
     /// The next entry is a message that an end sent; it is lent, where it outlives the replay.
+    #[tactic(auto, using(crate::proofs::StandsLaws::stands_gap))]
     fn take_message<M: MessageParts>(
         &mut self,
         side: End,
@@ -219,6 +224,7 @@ impl<'a, 'r> Replaying<'a, 'r> {
         requires same { IfSome lent (λ lent. lent.now ≡ M.meaning message.now) }
         ensures taken { YieldsInMemory (kept_next self.old.judged self.old.table.now self.old.certificate.now
             (Ok (Sent side (M.meaning message.now))) (kept_in self.old)) result (kept_in self.new) }
+        ensures stops { StopsSo self.old.table.now self.old.judged self.old.progress result self.new.progress }
         ensures ready { OnOk result (IsReady self.new) }
         ensures judged { self.new.judged ≡ self.old.judged }
         ensures table { self.new.table ≡ self.old.table }
@@ -238,6 +244,7 @@ impl<'a, 'r> Replaying<'a, 'r> {
         requires ready { IsReady self.old }
         ensures taken { YieldsInMemory (kept_next self.old.judged self.old.table.now self.old.certificate.now
             (Ok (Sent side message.now)) (kept_in self.old)) result (kept_in self.new) }
+        ensures stops { StopsSo self.old.table.now self.old.judged self.old.progress result self.new.progress }
         ensures ready { OnOk result (IsReady self.new) }
         ensures judged { self.new.judged ≡ self.old.judged }
         ensures table { self.new.table ≡ self.old.table }
@@ -255,6 +262,7 @@ impl<'a, 'r> Replaying<'a, 'r> {
         requires count { unheard_load self.old.progress < 2 ^ 63 }
         ensures quiet { YieldsInMemory (mark_taken self.old.judged self.old.table.now (length self.old.entries.items)
             (tied_now self.old.judged self.old.certificate.now (kept_in self.old)) self.old.progress) result self.new.progress }
+        ensures stops { StopsSo self.old.table.now self.old.judged self.old.progress result self.new.progress }
         ensures grows { OnOk result (GrewBy (2 ^ 66) 0 self.old.progress self.new.progress) }
         ensures others { IsSameBesideProgress self.old self.new }
     {
@@ -275,6 +283,7 @@ impl<'a, 'r> Replaying<'a, 'r> {
         requires ready { IsReady self.old }
         ensures taken { YieldsInMemory (kept_next self.old.judged self.old.table.now self.old.certificate.now
             (Ok Item.Quiet) (kept_in self.old)) result (kept_in self.new) }
+        ensures stops { StopsSo self.old.table.now self.old.judged self.old.progress result self.new.progress }
         ensures ready { OnOk result (IsReady self.new) }
         ensures judged { self.new.judged ≡ self.old.judged }
         ensures table { self.new.table ≡ self.old.table }
@@ -322,10 +331,13 @@ impl<'a, 'r> Replaying<'a, 'r> {
     }
 
     /// No entry is left: the last gap, and the loss of what is still on its way.
+    #[tactic(auto, using(crate::proofs::StandsLaws::stands_gap, crate::proofs::StandsLaws::stands_last))]
     pub(crate) fn end(&mut self) -> Result<(), CheckFault>
         requires ready { IsReady self.old }
-        ensures { YieldsInMemory (kept_ended self.old.judged self.old.table.now self.old.certificate.now (kept_in self.old)) result
+        ensures ended { YieldsInMemory (kept_ended self.old.judged self.old.table.now self.old.certificate.now (kept_in self.old)) result
             self.new.progress }
+        ensures left { (c : Certified) (start : Replay) → StandsFor self.old.table.now c self.old.judged start self.old.progress
+            → IfMemory result (StandsFor self.old.table.now c self.old.judged start self.new.progress) }
     {
         if self.entries.len() != self.certificate.fates().len() {
             return Err(self.refusal(Reason::FateCount));

@@ -1,12 +1,15 @@
 //! The run that a certificate gives for a record, step by step.
 
-ghost use Rattle.std.specs.Prelude.{◌≡◌, ◌≢◌, map, Err, IfOk};
+ghost use Rattle.std.specs.Prelude.{◌≡◌, ◌≢◌, [], false, true, map, Ok, Err, IfOk, OnOk};
+ghost use Rattle.tcap_check.specs.declared.fault.CheckFault.{CheckFault as Refusal};
+ghost use Rattle.tcap_end.specs.End.{nothing};
 ghost use Rattle.tcap_model.specs.declared.reason.Reason.TheVariants as reasons;
 ghost use Rattle.tcap_model.specs.Entries.{item_of};
 ghost use Rattle.tcap_check.specs.AloneGiven.{IsGivenTo};
-ghost use Rattle.tcap_check.specs.Checking.{map_ok};
-ghost use Rattle.tcap_check.specs.Ready.{IsReady};
-ghost use Rattle.tcap_check.specs.Replayed.{discards_by, fault_at, replayed_by};
+ghost use Rattle.tcap_check.specs.Checking.{TookListed, map_ok};
+ghost use Rattle.tcap_check.specs.Ready.{IsReady, checking_of};
+ghost use Rattle.tcap_check.specs.Stands.{IfMemory, IsSoFar, StandsAmong};
+ghost use Rattle.tcap_check.specs.Replayed.{certificate_fits, discards_by, fault_at, replayed_by};
 ghost use Rattle.tcap_check.specs.Told.{MayAllBeDiscarded, discards_of, events_of};
 
 use crate::certificate::Certificate;
@@ -55,17 +58,44 @@ pub struct Partial {
     pub b: EndState,
 }
 
-/// The entries of a record, as far as a replay goes, and the last gap where it goes so far.
+/// Replays the entries of a record as far as they are taken, and, where all are, the last gap.
 fn go_through<'r>(replaying: &mut Replaying<'_, 'r>, record: &'r Record) -> Result<(), CheckFault>
     requires ready { IsReady replaying.old }
+    ensures so_far { TookListed true (checking_of replaying.old) [] → IfMemory result (StandsAmong replaying.old.table.now
+        replaying.old.certificate.now replaying.old.judged «record».now.entries.items replaying.new.progress) }
 {
     replaying.take_all(record)?;
     replaying.end()
 }
 
+/// Whether memory ran out.
+fn is_out_of_memory(answer: Result<(), CheckFault>) -> bool
+    ensures { result ≡ false → answer ≢ Err (fault_at reasons.Memory 0) }
+{
+    match answer {
+        Ok(()) => false,
+        Err(fault) => matches!(fault.reason, Reason::Memory),
+    }
+}
+
+/// What there is where a certificate is refused at once: no steps, between two new ends. Fails where memory ran out.
+fn nothing_of(alloc: Global, fault: CheckFault) -> Result<Partial, AllocError>
+    ensures none { IfOk result (λ run. (run.steps.items ≡ []) × (run.a ≡ nothing) × (run.b ≡ nothing)) }
+    ensures memory { OnOk result (fault ≢ fault_at reasons.Memory 0) }
+{
+    match fault.reason {
+        Reason::Memory => Err(AllocError),
+        _ => Ok(Partial {
+            steps: Vec::new(alloc),
+            a: EndState::new(alloc),
+            b: EndState::new(alloc),
+        }),
+    }
+}
+
 /// The steps that a certificate says for the entries of a record, up to where it is refused, and the two ends behind them
 /// (Q.774 3.2 and 3.3): of a run of both ends, or of the one that is judged, whose peer then stays new. Where a step is refused,
-/// the ends are as they were before it. Where a number of the certificate is out of its range there are no steps.
+/// the ends are as they were before it. Where a number of the certificate is out of its range before any entry is looked at, there are no steps.
 /// Fails where memory runs out.
 pub fn run_until(
     alloc: Global,
@@ -73,30 +103,17 @@ pub fn run_until(
     table: &Table,
     certificate: &Certificate,
     judged: Option<End>,
-) -> Result<Partial, AllocError> {
+) -> Result<Partial, AllocError>
+    ensures so_far { certificate_fits certificate.now ≡ Ok tt → IfOk result (λ run. IsSoFar judged table.now certificate.now
+        «record».now.entries.items run.steps.items run.a run.b) }
+    ensures none { (fault : Refusal) → certificate_fits certificate.now ≡ Err fault → IfOk result (λ run. (run.steps.items ≡ [])
+        × (run.a ≡ nothing) × (run.b ≡ nothing)) }
+{
     let mut replaying = match Replaying::new(alloc, table, certificate, judged, true) {
         Ok(replaying) => replaying,
-        Err(
-            CheckFault {
-                reason: Reason::Memory,
-                ..
-            },
-        ) => return Err(AllocError),
-        Err(_) => {
-            return Ok(Partial {
-                steps: Vec::new(alloc),
-                a: EndState::new(alloc),
-                b: EndState::new(alloc),
-            });
-        }
+        Err(fault) => return nothing_of(alloc, fault),
     };
-    if let Err(
-        CheckFault {
-            reason: Reason::Memory,
-            ..
-        },
-    ) = go_through(&mut replaying, record)
-    {
+    if is_out_of_memory(go_through(&mut replaying, record)) {
         return Err(AllocError);
     }
     let Progress { a, b, steps, .. } = replaying.into_progress();

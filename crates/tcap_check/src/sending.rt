@@ -1,6 +1,6 @@
 //! What a checker does where an end sends a message, or its provider answers one (Q.774 3.2 and 3.3).
 
-ghost use Rattle.std.specs.Prelude.{◌≡◌, ◌<◌, ◌≤◌, ◌+◌, ◌^◌, [], ◌∷◌, Err, length, filter_map, IfOk, IfSome, OnErr, OnOk};
+ghost use Rattle.std.specs.Prelude.{◌≡◌, ◌<◌, ◌≤◌, ◌+◌, ◌^◌, [], ◌∷◌, Err, Option, true, length, filter_map, IfOk, IfSome, OnErr, OnOk};
 ghost use Rattle.tcap_parts.specs.Meaning.{component_of};
 ghost use Rattle.tcap_msg.specs.Parts.{components_in};
 ghost use Rattle.tcap_end.specs.Step.{AnswersInMemory};
@@ -12,7 +12,10 @@ ghost use Rattle.tcap_check.specs.Progress.{GrewBy, IsAsMany, IsMemory, YieldsIn
 ghost use Rattle.tcap_check.specs.Progress.{ids_ended_over, invoked_ended, load, may_be_answered, message_kept, overtakes, reply_kept};
 ghost use Rattle.tcap_check.specs.Progress.{seat_at, seat_with, send_kept, sending, sent_by, time_or_zero, unheard_load, with_seat};
 ghost use Rattle.tcap_check.specs.Progress.{with_seat_end, with_told};
-ghost use Rattle.tcap_check.specs.Replayed.{fault_at};
+ghost use Rattle.tcap_record.specs.declared.entry.End.{End as Side};
+ghost use Rattle.tcap_end.specs.Table.{Table as Operations};
+ghost use Rattle.tcap_check.specs.Replayed.{fault_at, is_heard};
+ghost use Rattle.tcap_check.specs.Stands.{StopsSo};
 
 use crate::certificate::Fate;
 use crate::fault::CheckFault;
@@ -288,6 +291,7 @@ impl<'r> Progress<'r> {
         requires same { IfSome lent (λ lent. lent.now ≡ M.meaning message.now) }
         ensures sent { YieldsInMemory (send_kept table.now side fate number (M.meaning message.now) self.old) result
             self.new }
+        ensures stops { (judged : Option Side) → StopsSo table.now judged self.old result self.new }
         ensures grows { OnOk result (GrewBy (2 ^ 65) 1 self.old self.new) }
     {
         match self.send_as_is(table, side, message) {
@@ -298,6 +302,7 @@ impl<'r> Progress<'r> {
     }
 
     /// An end sends a message, once each earlier invocation ended whose ID it invokes anew.
+    #[tactic(auto, using(crate::proofs::StandsLaws::stands_ended))]
     fn send_anew<M: MessageParts>(
         &mut self,
         alloc: Global,
@@ -312,16 +317,13 @@ impl<'r> Progress<'r> {
         requires same { IfSome lent (λ lent. lent.now ≡ M.meaning message.now) }
         ensures sent { YieldsInMemory (send_kept table.now side fate number (M.meaning message.now) self.old) result
             self.new }
+        ensures stops { (judged : Option Side) → StopsSo table.now judged self.old result self.new }
         ensures grows { OnOk result (GrewBy (2 ^ 65) 1 self.old self.new) }
     {
         if message.count() > 0 {
             self.end_implied(table, side, message)?;
         }
-        let sent = match side {
-            End::A => self.a.end.send(table, message),
-            End::B => self.b.end.send(table, message),
-        };
-        match sent {
+        match self.send_as_is(table, side, message) {
             Ok(()) => self.join(alloc, Way::Sends, side, fate, number, message, lent),
             Err(EndFault::Memory) => Err(OUT_OF_MEMORY),
             Err(fault) => Err(CheckFault {
@@ -361,6 +363,7 @@ impl<'r> Progress<'r> {
         requires same { IfSome lent (λ lent. lent.now ≡ A.meaning abort.now) }
         ensures answered { YieldsInMemory (first_answered side fate number (A.meaning abort.now) taken
             (seat_at (other side) self.old).waiting self.old) result self.new }
+        ensures stops { (table : Operations) → (judged : Option Side) → StopsSo table judged self.old result self.new }
     {
         if !self.may_answer(side, abort, taken) {
             return Err(CheckFault {
@@ -374,6 +377,7 @@ impl<'r> Progress<'r> {
     }
 
     /// The same, behind what is lost before it.
+    #[tactic(auto, using(crate::proofs::StandsLaws::stands_front))]
     fn answer<A: MessageParts>(
         &mut self,
         alloc: Global,
@@ -389,6 +393,7 @@ impl<'r> Progress<'r> {
         requires count { unheard_load self.old < 2 ^ 63 }
         requires same { IfSome lent (λ lent. lent.now ≡ A.meaning abort.now) }
         ensures answered { YieldsInMemory (reply_kept judged side fate number (A.meaning abort.now) taken self.old) result self.new }
+        ensures stops { (table : Operations) → is_heard judged (other side) ≡ true → StopsSo table judged self.old result self.new }
         ensures grows { OnOk result (GrewBy 2 1 self.old self.new) }
     {
         self.lose_front(judged, side.other())?;
@@ -414,6 +419,7 @@ impl<'r> Progress<'r> {
         requires same { IfSome lent (λ lent. lent.now ≡ M.meaning message.now) }
         ensures taken { YieldsInMemory (message_kept judged table.now side fate number (M.meaning message.now) taken.now self.old)
             result self.new }
+        ensures stops { is_heard judged (other side) ≡ true → StopsSo table.now judged self.old result self.new }
         ensures grows { OnOk result (GrewBy (2 ^ 65) 1 self.old self.new) }
     {
         match (message.cause(), taken) {

@@ -1,7 +1,10 @@
 //! What a checker does with a message: an end that is judged sends it, or its provider, or its peer tells it (Q.774 3.2 and 3.3).
 
-ghost use Rattle.std.specs.Prelude.{◌≡◌, ◌<◌, ◌^◌, IfSome, OnOk};
-ghost use Rattle.tcap_check.specs.Hearing.{message_taken, own_taken, told_taken};
+ghost use Rattle.std.specs.Prelude.{◌≡◌, ◌<◌, ◌^◌, true, Option, IfSome, OnOk};
+ghost use Rattle.tcap_record.specs.declared.entry.End.{End as Side};
+ghost use Rattle.tcap_end.specs.Table.{Table as Operations};
+ghost use Rattle.tcap_check.specs.Stands.{StopsSo};
+ghost use Rattle.tcap_check.specs.Hearing.{is_judged, message_taken, own_taken, told_taken};
 ghost use Rattle.tcap_check.specs.Progress.{GrewBy, YieldsInMemory, load, unheard_load};
 
 use crate::certificate::Fate;
@@ -17,6 +20,7 @@ use tcap_record::End;
 impl<'r> Progress<'r> {
     /// A message with that number and fate that an end sends which is judged, or by which its provider answers the message that it
     /// takes. Where that end alone is judged it is lost at once, whatever its fate.
+    #[tactic(auto, using(crate::proofs::StandsLaws::judged_heard))]
     fn take_own<M: MessageParts>(
         &mut self,
         alloc: Global,
@@ -34,6 +38,7 @@ impl<'r> Progress<'r> {
         requires same { IfSome lent (λ lent. lent.now ≡ M.meaning message.now) }
         ensures taken { YieldsInMemory (own_taken judged table.now side fate number (M.meaning message.now) takes.now self.old)
             result self.new }
+        ensures stops { is_judged judged side ≡ true → StopsSo table.now judged self.old result self.new }
         ensures grows { OnOk result (GrewBy (2 ^ 65) 1 self.old self.new) }
     {
         let Some(alone) = judged else {
@@ -41,12 +46,21 @@ impl<'r> Progress<'r> {
                 alloc, table, judged, side, fate, number, message, lent, takes,
             );
         };
-        let fate = Fate::Lost;
         let sent = self.send_or_answer(
-            alloc, table, judged, side, fate, number, message, None, takes,
+            alloc,
+            table,
+            judged,
+            side,
+            Fate::Lost,
+            number,
+            message,
+            None,
+            takes,
         );
-        sent?;
-        self.lose_front(judged, alone)
+        match sent {
+            Ok(()) => self.lose_front(judged, alone),
+            Err(fault) => Err(fault),
+        }
     }
 
     /// A message with that number and fate that the peer of the judged end tells. It takes no message. It is lent, where it outlives
@@ -64,6 +78,7 @@ impl<'r> Progress<'r> {
         requires room { self.old.moves < 2 ^ 127 }
         requires same { IfSome lent (λ lent. lent.now ≡ M.meaning message.now) }
         ensures taken { YieldsInMemory (told_taken side fate number (M.meaning message.now) takes.now self.old) result self.new }
+        ensures stops { (table : Operations) → (judged : Option Side) → StopsSo table judged self.old result self.new }
         ensures grows { OnOk result (GrewBy (2 ^ 65) 1 self.old self.new) }
     {
         if !takes.is_empty() {
@@ -94,6 +109,7 @@ impl<'r> Progress<'r> {
         requires same { IfSome lent (λ lent. lent.now ≡ M.meaning message.now) }
         ensures taken { YieldsInMemory (message_taken judged table.now side fate number (M.meaning message.now) takes.now self.old)
             result self.new }
+        ensures stops { StopsSo table.now judged self.old result self.new }
         ensures grows { OnOk result (GrewBy (2 ^ 65) 1 self.old self.new) }
     {
         if is_judged(judged, side) {

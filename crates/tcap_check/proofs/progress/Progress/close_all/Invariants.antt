@@ -1,9 +1,13 @@
 -- what is left closes over what is kept now as all do over what was kept first
+use Rattle.tcap_check.specs.Certificate.{Certificate}
 use Rattle.tcap_check.specs.Progress.{closings_kept}
-use Rattle.tcap_check.specs.Replayed.{closings_judged}
+use Rattle.tcap_check.specs.Replayed.{Replay, closings_judged}
+use Rattle.tcap_check.specs.Stands.{StandsFor}
 use Rattle.tcap_check.proofs.HearingLaws.{Going}
 use Rattle.tcap_check.proofs.progress.Progress.close_all.Given as goal
 
 abbrev pub invariant-loop-x : goal.invariant-loop-x
-invariant-loop-x l =
-    Going (λ listed. closings_kept l.table l.entries l.since (closings_judged l.judged listed)) l.fn.self l.closings l.self l.x-index
+invariant-loop-x l = record {
+  going : Going (λ listed. closings_kept l.table l.entries l.since (closings_judged l.judged listed)) l.fn.self l.closings l.self l.x-index;
+  stands : (c : Certificate) (start : Replay) → StandsFor l.table c l.judged start l.fn.self → StandsFor l.table c l.judged start l.self;
+}

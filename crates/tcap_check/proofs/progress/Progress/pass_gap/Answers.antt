@@ -6,7 +6,7 @@ use Rattle.tcap_check.proofs.progress.Progress.pass_gap.Goals as goal
 pub expire_all-requires : goal.expire_all-requires
 expire_all-requires c =
     let closed = closings_grow c.args.table.now c.args.entries.now c.args.since (closings_judged c.args.judged c.get.result.now)
-    c.args.self.now c.close_all.new.self c.in_ok-close_all.ensures in
+    c.args.self.now c.close_all.new.self c.in_ok-close_all.ensures.closed in
     let few = some_closings c.args.judged c.get.result.now in
     let m = closed.0 in
     record { room = omega (arith, m, few) }
@@ -14,9 +14,9 @@ expire_all-requires c =
 pub deliver_all-requires : goal.deliver_all-requires
 deliver_all-requires c =
     let closed = closings_grow c.args.table.now c.args.entries.now c.args.since (closings_judged c.args.judged c.get.result.now)
-    c.args.self.now c.close_all.new.self c.in_ok-close_all.ensures in
+    c.args.self.now c.close_all.new.self c.in_ok-close_all.ensures.closed in
     let ended = expiries_grow c.args.table.now c.args.entries.now c.args.since (expiries_judged c.args.judged c.get-2.result.now)
-    c.close_all.new.self c.expire_all.new.self c.in_ok-expire_all.ensures in
+    c.close_all.new.self c.expire_all.new.self c.in_ok-expire_all.ensures.ended in
     let few = some_closings c.args.judged c.get.result.now in
     let few_too = some_expiries c.args.judged c.get-2.result.now in
     let m0 = closed.0 in let m1 = ended.0 in let w0 = closed.1 in let w1 = ended.1 in let u0 = closed.2 in let u1 = ended.2 in
@@ -25,9 +25,9 @@ deliver_all-requires c =
 pub returns-clause-grows : goal.returns-clause-grows
 returns-clause-grows c =
     let closed = closings_grow c.args.table.now c.args.entries.now c.args.since (closings_judged c.args.judged c.get.result.now)
-    c.args.self.now c.close_all.new.self c.in_ok-close_all.ensures in
+    c.args.self.now c.close_all.new.self c.in_ok-close_all.ensures.closed in
     let ended = expiries_grow c.args.table.now c.args.entries.now c.args.since (expiries_judged c.args.judged c.get-2.result.now)
-    c.close_all.new.self c.expire_all.new.self c.in_ok-expire_all.ensures in
+    c.close_all.new.self c.expire_all.new.self c.in_ok-expire_all.ensures.ended in
     let few = some_closings c.args.judged c.get.result.now in
     let few_too = some_expiries c.args.judged c.get-2.result.now in
     let m0 = closed.0 in let m1 = ended.0 in let w0 = closed.1 in let w1 = ended.1 in let u0 = closed.2 in let u1 = ended.2 in

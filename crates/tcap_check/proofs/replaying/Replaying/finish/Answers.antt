@@ -7,10 +7,10 @@ use Rattle.tcap_check.proofs.replaying.Replaying.finish.Goals as goal
 
 pub returns-in-Ok : goal.returns-in-Ok
 returns-in-Ok c = λ listed entries took other.
-    let r = c.args.self in (finished_ok listed r.judged r.table.now r.certificate.now (kept_in r) c.end.new.self.progress c.in-Ok.ensures entries took)
+    let r = c.args.self in (finished_ok listed r.judged r.table.now r.certificate.now (kept_in r) c.end.new.self.progress c.in-Ok.ensures.ended entries took)
 
 pub returns : goal.returns
 returns c = λ listed entries took other.
     let r = c.args.self in
     finished_err listed r.judged r.table.now r.certificate.now (kept_in r) c.in-Err.fault
-    (c.in-Err.ensures (λ is. other (ap (λ (f : CheckFault). let x : Result Report CheckFault = Err f in x) is))) entries took
+    (c.in-Err.ensures.ended (λ is. other (ap (λ (f : CheckFault). let x : Result Report CheckFault = Err f in x) is))) entries took

@@ -1,14 +1,15 @@
-use Rattle.std.proofs.Common.{◌≡◌, List, Option, Result, Err, sym, ap, ap₂, subst, ◌∙◌, map, take, drop, ◌++◌, ◌+◌}
+use Rattle.std.proofs.Common.{◌≡◌, arith, length, List, Option, Result, Err, sym, ap, ap₂, subst, ◌∙◌, map, take, drop, true, ◌++◌, ◌+◌}
 use Rattle.std.proofs.lemmas.Result.{err_from_is_err_and}
 use Rattle.tcap_record.specs.declared.entry.End.{End as Side}
 use Rattle.tcap_model.specs.declared.reason.Reason.{Reason}
 use Rattle.tcap_model.specs.World.{Item}
 use Rattle.tcap_model.specs.Entries.{item_of}
 use Rattle.tcap_check.specs.declared.fault.CheckFault.{CheckFault}
-use Rattle.tcap_check.specs.Checking.{TookListed}
+use Rattle.tcap_check.specs.Checking.{TookListed, taken}
 use Rattle.tcap_check.specs.Ready.{checking_of, kept_in}
 use Rattle.tcap_check.specs.Replayed.{replay_by}
 use Rattle.tcap_check.proofs.RecordLaws.{refused_at, taken_at, took_more, whole_is}
+use Rattle.tcap_check.proofs.StandsTaken.{GoesAlike, among_taken, among_then, refused_next}
 use Rattle.tcap_check.proofs.replaying.Replaying.take_all.Goals as goal
 
 pub returns-in_err-take_entry-clause-refused : goal.returns-in_err-take_entry-clause-refused
@@ -47,3 +48,33 @@ loop-entry-preserved c =
       table = c.take_entry.ensures.table ∙ c.loop-entry.invariant.table;
       certificate = c.take_entry.ensures.certificate ∙ c.loop-entry.invariant.certificate;
     }
+
+pub returns-in_err-take_entry-clause-so_far : goal.returns-in_err-take_entry-clause-so_far
+returns-in_err-take_entry-clause-so_far c =
+    let all = c.args.record.now.entries.items in
+    let i = c.loop-entry.entry-index in
+    let r = c.loop-entry.self in
+    let kept = c.loop-entry.invariant in
+    let next = taken_at all c.deref-entry-items.result.now i c.entry-item.result c.deref-entry-items.ensures.value
+    c.loop-entry-test.true c.entry-item.is in
+    let length_is = ap length c.deref-entry-items.ensures.value in
+    let less_is = c.loop-entry-test.true in
+    let alike : GoesAlike c.args.self.now r = record { judged = kept.judged; table = kept.table; certificate = kept.certificate } in
+    let p = err_from_is_err_and c.from_residual.result c.from_residual.ensures.1 in
+    rw p.1 (λ start other.
+    let refused = refused_next r (item_of c.entry-item.result) c.in_err-take_entry.field-0.0
+    (c.in_err-take_entry.ensures.taken (λ is. other (p.2 ∙ is))) (map item_of (take i all)) (kept.took true start) in
+    among_then c.args.self.now r all c.take_entry.new.self.progress alike
+    (among_taken c.args.self.now r all i alike (omega (arith, length_is, less_is)) (kept.took true start)
+    (λ less. (c.in_err-take_entry.field-0.0, ap (λ x. taken r.judged r.table.now r.certificate.now x) next ∙ refused)))
+    (λ certificate start s. c.in_err-take_entry.ensures.stops certificate start s (λ is. other (p.2 ∙ is))))
+
+pub returns-clause-so_far : goal.returns-clause-so_far
+returns-clause-so_far c =
+    let kept = c.loop-entry.invariant in
+    let all = ap length c.deref-entry-items.ensures.value in
+    let past = c.loop-entry-test.false in
+    let within = c.loop-entry.auto.entry-index-end in
+    λ start. among_taken c.args.self.now c.loop-entry.self c.args.record.now.entries.items c.loop-entry.entry-index
+    (record { judged = kept.judged; table = kept.table; certificate = kept.certificate }) (omega (arith, all, within)) (kept.took true start)
+    (λ less. absurd (omega (arith, all, past, less)))

@@ -1,0 +1,45 @@
+use Rattle.std.proofs.Common.{ap, drop, get_or, sym, ◌+◌, ◌∙◌}
+use Rattle.std.specs.Prelude.{slice_get}
+use Rattle.tcap_end.specs.Step.{◌>>=◌}
+use Rattle.tcap_check.specs.Hearing.{delivery_kept, deliveries_kept, heard_from}
+use Rattle.tcap_check.proofs.HearingLaws.{same_next}
+use Rattle.tcap_check.proofs.KeptGrowth.{no_more}
+use Rattle.tcap_check.proofs.StandsLaws.{heard_is, stands_received}
+use Rattle.tcap_check.proofs.progress.Progress.deliver_all.Goals.{in-Some+in_ok-deliver, in_default}
+use Rattle.tcap_check.proofs.progress.Progress.deliver_all.Goals as goal
+
+pub loop-number-preserved : goal.loop-number-preserved
+loop-number-preserved c =
+    let before = c.loop-number.invariant.stands in
+    let listening = c.loop-number.invariant.listening in
+    let table = c.args.table.now in
+    let entries = c.args.entries.now in
+    let judged = c.args.judged in
+    let now = c.loop-number.self in
+    let number = get_or c.args.numbers.now c.loop-number.number-index 0 in
+    let left = drop (c.loop-number.number-index + 1) c.args.numbers.now in
+    let from = heard_from judged (slice_get entries number) in
+    let all = deliveries_kept judged table entries in
+    elim c.match-heard_from.branch [
+      | in-Some+in_ok-deliver w ↦
+          let sender = w.in-Some.sender in
+          let next = w.deliver.new.self in
+          let who = sym c.heard_from.ensures ∙ w.in-Some.is in
+          rw w.self-is (record {
+            listening = record {
+              same = same_next all c.args.self.now c.args.numbers.now now next c.loop-number.number-index 0 listening.same c.loop-number-test.true
+                  (ap (λ o. delivery_kept judged table number o now >>= all left) who ∙ ap (λ o. o >>= all left) w.in_ok-deliver.ensures.delivered);
+              grown = no_more c.args.self.now now next listening.grown w.in_ok-deliver.ensures.grows;
+            };
+            stands = λ certificate start s. stands_received table certificate judged start sender number now next
+                (heard_is judged (slice_get entries number) sender who) (before certificate start s) w.in_ok-deliver.ensures.delivered;
+          })
+      | in_default w ↦ rw w.self-is (record {
+        listening = record {
+          same = same_next all c.args.self.now c.args.numbers.now now now c.loop-number.number-index 0 listening.same c.loop-number-test.true
+              (ap (λ o. delivery_kept judged table number o now >>= all left) (sym c.heard_from.ensures ∙ w.in_default.is));
+          grown = listening.grown;
+        };
+        stands = before;
+      })
+    ]
