@@ -21,78 +21,54 @@ use Rattle.tcap_check.specs.Follows.{without_losses}
 use Rattle.tcap_check.specs.Replayed.{Replay, if_lost, lost_before, lost_from_both, lost_from_front, lost_front, stepped, with_step}
 use Rattle.tcap_model.proofs.RunLaws.{played_on}
 use Rattle.tcap_check.proofs.ReplaySteps.{channel_with}
-use Rattle.tcap_check.proofs.WorldLaws.{with_same}
+use Rattle.tcap_check.proofs.WaitingLaws.{behind_lost, waiting, waiting_by}
+use Rattle.tcap_model.proofs.WorldLaws.{with_same}
 use Rattle.tcap_model.proofs.RunLaws.{closing, delivery, expiry, loss, quiet, reply, then_some}
 
 -- ---- messages that are not lost
 
--- a message before others, unless it is lost
-abbrev pub unless_lost : Option Fate → OnItsWay → List OnItsWay → List OnItsWay
-unless_lost (Some Lost) m others = others
-unless_lost _ m others = m ∷ others
-
--- the messages of a channel that are not lost
-abbrev pub kept : List Fate → List OnItsWay → List OnItsWay
-kept fates [] = []
-kept fates (m ∷ more) = unless_lost (slice_get fates m.number) m (kept fates more)
-
 -- Those of two channels, one behind the other.
-kept_both : (fates : List Fate) (xs ys : List OnItsWay) → kept fates (xs ++ ys) ≡ kept fates xs ++ kept fates ys
-kept_both fates [] ys = refl
-kept_both fates (m ∷ xs) ys = by (slice_get fates m.number) (kept_both fates xs ys)
+waiting_both : (fates : List Fate) (xs ys : List OnItsWay) → waiting fates (xs ++ ys) ≡ waiting fates xs ++ waiting fates ys
+waiting_both fates [] ys = refl
+waiting_both fates (m ∷ xs) ys = by (slice_get fates m.number) (waiting_both fates xs ys)
   where
-    by : (o : Option Fate) → kept fates (xs ++ ys) ≡ kept fates xs ++ kept fates ys
-        → unless_lost o m (kept fates (xs ++ ys)) ≡ unless_lost o m (kept fates xs) ++ kept fates ys
+    by : (o : Option Fate) → waiting fates (xs ++ ys) ≡ waiting fates xs ++ waiting fates ys
+        → waiting_by o m (waiting fates (xs ++ ys)) ≡ waiting_by o m (waiting fates xs) ++ waiting fates ys
     by None is = ap (λ (x : List OnItsWay). m ∷ x) is
     by (Some (Gap g)) is = ap (λ (x : List OnItsWay). m ∷ x) is
     by (Some (By k)) is = ap (λ (x : List OnItsWay). m ∷ x) is
     by (Some Lost) is = is
 
 -- Behind the lost ones at the front, the first that is not lost is the head.
-front_is : (fates : List Fate) (channel : List OnItsWay) (head : OnItsWay) (tail : List OnItsWay) → kept fates channel ≡ head ∷ tail
-    → (more : List OnItsWay) × (drop (length (lost_front fates channel)) channel ≡ head ∷ more) × (kept fates more ≡ tail)
+front_is : (fates : List Fate) (channel : List OnItsWay) (head : OnItsWay) (tail : List OnItsWay) → waiting fates channel ≡ head ∷ tail
+    → (more : List OnItsWay) × (drop (length (lost_front fates channel)) channel ≡ head ∷ more) × (waiting fates more ≡ tail)
 front_is fates [] head tail is = cc
 front_is fates (first ∷ more) head tail is = by (slice_get fates first.number) (front_is fates more head tail) is
   where
     by : (o : Option Fate)
-        → (kept fates more ≡ head ∷ tail
-        → (x : List OnItsWay) × (drop (length (lost_front fates more)) more ≡ head ∷ x) × (kept fates x ≡ tail))
-        → unless_lost o first (kept fates more) ≡ head ∷ tail
+        → (waiting fates more ≡ head ∷ tail
+        → (x : List OnItsWay) × (drop (length (lost_front fates more)) more ≡ head ∷ x) × (waiting fates x ≡ tail))
+        → waiting_by o first (waiting fates more) ≡ head ∷ tail
         → (x : List OnItsWay) × (drop (length (if_lost o (first.number ∷ lost_front fates more))) (first ∷ more) ≡ head ∷ x)
-        × (kept fates x ≡ tail)
+        × (waiting fates x ≡ tail)
     by None on e = let same : first ≡ head = cc in (more, ap (λ (x : OnItsWay). x ∷ more) same, cc)
     by (Some (Gap g)) on e = let same : first ≡ head = cc in (more, ap (λ (x : OnItsWay). x ∷ more) same, cc)
     by (Some (By k)) on e = let same : first ≡ head = cc in (more, ap (λ (x : OnItsWay). x ∷ more) same, cc)
     by (Some Lost) on e = on e
 
 -- Where all are lost, nothing is left behind them.
-front_none : (fates : List Fate) (channel : List OnItsWay) → kept fates channel ≡ []
+front_none : (fates : List Fate) (channel : List OnItsWay) → waiting fates channel ≡ []
     → drop (length (lost_front fates channel)) channel ≡ []
 front_none fates [] is = refl
 front_none fates (first ∷ more) is = by (slice_get fates first.number) (front_none fates more) is
   where
-    by : (o : Option Fate) → (kept fates more ≡ [] → drop (length (lost_front fates more)) more ≡ [])
-        → unless_lost o first (kept fates more) ≡ []
+    by : (o : Option Fate) → (waiting fates more ≡ [] → drop (length (lost_front fates more)) more ≡ [])
+        → waiting_by o first (waiting fates more) ≡ []
         → drop (length (if_lost o (first.number ∷ lost_front fates more))) (first ∷ more) ≡ []
     by None on e = cc
     by (Some (Gap g)) on e = cc
     by (Some (By k)) on e = cc
     by (Some Lost) on e = on e
-
--- Those at the front are no matter for those that are not lost.
-front_kept : (fates : List Fate) (channel : List OnItsWay)
-    → kept fates (drop (length (lost_front fates channel)) channel) ≡ kept fates channel
-front_kept fates [] = refl
-front_kept fates (first ∷ more) = by (slice_get fates first.number) refl (front_kept fates more)
-  where
-    by : (o : Option Fate) → slice_get fates first.number ≡ o
-        → kept fates (drop (length (lost_front fates more)) more) ≡ kept fates more
-        → kept fates (drop (length (if_lost o (first.number ∷ lost_front fates more))) (first ∷ more))
-        ≡ unless_lost o first (kept fates more)
-    by None at is = rw at refl
-    by (Some (Gap g)) at is = rw at refl
-    by (Some (By k)) at is = rw at refl
-    by (Some Lost) at is = is
 
 -- ---- worlds
 
@@ -101,8 +77,8 @@ pub record Alike (fates : List Fate) (w v : World) : Type 0 where
   pub a : v.a ≡ w.a
   pub b : v.b ≡ w.b
   pub sent : v.sent ≡ w.sent
-  pub from_a : kept fates v.from_a ≡ kept fates w.from_a
-  pub from_b : kept fates v.from_b ≡ kept fates w.from_b
+  pub from_a : waiting fates v.from_a ≡ waiting fates w.from_a
+  pub from_b : waiting fates v.from_b ≡ waiting fates w.from_b
 
 -- Each world is like itself.
 pub alike_same : (fates : List Fate) (w : World) → Alike fates w w
@@ -115,7 +91,7 @@ ends_same fates sides.B w v is = is.b
 
 -- A channel is the same but for what is lost.
 channels_same : (fates : List Fate) (side : Side) (w v : World) → Alike fates w v
-    → kept fates (channel_from side v) ≡ kept fates (channel_from side w)
+    → waiting fates (channel_from side v) ≡ waiting fates (channel_from side w)
 channels_same fates sides.A w v is = is.from_a
 channels_same fates sides.B w v is = is.from_b
 
@@ -127,7 +103,7 @@ alike_end fates sides.B e w v is = record { a = is.a; b = refl; sent = is.sent; 
 
 -- or channels that are the same but for what is lost,
 alike_channel : (fates : List Fate) (side : Side) (xs ys : List OnItsWay) (w v : World) → Alike fates w v
-    → kept fates ys ≡ kept fates xs → Alike fates (with_channel side xs w) (with_channel side ys v)
+    → waiting fates ys ≡ waiting fates xs → Alike fates (with_channel side xs w) (with_channel side ys v)
 alike_channel fates sides.A xs ys w v is same = record { a = is.a; b = is.b; sent = is.sent; from_a = same; from_b = is.from_b }
 alike_channel fates sides.B xs ys w v is same = record { a = is.a; b = is.b; sent = is.sent; from_a = is.from_a; from_b = same }
 
@@ -139,13 +115,13 @@ alike_joined fates side m w v is = by side
     on_its_way : World → OnItsWay
     on_its_way x = record { number = length x.sent; message = m }
 
-    one : (x y : List OnItsWay) → kept fates y ≡ kept fates x
-        → kept fates (y ++ on_its_way v ∷ []) ≡ kept fates (x ++ on_its_way w ∷ [])
+    one : (x y : List OnItsWay) → waiting fates y ≡ waiting fates x
+        → waiting fates (y ++ on_its_way v ∷ []) ≡ waiting fates (x ++ on_its_way w ∷ [])
     one x y same =
-        kept_both fates y (on_its_way v ∷ [])
+        waiting_both fates y (on_its_way v ∷ [])
         ∙ ap₂ (λ (p q : List OnItsWay). p ++ q) same
-        (ap (λ (items : List Item). kept fates (record { number = length items; message = m } ∷ [])) is.sent)
-        ∙ sym (kept_both fates x (on_its_way w ∷ []))
+        (ap (λ (items : List Item). waiting fates (record { number = length items; message = m } ∷ [])) is.sent)
+        ∙ sym (waiting_both fates x (on_its_way w ∷ []))
 
     by : (side : Side) → Alike fates (joined side m w) (joined side m v)
     by sides.A = record {
@@ -173,8 +149,8 @@ alike_front : (c : Certificate) (side : Side) (w : World) (r : Replay) → Alike
 alike_front c side w r is =
     let channel = channel_from side r.world in
     let left = drop (length (lost_front c.fates channel)) channel in
-    let same : kept c.fates left ≡ kept c.fates (channel_from side w) =
-    front_kept c.fates channel ∙ channels_same c.fates side w r.world is in
+    let same : waiting c.fates left ≡ waiting c.fates (channel_from side w) =
+    behind_lost c.fates channel ∙ channels_same c.fates side w r.world is in
     subst (λ (x : World). Alike c.fates x (with_channel side left r.world)) (with_same side w)
     (alike_channel c.fates side (channel_from side w) left w r.world is same)
 
@@ -182,15 +158,15 @@ alike_front c side w r is =
 record IsFront (c : Certificate) (side : Side) (head : OnItsWay) (more : List OnItsWay) (r : Replay) : Type 0 where
   left : List OnItsWay
   channel : channel_from side (lost_from_front c side r).world ≡ head ∷ left
-  same : kept c.fates left ≡ kept c.fates more
+  same : waiting c.fates left ≡ waiting c.fates more
 
 -- A message of the run that is not lost is the head of the replay's channel, behind what is lost there.
 same_front : (c : Certificate) (side : Side) (w : World) (r : Replay) (head : OnItsWay) (more : List OnItsWay)
     → Alike c.fates w r.world → channel_from side w ≡ head ∷ more
-    → kept c.fates (head ∷ more) ≡ head ∷ kept c.fates more → IsFront c side head more r
+    → waiting c.fates (head ∷ more) ≡ head ∷ waiting c.fates more → IsFront c side head more r
 same_front c side w r head more is channel first =
-    let same = channels_same c.fates side w r.world is ∙ ap (kept c.fates) channel ∙ first in
-    let front = front_is c.fates (channel_from side r.world) head (kept c.fates more) same in
+    let same = channels_same c.fates side w r.world is ∙ ap (waiting c.fates) channel ∙ first in
+    let front = front_is c.fates (channel_from side r.world) head (waiting c.fates more) same in
     record { left = front.0; channel = channel_with side _ r.world ∙ front.1; same = front.2 }
 
 -- ---- steps of the run, and of the replay
@@ -285,8 +261,8 @@ replies_goes table c side number k w next r fate alike step =
 quiet_same : (c : Certificate) (w : World) (r : Replay) → Alike c.fates w r.world → w.from_a ≡ [] → w.from_b ≡ []
     → (lost_from_both c r).world ≡ w
 quiet_same c w r is no_a no_b =
-    let none_a = front_none c.fates r.world.from_a (is.from_a ∙ ap (kept c.fates) no_a) in
-    let none_b = front_none c.fates r.world.from_b (is.from_b ∙ ap (kept c.fates) no_b) in
+    let none_a = front_none c.fates r.world.from_a (is.from_a ∙ ap (waiting c.fates) no_a) in
+    let none_b = front_none c.fates r.world.from_b (is.from_b ∙ ap (waiting c.fates) no_b) in
     all_same _ _ is.a is.b (none_a ∙ sym no_a) (none_b ∙ sym no_b) is.sent
   where
     make : End → End → List OnItsWay → List OnItsWay → List Item → World
@@ -313,9 +289,9 @@ loss_alike : (table : Table) (fates : List Fate) (side : Side) (number : ℕ) (w
 loss_alike table fates side number w next v fate step is =
     let l = loss table side number w next step in
     let has : slice_get fates l.head.number ≡ Some Lost = ap (λ (n : ℕ). slice_get fates n) l.number_is ∙ fate in
-    let gone : kept fates (l.head ∷ l.more) ≡ kept fates l.more = rw has refl in
-    let same : kept fates (channel_from side v) ≡ kept fates l.more =
-    channels_same fates side w v is ∙ ap (kept fates) l.channel ∙ gone in
+    let gone : waiting fates (l.head ∷ l.more) ≡ waiting fates l.more = rw has refl in
+    let same : waiting fates (channel_from side v) ≡ waiting fates l.more =
+    channels_same fates side w v is ∙ ap (waiting fates) l.channel ∙ gone in
     to_same fates _ next v l.next_is
     (subst (λ (x : World). Alike fates (with_channel side l.more w) x) (with_same side v)
     (alike_channel fates side l.more (channel_from side v) w v is same))

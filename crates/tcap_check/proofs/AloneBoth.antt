@@ -6,6 +6,7 @@ use Rattle.tcap_msg.specs.declared.message.Message.{Message}
 use Rattle.tcap_record.specs.declared.entry.End.{End as Side}
 use Rattle.tcap_record.specs.declared.entry.End.TheVariants.{A, B}
 use Rattle.tcap_record.specs.declared.entry.Entry.{Entry}
+use Rattle.tcap_end.specs.declared.fault.EndFault.{EndFault}
 use Rattle.tcap_end.specs.declared.half.HalfName.{HalfName}
 use Rattle.tcap_end.specs.declared.half.HalfName.TheVariants as names
 use Rattle.tcap_end.specs.Half.{Half, is_closed}
@@ -24,8 +25,9 @@ use Rattle.tcap_check.specs.declared.certificate.Fate.TheVariants.{Lost}
 use Rattle.tcap_check.specs.Certificate.{Certificate}
 use Rattle.tcap_model.specs.Entries.{AreItems, item_of}
 use Rattle.tcap_check.specs.Follows.{losses_from, lost_from, sending_by, taken_by}
-use Rattle.tcap_check.specs.Replayed.{Replay, all_lost_from, certificate_fits, closed_at_mark, entries_by, entry_by, fault_at, gap_by, is_gap, is_nothing, is_overtaking, item_by, lost_from_both, lost_from_front, mark_judged, message_by, next_entry, nothing_replayed, own_judged, own_message, replayed_by, stepped, tied, told_replayed}
+use Rattle.tcap_check.specs.Replayed.{Replay, all_lost_from, certificate_fits, closed_at_mark, discards_by, entries_by, entry_by, fault_at, gap_by, is_gap, is_nothing, is_overtaking, item_by, lost_from_both, lost_from_front, mark_judged, message_by, next_entry, nothing_replayed, own_judged, own_message, replayed_by, stepped, tied, told_replayed}
 use Rattle.tcap_check.specs.AloneGiven.{DiscardsNothing}
+use Rattle.tcap_check.proofs.DiscardReasons.{none_discarded}
 use Rattle.tcap_check.proofs.DescribedGaps.{ok_both, ok_needs, ok_some, ok_then}
 use Rattle.tcap_check.proofs.DescribedRuns.{items_of, items_same}
 use Rattle.tcap_check.proofs.GivenBound.{same_end}
@@ -260,19 +262,26 @@ pub both_give : (side : Side) (table : Table) (c : Certificate) (entries : List 
     (events : List Event)
     → AreItems entries items → replayed_by None table c entries ≡ Ok events
     → (own : List Event) × (replayed_by (Some side) table c entries ≡ Ok own) × DiscardsNothing side c items own
+    × (discards_by (Some side) table c (map item_of entries) ≡ Ok [])
 both_give side table c entries items events are is =
     let fits = both_ok (certificate_fits c) _ events is in
     let (r, done, last) = then_ok (entries_by None table c (map item_of entries) nothing_replayed) _ events fits.2 in
     let mine = entries_reflect side table c (map item_of entries)
     nothing_replayed r nothing_replayed done (at_first side) ([], refl) in
     let fronts = both_fronts_mirror side c r mine.made mine.mirrors in
-    let own = (lost_from_front c (other side) mine.made).events in
+    let own = lost_from_front c (other side) mine.made in
     let given = gives table c entries events is in
     let same : given.items ≡ items =
-    items_same given.items items (sym (items_of entries given.items given.are) ∙ items_of entries items are) in (
-      own,
-      ok_both (certificate_fits c) _ tt own fits.1
-          (ok_then (entries_by (Some side) table c (map item_of entries) nothing_replayed) _ mine.made own mine.is refl),
-      fronts.losses ∙ ap (losses_from (other side)) (ok_same {F = CheckFault} (lost_from_both c r).events events last)
-          ∙ given.follows.losses (other side) ∙ ap (lost_from (other side) 0 c.fates) same,
+    items_same given.items items (sym (items_of entries given.items given.are) ∙ items_of entries items are) in
+    let run = ok_both (certificate_fits c) _ tt own.events fits.1
+    (ok_then (entries_by (Some side) table c (map item_of entries) nothing_replayed) _ mine.made own.events mine.is refl) in
+    let discards = ok_both (certificate_fits c) _ tt own.discards fits.1
+    (ok_then (entries_by (Some side) table c (map item_of entries) nothing_replayed) _ mine.made own.discards mine.is refl) in
+    let losses = fronts.losses ∙ ap (losses_from (other side)) (ok_same {F = CheckFault} (lost_from_both c r).events events last)
+    ∙ given.follows.losses (other side) ∙ ap (lost_from (other side) 0 c.fates) same in (
+      own.events,
+      run,
+      losses,
+      discards ∙ ap (λ (x : List (ℕ × EndFault)). let a : Result (List (ℕ × EndFault)) CheckFault = Ok x in a)
+          (none_discarded side table c (map item_of entries) items own.events own.discards run discards losses),
     )

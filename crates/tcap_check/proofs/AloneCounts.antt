@@ -17,10 +17,10 @@ use Rattle.tcap_model.specs.Run.{Event, Sends, Receives, Replies, Loses, Expires
 use Rattle.tcap_model.specs.Entries.{count_components}
 use Rattle.tcap_check.specs.Unheard.{is_lost_from, steps_of, unheard_of}
 use Rattle.tcap_model.proofs.RunLaws.{closing, delivery, expiry, loss, quiet, reply, runs_keep, sending, sound as ends_sound, telling}
-use Rattle.tcap_check.proofs.WorldLaws.{sent_with_channel}
+use Rattle.tcap_model.proofs.WorldLaws.{sent_with_channel}
 use Rattle.tcap_check.proofs.StepCounts.{taken_most}
 use Rattle.tcap_check.proofs.AloneLoad.{closes_load, expires_load, load, receives_load, sends_load}
-use Rattle.tcap_check.proofs.WorldLaws.{apart, sent_joined, sent_with_end}
+use Rattle.tcap_model.proofs.WorldLaws.{apart, sent_joined, sent_with_end}
 
 -- What happens in a run of one end: it acts, its peer tells, and messages are lost.
 abbrev pub IsOwn : Side → Event → Type 0

@@ -19,7 +19,7 @@ use Rattle.tcap_check.proofs.AloneViews.{seen_by, seen_channel, seen_sent, seen_
 
 -- ---- losses
 
-losses_both : (side : Side) (xs ys : List Event)
+pub losses_both : (side : Side) (xs ys : List Event)
     → losses_from side (xs ++ ys) ≡ losses_from side xs ++ losses_from side ys
 losses_both side [] ys = refl
 losses_both side (x ∷ xs) ys =

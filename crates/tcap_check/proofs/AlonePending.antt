@@ -25,9 +25,9 @@ use Rattle.tcap_check.proofs.AloneReplays.{gap_leads, item_leads}
 use Rattle.tcap_check.proofs.AloneSteps.{Leads}
 use Rattle.tcap_check.proofs.AloneTaken.{IsNext, gap_takes, item_takes}
 use Rattle.tcap_check.proofs.NumberLaws.{IsAmong}
-use Rattle.tcap_check.proofs.PendingLaws.{IsOver, Stands, stands_more, stands_on, stands_still, taken_next, taken_on}
+use Rattle.tcap_check.proofs.PendingLaws.{IsOver, SendsSoFar, stands_more, stands_on, stands_still, taken_next, taken_on}
 use Rattle.tcap_check.proofs.TakenLaws.{IsIn}
-use Rattle.tcap_check.proofs.WorldLaws.{end_joined, end_with_channel, peer_with_end}
+use Rattle.tcap_model.proofs.WorldLaws.{end_joined, end_with_channel, peer_with_end}
 
 -- ---- steps
 
@@ -39,7 +39,7 @@ own_on side table r items next own leads =
 
 -- Steps that send nothing keep what was replayed.
 pub leads_still : (side : Side) (table : Table) (c : Certificate) (front : List Entry) (gaps : ℕ) (r next : Replay)
-    → Stands (Some side) table c front gaps r → Leads side table r [] next → Stands (Some side) table c front gaps next
+    → SendsSoFar (Some side) table c front gaps r → Leads side table r [] next → SendsSoFar (Some side) table c front gaps next
 leads_still side table c front gaps r next old leads =
     stands_still (Some side) table c front gaps r next leads.steps old leads.extends (leads.sent ∙ append-nil r.world.sent)
     (own_on side table r [] next old.so leads)
@@ -67,8 +67,8 @@ by_peer side sender message n items of_peer is =
 
 -- Behind a gap, what is delivered in it was taken.
 pub alone_behind : (side : Side) (table : Table) (c : Certificate) (front : List Entry) (r next : Replay)
-    → Stands (Some side) table c front (next_entry r) r → gap_by (Some side) table c r ≡ Ok next
-    → Stands (Some side) table c front (next_entry r + 1) next
+    → SendsSoFar (Some side) table c front (next_entry r) r → gap_by (Some side) table c r ≡ Ok next
+    → SendsSoFar (Some side) table c front (next_entry r + 1) next
 alone_behind side table c front r next old goes =
     stands_on (Some side) table c front (next_entry r) (next_entry r + 1) r next leads.steps old leads.extends same
     (λ n sender message fate heard is has over.
@@ -117,9 +117,9 @@ over_or_next (By g) k over = by (cases_lt g k)
 
 -- Behind an entry, what is delivered before it, and what it takes, was taken.
 pub alone_next : (side : Side) (table : Table) (c : Certificate) (front : List Entry) (entry : Entry) (item : Item) (fate : Fate)
-    (r next : Replay) → FatesFit (length c.fates) 0 c.fates → Stands (Some side) table c front (next_entry r) r → IsItem entry item
+    (r next : Replay) → FatesFit (length c.fates) 0 c.fates → SendsSoFar (Some side) table c front (next_entry r) r → IsItem entry item
     → slice_get c.fates (next_entry r) ≡ Some fate → item_by (Some side) table c fate item r ≡ Ok next
-    → Stands (Some side) table c (front ++ entry ∷ []) (next_entry next) next
+    → SendsSoFar (Some side) table c (front ++ entry ∷ []) (next_entry next) next
 alone_next side table c front entry item fate r next fit old is has goes =
     stands_more (Some side) table c front (next_entry r) entry item fate r next leads.steps old is has leads.extends leads.sent
     (taken_next (Some side) c (length c.fates) item r next fit leads.sent before)

@@ -22,11 +22,11 @@ use Rattle.tcap_check.proofs.AloneSteps.{Leads, front_leads, leads_then}
 led_from_nothing : (side : Side) (table : Table) (c : Certificate) (entries : List Entry) (items : List Item)
     (next : Replay)
     → AreItems entries items → length items ≡ length entries → Leads side table nothing_replayed items next
-    → channel_from (other side) next.world ≡ [] → IsGivenFor side table c entries next.events
+    → channel_from (other side) next.world ≡ [] → IsGivenFor side table entries next.events
 led_from_nothing side table c entries items next are count leads left =
     let runs = leads.extends.plays in
     let sent : next.world.sent ≡ items = leads.sent in
-    subst (IsGivenFor side table c entries) (sym leads.extends.events) (record {
+    subst (IsGivenFor side table entries) (sym leads.extends.events) (record {
       items = items;
       are = are;
       run = (next.world, runs, sent);
@@ -43,7 +43,7 @@ led_from_nothing side table c entries items next are count leads left =
     })
 
 pub gives_for : (side : Side) (table : Table) (c : Certificate) (entries : List Entry) (events : List Event)
-    → replayed_by (Some side) table c entries ≡ Ok events → IsGivenFor side table c entries events
+    → replayed_by (Some side) table c entries ≡ Ok events → IsGivenFor side table entries events
 gives_for side table c entries events is =
     let fits = both_ok (certificate_fits c) _ events is in
     let r = then_ok (entries_by (Some side) table c (map item_of entries) nothing_replayed) _ events fits.2 in
@@ -57,4 +57,4 @@ gives_for side table c entries events is =
     let same : last.events ≡ events = ok_same {F = CheckFault} last.events events r.2 in
     let left = none_waits side table c entries events last.world is
     (subst (λ (x : List Event). Runs table x last.world) (sym led.extends.events ∙ same) led.extends.plays) in
-    subst (IsGivenFor side table c entries) same (led_from_nothing side table c entries heard.items last are.0 are.1 led left)
+    subst (IsGivenFor side table entries) same (led_from_nothing side table c entries heard.items last are.0 are.1 led left)

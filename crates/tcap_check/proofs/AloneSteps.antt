@@ -15,8 +15,8 @@ use Rattle.tcap_check.specs.Replayed.{Replay, all_lost_from, lost_from_front, st
 use Rattle.tcap_model.proofs.ListLaws.{all_both}
 use Rattle.tcap_model.proofs.RunLaws.{grows, map_some}
 use Rattle.tcap_check.proofs.ReplaySteps.{Extends, Replays, channel_with, extends_nothing, extends_then, losing_replays, stepped_extends}
-use Rattle.tcap_check.proofs.WorldLaws.{with_same}
-use Rattle.tcap_check.proofs.WorldLaws.{sent_with_channel}
+use Rattle.tcap_model.proofs.WorldLaws.{with_same}
+use Rattle.tcap_model.proofs.WorldLaws.{sent_with_channel}
 use Rattle.tcap_check.proofs.AloneCounts.{IsOwn}
 
 -- Steps of a run of that end lead from the one to the other, and add these items to the sent list.

@@ -32,7 +32,7 @@ use Rattle.tcap_model.proofs.RunLaws.{map_some}
 use Rattle.tcap_check.proofs.AloneReplays.{deliveries_lead, entries_lead, gap_leads, item_leads, mark_rest, own_rest, peer_rest, tied_behind}
 use Rattle.tcap_check.proofs.AloneSteps.{Leads, all_lost_leads}
 use Rattle.tcap_check.proofs.AloneTies.{is_from}
-use Rattle.tcap_check.proofs.WorldLaws.{itself}
+use Rattle.tcap_model.proofs.WorldLaws.{itself}
 use Rattle.tcap_check.proofs.TakenLaws.{takes_replied}
 use Rattle.tcap_check.proofs.LeftLaws.{among_filter}
 

@@ -29,9 +29,9 @@ use Rattle.tcap_check.proofs.GivenEvents.{IsSender, by_mark, by_reply, by_send, 
 use Rattle.tcap_check.proofs.ReplayLaws.{reply_replays}
 use Rattle.tcap_model.proofs.RunLaws.{played_on}
 use Rattle.tcap_check.proofs.ReplaySteps.{losing_replays}
-use Rattle.tcap_check.proofs.WorldLaws.{sent_with_channel}
+use Rattle.tcap_model.proofs.WorldLaws.{sent_with_channel}
 use Rattle.tcap_model.proofs.RunLaws.{expiry, map_some, reply}
-use Rattle.tcap_check.proofs.WorldLaws.{itself, sent_joined}
+use Rattle.tcap_model.proofs.WorldLaws.{itself, sent_joined}
 use Rattle.tcap_check.proofs.AloneMirrors.{Mirrors, MirrorsBut, front_mirrors, more_losses, own_front_mirrors, same_sent, unseen_step}
 use Rattle.tcap_check.proofs.AloneViews.{seen_by, seen_end, seen_sent, seen_expiry, seen_reply, seen_sending, seen_told, unseen_channel, unseen_end}
 

@@ -232,22 +232,23 @@ keeps_so s judged table c None k is kept so =
 keeps_so s judged table c (Some fault) k is kept so =
     let same : (let a : Result Kept CheckFault = Err fault in a) ≡ Ok kept = ap (λ (x : Checking). x.so_far) (sym is) ∙ so in cc
 
-waits : (listing : Bool) (table : Table) (c : Certificate) (k : Kept) (entries : List (Result Item Reason)) → TookListed listing (checking None table c None k) entries
-    → count_waiting None k.progress ≡ count_ahead (length entries) c.fates entries
-waits listing table c k entries took = by (taken None table c entries) refl took
+waits : (listing : Bool) (judged : Option Side) (table : Table) (c : Certificate) (k : Kept) (entries : List (Result Item Reason))
+    → TookListed listing (checking judged table c None k) entries → count_waiting judged k.progress ≡ count_ahead judged (length entries) c.fates entries
+waits listing judged table c k entries took = by (taken judged table c entries) refl took
   where
-    by : (o : Result Replay CheckFault) → taken None table c entries ≡ o → (let a : Result Kept CheckFault = Ok k in a) ≡ map_ok (kept_of listing None c) o
-        → count_waiting None k.progress ≡ count_ahead (length entries) c.fates entries
+    by : (o : Result Replay CheckFault) → taken judged table c entries ≡ o → (let a : Result Kept CheckFault = Ok k in a) ≡ map_ok (kept_of listing judged c) o
+        → count_waiting judged k.progress ≡ count_ahead judged (length entries) c.fates entries
     by (Err fault) e same = cc
     by (Ok r) e same =
-        let is : k ≡ kept_of listing None c r = cc in
-        ap (λ (x : Kept). count_waiting None x.progress) is ∙ pending_is listing table c entries r e
+        let is : k ≡ kept_of listing judged c r = cc in
+        ap (λ (x : Kept). count_waiting judged x.progress) is ∙ pending_is listing judged table c entries r e
 
-pub waits_so : (listing : Bool) (s : Checking) (table : Table) (c : Certificate) (o : Option CheckFault) (k : Kept) → s ≡ checking None table c o k
-    → (entries : List (Result Item Reason)) → TookListed listing s entries → IsTrue (is_ok s.so_far)
-    → count_waiting None k.progress ≡ count_ahead (length entries) s.certificate.fates entries
-waits_so listing s table c None k is entries took so =
-    waits listing table c k entries (subst (λ (x : Checking). TookListed listing x entries) is took)
-    ∙ ap (λ (x : Checking). count_ahead (length entries) x.certificate.fates entries) (sym is)
-waits_so listing s table c (Some fault) k is entries took so =
+pub waits_so : (listing : Bool) (s : Checking) (judged : Option Side) (table : Table) (c : Certificate) (o : Option CheckFault) (k : Kept)
+    → s ≡ checking judged table c o k → (entries : List (Result Item Reason)) → TookListed listing s entries → IsTrue (is_ok s.so_far)
+    → count_waiting s.judged k.progress ≡ count_ahead s.judged (length entries) s.certificate.fates entries
+waits_so listing s judged table c None k is entries took so =
+    ap (λ (x : Checking). count_waiting x.judged k.progress) is
+    ∙ waits listing judged table c k entries (subst (λ (x : Checking). TookListed listing x entries) is took)
+    ∙ ap (λ (x : Checking). count_ahead x.judged (length entries) x.certificate.fates entries) (sym is)
+waits_so listing s judged table c (Some fault) k is entries took so =
     let no : is_ok s.so_far ≡ false = ap (λ (x : Checking). is_ok x.so_far) is in cc

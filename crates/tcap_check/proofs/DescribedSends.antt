@@ -32,7 +32,7 @@ use Rattle.tcap_check.proofs.ImpliedLaws.{implied_same}
 use Rattle.tcap_check.proofs.AlikeLaws.{Ahead, Alike, alike_end, alike_joined, to_same, ends_same, expires_goes, go_on, next_step, replies_goes}
 use Rattle.tcap_check.proofs.DescribedGaps.{from_start, ok_needs, ok_some, ok_then, plain, plain_more, plain_step, some_same, taken_are}
 use Rattle.tcap_model.proofs.RunLaws.{then_some}
-use Rattle.tcap_check.proofs.WorldLaws.{sent_with_end}
+use Rattle.tcap_model.proofs.WorldLaws.{sent_with_end}
 
 -- ---- a message
 

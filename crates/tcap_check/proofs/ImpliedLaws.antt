@@ -44,7 +44,7 @@ use Rattle.tcap_check.specs.Replayed.{Replay, implied, or_same, stepped, with_st
 use Rattle.tcap_model.proofs.RunLaws.{expiry}
 use Rattle.tcap_model.proofs.ListLaws.{contains_first}
 use Rattle.tcap_check.proofs.ExpiryLaws.{Expire, all_in_use, ends_in_use, expires_first, in_use, not_in_use, one_of_them}
-use Rattle.tcap_check.proofs.WorldLaws.{end_with}
+use Rattle.tcap_model.proofs.WorldLaws.{end_with}
 
 -- ---- what a send needs
 

@@ -22,7 +22,7 @@ use Rattle.tcap_check.specs.Hearing.{sent_lost}
 use Rattle.tcap_check.specs.Checking.{fate_of, is_alone, kept_by, map_ok, progress_of, reported, waiting_at}
 use Rattle.tcap_check.specs.Told.{Told, discard_more, more_told, told_if}
 use Rattle.tcap_check.proofs.ToldLaws.{discard_if, more_if}
-use Rattle.tcap_check.proofs.WorldLaws.{itself, with_same}
+use Rattle.tcap_model.proofs.WorldLaws.{itself, with_same}
 
 -- ---- what is counted
 

@@ -17,38 +17,14 @@ use Rattle.tcap_check.specs.Replayed.{Replay, if_lost, is_sent_by, lost_from_fro
 use Rattle.tcap_check.specs.Checking.{count_ahead}
 use Rattle.tcap_check.specs.Hearing.{is_heard}
 use Rattle.tcap_check.proofs.PendingLaws.{IsAhead}
+use Rattle.tcap_check.proofs.WaitingLaws.{behind_lost, waiting, waiting_by}
 
 -- ---- how many wait
-
--- a message on its way, unless it is lost
-abbrev pub waiting_by : Option Fate → OnItsWay → List OnItsWay → List OnItsWay
-waiting_by (Some Lost) m messages = messages
-waiting_by _ m messages = m ∷ messages
-
--- those of a channel that are not lost, from the oldest on
-abbrev pub waiting : List Fate → List OnItsWay → List OnItsWay
-waiting fates [] = []
-waiting fates (m ∷ more) = waiting_by (slice_get fates m.number) m (waiting fates more)
 
 -- So many more wait where a message of that fate joins.
 abbrev pub new_by : Option Fate → ℕ
 new_by (Some Lost) = 0
 new_by _ = 1
-
--- Without the lost ones at its front, as many of a channel wait.
-pub front_waits : (fates : List Fate) (channel : List OnItsWay)
-    → waiting fates (drop (length (lost_front fates channel)) channel) ≡ waiting fates channel
-front_waits fates [] = refl
-front_waits fates (first ∷ more) = by (slice_get fates first.number) refl (front_waits fates more)
-  where
-    by : (o : Option Fate) → slice_get fates first.number ≡ o
-        → waiting fates (drop (length (lost_front fates more)) more) ≡ waiting fates more
-        → waiting fates (drop (length (if_lost o (first.number ∷ lost_front fates more))) (first ∷ more))
-        ≡ waiting_by o first (waiting fates more)
-    by None at rest = rw at refl
-    by (Some (Gap g)) at rest = rw at refl
-    by (Some (By k)) at rest = rw at refl
-    by (Some Lost) at rest = rest
 
 -- What stands behind them is one that waits.
 head_waits : (fates : List Fate) (channel : List OnItsWay) (head : OnItsWay) (more : List OnItsWay)
@@ -112,10 +88,10 @@ pub losses_wait : (judged : Option Side) (c : Certificate) (side : Side) (r : Re
 losses_wait judged c side r = counts_same judged c.fates r.world (lost_from_front c side r).world (by side)
   where
     by : (side at : Side) → waiting c.fates (channel_from at (lost_from_front c side r).world) ≡ waiting c.fates (channel_from at r.world)
-    by sides.A sides.A = front_waits c.fates r.world.from_a
+    by sides.A sides.A = behind_lost c.fates r.world.from_a
     by sides.A sides.B = refl
     by sides.B sides.A = refl
-    by sides.B sides.B = front_waits c.fates r.world.from_b
+    by sides.B sides.B = behind_lost c.fates r.world.from_b
 
 -- a message that joins waits unless it is lost, or comes to an end that is not judged,
 pub joined_waits : (judged : Option Side) (fates : List Fate) (side : Side) (message : Message) (w : World)
@@ -165,17 +141,18 @@ no_items judged gaps replies (fate ∷ fates) = refl
 abbrev pub ok_item : Item → Result Item Reason
 ok_item item = Ok item
 
--- Where both ends are judged they are those that lie behind so many entries.
-pub ahead_is : (count : ℕ) (fates : List Fate) (items : List Item)
-    → count_behind None count count fates items ≡ count_ahead count fates (map ok_item items)
-ahead_is count [] items = refl
-ahead_is count (fate ∷ fates) [] = refl
-ahead_is count (fate ∷ fates) (Item.Quiet ∷ items) = ahead_is count fates items
-ahead_is count (Gap g ∷ fates) (Sent side message ∷ items) =
-    ap (λ (n : ℕ). cond (nat_le count g) (n + 1) n) (ahead_is count fates items)
-ahead_is count (By k ∷ fates) (Sent side message ∷ items) =
-    ap (λ (n : ℕ). cond (nat_le count k) (n + 1) n) (ahead_is count fates items)
-ahead_is count (Lost ∷ fates) (Sent side message ∷ items) = ahead_is count fates items
+-- They are those that lie behind so many entries.
+pub ahead_is : (judged : Option Side) (count : ℕ) (fates : List Fate) (items : List Item)
+    → count_behind judged count count fates items ≡ count_ahead judged count fates (map ok_item items)
+ahead_is judged count [] items = refl
+ahead_is judged count (fate ∷ fates) [] = refl
+ahead_is judged count (fate ∷ fates) (Item.Quiet ∷ items) = ahead_is judged count fates items
+ahead_is judged count (Gap g ∷ fates) (Sent side message ∷ items) =
+    ap (λ (n : ℕ). cond (is_heard judged side && nat_le count g) (n + 1) n) (ahead_is judged count fates items)
+ahead_is judged count (By k ∷ fates) (Sent side message ∷ items) =
+    ap (λ (n : ℕ). cond (is_heard judged side && nat_le count k) (n + 1) n) (ahead_is judged count fates items)
+ahead_is judged count (Lost ∷ fates) (Sent side message ∷ items) =
+    ap (λ (n : ℕ). cond (is_heard judged side && false) (n + 1) n) (ahead_is judged count fates items)
 
 -- A number that is not the next one is behind it or before both.
 pub not_next : (count n : ℕ) → (n ≡ count → ⊥) → nat_le count n ≡ nat_le (count + 1) n

@@ -19,33 +19,16 @@ use Rattle.tcap_check.specs.declared.outline.Outline.{Outline}
 use Rattle.tcap_check.specs.declared.progress.Progress.{Progress}
 use Rattle.tcap_check.specs.declared.progress.Waiting.{Waiting}
 use Rattle.tcap_check.specs.Certificate.{Certificate}
-use Rattle.tcap_check.specs.Replayed.{Replay, deliveries_by, delivery_by, fault_at, if_lost, is_due, lost_from_front, lost_front, next_entry, received, refused, with_step}
+use Rattle.tcap_check.specs.Replayed.{Replay, deliveries_by, delivery_by, fault_at, is_due, lost_from_front, lost_front, next_entry, received, refused, with_step}
 use Rattle.tcap_check.specs.Outlines.{outlines_from}
 use Rattle.tcap_check.specs.Progress.{discard_told, due_in, lost_counted, map_ok, moved, seat_at, with_seat_end, with_waiting}
 use Rattle.tcap_check.specs.Hearing.{deliveries_kept, delivery_kept, first_received, is_heard, received_or_not}
 use Rattle.tcap_check.specs.Checking.{fate_of, kept_by, progress_of, waiting_at}
+use Rattle.tcap_check.proofs.WaitingLaws.{head_stays, same_end}
 use Rattle.tcap_check.proofs.KeptBasics.{channel_put, end_kept, end_step_is, front_is, discard_step_is, discarding, not_alone, then_is, waiting_kept}
 use Rattle.tcap_check.proofs.ReplaySteps.{channel_with}
 
 -- ---- one message
-
--- What stands behind the lost ones at the front of a channel is not lost.
-head_stays : (fates : List Fate) (channel : List OnItsWay) (head : OnItsWay) (more : List OnItsWay)
-    → drop (length (lost_front fates channel)) channel ≡ head ∷ more → slice_get fates head.number ≡ Some Lost → ⊥
-head_stays fates [] head more is lost = cc
-head_stays fates (first ∷ channel) head more is lost = by (slice_get fates first.number) refl (head_stays fates channel head more) is
-  where
-    stays : (o : Option Fate) → slice_get fates first.number ≡ o → (o ≡ Some Lost → ⊥) → first ∷ channel ≡ head ∷ more → ⊥
-    stays o at kept is =
-        let same : head ≡ first = cc in kept (sym at ∙ ap (λ (m : OnItsWay). slice_get fates m.number) (sym same) ∙ lost)
-
-    by : (o : Option Fate) → slice_get fates first.number ≡ o
-        → (drop (length (lost_front fates channel)) channel ≡ head ∷ more → slice_get fates head.number ≡ Some Lost → ⊥)
-        → drop (length (if_lost o (first.number ∷ lost_front fates channel))) (first ∷ channel) ≡ head ∷ more → ⊥
-    by None at on is = stays None at (λ e. cc) is
-    by (Some (Gap g)) at on is = stays (Some (Gap g)) at (λ e. cc) is
-    by (Some (By k)) at on is = stays (Some (By k)) at (λ e. cc) is
-    by (Some Lost) at on is = on is lost
 
 kept_whole : (o : Option Fate) (m : OnItsWay) → (o ≡ Some Lost → ⊥) → kept_by o m ≡ record { number = m.number; message = Some m.message }
 kept_whole None m stays = refl
@@ -79,12 +62,6 @@ without_head sender c left r = record {
   discards = (lost_from_front c sender r).discards;
   world = with_channel sender left (lost_from_front c sender r).world;
 }
-
-same_end : (c : Certificate) (sender at : Side) (r : Replay) → end_at at (lost_from_front c sender r).world ≡ end_at at r.world
-same_end c sides.A sides.A r = refl
-same_end c sides.A sides.B r = refl
-same_end c sides.B sides.A r = refl
-same_end c sides.B sides.B r = refl
 
 -- Losses leave the end as it is.
 pub end_behind : (listing : Bool) (judged : Option Side) (c : Certificate) (sender : Side) (r : Replay)

@@ -26,11 +26,12 @@ use Rattle.tcap_check.specs.Progress.{YieldsInMemory, both_quiet, end_moved, fro
 use Rattle.tcap_check.specs.Hearing.{alone_marked, closed_or_not, halves_closed, halves_shut, mark_taken, quieted}
 use Rattle.tcap_check.specs.Checking.{is_alone, latest_at, latest_of, map_ok, progress_of, waiting_at}
 use Rattle.tcap_model.proofs.RunLaws.{map_some, quiet as quiet_step}
+use Rattle.tcap_check.proofs.WaitingLaws.{same_end}
 use Rattle.tcap_check.proofs.KeptBasics.{end_kept, end_step_is, last_is, moved_counts}
 use Rattle.tcap_check.proofs.KeptStays.{Stays, closes_stays, stays_same, stays_then}
 use Rattle.tcap_check.specs.Told.{Told, more_told}
 use Rattle.tcap_check.proofs.ToldLaws.{told_both, told_still}
-use Rattle.tcap_check.proofs.WorldLaws.{end_with}
+use Rattle.tcap_model.proofs.WorldLaws.{end_with}
 
 -- ---- the open halves close
 
@@ -394,10 +395,6 @@ marked_by judged table c mark takes r =
     >> (closed_before judged table mark r
     >>= λ closed. ok_or (stepped table Quiet (lost_last judged c closed)) (fault_at NotQuiet mark))
 
-same_end : (c : Certificate) (side : Side) (r : Replay) → end_at side (lost_from_front c (other side) r).world ≡ end_at side r.world
-same_end c sides.A r = refl
-same_end c sides.B r = refl
-
 module _ (listing : Bool) (table : Table) (c : Certificate) (side : Side) (mark : ℕ) (r : Replay) where
   abbrev fault : CheckFault
   fault = fault_at NotQuiet mark
@@ -429,7 +426,7 @@ module _ (listing : Bool) (table : Table) (c : Certificate) (side : Side) (mark 
   quiet_is e q closed is =
       let x = lost_from_front c (other side) closed.behind in
       let end_is : (seat_at side (progress_of listing (Some side) c x)).end ≡ e =
-      end_kept listing (Some side) c side x ∙ same_end c side closed.behind ∙ closed.end in
+      end_kept listing (Some side) c side x ∙ same_end c (other side) side closed.behind ∙ closed.end in
       ap (λ (y : Progress). quiet_kept mark (last_lost (Some side) y)) (behind_is e q closed)
       ∙ ap (quiet_kept mark) (front_puts side q (progress_of listing (Some side) c closed.behind)
       ∙ ap (with_seat_end side q) (last_is listing (Some side) c closed.behind))
@@ -450,7 +447,7 @@ module _ (listing : Bool) (table : Table) (c : Certificate) (side : Side) (mark 
       by (Err reason) is =
           let x = lost_from_front c (other side) closed.behind in
           let end_is : (seat_at side (progress_of listing (Some side) c x)).end ≡ e =
-          end_kept listing (Some side) c side x ∙ same_end c side closed.behind ∙ closed.end in
+          end_kept listing (Some side) c side x ∙ same_end c (other side) side closed.behind ∙ closed.end in
           sym (open_is side mark (progress_of listing (Some side) c x) reason (ap quiet end_is ∙ is)) ∙ quiet_step_is listing (Some side) table c mark x
 
   closed_is : (halves_closed (Some side) table mark p >>= λ closed. quiet_kept mark (last_lost (Some side) closed))

@@ -34,11 +34,12 @@ use Rattle.tcap_check.specs.Progress.{end_tried, first_answered, ids_ended, ids_
 use Rattle.tcap_check.specs.Hearing.{is_heard, own_fate, own_taken, sent_lost, told_taken}
 use Rattle.tcap_check.specs.Checking.{map_ok, progress_of, waiting_at}
 use Rattle.tcap_model.proofs.ChannelLaws.{get_new}
+use Rattle.tcap_check.proofs.WaitingLaws.{same_end}
 use Rattle.tcap_check.proofs.ReplayLaws.{abort_of}
 use Rattle.tcap_check.proofs.KeptBasics.{channel_put, end_kept, end_put, end_step_is, front_is, sent_lost_is, waiting_kept}
 use Rattle.tcap_check.proofs.KeptDeliveries.{HasFront, front_waits, without_head}
 use Rattle.tcap_check.proofs.KeptSends.{fate_at, joined_is}
-use Rattle.tcap_check.proofs.WorldLaws.{apart, sent_with_end}
+use Rattle.tcap_model.proofs.WorldLaws.{apart, sent_with_end}
 
 -- ---- expiries that a message implies
 
@@ -264,10 +265,6 @@ answers_head listing table judged c fate sides.B abort taken r head left front t
         (abort_joins listing table judged c fate sides.B abort taken r head left (Replies sides.B taken) made (abort_of abort made sides.B e) so (λ at. refl)
         has refl)
 
-own_end : (c : Certificate) (side : Side) (r : Replay) → end_at side (lost_from_front c (other side) r).world ≡ end_at side r.world
-own_end c sides.A r = refl
-own_end c sides.B r = refl
-
 -- A provider's answer.
 reply_is : (listing : Bool) (table : Table) (judged : Option Side) (c : Certificate) (fate : Fate) (side : Side) (abort : Message) (taken : ℕ) (r : Replay)
     → is_heard judged (other side) ≡ true → slice_get c.fates (next_entry r) ≡ Some fate
@@ -301,7 +298,7 @@ reply_is listing table judged c fate side abort taken r so has =
         (front_waits listing judged c (other side) head left r so front)
         ∙ ap (λ (e : End). needs ((head.number == taken) && may_refuse e head.message abort) (fault_at BadReply (next_entry r))
         >> sent_so (sent_by (Replies side taken) side (own_fate judged fate) (next_entry r) abort (kept_left listing table judged c fate side abort taken r head left)))
-        (end_kept listing judged c side before ∙ own_end c side r)
+        (end_kept listing judged c side before ∙ same_end c (other side) side r)
         ∙ answers_head listing table judged c fate side abort taken r head left front (head.number == taken) so refl has
         (answerable (end_at side r.world) head.message abort)
       where

@@ -26,7 +26,7 @@ use Rattle.tcap_model.proofs.RunLaws.{delivery, loss, map_some}
 use Rattle.tcap_check.proofs.KeptStays.{closings_stay, expiries_stay}
 use Rattle.tcap_check.proofs.KeptMarks.{quiet_empty}
 use Rattle.tcap_check.proofs.ReplaySteps.{channel_with, discard_is}
-use Rattle.tcap_check.proofs.WorldLaws.{own_with_channel, own_with_end}
+use Rattle.tcap_model.proofs.WorldLaws.{own_with_channel, own_with_end}
 
 -- ---- what is on its way from the end
 

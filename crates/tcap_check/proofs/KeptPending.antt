@@ -25,7 +25,8 @@ use Rattle.tcap_check.specs.Hearing.{is_heard}
 use Rattle.tcap_check.proofs.PendingLaws.{IsAhead, ahead}
 use Rattle.tcap_check.proofs.ReplayEntries.{nothing_is}
 use Rattle.tcap_check.proofs.ReplayGaps.{fates_ok}
-use Rattle.tcap_check.proofs.KeptCounts.{AreMarks, ahead_is, count_behind, count_for, heard_among, joined_waits, mark_behind, marks_quiet, marks_sent, new_behind, new_by, ok_item, one_behind, replies_behind, waiting, waiting_by}
+use Rattle.tcap_check.proofs.KeptCounts.{AreMarks, ahead_is, count_behind, count_for, heard_among, joined_waits, mark_behind, marks_quiet, marks_sent, new_behind, new_by, ok_item, one_behind, replies_behind}
+use Rattle.tcap_check.proofs.WaitingLaws.{waiting, waiting_by}
 use Rattle.tcap_check.proofs.KeptSteps.{gap_waits, mark_waits, message_waits, sent_waits}
 use Rattle.tcap_check.proofs.KeptEntries.{gap_sends, item_sends, tied_still}
 
@@ -227,16 +228,23 @@ kept_whole judged side fates (m ∷ more) so = rw so (by (slice_get fates m.numb
     by (Some (By k)) rest = omega (arith, rest)
     by (Some Lost) rest = rest
 
+-- So of all that waits for the ends that are judged.
+all_kept : (listing : Bool) (judged : Option Side) (c : Certificate) (r : Replay)
+    → count_waiting judged (progress_of listing judged c r) ≡ count_for judged c.fates r.world
+all_kept listing None c r =
+    ap₂ (λ (m n : ℕ). m + n) (kept_whole None sides.A c.fates r.world.from_a refl) (kept_whole None sides.B c.fates r.world.from_b refl)
+all_kept listing (Some sides.A) c r = kept_whole (Some sides.A) sides.B c.fates r.world.from_b refl
+all_kept listing (Some sides.B) c r = kept_whole (Some sides.B) sides.A c.fates r.world.from_a refl
+
 -- What waits behind entries is what is delivered, or taken, behind them.
-pub pending_is : (listing : Bool) (table : Table) (c : Certificate) (entries : List (Result Item Reason)) (r : Replay)
-    → taken None table c entries ≡ Ok r
-    → count_waiting None (progress_of listing None c r) ≡ count_ahead (length entries) c.fates entries
-pending_is listing table c entries r is =
-    let both = both_ok (certificate_fits c) (taken_from None table c entries nothing_replayed) is in
-    let behind = entries_wait None table c entries nothing_replayed r (fit_by c both.0) (none_yet None c) both.1 in
+pub pending_is : (listing : Bool) (judged : Option Side) (table : Table) (c : Certificate) (entries : List (Result Item Reason)) (r : Replay)
+    → taken judged table c entries ≡ Ok r
+    → count_waiting judged (progress_of listing judged c r) ≡ count_ahead judged (length entries) c.fates entries
+pending_is listing judged table c entries r is =
+    let both = both_ok (certificate_fits c) (taken_from judged table c entries nothing_replayed) is in
+    let behind = entries_wait judged table c entries nothing_replayed r (fit_by c both.0) (none_yet judged c) both.1 in
     let are : map ok_item r.world.sent ≡ entries = behind.1 in
     let number : next_entry r ≡ length entries = sym (length-map r.world.sent ok_item) ∙ ap length are in
-    ap₂ (λ (m n : ℕ). m + n) (kept_whole None sides.A c.fates r.world.from_a refl) (kept_whole None sides.B c.fates r.world.from_b refl)
-    ∙ behind.0.waits ∙ ahead_is (next_entry r) c.fates r.world.sent
-    ∙ ap (λ (n : ℕ). count_ahead n c.fates (map ok_item r.world.sent)) number
-    ∙ ap (count_ahead (length entries) c.fates) are
+    all_kept listing judged c r ∙ behind.0.waits ∙ ahead_is judged (next_entry r) c.fates r.world.sent
+    ∙ ap (λ (n : ℕ). count_ahead judged n c.fates (map ok_item r.world.sent)) number
+    ∙ ap (count_ahead judged (length entries) c.fates) are

@@ -17,7 +17,7 @@ use Rattle.tcap_check.specs.Unheard.{is_lost_from}
 use Rattle.tcap_check.specs.Progress.{greater, overtakes, seat_at, sent_by, time_or_zero, unless_lost}
 use Rattle.tcap_check.specs.Checking.{fate_of, is_alone, kept_by, latest_at, latest_of, progress_of, waiting_at}
 use Rattle.tcap_check.proofs.KeptBasics.{moved_counts}
-use Rattle.tcap_check.proofs.WorldLaws.{itself}
+use Rattle.tcap_model.proofs.WorldLaws.{itself}
 
 -- ---- the greatest time
 

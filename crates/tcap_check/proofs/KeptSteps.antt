@@ -30,11 +30,12 @@ use Rattle.tcap_check.specs.Replayed.{Replay, all_lost_from, behind_sending, clo
 use Rattle.tcap_check.proofs.ReplaySteps.{discard_is}
 use Rattle.tcap_check.specs.Hearing.{is_heard}
 use Rattle.tcap_model.proofs.RunLaws.{delivery, loss, map_some, quiet as quiet_step, reply}
-use Rattle.tcap_check.proofs.KeptCounts.{count_behind, count_for, counts_same, is_next, joined_waits, losses_wait, new_by, not_next, taken_waits, waiting}
+use Rattle.tcap_check.proofs.KeptCounts.{count_behind, count_for, counts_same, is_next, joined_waits, losses_wait, new_by, not_next, taken_waits}
+use Rattle.tcap_check.proofs.WaitingLaws.{waiting}
 use Rattle.tcap_check.proofs.KeptDeliveries.{due_is}
-use Rattle.tcap_check.proofs.WorldLaws.{peer_stays}
+use Rattle.tcap_model.proofs.WorldLaws.{peer_stays}
 use Rattle.tcap_check.proofs.KeptStays.{Stays, closes_stays, closings_stay, expiries_stay, implied_over_stays, stays_same, stays_then}
-use Rattle.tcap_check.proofs.WorldLaws.{itself, sent_with_channel, sent_with_end}
+use Rattle.tcap_model.proofs.WorldLaws.{itself, sent_with_channel, sent_with_end}
 
 -- ---- steps
 

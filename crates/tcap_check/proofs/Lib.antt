@@ -2,7 +2,7 @@ pub mod WorkedRuns
 pub mod WorkedRefusals
 pub mod PromptLaws
 pub mod NotDescribed
-pub mod WorldLaws
+pub mod WaitingLaws
 pub mod ReplaySteps
 pub mod ReplayLaws
 pub mod ReplayGaps
@@ -10,6 +10,10 @@ pub mod ReplayEntries
 pub mod ExpiryLaws
 pub mod ImpliedLaws
 pub mod AnewLaws
+pub mod AnsweredLaws
+pub mod NoSends
+pub mod SendShows
+pub mod StepsAreOne
 pub mod OrderLaws
 pub mod DescribedLaws
 pub mod StepCounts

@@ -26,7 +26,7 @@ use Rattle.tcap_check.proofs.ReplaySteps.{Replays}
 use Rattle.tcap_check.proofs.ReplayLaws.{IsSentBy}
 use Rattle.tcap_check.proofs.FollowingLaws.{FollowsBehind, FollowsSo, IsUpTo, follows_gap, follows_more, plain_on}
 use Rattle.tcap_check.proofs.TakenLaws.{IsIn, in_all, in_events, in_right, in_some, in_taken, taken_behind, taken_sent, takes_received, takes_replied}
-use Rattle.tcap_check.proofs.PendingLaws.{AreTaken, IsAsSaid, IsOver, Stands, further_on, old_or_new, runs_on, stands_more, stands_on, taken_next, taken_on, taken_still}
+use Rattle.tcap_check.proofs.PendingLaws.{AreTaken, IsAsSaid, IsOver, SendsSoFar, further_on, old_or_new, runs_on, stands_more, stands_on, taken_next, taken_on, taken_still}
 
 -- ---- fates
 
@@ -114,8 +114,8 @@ losses_said table c gaps r next old on =
 
 -- Behind a gap, what is delivered in it was taken.
 pub stands_behind : (table : Table) (c : Certificate) (front : List Entry) (r next : Replay) (here : List Event)
-    → Stands None table c front (next_entry r) r → map Some here ≡ gap_events c r.world.sent (next_entry r)
-    → Replays table r here [] next → Stands None table c front (next_entry r + 1) next
+    → SendsSoFar None table c front (next_entry r) r → map Some here ≡ gap_events c r.world.sent (next_entry r)
+    → Replays table r here [] next → SendsSoFar None table c front (next_entry r + 1) next
 stands_behind table c front r next here old here_is on =
     let still = taken_still None table c (next_entry r) r next on.steps old.taken on.extends same in
     let behind : FollowsBehind c r.world.sent (without_losses next.events) =
@@ -177,9 +177,9 @@ same_sender s t m n is = cc
 
 -- Where both ends are judged, what the next entry takes was taken behind it.
 pub stands_next : (table : Table) (c : Certificate) (count : ℕ) (front : List Entry) (entry : Entry) (item : Item) (fate : Fate)
-    (r next : Replay) → FatesFit count 0 c.fates → Stands None table c front (next_entry r + 1) r → IsItem entry item
+    (r next : Replay) → FatesFit count 0 c.fates → SendsSoFar None table c front (next_entry r + 1) r → IsItem entry item
     → slice_get c.fates (next_entry r) ≡ Some fate → (item ≡ Item.Quiet → fate ≡ Gap (next_entry r + 1))
-    → IsSentBy table c item r next → Stands None table c (front ++ entry ∷ []) (next_entry next) next
+    → IsSentBy table c item r next → SendsSoFar None table c (front ++ entry ∷ []) (next_entry next) next
 stands_next table c count front entry item fate r next fit old is has mark sent =
     stands_more None table c front (next_entry r + 1) entry item fate r next on.steps old is has on.extends grown
     (taken_next None c count item r next fit grown (λ n side message fate_n heard was has_n over.

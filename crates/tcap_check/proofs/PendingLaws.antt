@@ -76,7 +76,7 @@ IsSo None c gaps r = IsAsSaid c gaps r
 IsSo (Some judged) c gaps r = AllByRecursion (IsOwn judged) r.events
 
 -- What was replayed so far, behind so many gaps: a run that sends the entries so far; there is a fate for each entry, and what is over was taken.
-pub record Stands (judged : Option Side) (table : Table) (c : Certificate) (front : List Entry) (gaps : ℕ) (r : Replay) : Type 0 where
+pub record SendsSoFar (judged : Option Side) (table : Table) (c : Certificate) (front : List Entry) (gaps : ℕ) (r : Replay) : Type 0 where
   pub runs : Runs table r.events r.world
   pub are : AreItems front r.world.sent
   pub counted : next_entry r ≤ length c.fates
@@ -105,9 +105,9 @@ taken_still judged table c gaps r next steps old on same n side message fate hea
 
 -- and keep the rest.
 pub stands_on : (judged : Option Side) (table : Table) (c : Certificate) (front : List Entry) (gaps more : ℕ) (r next : Replay)
-    (steps : List Event) → Stands judged table c front gaps r → Extends table r steps next → next.world.sent ≡ r.world.sent
+    (steps : List Event) → SendsSoFar judged table c front gaps r → Extends table r steps next → next.world.sent ≡ r.world.sent
     → AreTaken judged c more (next_entry next) next.world.sent next.events → IsSo judged c more next
-    → Stands judged table c front more next
+    → SendsSoFar judged table c front more next
 stands_on judged table c front gaps more r next steps old on same taken so =
     let number : next_entry next ≡ next_entry r = ap length same in
     record {
@@ -119,8 +119,8 @@ stands_on judged table c front gaps more r next steps old on same taken so =
     }
 
 pub stands_still : (judged : Option Side) (table : Table) (c : Certificate) (front : List Entry) (gaps : ℕ) (r next : Replay)
-    (steps : List Event) → Stands judged table c front gaps r → Extends table r steps next → next.world.sent ≡ r.world.sent
-    → IsSo judged c gaps next → Stands judged table c front gaps next
+    (steps : List Event) → SendsSoFar judged table c front gaps r → Extends table r steps next → next.world.sent ≡ r.world.sent
+    → IsSo judged c gaps next → SendsSoFar judged table c front gaps next
 stands_still judged table c front gaps r next steps old on same so =
     stands_on judged table c front gaps gaps r next steps old on same (taken_still judged table c gaps r next steps old.taken on same) so
 
@@ -171,10 +171,10 @@ taken_next judged c count item r next fit grown before n side message fate heard
 
 -- One entry more.
 pub stands_more : (judged : Option Side) (table : Table) (c : Certificate) (front : List Entry) (gaps : ℕ) (entry : Entry) (item : Item)
-    (fate : Fate) (r next : Replay) (steps : List Event) → Stands judged table c front gaps r → IsItem entry item
+    (fate : Fate) (r next : Replay) (steps : List Event) → SendsSoFar judged table c front gaps r → IsItem entry item
     → slice_get c.fates (next_entry r) ≡ Some fate → Extends table r steps next → next.world.sent ≡ r.world.sent ++ item ∷ []
     → AreTaken judged c (next_entry next) (next_entry next) next.world.sent next.events → IsSo judged c (next_entry next) next
-    → Stands judged table c (front ++ entry ∷ []) (next_entry next) next
+    → SendsSoFar judged table c (front ++ entry ∷ []) (next_entry next) next
 stands_more judged table c front gaps entry item fate r next steps old is has on grown taken so =
     let more : next_entry next ≡ next_entry r + 1 = ap length grown ∙ length-append r.world.sent (item ∷ []) in
     let within : next_entry r < length c.fates = slice_get_within c.fates (next_entry r) fate has in

@@ -23,9 +23,9 @@ use Rattle.tcap_model.specs.Entries.{IsItem}
 use Rattle.tcap_check.specs.Follows.{invoking_half, sending_by}
 use Rattle.tcap_check.specs.Given.{IsAt}
 use Rattle.tcap_check.specs.Replayed.{Replay, behind_sending, comes_in_order, fault_at, gap_by, happens, implied_over, is_abort, is_heard, is_later, is_nothing, is_overtaking, lost_before, message_by, message_judged, next_entry, own_judged, own_message, refused, sent_or_refused, stepped, tied, time_of, told_replayed, with_step}
-use Rattle.tcap_check.proofs.PendingLaws.{Stands}
+use Rattle.tcap_check.proofs.PendingLaws.{SendsSoFar}
 use Rattle.tcap_model.proofs.RunLaws.{same_side}
-use Rattle.tcap_check.proofs.WorldLaws.{itself}
+use Rattle.tcap_model.proofs.WorldLaws.{itself}
 use Rattle.tcap_check.proofs.ReasonGaps.{Says, as_many, at_front, both_err, gap_says, needs_err, next_at, none_err, says, then_err}
 
 -- ---- a message
@@ -104,7 +104,7 @@ overtaking side fate (first ∷ fates) (Sent sender message ∷ items) is =
 
 -- What overtakes a message that comes to an end which is judged comes before an earlier one.
 overtakes_says : (judged : Option Side) (table : Table) (c : Certificate) (front rest : List Entry) (entry : Entry) (fate : Fate)
-    (side : Side) (message : Message) (r : Replay) (fault : CheckFault) → Stands judged table c front (next_entry r) r
+    (side : Side) (message : Message) (r : Replay) (fault : CheckFault) → SendsSoFar judged table c front (next_entry r) r
     → IsItem entry (Sent side message) → slice_get c.fates (next_entry r) ≡ Some fate → is_heard judged side ≡ true
     → not (is_overtaking side fate c.fates r.world.sent) ≡ false → fault_at reasons.OutOfOrder (next_entry r) ≡ fault
     → Says judged table c (front ++ entry ∷ rest) fault
@@ -140,7 +140,7 @@ unsent (Some judged) (Err reason) fault is = is
 
 -- A message that an end which is judged sends.
 own_says : (judged : Option Side) (table : Table) (c : Certificate) (front rest : List Entry) (entry : Entry) (fate : Fate) (side : Side)
-    (message : Message) (r : Replay) (fault : CheckFault) → Stands judged table c front (next_entry r) r
+    (message : Message) (r : Replay) (fault : CheckFault) → SendsSoFar judged table c front (next_entry r) r
     → IsItem entry (Sent side message) → slice_get c.fates (next_entry r) ≡ Some fate
     → own_judged judged table c fate side message r ≡ Err fault → Says judged table c (front ++ entry ∷ rest) fault
 own_says judged table c front rest entry fate side message r fault old is has refuses =
@@ -169,7 +169,7 @@ own_says judged table c front rest entry fate side message r fault old is has re
 
 -- A message that the peer tells of the end that alone is judged.
 told_says : (side : Side) (table : Table) (c : Certificate) (front rest : List Entry) (entry : Entry) (fate : Fate) (message : Message)
-    (r : Replay) (fault : CheckFault) → Stands (Some side) table c front (next_entry r) r → IsItem entry (Sent (other side) message)
+    (r : Replay) (fault : CheckFault) → SendsSoFar (Some side) table c front (next_entry r) r → IsItem entry (Sent (other side) message)
     → slice_get c.fates (next_entry r) ≡ Some fate → told_replayed table c fate side message r ≡ Err fault
     → Says (Some side) table c (front ++ entry ∷ rest) fault
 told_says side table c front rest entry fate message r fault old is has refuses =
@@ -210,14 +210,14 @@ told_says side table c front rest entry fate message r fault old is has refuses 
 
 -- What the refusal of an entry says that is a message.
 pub sent_says : (judged : Option Side) (table : Table) (c : Certificate) (front rest : List Entry) (entry : Entry) (fate : Fate)
-    (side : Side) (message : Message) (r : Replay) (fault : CheckFault) → Stands judged table c front (next_entry r) r
+    (side : Side) (message : Message) (r : Replay) (fault : CheckFault) → SendsSoFar judged table c front (next_entry r) r
     → IsItem entry (Sent side message) → slice_get c.fates (next_entry r) ≡ Some fate
     → message_judged judged table c fate side message r ≡ Err fault → Says judged table c (front ++ entry ∷ rest) fault
 sent_says None table c front rest entry fate side message r fault old is has refuses =
     own_says None table c front rest entry fate side message r fault old is has refuses
 sent_says (Some judged) table c front rest entry fate side message r fault old is has refuses = by judged side old is refuses
   where
-    by : (one sender : Side) → Stands (Some one) table c front (next_entry r) r → IsItem entry (Sent sender message)
+    by : (one sender : Side) → SendsSoFar (Some one) table c front (next_entry r) r → IsItem entry (Sent sender message)
         → message_judged (Some one) table c fate sender message r ≡ Err fault → Says (Some one) table c (front ++ entry ∷ rest) fault
     by sides.A sides.A old is e = own_says (Some sides.A) table c front rest entry fate sides.A message r fault old is has e
     by sides.A sides.B old is e = told_says sides.A table c front rest entry fate message r fault old is has e

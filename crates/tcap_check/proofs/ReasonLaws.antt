@@ -32,7 +32,7 @@ use Rattle.tcap_check.proofs.FollowingLaws.{follows_nothing}
 use Rattle.tcap_check.proofs.AlonePending.{alone_next}
 use Rattle.tcap_check.proofs.EntryLaws.{taken_more}
 use Rattle.tcap_check.proofs.PendingBoth.{stands_next}
-use Rattle.tcap_check.proofs.PendingLaws.{IsSo, Stands}
+use Rattle.tcap_check.proofs.PendingLaws.{IsSo, SendsSoFar}
 use Rattle.tcap_check.proofs.ReasonGaps.{Says, as_many, both_err, certificate_says, gap_says, needs_err, next_at, none_err, says, then_err}
 use Rattle.tcap_check.proofs.ReasonItems.{sent_says}
 use Rattle.tcap_check.proofs.ReasonMarks.{gap_sent, gap_stands, quiet_says}
@@ -62,7 +62,7 @@ no_item_says judged table c entries entry number reason there is = by entry.side
 
 -- What the refusal of an entry says.
 entry_says : (judged : Option Side) (table : Table) (c : Certificate) (front rest : List Entry) (entry : Entry) (fate : Fate) (r : Replay) (fault : CheckFault)
-    → FatesFit (length c.fates) 0 c.fates → Stands judged table c front (next_entry r) r → taken judged table c (map item_of front) ≡ Ok r
+    → FatesFit (length c.fates) 0 c.fates → SendsSoFar judged table c front (next_entry r) r → taken judged table c (map item_of front) ≡ Ok r
     → slice_get c.fates (next_entry r) ≡ Some fate → entry_by judged table c fate (item_of entry) r ≡ Err fault
     → Says judged table c (front ++ entry ∷ rest) fault
 entry_says judged table c front rest entry fate r fault fit old took has is = by (item_of entry) refl is
@@ -80,13 +80,13 @@ entry_says judged table c front rest entry fate r fault fit old took has is = by
 
 -- Where both ends are judged: steps that answer what is behind a gap and then an item.
 item_stands : (table : Table) (c : Certificate) (front : List Entry) (entry : Entry) (item : Item) (fate : Fate) (r mid next : Replay)
-    → FatesFit (length c.fates) 0 c.fates → Stands None table c front (next_entry r) r → IsItem entry item
+    → FatesFit (length c.fates) 0 c.fates → SendsSoFar None table c front (next_entry r) r → IsItem entry item
     → slice_get c.fates (next_entry r) ≡ Some fate → (item ≡ Item.Quiet → fate ≡ Gap (next_entry r + 1))
     → gap_by None table c r ≡ Ok mid → IsSentBy table c item mid next
-    → Stands None table c (front ++ entry ∷ []) (next_entry next) next
+    → SendsSoFar None table c (front ++ entry ∷ []) (next_entry next) next
 item_stands table c front entry item fate r mid next fit old is has mark goes sent =
     let number : next_entry mid ≡ next_entry r = ap length (gap_sent None table c r mid goes) in
-    let stands = subst (λ (n : ℕ). Stands None table c front (n + 1) mid) (sym number) (gap_stands None table c front r mid old goes) in
+    let stands = subst (λ (n : ℕ). SendsSoFar None table c front (n + 1) mid) (sym number) (gap_stands None table c front r mid old goes) in
     stands_next table c (length c.fates) front entry item fate mid next fit stands is (ap (slice_get c.fates) number ∙ has)
     (λ e. mark e ∙ ap (λ (n : ℕ). Gap (n + 1)) (sym number)) sent
 
@@ -98,9 +98,9 @@ gap_of gap (By k) is = cc
 
 -- Behind a mark,
 quiet_stands : (table : Table) (c : Certificate) (front : List Entry) (entry : Entry) (fate : Fate) (r next : Replay)
-    → FatesFit (length c.fates) 0 c.fates → Stands None table c front (next_entry r) r → IsItem entry Item.Quiet
+    → FatesFit (length c.fates) 0 c.fates → SendsSoFar None table c front (next_entry r) r → IsItem entry Item.Quiet
     → slice_get c.fates (next_entry r) ≡ Some fate → mark_judged None table c fate r ≡ Ok next
-    → Stands None table c (front ++ entry ∷ []) (next_entry next) next
+    → SendsSoFar None table c (front ++ entry ∷ []) (next_entry next) next
 quiet_stands table c front entry fate r next fit old is has goes =
     let number = next_entry r in
     let so = needs_ok (is_gap (number + 1) fate) (fault_at reasons.FateRange number) _ next goes in
@@ -123,9 +123,9 @@ quiet_stands table c front entry fate r next fit old is has goes =
 
 -- and behind a message, what was replayed stands.
 sent_stands : (table : Table) (c : Certificate) (front : List Entry) (entry : Entry) (fate : Fate) (side : Side) (message : Message)
-    (r next : Replay) → FatesFit (length c.fates) 0 c.fates → Stands None table c front (next_entry r) r → IsItem entry (Sent side message)
+    (r next : Replay) → FatesFit (length c.fates) 0 c.fates → SendsSoFar None table c front (next_entry r) r → IsItem entry (Sent side message)
     → slice_get c.fates (next_entry r) ≡ Some fate → own_judged None table c fate side message r ≡ Ok next
-    → Stands None table c (front ++ entry ∷ []) (next_entry next) next
+    → SendsSoFar None table c (front ++ entry ∷ []) (next_entry next) next
 sent_stands table c front entry fate side message r next fit old is has goes =
     let so = needs_ok (not (is_overtaking side fate c.fates r.world.sent)) (fault_at reasons.OutOfOrder (next_entry r)) _ next goes in
     let gap = then_ok (gap_by None table c r) _ next so.1 in
@@ -134,13 +134,13 @@ sent_stands table c front entry fate side message r next fit old is has goes =
 
 -- So it does behind an entry, whoever is judged.
 pub entry_stands : (judged : Option Side) (table : Table) (c : Certificate) (front : List Entry) (entry : Entry) (fate : Fate) (r next : Replay)
-    → FatesFit (length c.fates) 0 c.fates → Stands judged table c front (next_entry r) r
+    → FatesFit (length c.fates) 0 c.fates → SendsSoFar judged table c front (next_entry r) r
     → slice_get c.fates (next_entry r) ≡ Some fate → entry_by judged table c fate (item_of entry) r ≡ Ok next
-    → Stands judged table c (front ++ entry ∷ []) (next_entry next) next
+    → SendsSoFar judged table c (front ++ entry ∷ []) (next_entry next) next
 entry_stands judged table c front entry fate r next fit old has is = by judged old (item_of entry) refl is
   where
-    by : (judged : Option Side) → Stands judged table c front (next_entry r) r → (o : Result Item Reason) → item_of entry ≡ o
-        → entry_by judged table c fate o r ≡ Ok next → Stands judged table c (front ++ entry ∷ []) (next_entry next) next
+    by : (judged : Option Side) → SendsSoFar judged table c front (next_entry r) r → (o : Result Item Reason) → item_of entry ≡ o
+        → entry_by judged table c fate o r ≡ Ok next → SendsSoFar judged table c (front ++ entry ∷ []) (next_entry next) next
     by None old (Ok (Sent side message)) at goes =
         sent_stands table c front entry fate side message r next fit old (item_is entry (Sent side message) at) has goes
     by None old (Ok Item.Quiet) at goes = quiet_stands table c front entry fate r next fit old (item_is entry Item.Quiet at) has goes
@@ -168,7 +168,7 @@ took_one judged table c front entry fate r next took has goes =
 
 -- What the refusal of entries says, one behind the other.
 entries_say : (judged : Option Side) (table : Table) (c : Certificate) (front rest : List Entry) (r : Replay) (fault : CheckFault)
-    → FatesFit (length c.fates) 0 c.fates → Stands judged table c front (next_entry r) r → taken judged table c (map item_of front) ≡ Ok r
+    → FatesFit (length c.fates) 0 c.fates → SendsSoFar judged table c front (next_entry r) r → taken judged table c (map item_of front) ≡ Ok r
     → entries_by judged table c (map item_of rest) r ≡ Err fault → Says judged table c (front ++ rest) fault
 entries_say judged table c front [] r fault fit old took is =
     by (needs_err (next_entry r == length c.fates) (fault_at reasons.FateCount (next_entry r)) (gap_by judged table c r) fault is)
@@ -191,7 +191,7 @@ entries_say judged table c front (entry ∷ rest) r fault fit old took is =
     all = front ++ entry ∷ rest
 
     Goes : Type 0
-    Goes = (next : Replay) → Stands judged table c (front ++ entry ∷ []) (next_entry next) next
+    Goes = (next : Replay) → SendsSoFar judged table c (front ++ entry ∷ []) (next_entry next) next
         → taken judged table c (map item_of (front ++ entry ∷ [])) ≡ Ok next → entries_by judged table c (map item_of rest) next ≡ Err fault
         → Says judged table c ((front ++ entry ∷ []) ++ rest) fault
 
@@ -221,7 +221,7 @@ entries_say judged table c front (entry ∷ rest) r fault fit old took is =
 
 -- In the beginning it stands.
 pub nothing_stands : (judged : Option Side) (table : Table) (c : Certificate)
-    → Stands judged table c [] (next_entry nothing_replayed) nothing_replayed
+    → SendsSoFar judged table c [] (next_entry nothing_replayed) nothing_replayed
 nothing_stands judged table c = record {
   runs = refl;
   are = tt;

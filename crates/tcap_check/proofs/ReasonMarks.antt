@@ -24,7 +24,7 @@ use Rattle.tcap_check.specs.Given.{IsAt, IsPending, IsStillOpen}
 use Rattle.tcap_check.specs.Replayed.{Replay, closed_before, fault_at, gap_by, is_gap, is_nothing, lost_from_both, lost_last, mark_judged, next_entry, stepped, tied, with_step}
 use Rattle.tcap_check.proofs.ReplayLaws.{gap_replays}
 use Rattle.tcap_check.proofs.FollowingLaws.{follows_all}
-use Rattle.tcap_check.proofs.PendingLaws.{Stands}
+use Rattle.tcap_check.proofs.PendingLaws.{SendsSoFar}
 use Rattle.tcap_check.proofs.ReasonGaps.{Says, as_many, gap_says, needs_err, next_at, none_err, says, taken_front, then_err}
 use Rattle.tcap_end.specs.declared.half.HalfName.{HalfName}
 use Rattle.tcap_end.specs.Hidden.{close_each, open_halves, quiet_unseen}
@@ -37,7 +37,7 @@ use Rattle.tcap_check.proofs.KeptMarks.{Closings, closings_are}
 use Rattle.tcap_check.proofs.KeptOwn.{IsHeard}
 use Rattle.tcap_check.proofs.KeptSteps.{before_stays}
 use Rattle.tcap_check.proofs.PendingBoth.{stands_behind}
-use Rattle.tcap_check.proofs.WorldLaws.{end_with_channel}
+use Rattle.tcap_model.proofs.WorldLaws.{end_with_channel}
 use Rattle.tcap_check.proofs.ReasonPending.{busy_pends, closed_heard, closed_stands, last_sent, last_stands, not_quiet, not_there, taken_pends}
 
 -- ---- what is open
@@ -83,7 +83,7 @@ alone_open side table c mark r closed is not_closed =
 
 -- Its peer is quiet.
 peer_quiet : (side : Side) (table : Table) (c : Certificate) (front : List Entry) (gaps : ℕ) (r : Replay)
-    → Stands (Some side) table c front gaps r → quiet (end_at (other side) r.world) ≡ Err faults.StillOpen → ⊥
+    → SendsSoFar (Some side) table c front gaps r → quiet (end_at (other side) r.world) ≡ Err faults.StillOpen → ⊥
 peer_quiet side table c front gaps r old is =
     let none = sym (ap quiet (peer_is_nothing side table r.events r.world old.runs old.so)) ∙ is in cc
 
@@ -91,7 +91,7 @@ peer_quiet side table c front gaps r old is =
 still_open : (judged : Option Side) (table : Table) (c : Certificate) (front rest : List Entry) (r mid closed : Replay) (side : Side)
     → taken judged table c (map item_of (take (next_entry r) (front ++ rest))) ≡ Ok r → gap_by judged table c r ≡ Ok mid
     → closed_before judged table (next_entry r) mid ≡ Ok closed
-    → Stands judged table c front (next_entry r + 1) (lost_last judged c closed)
+    → SendsSoFar judged table c front (next_entry r + 1) (lost_last judged c closed)
     → next_entry (lost_last judged c closed) ≡ next_entry r
     → quiet (end_at side (lost_last judged c closed).world) ≡ Err faults.StillOpen
     → IsStillOpen judged table c (front ++ rest) (next_entry r)
@@ -104,7 +104,7 @@ still_open None table c front rest r mid closed side took goes closes old same i
 still_open (Some one) table c front rest r mid closed side took goes closes old same is_open =
     (r, mid, took, goes, faults.StillOpen, by one side old closes is_open)
   where
-    by : (one at : Side) → Stands (Some one) table c front (next_entry r + 1) (lost_last (Some one) c closed)
+    by : (one at : Side) → SendsSoFar (Some one) table c front (next_entry r + 1) (lost_last (Some one) c closed)
         → closed_before (Some one) table (next_entry r) mid ≡ Ok closed
         → quiet (end_at at (lost_last (Some one) c closed).world) ≡ Err faults.StillOpen
         → quiet_unseen table (end_at one mid.world) ≡ Err faults.StillOpen
@@ -117,8 +117,8 @@ still_open (Some one) table c front rest r mid closed side took goes closes old 
 
 -- Behind a gap what was replayed stands,
 pub gap_stands : (judged : Option Side) (table : Table) (c : Certificate) (front : List Entry) (r mid : Replay)
-    → Stands judged table c front (next_entry r) r → gap_by judged table c r ≡ Ok mid
-    → Stands judged table c front (next_entry r + 1) mid
+    → SendsSoFar judged table c front (next_entry r) r → gap_by judged table c r ≡ Ok mid
+    → SendsSoFar judged table c front (next_entry r + 1) mid
 gap_stands None table c front r mid old goes =
     let here = gap_replays table c r mid goes in stands_behind table c front r mid here.0 old here.1 here.2
 gap_stands (Some side) table c front r mid old goes = alone_behind side table c front r mid old goes
@@ -131,7 +131,7 @@ gap_sent (Some side) table c r mid goes = (gap_leads side table c r mid goes).se
 
 -- A mark that is refused behind its gap: a message is pending, or a half is open.
 mark_refused : (judged : Option Side) (table : Table) (c : Certificate) (front rest : List Entry) (r mid : Replay) (fault : CheckFault)
-    → Stands judged table c front (next_entry r) r → taken judged table c (map item_of front) ≡ Ok r → gap_by judged table c r ≡ Ok mid
+    → SendsSoFar judged table c front (next_entry r) r → taken judged table c (map item_of front) ≡ Ok r → gap_by judged table c r ≡ Ok mid
     → (closed_before judged table (next_entry r) mid
     >>= λ closed. ok_or (stepped table Quiet (lost_last judged c closed)) (fault_at reasons.NotQuiet (next_entry r))) ≡ Err fault
     → (fault_at reasons.NotQuiet (next_entry r) ≡ fault)
@@ -156,7 +156,7 @@ mark_refused judged table c front rest r mid fault old took goes refuses =
         last : Replay
         last = lost_last judged c closed
 
-        stands : Stands judged table c front (next_entry r + 1) last
+        stands : SendsSoFar judged table c front (next_entry r + 1) last
         stands = last_stands judged table c front (next_entry r + 1) closed
             (closed_stands judged table c front (next_entry r + 1) (next_entry r) mid closed closes (gap_stands judged table c front r mid old goes))
 
@@ -184,7 +184,7 @@ mark_refused judged table c front rest r mid fault old took goes refuses =
 
 -- What the refusal of an entry says that is a mark.
 pub quiet_says : (judged : Option Side) (table : Table) (c : Certificate) (front rest : List Entry) (entry : Entry) (fate : Fate) (r : Replay)
-    (fault : CheckFault) → FatesFit (length c.fates) 0 c.fates → Stands judged table c front (next_entry r) r
+    (fault : CheckFault) → FatesFit (length c.fates) 0 c.fates → SendsSoFar judged table c front (next_entry r) r
     → taken judged table c (map item_of front) ≡ Ok r → IsItem entry Item.Quiet → slice_get c.fates (next_entry r) ≡ Some fate
     → mark_judged judged table c fate r ≡ Err fault → Says judged table c (front ++ entry ∷ rest) fault
 quiet_says judged table c front rest entry fate r fault fit old took is has refuses =

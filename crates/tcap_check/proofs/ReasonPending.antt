@@ -23,11 +23,12 @@ use Rattle.tcap_model.specs.Run.{after_quiet, then_so}
 use Rattle.tcap_check.specs.Certificate.{Certificate}
 use Rattle.tcap_check.specs.Follows.{FatesFit, taken_by}
 use Rattle.tcap_check.specs.Given.{IsAt, IsPending}
-use Rattle.tcap_check.specs.Replayed.{Replay, closed_before, if_lost, is_heard, is_nothing, is_sent_by, lost_from_both, lost_from_front, lost_front, lost_last, next_entry, tied}
+use Rattle.tcap_check.specs.Replayed.{Replay, closed_before, is_heard, is_nothing, is_sent_by, lost_from_both, lost_from_front, lost_front, lost_last, next_entry, tied}
 use Rattle.tcap_model.specs.Since.{WasSent}
 use Rattle.tcap_model.proofs.ChannelLaws.{were_sent}
+use Rattle.tcap_check.proofs.WaitingLaws.{head_stays}
 use Rattle.tcap_check.proofs.ReplaySteps.{both_replay}
-use Rattle.tcap_check.proofs.PendingLaws.{IsOver, Stands, ahead, stands_still}
+use Rattle.tcap_check.proofs.PendingLaws.{IsOver, SendsSoFar, ahead, stands_still}
 use Rattle.tcap_model.proofs.RunLaws.{same_side}
 use Rattle.tcap_check.proofs.TakenLaws.{IsIn, taken_is_gone}
 use Rattle.tcap_check.proofs.ReasonGaps.{at_front, in_filter}
@@ -39,7 +40,7 @@ use Rattle.tcap_check.proofs.AloneSteps.{front_leads}
 use Rattle.tcap_check.proofs.KeptOwn.{IsHeard}
 use Rattle.tcap_check.proofs.KeptSteps.{before_stays}
 use Rattle.tcap_check.proofs.PendingBoth.{losses_said}
-use Rattle.tcap_check.proofs.WorldLaws.{itself, sent_with_channel}
+use Rattle.tcap_model.proofs.WorldLaws.{itself, sent_with_channel}
 
 -- ---- what a mark takes
 
@@ -79,7 +80,7 @@ IsTied judged c r = (side : Side) × (message : Message) × (n : ℕ) × (is_hea
 
 -- Where something is tied there is one.
 one_tied : (judged : Option Side) (table : Table) (c : Certificate) (front : List Entry) (r : Replay) → FatesFit (length c.fates) 0 c.fates
-    → Stands judged table c front (next_entry r) r → is_nothing (tied judged c r) ≡ false → IsTied judged c r
+    → SendsSoFar judged table c front (next_entry r) r → is_nothing (tied judged c r) ≡ false → IsTied judged c r
 one_tied (Some judged) table c front r fit old is =
     let first = first_of (tied (Some judged) c r) is in
     let there = in_filter (λ n. is_sent_by (other judged) (slice_get r.world.sent n)) first.0 (taken_by (next_entry r) 0 c.fates) first.1 in
@@ -108,7 +109,7 @@ one_tied None table c front r fit old is =
 
 -- So a mark that takes a message stands before it.
 pub taken_pends : (judged : Option Side) (table : Table) (c : Certificate) (front rest : List Entry) (r : Replay)
-    → FatesFit (length c.fates) 0 c.fates → Stands judged table c front (next_entry r) r → is_nothing (tied judged c r) ≡ false
+    → FatesFit (length c.fates) 0 c.fates → SendsSoFar judged table c front (next_entry r) r → is_nothing (tied judged c r) ≡ false
     → IsPending judged c (front ++ rest) (next_entry r)
 taken_pends judged table c front rest r fit old is = by (one_tied judged table c front r fit old is)
   where
@@ -167,24 +168,6 @@ not_quiet w is = by w.from_a w.from_b is
         opened (inl of_a) = inr (sides.A, refused_open of_a)
         opened (inr of_b) = inr (sides.B, refused_open of_b)
 
--- What is left on a channel behind the lost ones does not begin with one that is lost.
-not_lost : (fates : List Fate) (channel : List OnItsWay) (head : OnItsWay) (more : List OnItsWay)
-    → drop (length (lost_front fates channel)) channel ≡ head ∷ more → slice_get fates head.number ≡ Some Lost → ⊥
-not_lost fates [] head more is lost = cc
-not_lost fates (first ∷ channel) head more is lost = by (slice_get fates first.number) refl (not_lost fates channel head more) is
-  where
-    stays : (o : Option Fate) → slice_get fates first.number ≡ o → (o ≡ Some Lost → ⊥) → first ∷ channel ≡ head ∷ more → ⊥
-    stays o at kept is =
-        let same : head ≡ first = cc in kept (sym at ∙ ap (λ (m : OnItsWay). slice_get fates m.number) (sym same) ∙ lost)
-
-    by : (o : Option Fate) → slice_get fates first.number ≡ o
-        → (drop (length (lost_front fates channel)) channel ≡ head ∷ more → slice_get fates head.number ≡ Some Lost → ⊥)
-        → drop (length (if_lost o (first.number ∷ lost_front fates channel))) (first ∷ channel) ≡ head ∷ more → ⊥
-    by None at on is = stays None at (λ e. cc) is
-    by (Some (Gap g)) at on is = stays (Some (Gap g)) at (λ e. cc) is
-    by (Some (By k)) at on is = stays (Some (By k)) at (λ e. cc) is
-    by (Some Lost) at on is = on is lost
-
 -- What is made of nothing is nothing.
 pub not_there : {A B : Type 0} (f : A → B) (o : Option A) → option_map f o ≡ None → o ≡ None
 not_there f None is = refl
@@ -214,7 +197,7 @@ none_behind (Some sides.B) c sides.B r empty unheard = empty
 
 -- The losses before a mark keep what was replayed,
 pub last_stands : (judged : Option Side) (table : Table) (c : Certificate) (front : List Entry) (gaps : ℕ) (r : Replay)
-    → Stands judged table c front gaps r → Stands judged table c front gaps (lost_last judged c r)
+    → SendsSoFar judged table c front gaps r → SendsSoFar judged table c front gaps (lost_last judged c r)
 last_stands None table c front gaps r old =
     let on = both_replay table c r in
     stands_still None table c front gaps r (lost_from_both c r) on.steps old on.extends (on.sent ∙ append-nil r.world.sent)
@@ -224,8 +207,8 @@ last_stands (Some side) table c front gaps r old =
 
 -- and so do the closings.
 pub closed_stands : (judged : Option Side) (table : Table) (c : Certificate) (front : List Entry) (gaps mark : ℕ) (r closed : Replay)
-    → closed_before judged table mark r ≡ Ok closed → Stands judged table c front gaps r → Stands judged table c front gaps closed
-closed_stands None table c front gaps mark r closed is old = subst (Stands None table c front gaps) (ok_same {F = CheckFault} r closed is) old
+    → closed_before judged table mark r ≡ Ok closed → SendsSoFar judged table c front gaps r → SendsSoFar judged table c front gaps closed
+closed_stands None table c front gaps mark r closed is old = subst (SendsSoFar None table c front gaps) (ok_same {F = CheckFault} r closed is) old
 closed_stands (Some side) table c front gaps mark r closed is old =
     leads_still side table c front gaps r closed old (closed_leads side table mark (open_halves (end_at side r.world)) r closed is)
 
@@ -241,7 +224,7 @@ last_sent (Some side) table c r = sent_with_channel (other side) _ r.world
 
 -- What is on its way to an end that is judged, and not lost, is pending.
 head_pends : (judged : Option Side) (table : Table) (c : Certificate) (front rest : List Entry) (number : ℕ) (r : Replay) (side : Side)
-    (head : OnItsWay) (more : List OnItsWay) → Stands judged table c front (number + 1) r → next_entry r ≡ number
+    (head : OnItsWay) (more : List OnItsWay) → SendsSoFar judged table c front (number + 1) r → next_entry r ≡ number
     → is_heard judged side ≡ true → channel_from side r.world ≡ head ∷ more → (slice_get c.fates head.number ≡ Some Lost → ⊥)
     → IsPending judged c (front ++ rest) number
 head_pends judged table c front rest number r side head more old same heard channel kept = by (slice_get_cases c.fates head.number).1
@@ -286,7 +269,7 @@ head_pends judged table c front rest number r side head more old same heard chan
 
 -- So it is where a mark is refused.
 pub busy_pends : (judged : Option Side) (table : Table) (c : Certificate) (front rest : List Entry) (number : ℕ) (r : Replay) (side : Side)
-    (head : OnItsWay) (more : List OnItsWay) → Stands judged table c front (number + 1) (lost_last judged c r)
+    (head : OnItsWay) (more : List OnItsWay) → SendsSoFar judged table c front (number + 1) (lost_last judged c r)
     → next_entry (lost_last judged c r) ≡ number → IsHeard judged r → channel_from side (lost_last judged c r).world ≡ head ∷ more
     → IsPending judged c (front ++ rest) number
 busy_pends judged table c front rest number r side head more old same empty channel = by (is_heard judged side) refl
@@ -294,5 +277,5 @@ busy_pends judged table c front rest number r side head more old same empty chan
     by : (b : Bool) → is_heard judged side ≡ b → IsPending judged c (front ++ rest) number
     by true heard =
         head_pends judged table c front rest number (lost_last judged c r) side head more old same heard channel
-        (not_lost c.fates (channel_from side r.world) head more (sym (left_behind judged c side r heard) ∙ channel))
+        (head_stays c.fates (channel_from side r.world) head more (sym (left_behind judged c side r heard) ∙ channel))
     by false unheard = let none = sym (none_behind judged c side r empty unheard) ∙ channel in cc

@@ -28,6 +28,9 @@ use Rattle.tcap_check.proofs.ReasonLaws.{refusal_says}
 use Rattle.tcap_check.proofs.RecordLaws.{is_report, lawful_is, refused_is, taken_short}
 use Rattle.tcap_check.proofs.ReplayEntries.{entries_replay, ok_item}
 
+abbrev pub refusal : CheckFault → Result (Unit {0}) CheckFault
+refusal fault = Err fault
+
 -- ---- refusals
 
 stays_refused : (s : Checking) (entries : List Entry) (fault : CheckFault) → Took s (map item_of entries) → s.so_far ≡ Err fault

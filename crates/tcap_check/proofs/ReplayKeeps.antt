@@ -25,6 +25,7 @@ use Rattle.tcap_check.specs.declared.certificate.Fate.TheVariants.{Gap, Lost, By
 use Rattle.tcap_check.specs.declared.fault.CheckFault.{CheckFault}
 use Rattle.tcap_check.specs.Certificate.{Certificate}
 use Rattle.tcap_check.specs.Follows.{closing_event, expiry_event, invoke_id, invoking_half, is_loss, sending_by}
+use Rattle.tcap_check.specs.Checking.{taken_from, taken_next}
 use Rattle.tcap_check.specs.Replayed.{Replay, all_lost_from, behind_sending, closed_at_mark, closed_before, closings_judged, closings_replayed, comes_in_order, deliveries_by, delivery_by, entries_by, entry_by, expiries_judged, expiries_replayed, fault_at, gap_by, happens, heard, implied, implied_over, is_abort, is_due, is_gap, is_nothing, is_overtaking, item_by, lost_before, lost_from_front, lost_last, mark_judged, message_by, next_entry, or_same, own_judged, received, sent_or_refused, stepped, tied, told_replayed, with_step}
 use Rattle.tcap_check.proofs.ReplayLaws.{closing_in_gap, expiry_in_gap}
 use Rattle.tcap_check.proofs.GivenRuns.{both_ok}
@@ -241,14 +242,22 @@ module _ (judged : Option Side) (table : Table) (c : Certificate) (Holds : Repla
           of true e = own_keeps fate side message r next (ap (λ (x : Option Side). own_judged x table c fate side message r) who ∙ e)
           of false e = told_keeps side fate message r next who e
 
+  entry_keeps : (entry : Result Item Reason) (fate : Fate) (r next : Replay) → entry_by judged table c fate entry r ≡ Ok next → Keeps r next
+  entry_keeps (Ok item) fate r next is holds = item_keeps fate item r next is holds
+  entry_keeps (Err reason) fate r next is holds = cc
+
   pub entries_keep : (entries : List (Result Item Reason)) (r next : Replay) → entries_by judged table c entries r ≡ Ok next → Keeps r next
   entries_keep [] r next is holds =
       let so = needs_ok (next_entry r == length c.fates) (fault_at FateCount (next_entry r)) _ next is in gap_keeps r next so.1 holds
   entries_keep (entry ∷ entries) r next is holds =
       let fate = then_ok (ok_or (slice_get c.fates (next_entry r)) (fault_at FateCount (next_entry r))) _ next is in
       let one = then_ok (entry_by judged table c fate.0 entry r) _ next fate.2 in
-      entries_keep entries one.0 next one.2 (by entry fate.0 one.0 one.1)
-    where
-      by : (entry : Result Item Reason) (fate : Fate) (mid : Replay) → entry_by judged table c fate entry r ≡ Ok mid → Holds mid
-      by (Ok item) fate mid e = item_keeps fate item r mid e holds
-      by (Err reason) fate mid e = cc
+      entries_keep entries one.0 next one.2 (entry_keeps entry fate.0 r one.0 one.1 holds)
+
+  -- the same of entries behind which more may come
+  pub taken_keeps : (entries : List (Result Item Reason)) (r next : Replay) → taken_from judged table c entries r ≡ Ok next → Keeps r next
+  taken_keeps [] r next is holds = same_keeps r next is holds
+  taken_keeps (entry ∷ entries) r next is holds =
+      let one = then_ok (taken_next judged table c entry r) (taken_from judged table c entries) next is in
+      let fate = then_ok (ok_or (slice_get c.fates (next_entry r)) (fault_at FateCount (next_entry r))) _ one.0 one.1 in
+      taken_keeps entries one.0 next one.2 (entry_keeps entry fate.0 r one.0 fate.2 holds)

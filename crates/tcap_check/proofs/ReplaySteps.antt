@@ -14,7 +14,7 @@ use Rattle.tcap_check.specs.Certificate.{Certificate}
 use Rattle.tcap_check.specs.Follows.{is_loss, without_losses}
 use Rattle.tcap_model.proofs.RunLaws.{map_some, played_on}
 use Rattle.tcap_check.specs.Replayed.{Replay, discarded, lost_before, lost_from_both, lost_from_front, if_lost, lost_front, stepped}
-use Rattle.tcap_check.proofs.WorldLaws.{sent_with_channel, with_same}
+use Rattle.tcap_model.proofs.WorldLaws.{sent_with_channel, with_same}
 
 -- ---- runs, one behind the other
 

@@ -1,5 +1,5 @@
 -- What stands for steps from a start still does behind each step that sends nothing.
-use Rattle.std.proofs.Common.{◌≡◌, ℕ, ℤ, ◌==◌, true, List, [], ◌∷◌, ◌++◌, filter, length, Option, Some, None, Result, Ok, Err, refl, sym, ap, subst, ◌∙◌, append-nil}
+use Rattle.std.proofs.Common.{◌≡◌, ℕ, ℤ, ◌==◌, true, List, [], ◌∷◌, ◌++◌, filter, length, Option, Some, None, Result, Ok, Err, false, refl, sym, ap, subst, ◌∙◌, append-nil}
 use Rattle.std.specs.Prelude.{ok_or, slice_get}
 use Rattle.tcap_record.specs.declared.entry.End.{End as Side}
 use Rattle.tcap_record.specs.declared.entry.End.TheVariants as sides
@@ -27,10 +27,12 @@ use Rattle.tcap_check.specs.Progress.{closing_kept, closings_kept, due_in, end_m
 use Rattle.tcap_check.specs.Hearing.{deliveries_kept, delivery_kept, gap_kept, halves_shut, heard_from, is_heard, is_judged, message_received}
 use Rattle.tcap_check.specs.Checking.{map_ok, progress_of}
 use Rattle.tcap_check.specs.Outlines.{half_closed, invocation_ended}
-use Rattle.tcap_check.specs.Stands.{StandsFor}
+use Rattle.tcap_check.specs.Follows.{is_loss}
+use Rattle.tcap_check.specs.Stands.{StandsFor, TellsSo}
 use Rattle.tcap_check.specs.Told.{Told}
-use Rattle.tcap_check.proofs.ReplaySteps.{Extends, Replays, both_replay, extends_nothing, extends_then, losing_replays, stepped_extends}
+use Rattle.tcap_check.proofs.ReplaySteps.{Extends, extends_nothing, extends_then, losing_replays, stepped_extends}
 use Rattle.tcap_check.proofs.AloneSteps.{stepped_adds}
+use Rattle.tcap_check.proofs.DiscardReasons.{tells_front, tells_heard, tells_step}
 use Rattle.tcap_check.proofs.AloneReplays.{heard_leads}
 use Rattle.tcap_check.proofs.KeptBasics.{end_kept, front_is, last_is}
 use Rattle.tcap_check.proofs.KeptHidden.{end_is, half_closes_is, invocation_ends_is}
@@ -56,41 +58,54 @@ heard_is judged None sender is = cc
 
 -- ---- replays that go on
 
--- Steps lead from the one to the other, and send nothing.
-abbrev pub GoesOn : Table → Replay → Replay → Type 0
-GoesOn table r next = (more : List Event) × Extends table r more next × (next.world.sent ≡ r.world.sent)
+-- Steps lead from the one to the other, and send nothing; what is told of losses stays so.
+abbrev pub GoesOn : Option Side → Table → Certificate → Replay → Replay → Type 0
+GoesOn judged table c r next = (more : List Event) × Extends table r more next × (next.world.sent ≡ r.world.sent)
+    × (TellsSo judged table c r → TellsSo judged table c next)
 
-goes_then : (table : Table) (r mid next : Replay) → GoesOn table r mid → GoesOn table mid next → GoesOn table r next
-goes_then table r mid next a b = (_, extends_then table r mid next a.0 b.0 a.1 b.1, b.2 ∙ a.2)
+module _ (judged : Option Side) (table : Table) (c : Certificate) where
+  abbrev Goes : Replay → Replay → Type 0
+  Goes = GoesOn judged table c
 
-replays_go : (table : Table) (r next : Replay) (plain : List Event) → Replays table r plain [] next → GoesOn table r next
-replays_go table r next plain a = (a.steps, a.extends, a.sent ∙ append-nil r.world.sent)
+  goes_then : (r mid next : Replay) → Goes r mid → Goes mid next → Goes r next
+  goes_then r mid next a b = (_, extends_then table r mid next a.0 b.0 a.1 b.1, b.2 ∙ a.2, λ so. b.3 (a.3 so))
 
-pub step_goes : (table : Table) (event : Event) (r next : Replay) → ((items : List Item) → Adds r.world event items → items ≡ [])
-    → stepped table event r ≡ Some next → GoesOn table r next
-step_goes table event r next none is =
-    let s = stepped_adds table event r next is in
-    (event ∷ [], stepped_extends table event r next is, s.2 ∙ ap (λ (x : List Item). r.world.sent ++ x) (none s.0 s.1) ∙ append-nil r.world.sent)
+  front_goes : (sender : Side) (r : Replay) → Goes r (lost_from_front c sender r)
+  front_goes sender r =
+      let losses = losing_replays table c sender r in
+      (losses.steps, losses.extends, losses.sent ∙ append-nil r.world.sent, tells_front judged table c sender r)
 
-tried_goes : (table : Table) (event : Event) (r : Replay) (o : Option Replay) → ((items : List Item) → Adds r.world event items → items ≡ [])
-    → stepped table event r ≡ o → GoesOn table r (or_same r o)
-tried_goes table event r None none is = ([], extends_nothing table r, refl)
-tried_goes table event r (Some next) none is = step_goes table event r next none is
+  step_goes : (event : Event) (r next : Replay) → is_loss event ≡ false → ((items : List Item) → Adds r.world event items → items ≡ [])
+      → stepped table event r ≡ Some next → Goes r next
+  step_goes event r next plain none is =
+      let s = stepped_adds table event r next is in (
+        event ∷ [],
+        stepped_extends table event r next is,
+        s.2 ∙ ap (λ (x : List Item). r.world.sent ++ x) (none s.0 s.1) ∙ append-nil r.world.sent,
+        tells_step judged table c event r next plain is,
+      )
+
+  tried_goes : (event : Event) (r : Replay) (o : Option Replay) → is_loss event ≡ false → ((items : List Item) → Adds r.world event items → items ≡ [])
+      → stepped table event r ≡ o → Goes r (or_same r o)
+  tried_goes event r None plain none is = ([], extends_nothing table r, refl, λ so. so)
+  tried_goes event r (Some next) plain none is = step_goes event r next plain none is
 
 received_goes : (table : Table) (c : Certificate) (judged : Option Side) (sender : Side) (number : ℕ) (r next : Replay)
-    → received judged table c sender number r ≡ Ok next → GoesOn table r next
+    → received judged table c sender number r ≡ Ok next → GoesOn judged table c r next
 received_goes table c None sender number r next is =
     let before = lost_from_front c (other (other sender)) r in
     let event = Receives (other sender) number in
-    goes_then table r before next (replays_go table r before [] (losing_replays table c (other (other sender)) r))
-    (step_goes table event before next (λ items none. none) (some_ok (stepped table event before) (fault_at BadReply number) next is))
+    goes_then None table c r before next (front_goes None table c (other (other sender)) r)
+    (step_goes None table c event before next refl (λ items none. none) (some_ok (stepped table event before) (fault_at BadReply number) next is))
 received_goes table c (Some side) sender number r next is =
     let leads = heard_leads side table c number r next is in
-    (leads.steps, leads.extends, leads.sent ∙ append-nil r.world.sent)
+    (leads.steps, leads.extends, leads.sent ∙ append-nil r.world.sent, tells_heard side table c number r next is)
 
-last_goes : (table : Table) (c : Certificate) (judged : Option Side) (r : Replay) → GoesOn table r (lost_last judged c r)
-last_goes table c None r = replays_go table r _ [] (both_replay table c r)
-last_goes table c (Some side) r = replays_go table r _ [] (losing_replays table c (other side) r)
+last_goes : (table : Table) (c : Certificate) (judged : Option Side) (r : Replay) → GoesOn judged table c r (lost_last judged c r)
+last_goes table c None r =
+    let mid = lost_from_front c sides.A r in
+    goes_then None table c r mid (lost_from_front c sides.B mid) (front_goes None table c sides.A r) (front_goes None table c sides.B mid)
+last_goes table c (Some side) r = front_goes (Some side) table c (other side) r
 
 module _ (table : Table) (c : Certificate) (judged : Option Side) (start : Replay) where
   abbrev Stands : Progress → Type 0
@@ -101,26 +116,26 @@ module _ (table : Table) (c : Certificate) (judged : Option Side) (start : Repla
 
   -- Behind steps that send nothing what is kept stands for the same.
   pub goes_on : (p q : Progress) (s : Stands p) (next : Replay) (more : List Event) → Extends table s.replay more next
-      → next.world.sent ≡ s.replay.world.sent → kept next ≡ q → Stands q
-  goes_on p q s next more extends sent is =
+      → next.world.sent ≡ s.replay.world.sent → (TellsSo judged table c s.replay → TellsSo judged table c next) → kept next ≡ q → Stands q
+  goes_on p q s next more extends sent tells is =
       let all = extends_then table start s.replay next s.more more (record { events = s.events; plays = s.plays }) extends in
-      record { replay = next; kept = is; more = s.more ++ more; events = all.events; plays = all.plays; sent = sent ∙ s.sent }
+      record { replay = next; kept = is; more = s.more ++ more; events = all.events; plays = all.plays; sent = sent ∙ s.sent; tells = λ so. tells (s.tells so) }
 
   -- So it does behind a step over what is kept that is one of the replay,
   pub goes_where : (step : Progress → Result Progress CheckFault) (on : Replay → Result Replay CheckFault)
-      → ((r : Replay) → step (kept r) ≡ map_ok kept (on r)) → ((r next : Replay) → on r ≡ Ok next → GoesOn table r next)
+      → ((r : Replay) → step (kept r) ≡ map_ok kept (on r)) → ((r next : Replay) → on r ≡ Ok next → GoesOn judged table c r next)
       → (p q : Progress) → Stands p → step p ≡ Ok q → Stands q
   goes_where step on same goes p q s is =
       let found = map_is kept (on s.replay) q (sym (same s.replay) ∙ ap step s.kept ∙ is) in
       let then = goes s.replay found.0 found.1 in
-      goes_on p q s found.0 then.0 then.1 then.2 found.2
+      goes_on p q s found.0 then.0 then.1 then.2 then.3 found.2
 
   -- which may not be refused.
   pub goes_always : (step : Progress → Progress) (on : Replay → Replay)
-      → ((r : Replay) → step (kept r) ≡ kept (on r)) → ((r : Replay) → GoesOn table r (on r)) → (p : Progress) → Stands p → Stands (step p)
+      → ((r : Replay) → step (kept r) ≡ kept (on r)) → ((r : Replay) → GoesOn judged table c r (on r)) → (p : Progress) → Stands p → Stands (step p)
   goes_always step on same goes p s =
       let then = goes s.replay in
-      goes_on p (step p) s (on s.replay) then.0 then.1 then.2 (sym (same s.replay) ∙ ap step s.kept)
+      goes_on p (step p) s (on s.replay) then.0 then.1 then.2 then.3 (sym (same s.replay) ∙ ap step s.kept)
 
   same_stands : (p q : Progress) → Stands p → (let x : Result Progress CheckFault = Ok p in x) ≡ Ok q → Stands q
   same_stands p q s is = subst Stands (ok_same {F = CheckFault} p q is) s
@@ -138,7 +153,7 @@ module _ (table : Table) (c : Certificate) (judged : Option Side) (start : Repla
       let fault = fault_at (HiddenRefused faults.CannotClose) x.entry in
       goes_where (half_closes table x name) (happens table c (Closes x.side name) (HiddenRefused faults.CannotClose) x.entry)
       (half_closes_is true judged table c x name)
-      (λ r next is. step_goes table (Closes x.side name) r next (λ items none. none) (some_ok (stepped table (Closes x.side name) r) fault next is))
+      (λ r next is. step_goes judged table c (Closes x.side name) r next refl (λ items none. none) (some_ok (stepped table (Closes x.side name) r) fault next is))
 
   pub stands_expires : (x : Expiry) (invocation : HalfName × ℤ) (p q : Progress) → Stands p → invocation_ends table x invocation p ≡ Ok q → Stands q
   stands_expires x invocation =
@@ -146,7 +161,7 @@ module _ (table : Table) (c : Certificate) (judged : Option Side) (start : Repla
       let event = Expires x.side invocation.0 invocation.1 in
       goes_where (invocation_ends table x invocation) (happens table c event (HiddenRefused faults.CannotExpire) x.entry)
       (invocation_ends_is true judged table c x invocation)
-      (λ r next is. step_goes table event r next (λ items none. none) (some_ok (stepped table event r) fault next is))
+      (λ r next is. step_goes judged table c event r next refl (λ items none. none) (some_ok (stepped table event r) fault next is))
 
   pub stands_closing : (entries : List Outline) (since : ℕ) (x : Closing) (p q : Progress) → Stands p → closing_kept table entries since x p ≡ Ok q → Stands q
   stands_closing entries since x p q s is =
@@ -176,7 +191,7 @@ module _ (table : Table) (c : Certificate) (judged : Option Side) (start : Repla
   pub stands_front : (sender : Side) (p : Progress) → is_heard judged sender ≡ true → Stands p → Stands (front_lost judged sender p)
   stands_front sender p so =
       goes_always (front_lost judged sender) (lost_from_front c sender) (λ r. front_is true judged c sender r so)
-      (λ r. replays_go table r _ [] (losing_replays table c sender r)) p
+      (front_goes judged table c sender) p
 
   pub stands_received : (sender : Side) (number : ℕ) (p q : Progress) → is_heard judged sender ≡ true → Stands p
       → message_received judged table sender number p ≡ Ok q → Stands q
@@ -216,7 +231,7 @@ module _ (table : Table) (c : Certificate) (judged : Option Side) (start : Repla
   stands_tried side name id =
       goes_always (end_tried table side name id) (λ r. or_same r (stepped table (Expires side name id) r))
       (one_implied true table judged c side name id)
-      (λ r. tried_goes table (Expires side name id) r (stepped table (Expires side name id) r) (λ items none. none) refl)
+      (λ r. tried_goes judged table c (Expires side name id) r (stepped table (Expires side name id) r) refl (λ items none. none) refl)
 
   stands_each : (side : Side) (name : HalfName) (ids : List ℤ) (p : Progress) → Stands p → Stands (ids_ended table side name ids p)
   stands_each side name [] p s = s
@@ -238,7 +253,7 @@ module _ (table : Table) (c : Certificate) (judged : Option Side) (start : Repla
       (λ r. ok_or (stepped table (Closes side name) r) fault)
       (λ r. ap (λ (e : End). end_moved side (Closes side name) fault (kept r) (close table e name)) (end_kept true judged c side r)
       ∙ end_is true judged c side (Closes side name) fault r (close table (end_at side r.world) name) (λ at. refl))
-      (λ r next is. step_goes table (Closes side name) r next (λ items none. none) (some_ok (stepped table (Closes side name) r) fault next is))
+      (λ r next is. step_goes judged table c (Closes side name) r next refl (λ items none. none) (some_ok (stepped table (Closes side name) r) fault next is))
 
   -- one after the other.
   pub stands_shut : (side : Side) (number : ℕ) (names : List HalfName) (p q : Progress) → Stands p

@@ -21,35 +21,36 @@ use Rattle.tcap_check.specs.Checking.{Kept, TookListed, gap_before, kept_next, k
 use Rattle.tcap_check.specs.Follows.{FatesFit}
 use Rattle.tcap_check.specs.Ready.{IsSameBesideProgress, checking_of, kept_in}
 use Rattle.tcap_check.specs.Replayed.{Replay, certificate_fits, entry_by, fates_fit, fault_at, next_entry, nothing_replayed}
-use Rattle.tcap_check.specs.Stands.{IfMemory, IsSoFar, StandsAmong, StandsFor, StopsSo}
+use Rattle.tcap_check.specs.Stands.{DiscardsSo, UnlessMemory, IsSoFar, StandsAmong, StandsFor, StopsSo}
 use Rattle.tcap_check.specs.Told.{Told, told_of}
 use Rattle.tcap_check.proofs.CheckerLaws.{checking, took_err}
-use Rattle.tcap_check.proofs.PendingLaws.{Stands}
+use Rattle.tcap_check.proofs.DiscardReasons.{taken_tells}
+use Rattle.tcap_check.proofs.PendingLaws.{SendsSoFar}
 use Rattle.tcap_check.proofs.ReasonLaws.{entry_stands, first_ok, nothing_stands}
 use Rattle.tcap_check.proofs.ReplayGaps.{fates_ok}
 use Rattle.tcap_check.proofs.StandsLaws.{stands_gap}
 
 -- Behind entries more what was replayed stands for these too.
 more_stand : (judged : Option Side) (table : Table) (c : Certificate) (front entries : List Entry) (r next : Replay)
-    → FatesFit (length c.fates) 0 c.fates → Stands judged table c front (next_entry r) r
-    → taken_from judged table c (map item_of entries) r ≡ Ok next → Stands judged table c (front ++ entries) (next_entry next) next
+    → FatesFit (length c.fates) 0 c.fates → SendsSoFar judged table c front (next_entry r) r
+    → taken_from judged table c (map item_of entries) r ≡ Ok next → SendsSoFar judged table c (front ++ entries) (next_entry next) next
 more_stand judged table c front [] r next fit old is =
     let same : r ≡ next = cc in
-    subst (λ (x : Replay). Stands judged table c (front ++ []) (next_entry x) x) same
-    (subst (λ (es : List Entry). Stands judged table c es (next_entry r) r) (sym (append-nil front)) old)
+    subst (λ (x : Replay). SendsSoFar judged table c (front ++ []) (next_entry x) x) same
+    (subst (λ (es : List Entry). SendsSoFar judged table c es (next_entry r) r) (sym (append-nil front)) old)
 more_stand judged table c front (entry ∷ entries) r next fit old is =
     let number = next_entry r in
     let found = then_ok (taken_next judged table c (item_of entry) r) (taken_from judged table c (map item_of entries)) next is in
     let fate = then_ok (ok_or (slice_get c.fates number) (fault_at FateCount number)) (λ f. entry_by judged table c f (item_of entry) r)
     found.0 found.1 in
     let has = some_ok (slice_get c.fates number) (fault_at FateCount number) fate.0 fate.1 in
-    subst (λ (es : List Entry). Stands judged table c es (next_entry next) next) (append_assoc front (entry ∷ []) entries)
+    subst (λ (es : List Entry). SendsSoFar judged table c es (next_entry next) next) (append_assoc front (entry ∷ []) entries)
     (more_stand judged table c (front ++ entry ∷ []) entries found.0 next fit
     (entry_stands judged table c front entry fate.0 r found.0 fit old has fate.2) found.2)
 
 -- What is replayed of entries is a run that sends them.
-taken_stands : (judged : Option Side) (table : Table) (c : Certificate) (entries : List Entry) (r : Replay)
-    → taken judged table c (map item_of entries) ≡ Ok r → Stands judged table c entries (next_entry r) r
+pub taken_stands : (judged : Option Side) (table : Table) (c : Certificate) (entries : List Entry) (r : Replay)
+    → taken judged table c (map item_of entries) ≡ Ok r → SendsSoFar judged table c entries (next_entry r) r
 taken_stands judged table c entries r is =
     let goes = taken_from judged table c (map item_of entries) nothing_replayed in
     let fits = first_ok (certificate_fits c) goes is in
@@ -78,6 +79,7 @@ took_stands judged table c k entries took = by (taken judged table c (map item_o
             events = sym (append-nil r.events);
             plays = refl;
             sent = refl;
+            tells = λ so. so;
           },
         )
 
@@ -132,7 +134,7 @@ among_then x y entries left alike among leaves =
 pub among_ends : (x y : Replaying) (entries : List Entry) (o : Result (Unit {0}) CheckFault) (left : Progress) → GoesAlike x y
     → Among x entries y.progress
     → ((c : Certificate) (start : Replay) → StandsFor y.table.now c y.judged start y.progress
-    → IfMemory o (StandsFor y.table.now c y.judged start left)) → IfMemory o (Among x entries left)
+    → UnlessMemory o (StandsFor y.table.now c y.judged start left)) → UnlessMemory o (Among x entries left)
 among_ends x y entries (Ok done) left alike among leaves = among_then x y entries left alike among leaves
 among_ends x y entries (Err fault) left alike among leaves =
     λ other. among_then x y entries left alike among (λ c start s. leaves c start s other)
@@ -146,7 +148,7 @@ behind_gap x y left fault same is stops c start s other =
     (rw (same.judged, same.table) (stands_gap x.table.now c x.judged start x.certificate.now x.entries.items x.since x.progress y.progress s is)) other)
 
 -- What does not run out of memory.
-pub in_memory : (o : Result (Unit {0}) CheckFault) (P : Type 0) → IfMemory o P → o ≢ Err (fault_at Memory 0) → P
+pub in_memory : (o : Result (Unit {0}) CheckFault) (P : Type 0) → UnlessMemory o P → o ≢ Err (fault_at Memory 0) → P
 in_memory (Ok done) P so other = so
 in_memory (Err fault) P so other = so (λ is. other (ap (λ (f : CheckFault). let x : Result (Unit {0}) CheckFault = Err f in x) is))
 
@@ -172,6 +174,8 @@ stands_so_far table c judged entries p steps among tell =
       leads = ap (λ (t : Told). played table t.events empty) told ∙ ap (λ (x : List Event). played table x empty) s.events
           ∙ played_on table front.events s.more empty front.world first.runs ∙ s.plays;
       sends = subst (AreItems (take among.count entries)) (sym s.sent) first.are;
+      discards = subst (λ (t : Told). DiscardsSo judged table c t.events t.discards) (sym told)
+          (s.tells (taken_tells judged table c (map item_of (take among.count entries)) front among.goes.takes)).1;
       a_is = ap (λ (x : Progress). x.a.end) s.kept;
       b_is = ap (λ (x : Progress). x.b.end) s.kept;
     }

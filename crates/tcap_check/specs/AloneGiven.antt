@@ -1,4 +1,5 @@
--- What a certificate gives for one end alone: a run in which that end keeps the rules.
+-- What a certificate gives for one end alone: a run in which that end keeps the rules. What the certificate says of the end is in the
+-- definition of that run (`Replayed`), and of the losses in `Told`.
 use Rattle.std.specs.Prelude.{◌≡◌, ◌+◌, ◌*◌, ◌≤◌, List, [], length, Option, Some, None}
 use Rattle.tcap_record.specs.declared.entry.End.{End as Side}
 use Rattle.tcap_record.specs.declared.entry.Entry.{Entry}
@@ -14,7 +15,7 @@ use Rattle.tcap_check.specs.Unheard.{steps_of, unheard_of}
 
 -- The entries are items, and these events are a run that sends them, in which that end keeps the rules, whatever its peer sends, and
 -- that leaves nothing on its way to it.
-pub record IsGivenFor (side : Side) (table : Table) (c : Certificate) (entries : List Entry) (events : List Event) : Type 0 where
+pub record IsGivenFor (side : Side) (table : Table) (entries : List Entry) (events : List Event) : Type 0 where
   pub items : List Item
   pub are : AreItems entries items
   pub run : IsRunOf items table events
@@ -26,7 +27,7 @@ pub record IsGivenFor (side : Side) (table : Table) (c : Certificate) (entries :
 -- The same of whoever is judged: of both ends, or of that one.
 abbrev pub IsGivenTo : Option Side → Table → Certificate → List Entry → List Event → Type 0
 IsGivenTo None table c entries events = IsGiven table c entries events
-IsGivenTo (Some side) table c entries events = IsGivenFor side table c entries events
+IsGivenTo (Some side) table c entries events = IsGivenFor side table entries events
 
 -- Of the peer's messages exactly those are lost whose fates say so: none is discarded.
 abbrev pub DiscardsNothing : Side → Certificate → List Item → List Event → Type 0

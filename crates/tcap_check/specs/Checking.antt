@@ -1,5 +1,5 @@
 -- What a checker stands for: the replay of the entries that it took (`Replayed`), for both ends, or for the one that is judged.
-use Rattle.std.specs.Prelude.{◌≡◌, ℕ, ◌+◌, Bool, false, List, [], ◌∷◌, ◌++◌, map, slice_get, length, Option, Some, None, Result, Ok, Err, ok_or, ◌==◌, ◌||◌, not, nat_le, cond}
+use Rattle.std.specs.Prelude.{◌≡◌, ℕ, ◌+◌, Bool, false, List, [], ◌∷◌, ◌++◌, map, slice_get, length, Option, Some, None, Result, Ok, Err, ok_or, ◌==◌, ◌&&◌, ◌||◌, not, nat_le, cond}
 use Rattle.tcap_msg.specs.declared.message.Message.{Message}
 use Rattle.tcap_ber.specs.declared.fault.Fault.{Fault}
 use Rattle.tcap_record.specs.declared.entry.End.{End as Side}
@@ -25,7 +25,7 @@ use Rattle.tcap_check.specs.Hearing.{gap_kept, mark_taken, message_taken, told_a
 use Rattle.tcap_check.specs.Outlines.{is_named, outline_of, outlines_from, since_from}
 pub use Rattle.tcap_check.specs.Progress.{map_ok}
 use Rattle.tcap_check.specs.Progress.{count_kept, greater, last_lost, overtakes, seat_at, time_or_zero}
-use Rattle.tcap_check.specs.Replayed.{Replay, certificate_fits, entry_by, fault_at, gap_by, is_gap, next_entry, nothing_replayed, refused}
+use Rattle.tcap_check.specs.Replayed.{Replay, certificate_fits, entry_by, fault_at, gap_by, is_gap, is_heard, next_entry, nothing_replayed, refused}
 use Rattle.tcap_check.specs.Told.{told_if}
 use Rattle.tcap_check.specs.Unheard.{steps_of, unheard_of}
 
@@ -209,10 +209,10 @@ is_ahead count (Gap gap) = nat_le count gap
 is_ahead count (By reply) = nat_le count reply
 is_ahead count Lost = false
 
--- How many of these entries are messages that are delivered, or taken by a reply, behind so many entries; the first of
--- these fates is that of the first entry.
-abbrev pub count_ahead : ℕ → List Fate → List (Result Item Reason) → ℕ
-count_ahead count (fate ∷ fates) (Ok (Sent side message) ∷ entries) =
-    cond (is_ahead count fate) (count_ahead count fates entries + 1) (count_ahead count fates entries)
-count_ahead count (fate ∷ fates) (entry ∷ entries) = count_ahead count fates entries
-count_ahead count _ _ = 0
+-- How many of these entries are messages that are delivered to an end that is judged, or taken by a reply of it, behind so many entries;
+-- the first of these fates is that of the first entry.
+abbrev pub count_ahead : Option Side → ℕ → List Fate → List (Result Item Reason) → ℕ
+count_ahead judged count (fate ∷ fates) (Ok (Sent side message) ∷ entries) =
+    cond (is_heard judged side && is_ahead count fate) (count_ahead judged count fates entries + 1) (count_ahead judged count fates entries)
+count_ahead judged count (fate ∷ fates) (entry ∷ entries) = count_ahead judged count fates entries
+count_ahead judged count _ _ = 0

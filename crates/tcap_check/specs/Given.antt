@@ -145,7 +145,7 @@ abbrev pub IsNoItem : Entry → Type 0
 IsNoItem entry = ((message : Message) × (entry.side ≡ None) × (entry.body ≡ Good message))
     ⊎ ((side : Side) × (entry.side ≡ Some side) × (entry.body ≡ QuietMark))
 
--- What a refusal of that entry for that reason says of the certificate and the entries.
+-- What a refusal of that entry for that reason says of the certificate and the entries; of 64, 65 and 66 nothing.
 abbrev pub IsReason : Option Side → Table → Certificate → List Entry → ℕ → Reason → Type 0
 IsReason judged table c entries number reasons.FateCount =
     ((number < length entries) × (slice_get c.fates number ≡ None))

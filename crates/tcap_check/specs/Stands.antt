@@ -1,22 +1,49 @@
 -- What a replay whose steps are listed leaves, whatever a call answers: a run so far.
-use Rattle.std.specs.Prelude.{◌≡◌, ◌≢◌, ◌≤◌, ◌<◌, ◌+◌, ◌++◌, ℕ, true, length, map, take, List, Option, Result, Ok, Err, Some}
+use Rattle.std.specs.Prelude.{◌≡◌, ◌≢◌, ◌≤◌, ◌<◌, ◌+◌, ◌++◌, ℕ, true, length, map, take, List, Option, None, Result, Ok, Err, Some, IfOk, IfSome, Contains, slice_get}
+use Rattle.std.specs.List.{AllByRecursion}
+use Rattle.tcap_msg.specs.declared.message.Message.{Message}
 use Rattle.tcap_record.specs.declared.entry.End.{End as Side}
+use Rattle.tcap_record.specs.declared.entry.End.TheVariants as sides
 use Rattle.tcap_record.specs.declared.entry.Entry.{Entry}
+use Rattle.tcap_end.specs.declared.fault.EndFault.{EndFault}
 use Rattle.tcap_end.specs.End.{End}
+use Rattle.tcap_end.specs.Message.{send}
 use Rattle.tcap_end.specs.Table.{Table}
-use Rattle.tcap_model.specs.declared.reason.Reason.TheVariants.{Memory}
+use Rattle.tcap_model.specs.declared.reason.Reason.{Reason}
+use Rattle.tcap_model.specs.declared.reason.Reason.TheVariants.{Memory, SendRefused}
 use Rattle.tcap_model.specs.Entries.{AreItems, item_of}
-use Rattle.tcap_model.specs.Run.{Event, Runs, played}
-use Rattle.tcap_model.specs.World.{World}
+use Rattle.tcap_model.specs.Run.{Event, Loses, Runs, played}
+use Rattle.tcap_model.specs.World.{Item, Sent, World}
+use Rattle.tcap_check.specs.declared.certificate.Fate.TheVariants.{Lost}
 use Rattle.tcap_check.specs.declared.fault.CheckFault.{CheckFault}
 use Rattle.tcap_check.specs.declared.progress.Progress.{Progress}
 use Rattle.tcap_check.specs.declared.step.Step.{Step}
 use Rattle.tcap_check.specs.Certificate.{Certificate}
-use Rattle.tcap_check.specs.Checking.{progress_of, taken}
-use Rattle.tcap_check.specs.Replayed.{Replay, fault_at}
-use Rattle.tcap_check.specs.Told.{events_of}
+use Rattle.tcap_check.specs.Progress.{seat_at}
+use Rattle.tcap_check.specs.Checking.{map_ok, progress_of, taken}
+use Rattle.tcap_check.specs.AloneGiven.{IsGivenTo}
+use Rattle.tcap_check.specs.Given.{IsAt}
+use Rattle.tcap_check.specs.Replayed.{Replay, discards_by, fault_at, is_heard, replayed_by}
+use Rattle.tcap_check.specs.Told.{IsDiscarded, IsTold, MayAllBeDiscarded, discards_of, events_of, told_of}
 
--- What is kept is that of a replay, whose steps are listed, to which steps lead from that start which send nothing. Of its discards nothing is said.
+-- Where one end alone is judged, the message of that number, which the fates do not say is lost, is discarded in these events for that reason.
+abbrev pub IsDiscardOf : Option Side → Table → Certificate → List Event → ℕ → EndFault → Type 0
+IsDiscardOf None table c events number reason = ⊥
+IsDiscardOf (Some side) table c events number reason =
+    IsDiscarded side table events number reason × (slice_get c.fates number ≢ Some Lost)
+
+-- What is told of the losses in these events is so: each discard is one, and each other loss of a message to an end that is judged is one
+-- whose fate says so. Where both ends are judged, nothing is discarded.
+abbrev pub DiscardsSo : Option Side → Table → Certificate → List Event → List (ℕ × EndFault) → Type 0
+DiscardsSo judged table c events discards = AllByRecursion (λ x. IsDiscardOf judged table c events x.0 x.1) discards
+    × ((sender : Side) (number : ℕ) → is_heard judged sender ≡ true → Contains events (Loses sender number) → IsTold c discards number)
+
+-- What was replayed is a run, and what is told of its losses is so.
+abbrev pub TellsSo : Option Side → Table → Certificate → Replay → Type 0
+TellsSo judged table c r = Runs table r.events r.world × DiscardsSo judged table c r.events r.discards
+
+-- What is kept is what a replay keeps whose steps are listed; from the start, steps that send nothing lead to that replay. If what the start
+-- tells of its losses is so, so is what the replay tells.
 pub record StandsFor (table : Table) (c : Certificate) (judged : Option Side) (start : Replay) (p : Progress) : Type 0 where
   pub replay : Replay
   pub kept : progress_of true judged c replay ≡ p
@@ -24,21 +51,40 @@ pub record StandsFor (table : Table) (c : Certificate) (judged : Option Side) (s
   pub events : replay.events ≡ start.events ++ more
   pub plays : played table more start.world ≡ Some replay.world
   pub sent : replay.world.sent ≡ start.world.sent
+  pub tells : TellsSo judged table c start → TellsSo judged table c replay
 
 -- where a call is refused, and not for want of memory
 abbrev pub IfRefused : Result (Unit {0}) CheckFault → Type 0 → Type 0
 IfRefused (Ok done) P = Unit {0}
 IfRefused (Err fault) P = fault ≢ fault_at Memory 0 → P
 
--- Where what was kept before a call stands for steps from a start, so does what is left where the call is refused.
+-- If what is kept before a call stands for steps behind a start, and the call is refused, memory aside, what it leaves does too.
 abbrev pub StopsSo : Table → Option Side → Progress → Result (Unit {0}) CheckFault → Progress → Type 0
 StopsSo table judged before result left = (c : Certificate) (start : Replay) → StandsFor table c judged start before
     → IfRefused result (StandsFor table c judged start left)
 
--- where a call does not run out of memory
-abbrev pub IfMemory : Result (Unit {0}) CheckFault → Type 0 → Type 0
-IfMemory (Ok done) P = P
-IfMemory (Err fault) P = fault ≢ fault_at Memory 0 → P
+-- the reason why an end refuses to send a message, where it does
+abbrev pub refusal_to_send : Reason → Option EndFault
+refusal_to_send (SendRefused reason) = Some reason
+refusal_to_send reason = None
+
+-- Where a call is refused since an end may not send a message, that of the entry of that number, the end that is left refuses to send it,
+-- for that reason.
+abbrev pub ShowsSend : Table → Side → ℕ → Message → Result (Unit {0}) CheckFault → Progress → Type 0
+ShowsSend table side number message (Ok done) left = Unit {0}
+ShowsSend table side number message (Err fault) left =
+    IfSome (refusal_to_send fault.reason) (λ reason. (fault.entry ≡ number) × (send table (seat_at side left).end message ≡ Err reason))
+
+-- The same of an entry of that number, which may be no message; then no send is refused.
+abbrev pub ShowsItem : Table → ℕ → Result Item Reason → Result (Unit {0}) CheckFault → Progress → Type 0
+ShowsItem table number (Ok (Sent side message)) result left = ShowsSend table side number message result left
+ShowsItem table number entry (Ok done) left = Unit {0}
+ShowsItem table number entry (Err fault) left = refusal_to_send fault.reason ≡ None
+
+-- unless memory ran out in a call
+abbrev pub UnlessMemory : Result (Unit {0}) CheckFault → Type 0 → Type 0
+UnlessMemory (Ok done) P = P
+UnlessMemory (Err fault) P = fault ≢ fault_at Memory 0 → P
 
 -- The first so many of the entries are replayed, and not the next, where there is one.
 pub record GoesTo (judged : Option Side) (table : Table) (c : Certificate) (entries : List Entry) (count : ℕ) : Type 0 where
@@ -55,8 +101,41 @@ pub record StandsAmong (table : Table) (c : Certificate) (judged : Option Side) 
 
 -- ---- what a caller has of it
 
+abbrev pub of_side : {A : Type 0} → Side → A → A → A
+of_side sides.A a b = a
+of_side sides.B a b = b
+
+-- Where a certificate is refused since an end may not send an entry, that end, as it is there, refuses to send its message, for that reason.
+abbrev pub IsRefusedThere : Table → List Entry → CheckFault → End → End → Type 0
+IsRefusedThere table entries fault a b = IfSome (refusal_to_send fault.reason) (λ reason. (side : Side) × (message : Message)
+    × IsAt entries fault.entry (Sent side message) × (send table (of_side side a b) message ≡ Err reason))
+
+-- the same of the ends that are kept, where a call is refused
+abbrev pub ShowsAmong : Table → List Entry → Result (Unit {0}) CheckFault → Progress → Type 0
+ShowsAmong table entries (Ok done) left = Unit {0}
+ShowsAmong table entries (Err fault) left = IsRefusedThere table entries fault left.a.end left.b.end
+
+-- what is answered of a run: the reason why there is none, or the run
+abbrev pub answered : {A : Type 0} → Option CheckFault → A → Result A CheckFault
+answered None run = Ok run
+answered (Some fault) run = Err fault
+
+-- The steps of a run of whoever is judged, that sends these entries, and what is discarded in it; or the first reason why the certificate
+-- gives none.
+pub record IsAnswered (judged : Option Side) (table : Table) (c : Certificate) (entries : List Entry) (answer : Result (List Step) CheckFault) : Type 0 where
+  pub given : IfOk answer (λ steps. IsGivenTo judged table c entries (events_of steps))
+  pub exact : map_ok events_of answer ≡ replayed_by judged table c entries
+  pub discards : map_ok discards_of answer ≡ discards_by judged table c (map item_of entries)
+  pub may : IfOk answer (λ steps. MayAllBeDiscarded judged c (discards_of steps))
+
+-- If the replay of these entries ended with this result, and these steps are listed, then these, or its refusal, are the answer.
+abbrev pub EndsListed : Option Side → Table → Certificate → List Entry → Result (Unit {0}) CheckFault → Progress → Type 0
+EndsListed judged table c entries result p = (steps : List Step) → p.steps ≡ Some (told_of steps)
+    → IsAnswered judged table c entries (map_ok (λ done. steps) result)
+
 -- The steps are a run from the empty world, as far as a replay goes: those of the entries that it takes, which are the first ones, and
--- more that send nothing. The run sends the entries that are taken, and nothing else. The ends are those behind it.
+-- more that send nothing. The run sends the entries that are taken, and nothing else. What is told of its losses is so. The ends are those
+-- behind it.
 pub record IsSoFar (judged : Option Side) (table : Table) (c : Certificate) (entries : List Entry) (steps : List Step) (a b : End) : Type 0 where
   pub count : ℕ
   pub goes : GoesTo judged table c entries count
@@ -65,5 +144,6 @@ pub record IsSoFar (judged : Option Side) (table : Table) (c : Certificate) (ent
   pub world : World
   pub leads : Runs table (events_of steps) world
   pub sends : AreItems (take count entries) world.sent
+  pub discards : DiscardsSo judged table c (events_of steps) (discards_of steps)
   pub a_is : world.a ≡ a
   pub b_is : world.b ≡ b

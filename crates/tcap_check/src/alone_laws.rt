@@ -25,16 +25,17 @@ ghost use Rattle.tcap_check.specs.AloneGiven.{DiscardsNothing, IsGivenFor};
 pub fn gives_a_run_of_one_end()
     ensures { (side : Side) (table : Table) (c : Certificate) (entries : List Entry) (events : List Event)
         → replayed_by (Some side) table c entries ≡ Ok events
-        → IsGivenFor side table c entries events }
+        → IsGivenFor side table entries events }
 {}
 
 /// Where a certificate gives a run of two ends, it gives each end alone a run too, in which none of the peer's messages
-/// is lost but those whose fates say so.
+/// is lost but those whose fates say so: none is discarded.
 pub fn both_give_each()
     ensures { (side : Side) (table : Table) (c : Certificate) (entries : List Entry) (items : List Item)
         (events : List Event)
         → AreItems entries items → replayed_by None table c entries ≡ Ok events
-        → (own : List Event) × (replayed_by (Some side) table c entries ≡ Ok own) × DiscardsNothing side c items own }
+        → (own : List Event) × (replayed_by (Some side) table c entries ≡ Ok own) × DiscardsNothing side c items own
+        × (discards_by (Some side) table c (map item_of entries) ≡ Ok []) }
 {}
 
 /// So that end may have sent its part of these items, whatever its peer sends.

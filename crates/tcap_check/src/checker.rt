@@ -182,7 +182,7 @@ impl<'a> Checker<'a> {
     pub fn pending(&self) -> usize
         ensures kept { (k : Kept) → self.now.so_far ≡ Ok k → result ≡ count_waiting self.now.judged k.progress }
         ensures ahead { (entries : List (Result Item Why)) → Took self.now entries → IsTrue (is_ok self.now.so_far)
-            → self.now.judged ≡ None → result ≡ count_ahead (length entries) self.now.certificate.fates entries }
+            → result ≡ count_ahead self.now.judged (length entries) self.now.certificate.fates entries }
     {
         let progress = &self.replaying.progress;
         match self.replaying.judged {

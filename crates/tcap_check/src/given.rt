@@ -12,6 +12,8 @@ ghost use Rattle.tcap_end.specs.End.{End};
 ghost use Rattle.tcap_end.specs.Message.{send};
 ghost use Rattle.tcap_end.specs.Table.{Table};
 ghost use Rattle.tcap_check.specs.declared.fault.CheckFault.{CheckFault};
+ghost use Rattle.tcap_check.specs.declared.step.Step.{Step};
+ghost use Rattle.tcap_check.specs.Told.{discards_of, events_of};
 ghost use Rattle.tcap_model.specs.World.{Item, Sent, World, end_at};
 ghost use Rattle.tcap_model.specs.Run.{BothKeepRules, Event, Expires, IsLawful, IsRunOf, Runs, played};
 ghost use Rattle.tcap_check.specs.Certificate.{Certificate, IsPrompt, prompt};
@@ -105,6 +107,12 @@ pub fn refusals_have_reasons()
     ensures { (judged : Option Side) (table : Table) (c : Certificate) (entries : List Entry) (fault : CheckFault)
         → replayed_by judged table c entries ≡ Err fault
         → IsReason judged table c entries fault.entry fault.reason }
+{}
+
+/// The events of a run, and what is discarded in it, are told by one list of steps alone.
+pub fn one_list_of_steps()
+    ensures { (table : Table) (steps others : List Step) (w : World) → Runs table (events_of steps) w
+        → events_of steps ≡ events_of others → discards_of steps ≡ discards_of others → steps ≡ others }
 {}
 
 /// A run that follows a prompt certificate has no loss, no provider's reply and no closing.

@@ -135,17 +135,6 @@ impl<'r> Progress<'r> {
         }
     }
 
-    /// The steps that were listed; none where they were not.
-    pub(crate) fn into_steps(self, alloc: Global) -> Vec<Step>
-        ensures { IfSome self.entry.steps (λ told. told_of result.items ≡ told) }
-    {
-        let Progress { steps, .. } = self;
-        match steps {
-            Some(steps) => steps.into_list(),
-            None => Vec::new(alloc),
-        }
-    }
-
     /// A step, which is no discard, is told where steps are listed.
     #[inline(always)]
     pub(crate) fn tell(&mut self, step: Step) -> Result<(), CheckFault>

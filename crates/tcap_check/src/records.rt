@@ -1,6 +1,6 @@
 //! A certificate, replayed over a record.
 
-ghost use Rattle.std.specs.Prelude.{◌≡◌, ◌≢◌, ◌++◌, ◌∷◌, [], Bool, true, List, map, Result, Ok, Err, OnOk};
+ghost use Rattle.std.specs.Prelude.{◌≡◌, ◌≢◌, ◌++◌, ◌∷◌, [], Bool, true, List, length, map, Result, Ok, Err, OnOk};
 ghost use Rattle.tcap_record.specs.Viewed.{entry_read};
 ghost use Rattle.tcap_check.specs.Given.{RefusesForGood, SaysLawful};
 ghost use Rattle.tcap_check.specs.declared.fault.CheckFault.{CheckFault as Refusal};
@@ -12,7 +12,7 @@ ghost use Rattle.tcap_check.specs.Replayed.{fault_at, replay_by, replayed_by};
 ghost use Rattle.tcap_check.specs.Checking.{Took, TookListed, answer_of, kept_next, map_ok, reported};
 ghost use Rattle.tcap_check.specs.Progress.{YieldsInMemory};
 ghost use Rattle.tcap_check.specs.Ready.{IsReady, checking_of, kept_in};
-ghost use Rattle.tcap_check.specs.Stands.{IfMemory, StandsAmong, StopsSo};
+ghost use Rattle.tcap_check.specs.Stands.{UnlessMemory, ShowsAmong, ShowsItem, StandsAmong, StopsSo};
 ghost use Rattle.tcap_check.specs.declared.checker.Report.{Report as Reported};
 
 use crate::certificate::Certificate;
@@ -49,11 +49,13 @@ impl<'a> Checker<'a> {
 
 impl<'r> Replaying<'_, 'r> {
     /// Takes the next entry of a record that outlives the replay; its message is lent while it waits.
+    #[tactic(auto, using(crate::proofs::SendShows::mark_shows, crate::proofs::SendShows::refused_shows))]
     fn take_entry(&mut self, entry: &'r Entry) -> Result<(), CheckFault>
         requires ready { IsReady self.old }
         ensures taken { YieldsInMemory (kept_next self.old.judged self.old.table.now self.old.certificate.now
             (item_of entry.now) (kept_in self.old)) result (kept_in self.new) }
         ensures stops { StopsSo self.old.table.now self.old.judged self.old.progress result self.new.progress }
+        ensures shows { ShowsItem self.old.table.now (length self.old.entries.items) (item_of entry.now) result self.new.progress }
         ensures ready { OnOk result (IsReady self.new) }
         ensures judged { self.new.judged ≡ self.old.judged }
         ensures table { self.new.table ≡ self.old.table }
@@ -75,8 +77,10 @@ impl<'r> Replaying<'_, 'r> {
         ensures refused { (listed : Bool) (f : Refusal) → TookListed listed (checking_of self.old) [] → result ≡ Err f
             → f ≢ fault_at reasons.Memory 0 → replay_by self.old.judged self.old.table.now self.old.certificate.now
             (map item_of «record».now.entries.items) ≡ Err f }
-        ensures so_far { TookListed true (checking_of self.old) [] → IfMemory result (StandsAmong self.old.table.now self.old.certificate.now
+        ensures so_far { TookListed true (checking_of self.old) [] → UnlessMemory result (StandsAmong self.old.table.now self.old.certificate.now
             self.old.judged «record».now.entries.items self.new.progress) }
+        ensures shows { TookListed true (checking_of self.old) [] → ShowsAmong self.old.table.now «record».now.entries.items result
+            self.new.progress }
         ensures ready { OnOk result (IsReady self.new) }
         ensures judged { self.new.judged ≡ self.old.judged }
         ensures table { self.new.table ≡ self.old.table }

@@ -13,7 +13,7 @@ ghost use Rattle.tcap_check.specs.Checking.{TookListed, gap_before, is_alone, ke
 ghost use Rattle.tcap_check.specs.Hearing.{mark_taken, message_taken};
 ghost use Rattle.tcap_check.specs.Plan.{IsPlan, flag_by};
 ghost use Rattle.tcap_check.specs.Certificate.{Certificate as Certified};
-ghost use Rattle.tcap_check.specs.Stands.{IfMemory, StandsFor, StopsSo};
+ghost use Rattle.tcap_check.specs.Stands.{UnlessMemory, ShowsSend, StandsFor, StopsSo};
 ghost use Rattle.tcap_check.specs.Ready.{IsReady, IsSameBesideEntries, IsSameBesideProgress, checking_of, kept_in};
 
 use crate::certificate::{Certificate, Fate};
@@ -194,6 +194,7 @@ impl<'a, 'r> Replaying<'a, 'r> {
             (M.meaning message.now) (tied_now self.old.judged self.old.certificate.now (kept_in self.old)) self.old.progress) result
             self.new.progress }
         ensures stops { StopsSo self.old.table.now self.old.judged self.old.progress result self.new.progress }
+        ensures shows { ShowsSend self.old.table.now side (length self.old.entries.items) (M.meaning message.now) result self.new.progress }
         ensures grows { OnOk result (GrewBy (2 ^ 65) 1 self.old.progress self.new.progress) }
         ensures others { IsSameBesideProgress self.old self.new }
     {
@@ -213,7 +214,7 @@ impl<'a, 'r> Replaying<'a, 'r> {
     }
 
     /// The next entry is a message that an end sent; it is lent, where it outlives the replay.
-    #[tactic(auto, using(crate::proofs::StandsLaws::stands_gap))]
+    #[tactic(auto, using(crate::proofs::StandsLaws::stands_gap, crate::proofs::SendShows::gap_shows))]
     fn take_message<M: MessageParts>(
         &mut self,
         side: End,
@@ -225,6 +226,7 @@ impl<'a, 'r> Replaying<'a, 'r> {
         ensures taken { YieldsInMemory (kept_next self.old.judged self.old.table.now self.old.certificate.now
             (Ok (Sent side (M.meaning message.now))) (kept_in self.old)) result (kept_in self.new) }
         ensures stops { StopsSo self.old.table.now self.old.judged self.old.progress result self.new.progress }
+        ensures shows { ShowsSend self.old.table.now side (length self.old.entries.items) (M.meaning message.now) result self.new.progress }
         ensures ready { OnOk result (IsReady self.new) }
         ensures judged { self.new.judged ≡ self.old.judged }
         ensures table { self.new.table ≡ self.old.table }
@@ -245,6 +247,7 @@ impl<'a, 'r> Replaying<'a, 'r> {
         ensures taken { YieldsInMemory (kept_next self.old.judged self.old.table.now self.old.certificate.now
             (Ok (Sent side message.now)) (kept_in self.old)) result (kept_in self.new) }
         ensures stops { StopsSo self.old.table.now self.old.judged self.old.progress result self.new.progress }
+        ensures shows { ShowsSend self.old.table.now side (length self.old.entries.items) message.now result self.new.progress }
         ensures ready { OnOk result (IsReady self.new) }
         ensures judged { self.new.judged ≡ self.old.judged }
         ensures table { self.new.table ≡ self.old.table }
@@ -337,7 +340,7 @@ impl<'a, 'r> Replaying<'a, 'r> {
         ensures ended { YieldsInMemory (kept_ended self.old.judged self.old.table.now self.old.certificate.now (kept_in self.old)) result
             self.new.progress }
         ensures left { (c : Certified) (start : Replay) → StandsFor self.old.table.now c self.old.judged start self.old.progress
-            → IfMemory result (StandsFor self.old.table.now c self.old.judged start self.new.progress) }
+            → UnlessMemory result (StandsFor self.old.table.now c self.old.judged start self.new.progress) }
     {
         if self.entries.len() != self.certificate.fates().len() {
             return Err(self.refusal(Reason::FateCount));
@@ -361,22 +364,6 @@ impl<'a, 'r> Replaying<'a, 'r> {
             }),
             Err(fault) => Err(fault),
         }
-    }
-
-    /// No entry is left: the last gap, and the steps of the run, which are listed.
-    pub(crate) fn finish_listed(self) -> Result<Vec<Step>, CheckFault>
-        requires ready { IsReady self }
-        ensures events { (entries : List (Result Item Why)) → TookListed true (checking_of self.entry) entries
-            → result ≢ Err (fault_at reasons.Memory 0) → map_ok (λ steps. events_of steps.items) result
-            ≡ run_by self.entry.judged self.entry.table.now self.entry.certificate.now entries }
-        ensures discards { (entries : List (Result Item Why)) → TookListed true (checking_of self.entry) entries
-            → result ≢ Err (fault_at reasons.Memory 0) → map_ok (λ steps. discards_of steps.items) result
-            ≡ discards_by self.entry.judged self.entry.table.now self.entry.certificate.now entries }
-    {
-        let mut replaying = self;
-        replaying.end()?;
-        let alloc = replaying.alloc;
-        Ok(replaying.into_progress().into_steps(alloc))
     }
 
     /// What is kept.

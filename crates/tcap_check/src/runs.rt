@@ -1,6 +1,6 @@
-//! The run that a certificate gives for a record, step by step.
+//! The run that a certificate gives for a record, step by step, as far as it goes.
 
-ghost use Rattle.std.specs.Prelude.{◌≡◌, ◌≢◌, [], false, true, map, Ok, Err, IfOk, OnOk};
+ghost use Rattle.std.specs.Prelude.{◌≡◌, ◌≢◌, [], true, map, Some, Ok, Err, IfOk, IfSome, OnOk};
 ghost use Rattle.tcap_check.specs.declared.fault.CheckFault.{CheckFault as Refusal};
 ghost use Rattle.tcap_end.specs.End.{nothing};
 ghost use Rattle.tcap_model.specs.declared.reason.Reason.TheVariants as reasons;
@@ -8,19 +8,112 @@ ghost use Rattle.tcap_model.specs.Entries.{item_of};
 ghost use Rattle.tcap_check.specs.AloneGiven.{IsGivenTo};
 ghost use Rattle.tcap_check.specs.Checking.{TookListed, map_ok};
 ghost use Rattle.tcap_check.specs.Ready.{IsReady, checking_of};
-ghost use Rattle.tcap_check.specs.Stands.{IfMemory, IsSoFar, StandsAmong};
+ghost use Rattle.tcap_check.specs.Stands.{EndsListed, UnlessMemory, IsAnswered, IsRefusedThere, IsSoFar, ShowsAmong, StandsAmong, answered};
 ghost use Rattle.tcap_check.specs.Replayed.{certificate_fits, discards_by, fault_at, replayed_by};
 ghost use Rattle.tcap_check.specs.Told.{MayAllBeDiscarded, discards_of, events_of};
 
 use crate::certificate::Certificate;
 use crate::fault::CheckFault;
-use crate::progress::Progress;
+use crate::progress::{OUT_OF_MEMORY, Progress};
 use crate::replaying::Replaying;
 use crate::step::Step;
 use std::alloc::{AllocError, Global};
 use tcap_end::{EndState, Table};
 use tcap_model::Reason;
 use tcap_record::{End, Record};
+
+/// A run as far as it goes.
+#[derive(Debug, Drop)]
+pub struct Partial {
+    /// Why the certificate gives no run, at an entry; none where this is the run that it gives.
+    pub refused: Option<CheckFault>,
+    /// Its steps, from the first on.
+    pub steps: Vec<Step>,
+    /// The end A behind them.
+    pub a: EndState,
+    /// The end B behind them.
+    pub b: EndState,
+}
+
+/// Replays the entries of a record as far as they are taken, and, where all are, the last gap.
+fn go_through<'r>(replaying: &mut Replaying<'_, 'r>, record: &'r Record) -> Result<(), CheckFault>
+    requires ready { IsReady replaying.old }
+    ensures answer { TookListed true (checking_of replaying.old) [] → UnlessMemory result (EndsListed replaying.old.judged
+        replaying.old.table.now replaying.old.certificate.now «record».now.entries.items result replaying.new.progress) }
+    ensures so_far { TookListed true (checking_of replaying.old) [] → UnlessMemory result (StandsAmong replaying.old.table.now
+        replaying.old.certificate.now replaying.old.judged «record».now.entries.items replaying.new.progress) }
+    ensures shows { TookListed true (checking_of replaying.old) [] → ShowsAmong replaying.old.table.now «record».now.entries.items result
+        replaying.new.progress }
+{
+    replaying.take_all(record)?;
+    replaying.end()
+}
+
+/// Why there is no run, where there is none. Fails where memory ran out.
+fn refusal_of(answer: Result<(), CheckFault>) -> Result<Option<CheckFault>, AllocError>
+    ensures refused { IfOk result (λ refused. answered refused tt ≡ answer) }
+    ensures memory { OnOk result (answer ≢ Err (fault_at reasons.Memory 0)) }
+{
+    match answer {
+        Ok(()) => Ok(None),
+        Err(fault) if matches!(fault.reason, Reason::Memory) => Err(AllocError),
+        Err(fault) => Ok(Some(fault)),
+    }
+}
+
+/// What there is where a certificate is refused at once: no steps, between two new ends. Fails where memory ran out.
+fn nothing_of(alloc: Global, fault: CheckFault) -> Result<Partial, AllocError>
+    ensures refused { IfOk result (λ run. run.refused ≡ Some fault) }
+    ensures none { IfOk result (λ run. (run.steps.items ≡ []) × (run.a ≡ nothing) × (run.b ≡ nothing)) }
+    ensures memory { OnOk result (fault ≢ fault_at reasons.Memory 0) }
+{
+    match fault.reason {
+        Reason::Memory => Err(AllocError),
+        _ => Ok(Partial {
+            refused: Some(fault),
+            steps: Vec::new(alloc),
+            a: EndState::new(alloc),
+            b: EndState::new(alloc),
+        }),
+    }
+}
+
+/// Replays a certificate over a record as far as it goes (Q.774 3.2 and 3.3): the steps up to where it is refused, why, and both ends as they
+/// are there, before the step that is refused. Of one end that is judged alone the peer stays as at the start. Where nothing is refused
+/// these are the steps of `run_of`. The ranges of the certificate's numbers are looked at first: where one is outside, there are no steps,
+/// and both ends are new. Fails where memory runs out.
+pub fn run_until(
+    alloc: Global,
+    record: &Record,
+    table: &Table,
+    certificate: &Certificate,
+    judged: Option<End>,
+) -> Result<Partial, AllocError>
+    ensures answer { IfOk result (λ run. IsAnswered judged table.now certificate.now «record».now.entries.items
+        (answered run.refused run.steps.items)) }
+    ensures so_far { certificate_fits certificate.now ≡ Ok tt → IfOk result (λ run. IsSoFar judged table.now certificate.now
+        «record».now.entries.items run.steps.items run.a run.b) }
+    ensures stopped { IfOk result (λ run. IfSome run.refused (λ fault. IsRefusedThere table.now «record».now.entries.items fault run.a run.b)) }
+    ensures none { (fault : Refusal) → certificate_fits certificate.now ≡ Err fault → IfOk result (λ run. (run.steps.items ≡ [])
+        × (run.a ≡ nothing) × (run.b ≡ nothing)) }
+{
+    let mut replaying = match Replaying::new(alloc, table, certificate, judged, true) {
+        Ok(replaying) => replaying,
+        Err(fault) => return nothing_of(alloc, fault),
+    };
+    let refused = refusal_of(go_through(&mut replaying, record))?;
+    let Progress { a, b, steps, .. } = replaying.into_progress();
+    let steps = match steps {
+        Some(steps) => steps.into_list(),
+        None => Vec::new(alloc),
+    };
+    Ok(Partial {
+        refused,
+        steps,
+        a: a.end,
+        b: b.end,
+    })
+}
 
 /// The run that a certificate gives for a record, step by step (Q.774 3.2 and 3.3). Where no end is named both are judged: it is a run
 /// of two ends, over two channels that keep order and may lose messages, that sends the entries of the record, in their order, and
@@ -42,88 +135,12 @@ pub fn run_of(
         ≡ discards_by judged table.now certificate.now (map item_of «record».now.entries.items) }
     ensures may { IfOk result (λ steps. MayAllBeDiscarded judged certificate.now (discards_of steps.items)) }
 {
-    let mut replaying = Replaying::new(alloc, table, certificate, judged, true)?;
-    replaying.take_all(record)?;
-    replaying.finish_listed()
-}
-
-/// A run as far as it goes.
-#[derive(Debug, Drop)]
-pub struct Partial {
-    /// Its steps, from the first on.
-    pub steps: Vec<Step>,
-    /// The end A behind them.
-    pub a: EndState,
-    /// The end B behind them.
-    pub b: EndState,
-}
-
-/// Replays the entries of a record as far as they are taken, and, where all are, the last gap.
-fn go_through<'r>(replaying: &mut Replaying<'_, 'r>, record: &'r Record) -> Result<(), CheckFault>
-    requires ready { IsReady replaying.old }
-    ensures so_far { TookListed true (checking_of replaying.old) [] → IfMemory result (StandsAmong replaying.old.table.now
-        replaying.old.certificate.now replaying.old.judged «record».now.entries.items replaying.new.progress) }
-{
-    replaying.take_all(record)?;
-    replaying.end()
-}
-
-/// Whether memory ran out.
-fn is_out_of_memory(answer: Result<(), CheckFault>) -> bool
-    ensures { result ≡ false → answer ≢ Err (fault_at reasons.Memory 0) }
-{
-    match answer {
-        Ok(()) => false,
-        Err(fault) => matches!(fault.reason, Reason::Memory),
-    }
-}
-
-/// What there is where a certificate is refused at once: no steps, between two new ends. Fails where memory ran out.
-fn nothing_of(alloc: Global, fault: CheckFault) -> Result<Partial, AllocError>
-    ensures none { IfOk result (λ run. (run.steps.items ≡ []) × (run.a ≡ nothing) × (run.b ≡ nothing)) }
-    ensures memory { OnOk result (fault ≢ fault_at reasons.Memory 0) }
-{
-    match fault.reason {
-        Reason::Memory => Err(AllocError),
-        _ => Ok(Partial {
-            steps: Vec::new(alloc),
-            a: EndState::new(alloc),
-            b: EndState::new(alloc),
-        }),
-    }
-}
-
-/// The steps that a certificate says for the entries of a record, up to where it is refused, and the two ends behind them
-/// (Q.774 3.2 and 3.3): of a run of both ends, or of the one that is judged, whose peer then stays new. Where a step is refused,
-/// the ends are as they were before it. Where a number of the certificate is out of its range before any entry is looked at, there are no steps.
-/// Fails where memory runs out.
-pub fn run_until(
-    alloc: Global,
-    record: &Record,
-    table: &Table,
-    certificate: &Certificate,
-    judged: Option<End>,
-) -> Result<Partial, AllocError>
-    ensures so_far { certificate_fits certificate.now ≡ Ok tt → IfOk result (λ run. IsSoFar judged table.now certificate.now
-        «record».now.entries.items run.steps.items run.a run.b) }
-    ensures none { (fault : Refusal) → certificate_fits certificate.now ≡ Err fault → IfOk result (λ run. (run.steps.items ≡ [])
-        × (run.a ≡ nothing) × (run.b ≡ nothing)) }
-{
-    let mut replaying = match Replaying::new(alloc, table, certificate, judged, true) {
-        Ok(replaying) => replaying,
-        Err(fault) => return nothing_of(alloc, fault),
+    let Ok(run) = run_until(alloc, record, table, certificate, judged) else {
+        return Err(OUT_OF_MEMORY);
     };
-    if is_out_of_memory(go_through(&mut replaying, record)) {
-        return Err(AllocError);
+    let Partial { refused, steps, .. } = run;
+    match refused {
+        Some(fault) => Err(fault),
+        None => Ok(steps),
     }
-    let Progress { a, b, steps, .. } = replaying.into_progress();
-    let steps = match steps {
-        Some(steps) => steps.into_list(),
-        None => Vec::new(alloc),
-    };
-    Ok(Partial {
-        steps,
-        a: a.end,
-        b: b.end,
-    })
 }

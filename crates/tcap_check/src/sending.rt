@@ -15,7 +15,7 @@ ghost use Rattle.tcap_check.specs.Progress.{with_seat_end, with_told};
 ghost use Rattle.tcap_record.specs.declared.entry.End.{End as Side};
 ghost use Rattle.tcap_end.specs.Table.{Table as Operations};
 ghost use Rattle.tcap_check.specs.Replayed.{fault_at, is_heard};
-ghost use Rattle.tcap_check.specs.Stands.{StopsSo};
+ghost use Rattle.tcap_check.specs.Stands.{ShowsSend, StopsSo};
 
 use crate::certificate::Fate;
 use crate::fault::CheckFault;
@@ -276,7 +276,7 @@ impl<'r> Progress<'r> {
 
     /// An end sends a message. As it is where it can: a message that can be sent so invokes no ID that is in use, and
     /// nothing ends before it.
-    #[tactic(auto, using(crate::proofs::AnewLaws::sends_as_is))]
+    #[tactic(auto, using(crate::proofs::AnewLaws::sends_as_is, crate::proofs::SendShows::memory_shows))]
     fn send<M: MessageParts>(
         &mut self,
         alloc: Global,
@@ -292,6 +292,7 @@ impl<'r> Progress<'r> {
         ensures sent { YieldsInMemory (send_kept table.now side fate number (M.meaning message.now) self.old) result
             self.new }
         ensures stops { (judged : Option Side) → StopsSo table.now judged self.old result self.new }
+        ensures shows { ShowsSend table.now side number (M.meaning message.now) result self.new }
         ensures grows { OnOk result (GrewBy (2 ^ 65) 1 self.old self.new) }
     {
         match self.send_as_is(table, side, message) {
@@ -318,6 +319,7 @@ impl<'r> Progress<'r> {
         ensures sent { YieldsInMemory (send_kept table.now side fate number (M.meaning message.now) self.old) result
             self.new }
         ensures stops { (judged : Option Side) → StopsSo table.now judged self.old result self.new }
+        ensures shows { ShowsSend table.now side number (M.meaning message.now) result self.new }
         ensures grows { OnOk result (GrewBy (2 ^ 65) 1 self.old self.new) }
     {
         if message.count() > 0 {
@@ -402,6 +404,7 @@ impl<'r> Progress<'r> {
 
     /// A message with that number and fate, which takes these messages: the provider's answer to one, where it is an
     /// Abort with a cause; else one that the end sends, which takes none. It is lent, where it outlives the replay.
+    #[tactic(auto, using(crate::proofs::SendShows::reply_shows))]
     pub(crate) fn send_or_answer<M: MessageParts>(
         &mut self,
         alloc: Global,
@@ -420,6 +423,7 @@ impl<'r> Progress<'r> {
         ensures taken { YieldsInMemory (message_kept judged table.now side fate number (M.meaning message.now) taken.now self.old)
             result self.new }
         ensures stops { is_heard judged (other side) ≡ true → StopsSo table.now judged self.old result self.new }
+        ensures shows { ShowsSend table.now side number (M.meaning message.now) result self.new }
         ensures grows { OnOk result (GrewBy (2 ^ 65) 1 self.old self.new) }
     {
         match (message.cause(), taken) {

@@ -3,7 +3,7 @@
 ghost use Rattle.std.specs.Prelude.{◌≡◌, ◌<◌, ◌^◌, true, Option, IfSome, OnOk};
 ghost use Rattle.tcap_record.specs.declared.entry.End.{End as Side};
 ghost use Rattle.tcap_end.specs.Table.{Table as Operations};
-ghost use Rattle.tcap_check.specs.Stands.{StopsSo};
+ghost use Rattle.tcap_check.specs.Stands.{ShowsSend, StopsSo};
 ghost use Rattle.tcap_check.specs.Hearing.{is_judged, message_taken, own_taken, told_taken};
 ghost use Rattle.tcap_check.specs.Progress.{GrewBy, YieldsInMemory, load, unheard_load};
 
@@ -20,7 +20,7 @@ use tcap_record::End;
 impl<'r> Progress<'r> {
     /// A message with that number and fate that an end sends which is judged, or by which its provider answers the message that it
     /// takes. Where that end alone is judged it is lost at once, whatever its fate.
-    #[tactic(auto, using(crate::proofs::StandsLaws::judged_heard))]
+    #[tactic(auto, using(crate::proofs::StandsLaws::judged_heard, crate::proofs::SendShows::memory_shows))]
     fn take_own<M: MessageParts>(
         &mut self,
         alloc: Global,
@@ -39,6 +39,7 @@ impl<'r> Progress<'r> {
         ensures taken { YieldsInMemory (own_taken judged table.now side fate number (M.meaning message.now) takes.now self.old)
             result self.new }
         ensures stops { is_judged judged side ≡ true → StopsSo table.now judged self.old result self.new }
+        ensures shows { ShowsSend table.now side number (M.meaning message.now) result self.new }
         ensures grows { OnOk result (GrewBy (2 ^ 65) 1 self.old self.new) }
     {
         let Some(alone) = judged else {
@@ -92,6 +93,7 @@ impl<'r> Progress<'r> {
 
     /// A message with that number and fate, which takes these: an end sends it, or the peer of the one that is judged tells it. It is
     /// lent, where it outlives the replay.
+    #[tactic(auto, using(crate::proofs::SendShows::told_shows))]
     pub(crate) fn take_message<M: MessageParts>(
         &mut self,
         alloc: Global,
@@ -110,6 +112,7 @@ impl<'r> Progress<'r> {
         ensures taken { YieldsInMemory (message_taken judged table.now side fate number (M.meaning message.now) takes.now self.old)
             result self.new }
         ensures stops { StopsSo table.now judged self.old result self.new }
+        ensures shows { ShowsSend table.now side number (M.meaning message.now) result self.new }
         ensures grows { OnOk result (GrewBy (2 ^ 65) 1 self.old self.new) }
     {
         if is_judged(judged, side) {

@@ -57,27 +57,31 @@ A begin_with_invoke,Q;B;{"close":[],"expire":[],"fates":[1,2],"version":1};1 67
 A begin_alone,A begin_from_03,A begin_from_04;B;{"close":[],"expire":[],"fates":[3,2,3],"version":1};1 63
 "#;
 
-/// The columns: the entries of a record; the end that is judged, or `both`; the certificate; the steps as far as they go; and the
-/// halves of A and of B that are open behind them.
+/// The columns: the entries of a record; the end that is judged, or `both`; the certificate; the entry and the number of the reason why
+/// it gives no run, if it gives none; the steps as far as they go; and the halves of A and of B that are open behind them.
 const UNTIL: &str = r#"
-;both;{"close":[],"expire":[],"fates":[],"version":1};;;
-A begin_with_invoke,B end_with_result;both;{"close":[],"expire":[],"fates":[1,2],"version":1};A sends,B receives 0,B sends,A receives 1;;
+;both;{"close":[],"expire":[],"fates":[],"version":1};;;;
+A begin_with_invoke,B end_with_result;both;{"close":[],"expire":[],"fates":[1,2],"version":1};;A sends,B receives 0,B sends,A receives 1;;
 # A message that an end may not send, receive or answer; the ends are as they were before it.
-A begin_with_invoke,B end_with_result,A end_with_result;both;{"close":[],"expire":[],"fates":[1,3,3],"version":1};A sends,B receives 0,B sends;own 1;
-A begin_with_invoke,A begin_with_invoke;both;{"close":[],"expire":[],"fates":[1,2],"version":1};A sends,B receives 0,A ends own 1 invoke 1;own 1;peer 1
-A begin_with_invoke,B abort_with_cause_1;both;{"close":[],"expire":[],"fates":[{"by":1},2],"version":1};A sends;own 1;
-A begin_with_invoke,A end_alone,B continue_alone;both;{"close":[],"expire":[],"fates":[1,2,3],"version":1};A sends,B receives 0;own 1;peer 1
+A begin_with_invoke,B end_with_result,A end_with_result;both;{"close":[],"expire":[],"fates":[1,3,3],"version":1};2 65/40;A sends,B receives 0,B sends;own 1;
+A begin_with_invoke,A begin_with_invoke;both;{"close":[],"expire":[],"fates":[1,2],"version":1};1 65/41;A sends,B receives 0,A ends own 1 invoke 1;own 1;peer 1
+A begin_with_invoke,B abort_with_cause_1;both;{"close":[],"expire":[],"fates":[{"by":1},2],"version":1};1 64;A sends;own 1;
+A begin_with_invoke,A end_alone,B continue_alone;both;{"close":[],"expire":[],"fates":[1,2,3],"version":1};1 65/40;A sends,B receives 0;own 1;peer 1
+# What is listed and may not happen; what was listed before it happened.
+A begin_with_invoke,B end_with_result;both;{"close":[],"expire":[{"at":1,"component":0,"end":"A","entry":0},{"at":1,"component":0,"end":"A","entry":0}],"fates":[1,2],"version":1};0 66/51;A sends,A ends own 1 invoke 1;own 1;
+A begin_alone,B continue_alone,A continue_with_invoke;both;{"close":[{"at":3,"end":"A","entry":0}],"expire":[],"fates":[1,2,3],"version":1};0 66/52;A sends,B receives 0,B sends,A receives 1,A sends;own 1;peer 1
 # Quiet marks: one end is quiet, and the other is not.
-A begin_with_invoke,B end_with_result,Q;both;{"close":[],"expire":[],"fates":[1,"lost",3],"version":1};A sends,B receives 0,B sends,B loses 1;own 1;
-B begin_alone,Q;both;{"close":[],"expire":[],"fates":["lost",2],"version":1};B sends,B loses 0;;own 1
+A begin_with_invoke,B end_with_result,Q;both;{"close":[],"expire":[],"fates":[1,"lost",3],"version":1};2 67;A sends,B receives 0,B sends,B loses 1;own 1;
+B begin_alone,Q;both;{"close":[],"expire":[],"fates":["lost",2],"version":1};1 67;B sends,B loses 0;;own 1
 # Fates that are too few, too many, or out of their ranges.
-A begin_with_invoke,B end_with_result;both;{"close":[],"expire":[],"fates":[1],"version":1};A sends;own 1;
-A begin_with_invoke;both;{"close":[],"expire":[],"fates":[1,2,3],"version":1};A sends;own 1;
-A begin_with_invoke,B end_with_result;both;{"close":[],"expire":[],"fates":[0,7],"version":1};;;
-A begin_with_invoke;both;{"close":[{"at":1,"end":"A","entry":5}],"expire":[],"fates":[1],"version":1};;;
-# One end alone: the other stays new.
-A begin_with_invoke,B end_with_result;A;{"close":[],"expire":[],"fates":[1,2],"version":1};A sends,A loses 0,B tells,A receives 1;;
-B begin_alone,A continue_alone,Q;A;{"close":[],"expire":[],"fates":[1,2,3],"version":1};B tells,A receives 0,A sends,A loses 1;peer 1;
+A begin_with_invoke,B end_with_result;both;{"close":[],"expire":[],"fates":[1],"version":1};1 61;A sends;own 1;
+A begin_with_invoke;both;{"close":[],"expire":[],"fates":[1,2,3],"version":1};1 61;A sends;own 1;
+A begin_with_invoke,B end_with_result;both;{"close":[],"expire":[],"fates":[0,7],"version":1};0 62;;;
+A begin_with_invoke;both;{"close":[{"at":1,"end":"A","entry":5}],"expire":[],"fates":[1],"version":1};5 62;;;
+# One end alone: the other stays new; a message that it can't receive is discarded before one that it may not send.
+A begin_with_invoke,B end_with_result;A;{"close":[],"expire":[],"fates":[1,2],"version":1};;A sends,A loses 0,B tells,A receives 1;;
+B begin_alone,A continue_alone,Q;A;{"close":[],"expire":[],"fates":[1,2,3],"version":1};2 67;B tells,A receives 0,A sends,A loses 1;peer 1;
+A begin_alone,A begin_alone,B end_with_result;B;{"close":[],"expire":[],"fates":[1,2,3],"version":1};2 65/46;A tells,B receives 0,A tells,A discards 1/41;;peer 1
 "#;
 
 /// What an end is called.
@@ -278,13 +282,23 @@ fn text_of_halves(alloc: Global, end: &EndState) -> Result<String, Fail> {
     Ok(text)
 }
 
-/// Whether a run goes so far, and leaves these halves open.
+/// The text of a refusal, where there is one.
+fn text_of_refusal(alloc: Global, refused: Option<CheckFault>) -> Result<String, Fail> {
+    let mut text = String::new(alloc);
+    if let Some(fault) = refused {
+        write_fault(&mut text, fault)?;
+    }
+    Ok(text)
+}
+
+/// Whether a run goes so far, is refused for that, and leaves these halves open.
 fn is_so_far(alloc: Global, run: Partial, wanted: &[&str]) -> Result<bool, Fail> {
-    let [steps, a, b] = wanted else {
+    let [refused, steps, a, b] = wanted else {
         return Ok(false);
     };
     Ok(
-        text_of_steps(alloc, &run.steps)?.as_str() == *steps
+        text_of_refusal(alloc, run.refused)?.as_str() == *refused
+            && text_of_steps(alloc, &run.steps)?.as_str() == *steps
             && text_of_halves(alloc, &run.a)?.trim() == *a
             && text_of_halves(alloc, &run.b)?.trim() == *b,
     )
@@ -312,6 +326,6 @@ impl Row for RunsUntil {
 #[test]
 fn each_run_until(rt: HostRuntime) -> Result<(), Fail> {
     let count = each_row::<RunsUntil>(rt.alloc(), UNTIL)?;
-    assert_eq!(rt; count, 14);
+    assert_eq!(rt; count, 17);
     Ok(())
 }

@@ -14,6 +14,7 @@ use Rattle.tcap_record.specs.Ends.{other}
 use Rattle.tcap_end.specs.End.{is_id}
 use Rattle.tcap_model.specs.World.{is_side}
 use Rattle.tcap_model.proofs.RunLaws.{same_side}
+use Rattle.tcap_model.proofs.WorldLaws.{itself}
 use Rattle.tcap_dialogues.specs.Cut.{IdOf, ids_of, is_among, is_same}
 use Rattle.tcap_dialogues.specs.Part.{carries}
 use Rattle.tcap_dialogues.proofs.CutLists.{found, finds}
@@ -31,14 +32,9 @@ same_id a b is =
     let both = and_parts _ _ is in
     same_parts (same_side a.end b.end both.0) ((bytes_eq-Decides a.octets b.octets).0 both.1)
 
--- an end is itself,
-same_end : (side : Side) → is_side side side ≡ true
-same_end sides.A = refl
-same_end sides.B = refl
-
--- and an ID is.
+-- an ID is itself
 pub is_itself : (id : IdOf) → is_same id id ≡ true
-is_itself id = and_from _ _ (same_end id.end) ((bytes_eq-Decides id.octets id.octets).1 refl)
+is_itself id = and_from _ _ (itself id.end) ((bytes_eq-Decides id.octets id.octets).1 refl)
 
 -- ---- lists of IDs
 

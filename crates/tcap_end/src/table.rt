@@ -140,7 +140,7 @@ impl Table {
         self.operation(code).is_some()
     }
 
-    /// Whether the second operation may be linked to the first (Q.771 3.1.2); to one that the table lacks none may.
+    /// Whether the second operation may be linked to the first (Q.771 3.1); to one that the table lacks none may.
     pub fn links(&self, code: CodeView, linked: CodeView) -> bool
         ensures { result ≡ links self.now (code_of code.entry) (code_of linked.entry) }
     {
@@ -150,7 +150,7 @@ impl Table {
         }
     }
 
-    /// Whether any operation may be linked to this one (Q.771 3.1.2).
+    /// Whether any operation may be linked to this one (Q.771 3.1).
     pub fn links_some(&self, code: CodeView) -> bool
         ensures { result ≡ is_linked (linked_of self.now (code_of code.entry)) }
     {

@@ -17,7 +17,7 @@ use Rattle.tcap_model.specs.Entries.{item_of}
 use Rattle.tcap_model.specs.Run.{where_so}
 use Rattle.tcap_model.proofs.TurnLaws.{id_is}
 use Rattle.tcap_refute.specs.Before.{is_a}
-use Rattle.tcap_refute.proofs.BeforeLaws.{is_itself}
+use Rattle.tcap_model.proofs.WorldLaws.{itself}
 use Rattle.tcap_faults.specs.Told.{begins_from, goes_on_from}
 use Rattle.tcap_evidence.specs.Pairing.{Pairing, anew, no_pairing, paired_before, partner_in, with_message, with_pair, with_pairs, with_partner}
 use Rattle.tcap_evidence.specs.Scene.{is_that}
@@ -116,7 +116,7 @@ module _ (of : Side) (id : List ℕ) where
     none_begun n is =
         let end : sender ≡ of = cc in
         let same : m ≡ n = cc in
-        let own : is_side of sender ≡ true = rw end (is_itself of) in
+        let own : is_side of sender ≡ true = rw end (itself of) in
         rw (← same) (sym (ap (λ b. b && begins_from id m) own) ∙ not_begun)
 
     -- with the ID in that Continue noted for its end, and the other end's as it was
@@ -219,7 +219,7 @@ module _ (of : Side) (id : List ℕ) where
       number = omega (arith, at_k)
 
       here : Contains (with_pair of id at entry p).0 n
-      here = rw (it, is_itself of, begins, number) (Contains-push p.0 at)
+      here = rw (it, itself of, begins, number) (Contains-push p.0 at)
   begun (entry ∷ more) at p (suc k) n m at_k is begins none =
       begun more (at + 1) (with_pair of id at entry p) k n m (omega (arith, at_k)) is begins
       (λ j after is. none (suc j) (omega arith) is)

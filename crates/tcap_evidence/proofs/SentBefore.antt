@@ -14,7 +14,7 @@ use Rattle.tcap_model.specs.Entries.{item_of}
 use Rattle.tcap_model.specs.Run.{where_so}
 use Rattle.tcap_model.proofs.RunLaws.{same_side}
 use Rattle.tcap_refute.specs.Before.{message_of, sent_by, since_quiet}
-use Rattle.tcap_refute.proofs.BeforeLaws.{is_itself}
+use Rattle.tcap_model.proofs.WorldLaws.{itself}
 use Rattle.tcap_refute.proofs.ItemLaws.{since_mark, since_more}
 use Rattle.tcap_refute.proofs.Members.{has_not}
 use Rattle.tcap_faults.specs.Subject.{items_among}
@@ -186,7 +186,7 @@ module _ (side : Side) where
       number = omega (arith, at_k)
 
       here : Contains (cond (is_side side sender) (sent ++ (at, first) ∷ []) sent) (n, m)
-      here = rw (same, is_itself side, number, message) (Contains-push sent (n, m))
+      here = rw (same, itself side, number, message) (Contains-push sent (n, m))
   comes (Ok (Sent sender first) ∷ entries) at sent n m (suc k) at_k last =
       comes entries (at + 1) (cond (is_side side sender) (sent ++ (at, first) ∷ []) sent) n m k (omega (arith, at_k))
       (last_less side (Ok (Sent sender first)) entries k m last)

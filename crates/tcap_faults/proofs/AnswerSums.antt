@@ -1,4 +1,4 @@
--- Answers to invocations that were answered already, where few components are counted (Q.774 3.2, Q.771 3.1.2).
+-- Answers to invocations that were answered already, where few components are counted (Q.774 3.2, Q.771 3.1).
 use Rattle.std.proofs.Common.{◌≡◌, ℕ, ℤ, ◌+◌, ◌^◌, ◌≤◌, ◌<◌, arith, Bool, true, false, ltb, List, [], ◌∷◌, ◌++◌, Option, Some, None, refl, ap, ◌∙◌, ap₂}
 use Rattle.std.specs.Prelude.{◌||◌, ◌&&◌}
 use Rattle.tcap_parts.specs.declared.problem.Problem.TheVariants as problems

@@ -1,5 +1,5 @@
 -- No component that a half sends is more than what happened to the half allows: it invokes no ID that is in use, links
--- to what is there, answers no invocation twice (Q.774 3.2, Q.771 3.1.2).
+-- to what is there, answers no invocation twice (Q.774 3.2, Q.771 3.1).
 use Rattle.std.proofs.Common.{◌≡◌, ℕ, ℤ, ◌+◌, ◌≤◌, arith, Bool, true, false, List, [], ◌∷◌, ◌++◌, Option, Some, None, Ok, ltb, leb, is_some, not, refl, ap, subst, ◌∙◌}
 use Rattle.std.specs.Prelude.{◌&&◌, ◌||◌, option_map}
 use Rattle.std.specs.List.{list_any}

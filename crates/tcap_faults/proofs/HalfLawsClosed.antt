@@ -21,7 +21,8 @@ use Rattle.tcap_record.specs.Ends.{other}
 use Rattle.tcap_model.specs.World.{Item, Sent}
 use Rattle.tcap_model.proofs.TurnLaws.{id_is}
 use Rattle.tcap_refute.specs.Before.{asked, has_a, is_a, sent_by}
-use Rattle.tcap_refute.proofs.BeforeLaws.{is_itself, is_that_id}
+use Rattle.tcap_model.proofs.WorldLaws.{apart, itself}
+use Rattle.tcap_refute.proofs.BeforeLaws.{is_that_id}
 use Rattle.tcap_refute.proofs.Members.{any_has, filter_has}
 use Rattle.tcap_refute.proofs.OverLaws.{own_is}
 use Rattle.tcap_refute.proofs.HalfLawsTurns.{Acts, Deed, Turned, Unseen, acts_nowhere, answers, closes, learns, stays}
@@ -32,7 +33,6 @@ use Rattle.tcap_faults.proofs.HalfLawsAdvance.{Refuses, refuses}
 use Rattle.tcap_faults.proofs.HalfLawsFinds.{any_is, one_more}
 use Rattle.tcap_faults.proofs.HalfLawsIds.{all_use}
 use Rattle.tcap_faults.proofs.HalfLawsKeep.{views_keep}
-use Rattle.tcap_faults.proofs.HalfLawsLists.{other_is_not}
 use Rattle.tcap_faults.proofs.HalfLawsViews.{View, view_comes, view_sound}
 
 -- A half with that own ID is closed.
@@ -48,12 +48,12 @@ AllClosed side e coming items = (own : List ℕ) → was_closed side items (Some
 shows_by_cause : (side : Side) (own : List ℕ) (seen : List Item) (m : Message) → cause_in m ≡ None
     → shows_closed side own seen (Sent side m) ≡ true → ⊥
 shows_by_cause side own seen m none is =
-    let bad : false ≡ true = rw (is_itself side, none) at is in cc
+    let bad : false ≡ true = rw (itself side, none) at is in cc
 
 -- nor does one of the peer.
 shows_by_own : (side : Side) (own : List ℕ) (seen : List Item) (m : Message)
     → shows_closed side own seen (Sent (other side) m) ≡ true → ⊥
-shows_by_own side own seen m is = let bad : false ≡ true = rw (other_is_not side) at is in cc
+shows_by_own side own seen m is = let bad : false ≡ true = rw (apart side) at is in cc
 
 -- ---- one step
 
@@ -128,10 +128,10 @@ module _ {table : Table} {side : Side} (e : End) (coming : List Message) (items 
       → shows_closed side own items (Sent side abort) ≡ true → IsClosedAt e own
   refused_shows own (Unidirectional dialogue components) abort view it is = absurd it
   refused_shows own (Begin otid dialogue components) abort view it is =
-      let bad : false ≡ true = rw (is_itself side, it.0) at is in cc
+      let bad : false ≡ true = rw (itself side, it.0) at is in cc
   refused_shows own (Continue otid dtid dialogue components) abort view it is =
       let shows : (all_go_on_to own (asked side otid items) && has_used side items own) ≡ true =
-      rw (is_itself side, it.0) at is in
+      rw (itself side, it.0) at is in
       let (all, has_own) = and_parts (all_go_on_to own (asked side otid items)) _ shows in
       continue_shows own otid dtid (Continue otid dtid dialogue components) view refl refl refl it.1 all has_own
   refused_shows own (EndMessage dtid dialogue components) abort view it is = absurd it

@@ -13,7 +13,7 @@ use Rattle.tcap_model.specs.World.{Item, OnItsWay, World, channel_from, empty, e
 use Rattle.tcap_model.specs.Run.{Event, Sends, Receives, Replies, Loses, Expires, Closes, Quiet, Tells, KeepsRules, Runs, after, is_told_by, joined}
 use Rattle.tcap_model.proofs.RunLaws.{IsDelivery, IsHidden, IsLoss, IsReply, IsSending, closing, delivery, expiry, loss, quiet, reply, runs_keep, sending, telling}
 use Rattle.tcap_refute.specs.Before.{since_quiet}
-use Rattle.tcap_refute.proofs.BeforeLaws.{is_itself}
+use Rattle.tcap_model.proofs.WorldLaws.{itself}
 use Rattle.tcap_refute.proofs.HalfLawsTurns.{Acts, Unseen}
 use Rattle.tcap_refute.proofs.MomentLaws.{kept_before}
 use Rattle.tcap_faults.proofs.HalfLawsActs.{closed_acts, expired_acts}
@@ -148,7 +148,7 @@ module _ (table : Table) (side : Side) (Holds : End → List Message → List It
   step_keeps (Tells teller m) is told = by (which side teller)
     where
       by : (teller ≡ side) ⊎ (teller ≡ other side) → HoldsThen next
-      by (inl mine) = let bad : true ≡ false = sym (is_itself side) ∙ rw mine at told in cc
+      by (inl mine) = let bad : true ≡ false = sym (itself side) ∙ rw mine at told in cc
       by (inr theirs) =
           then_holds _ ((telling table teller m w next is).next_is ∙ ap (λ (p : Side). joined p m w) theirs)
           (of_seen side Holds _ e _ _ (told_there side m w) (kept.asks e (coming_to side w) items m view held))

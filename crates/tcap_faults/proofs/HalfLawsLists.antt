@@ -19,6 +19,7 @@ use Rattle.tcap_faults.specs.HalfOf.{from_first, responds}
 use Rattle.tcap_faults.specs.Told.{begin_from, goes_on_to, told}
 use Rattle.tcap_faults.proofs.LifeLawsItems.{sent_other, sent_own}
 use Rattle.tcap_faults.proofs.Lives.{heard_behind}
+use Rattle.tcap_model.proofs.WorldLaws.{apart}
 
 -- ---- what is heard
 
@@ -67,10 +68,6 @@ heard_among (Some begin) xs m has = by (is_begin_with_request begin) has
 
 -- ---- what was sent
 
-pub other_is_not : (side : Side) → is_side side (other side) ≡ false
-other_is_not sides.A = refl
-other_is_not sides.B = refl
-
 pub not_other : (side : Side) → is_side (other side) side ≡ false
 not_other sides.A = refl
 not_other sides.B = refl
@@ -78,7 +75,7 @@ not_other sides.B = refl
 -- What the peer sends is not sent by the end, and the other way round.
 pub own_same : (side : Side) (m : Message) (items : List Item)
     → sent_by side (items ++ Sent (other side) m ∷ []) ≡ sent_by side items
-own_same side m items = sent_other side (other side) m items (other_is_not side)
+own_same side m items = sent_other side (other side) m items (apart side)
 
 pub their_same : (side : Side) (m : Message) (items : List Item)
     → sent_by (other side) (items ++ Sent side m ∷ []) ≡ sent_by (other side) items

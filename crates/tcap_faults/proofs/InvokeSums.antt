@@ -1,4 +1,4 @@
--- Invokes that a half does not allow, where few components are counted (Q.774 3.2, Q.771 3.1.2).
+-- Invokes that a half does not allow, where few components are counted (Q.774 3.2, Q.771 3.1).
 use Rattle.std.proofs.Common.{◌≡◌, ℕ, ℤ, ◌+◌, ◌^◌, ◌≤◌, arith, Bool, true, false, ltb, List, Some, None, not, refl, sym, ap, ◌∙◌, ap₂}
 use Rattle.std.specs.Prelude.{◌||◌, ◌&&◌, ◌==◌, nat_le}
 use Rattle.std.specs.List.{list_any}

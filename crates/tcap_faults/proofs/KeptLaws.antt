@@ -11,7 +11,7 @@ use Rattle.tcap_refute.specs.declared.kind.Kind.{Kind}
 use Rattle.tcap_refute.specs.Before.{since_quiet}
 use Rattle.tcap_refute.specs.FirstKinds.{first_kinds, is_of_first_kind}
 use Rattle.tcap_refute.specs.Kind.{or_else}
-use Rattle.tcap_refute.proofs.BeforeLaws.{is_itself}
+use Rattle.tcap_model.proofs.WorldLaws.{itself}
 use Rattle.tcap_refute.proofs.ItemLaws.{since_mark, since_more}
 use Rattle.tcap_faults.specs.declared.facts.Facts.{Facts}
 use Rattle.tcap_faults.specs.Fault.{fault_since, further_kinds, is_fault, is_of_further_kind}
@@ -29,7 +29,7 @@ again_more : (table : Table) (side : Side) (items : List Item) (m : Message)
     ≡ (has_used_again table side items || uses_again table side items m)
 again_more table side items m =
     one_more (is_used_again table side) [] items (Sent side m)
-    ∙ ap (λ b. has_used_again table side items || (b && uses_again table side items m)) (is_itself side)
+    ∙ ap (λ b. has_used_again table side items || (b && uses_again table side items m)) (itself side)
 
 -- ---- the lowest kind of an own message
 
@@ -39,7 +39,7 @@ fault_is : (table : Table) (side : Side) (items : List Item) (m : Message)
     (find (is_fault table side items m) (first_kinds ++ further_kinds)) None
 fault_is table side items m =
     ap₂ (λ b c. cond (b && not c) (find (is_fault table side items m) (first_kinds ++ further_kinds)) None)
-    (is_itself side) (again_more table side items m)
+    (itself side) (again_more table side items m)
 
 -- Where an own ID is used again, or the message goes over tangled IDs, there is none.
 pub no_fault : (table : Table) (side : Side) (items : List Item) (m : Message)

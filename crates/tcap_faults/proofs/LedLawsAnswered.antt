@@ -1,5 +1,5 @@
 -- Which invocations each sort of component takes of those that a half received, and which Invokes brought them (Q.774
--- 3.2, Q.771 3.1.2).
+-- 3.2, Q.771 3.1).
 use Rattle.std.proofs.Common.{◌≡◌, ◌⊎◌, inl, inr, ℤ, ◌+◌, ◌≤◌, arith, Bool, true, false, cond, List, Some, None, refl}
 use Rattle.std.specs.Prelude.{◌&&◌, ◌||◌, option_map}
 use Rattle.std.proofs.lemmas.Bool.{and_parts, or_cases, or_left, or_right}

@@ -1,4 +1,4 @@
--- Invokes by the tests that their operations pass, and by the classes of these (Q.771 3.1.2).
+-- Invokes by the tests that their operations pass, and by the classes of these (Q.771 3.1).
 use Rattle.std.proofs.Common.{◌≡◌, ◌≢◌, ℕ, ℤ, ◌+◌, ◌≤◌, arith, Bool, true, false, cond, List, Option, Some, None, not, refl, sym, ◌∙◌}
 use Rattle.std.specs.Prelude.{◌&&◌, ◌||◌, ◌==◌}
 use Rattle.std.proofs.lemmas.Bool.{and_parts, both_ways, eqb-true, not-true, or_left, or_right}

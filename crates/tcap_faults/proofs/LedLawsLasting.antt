@@ -1,4 +1,4 @@
--- Own invocations that do not expire: what was received ended each but one in Operation Sent (Q.774 3.2, Q.771 3.1.2).
+-- Own invocations that do not expire: what was received ended each but one in Operation Sent (Q.774 3.2, Q.771 3.1).
 use Rattle.std.proofs.Common.{◌≡◌, ℤ, ◌+◌, ◌≤◌, arith, Bool, true, false, List, Some, None, not, refl, ap}
 use Rattle.std.specs.Prelude.{◌&&◌, ◌||◌}
 use Rattle.std.proofs.lemmas.Bool.{and_from, and_parts, not-true, or_left}

@@ -12,7 +12,7 @@ use Rattle.tcap_record.specs.declared.entry.End.{End as Side}
 use Rattle.tcap_end.specs.End.{is_id}
 use Rattle.tcap_model.specs.World.{Item, Sent, is_side}
 use Rattle.tcap_refute.specs.Before.{is_a, sent_by}
-use Rattle.tcap_refute.proofs.BeforeLaws.{is_itself}
+use Rattle.tcap_model.proofs.WorldLaws.{itself}
 use Rattle.tcap_faults.specs.Told.{begin_from, begins_from, tells_to, told}
 use Rattle.tcap_faults.proofs.LifeLawsCome.{KeepsBegins}
 use Rattle.tcap_faults.proofs.Lives.{told_to}
@@ -25,7 +25,7 @@ pub sent_own : (side : Side) (m : Message) (items : List Item)
 sent_own side m items = filter_map-append _ items (Sent side m ∷ []) ∙ ap (λ more. sent_by side items ++ more) one
   where
     one : sent_by side (Sent side m ∷ []) ≡ m ∷ []
-    one = rw (is_itself side) refl
+    one = rw (itself side) refl
 
 -- and not one of the other's.
 pub sent_other : (side sender : Side) (m : Message) (items : List Item) → is_side side sender ≡ false

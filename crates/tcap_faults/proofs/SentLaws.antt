@@ -19,7 +19,7 @@ use Rattle.tcap_end.specs.Table.{Table, octets_cmp}
 use Rattle.tcap_model.specs.World.{Item, Sent, is_side}
 use Rattle.tcap_model.specs.Since.{ended_by}
 use Rattle.tcap_refute.specs.Before.{is_a}
-use Rattle.tcap_refute.proofs.BeforeLaws.{is_itself}
+use Rattle.tcap_model.proofs.WorldLaws.{itself}
 use Rattle.tcap_refute.proofs.TestLaws.{and_false, or_none}
 use Rattle.tcap_faults.specs.declared.ids.Ids.{Ids}
 use Rattle.tcap_faults.specs.declared.facts.SideFacts.{SideFacts}
@@ -229,7 +229,7 @@ module _ (table : Table) (side : Side) (items : List Item) (m : Message) (own pe
     }
       where
         here : uses_again table side items m ≡ is_used_again table side items (Sent side m)
-        here = rw (is_itself side) refl
+        here = rw (itself side) refl
 
     -- and of its peer.
     pub peer_sent : IsSide table (other side) (items ++ Sent side m ∷ []) there

@@ -11,7 +11,7 @@ use Rattle.tcap_record.specs.declared.entry.End.{End as Side}
 use Rattle.tcap_record.specs.Ends.{other}
 use Rattle.tcap_model.specs.World.{Item, Sent}
 use Rattle.tcap_refute.specs.Before.{asked, has_a, is_a}
-use Rattle.tcap_refute.proofs.BeforeLaws.{is_itself}
+use Rattle.tcap_model.proofs.WorldLaws.{itself}
 use Rattle.tcap_faults.specs.Closed.{all_go_on_to}
 use Rattle.tcap_faults.specs.Counts.{is_nothing}
 use Rattle.tcap_faults.specs.Told.{began, goes_on_to, has_used}
@@ -136,7 +136,7 @@ module _ (side : Side) (items : List Item) (m : Message) (from to : List ℕ) (o
   guess_is : guesses (other side) id items (Sent side m)
       ≡ ((bytes_eq id from && began side id items) && not (has_used (other side) items to))
   guess_is =
-      rw (begun_there side items id, other_twice side, is_itself side, goes_both m from to otid dtid, otid, dtid) refl
+      rw (begun_there side items id, other_twice side, itself side, goes_both m from to otid dtid, otid, dtid) refl
 
   pub guessed_is : (g : Bool) → g ≡ (began side from items && not (has_used (other side) items to))
       → (bytes_eq id from && g) ≡ guesses (other side) id items (Sent side m)
@@ -150,4 +150,4 @@ module _ (side : Side) (items : List Item) (m : Message) (from to : List ℕ) (o
 -- What is no Continue guesses nothing.
 pub guesses_not : (side : Side) (items : List Item) (m : Message) → is_a forms.Continue m ≡ false → (id : List ℕ)
     → guesses (other side) id items (Sent side m) ≡ false
-guesses_not side items m stays id = rw (other_twice side, is_itself side, stays) refl
+guesses_not side items m stays id = rw (other_twice side, itself side, stays) refl

@@ -1,5 +1,5 @@
 -- Components that the half with their destination ID does not allow, by what it heard, told and invoked (Q.774 3.2, Q.771
--- 3.1.2). Each fact is a count: more was sent than what was heard could allow.
+-- 3.1). Each fact is a count: more was sent than what was heard could allow.
 use Rattle.std.specs.Prelude.{ℕ, ℤ, ◌+◌, Bool, true, false, List, [], ◌∷◌, ◌++◌, Option, Some, None, ◌==◌, ◌&&◌, ◌||◌, not, nat_lt, nat_le, cond}
 use Rattle.std.specs.List.{list_any}
 use Rattle.tcap_parts.specs.declared.code.Code.{Code}

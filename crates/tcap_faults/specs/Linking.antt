@@ -1,4 +1,4 @@
--- Operations by what may be linked to them (Q.771 3.1.2), linked Invokes by the invocations that they name, and operations by
+-- Operations by what may be linked to them (Q.771 3.1), linked Invokes by the invocations that they name, and operations by
 -- the invocations of them.
 use Rattle.std.specs.Prelude.{ℤ, Bool, ◌==◌, ◌&&◌, not}
 use Rattle.tcap_parts.specs.declared.code.Code.{Code}

@@ -9,7 +9,7 @@ ghost use Rattle.tcap_faults.specs.Noted.{is_of};
 use crate::sort::Class;
 use crate::sums::more;
 
-/// Counts by classes of operations (Q.771 3.1.2).
+/// Counts by classes of operations (Q.771 3.1).
 #[derive(Clone, Copy, Debug)]
 pub(crate) struct ByClass {
     /// Of operations that the table lacks, too.

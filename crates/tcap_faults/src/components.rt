@@ -1,4 +1,4 @@
-//! Components that the half over which they would be sent does not allow (Q.774 3.2; Q.771 3.1.2).
+//! Components that the half over which they would be sent does not allow (Q.774 3.2; Q.771 3.1).
 
 ghost use Rattle.std.specs.Prelude.{◌≡◌, List, ◌++◌, IfOk, OnOk, filter, option_map, option_to_list};
 ghost use Rattle.tcap_parts.specs.declared.component.Component.{Component};

@@ -1,4 +1,4 @@
-//! Invokes that a half does not allow: of an ID that is in use, or linked to what is not there (Q.774 3.2; Q.771 3.1.2).
+//! Invokes that a half does not allow: of an ID that is in use, or linked to what is not there (Q.774 3.2; Q.771 3.1).
 
 ghost use Rattle.std.specs.Prelude.{◌≡◌};
 ghost use Rattle.tcap_parts.specs.Meaning.{code_of, component_of};

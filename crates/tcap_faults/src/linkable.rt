@@ -1,4 +1,4 @@
-//! What may be linked to an operation (Q.771 3.1.2).
+//! What may be linked to an operation (Q.771 3.1).
 
 ghost use Rattle.std.specs.Prelude.{◌≡◌};
 ghost use Rattle.tcap_parts.specs.Meaning.{code_of};
@@ -7,7 +7,7 @@ ghost use Rattle.tcap_faults.specs.Linking.{links_as};
 use tcap_end::Table;
 use tcap_parts::CodeView;
 
-/// What may be linked to an operation (Q.771 3.1.2).
+/// What may be linked to an operation (Q.771 3.1).
 #[derive(Clone, Copy, Debug)]
 pub(crate) enum Linkable<'a> {
     /// That operation.

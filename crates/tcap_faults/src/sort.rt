@@ -1,6 +1,6 @@
 //! Sorts of components that are counted.
 
-/// A class of operations (Q.771 3.1.2), or any.
+/// A class of operations (Q.771 3.1), or any.
 #[derive(Clone, Copy, Debug)]
 pub enum Class {
     /// Any.

@@ -47,7 +47,7 @@ pub(crate) fn results_of(tallies: &[&Tally], id: i8, code: CodeView) -> u128
     all
 }
 
-/// Whether an Invoke of that ID is of an operation to which that one may be linked (Q.771 3.1.2): all are looked at.
+/// Whether an Invoke of that ID is of an operation to which that one may be linked (Q.771 3.1): all are looked at.
 fn one_lists(tallies: &[&Tally], table: &Table, id: i8, code: CodeView) -> bool
     ensures { result ≡ (tallies_of (map (λ b. b.now) tallies.now)).has_operation id
         (λ to. links table.now to (code_of code.entry)) }
@@ -73,7 +73,7 @@ fn one_lists_again(tallies: &[&Tally], table: &Table, id: i8, code: CodeView) ->
     false
 }
 
-/// Whether an Invoke of that ID is of an operation to which that one may be linked (Q.771 3.1.2).
+/// Whether an Invoke of that ID is of an operation to which that one may be linked (Q.771 3.1).
 pub(crate) fn lists(tallies: &[&Tally], table: &Table, id: i8, code: CodeView) -> bool
     ensures { result ≡ (tallies_of (map (λ b. b.now) tallies.now)).has_operation id
         (λ to. links table.now to (code_of code.entry)) }

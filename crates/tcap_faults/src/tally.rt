@@ -171,7 +171,7 @@ impl Tally {
         }
     }
 
-    /// Whether an Invoke of that ID is of an operation to which that one may be linked (Q.771 3.1.2). Its place is kept.
+    /// Whether an Invoke of that ID is of an operation to which that one may be linked (Q.771 3.1). Its place is kept.
     pub(crate) fn lists(&self, table: &Table, id: i8, code: CodeView) -> bool
         ensures { result ≡ (tally_of self.now).has_operation id (λ to. links table.now to (code_of code.entry)) }
     {

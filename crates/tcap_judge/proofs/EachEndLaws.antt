@@ -92,10 +92,10 @@ pub found_alike : IsNeverGiven → (side : Side) (table : Table) (c : Certificat
     → (findings.Lawful count unheard ≡ finding table entries side) × AreLawful (Some side) table entries
 found_alike never side table c entries (events, is) alike count lost count_is lost_is =
     let both = gives table c entries events is in
-    let (own, given, discards) = both_give side table c entries both.items events both.are is in
+    let (own, given, losses, none) = both_give side table c entries both.items events both.are is in
     let mine = gives_for side table c entries own given in
     let unheard : unheard_of side own ≡ lost_of (other side) c.fates entries =
-    unheard_are_lost side own ∙ ap length discards ∙ lost_are (other side) 0 c.fates entries both.items both.are in
+    unheard_are_lost side own ∙ ap length losses ∙ lost_are (other side) 0 c.fates entries both.items both.are in
     let proposed : replayed_by (Some side) table (proposed_for side entries) entries ≡ Ok own =
     subst (λ (d : Certificate). replayed_by (Some side) table d entries ≡ Ok own) alike given in (
       ap₂ findings.Lawful count_is lost_is
@@ -115,5 +115,5 @@ pub none_blamed_by_both : IsNeverGiven → (side : Side) (table : Table) (c : Ce
     → (events : List Event) × (replayed_by None table c entries ≡ Ok events) → blamed table side entries ≡ None
 none_blamed_by_both never side table c entries (events, is) =
     let both = gives table c entries events is in
-    let (own, given, discards) = both_give side table c entries both.items events both.are is in
+    let (own, given, losses, none) = both_give side table c entries both.items events both.are is in
     none_blamed never side table c entries own given

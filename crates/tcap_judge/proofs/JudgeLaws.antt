@@ -14,7 +14,7 @@ use Rattle.tcap_end.specs.Table.{Table}
 use Rattle.tcap_check.specs.declared.fault.CheckFault.{CheckFault}
 use Rattle.tcap_check.specs.Certificate.{Certificate}
 use Rattle.tcap_check.specs.Checking.{Checking}
-use Rattle.tcap_judge.specs.Judging.{EndsWith, Leads, LeadsFed, StandsFor, Takes, TakenSoFar}
+use Rattle.tcap_judge.specs.Judging.{EndsWith, Leads, LeadsFed, IsCheckerOf, Takes, TakenSoFar}
 
 -- more octets were taken
 pub leads_fed : (h : Held) (old : Result Checking CheckFault) (piece rest : List ℕ) (n m : ℕ) (mid new : Held)
@@ -74,7 +74,7 @@ leads_taken h old octets mid new checker next entry step takes leads judged tabl
 -- where the record ended
 pub ends_with : (judged : Option Side) (table : Table) (c : Certificate) (entries : List Entry) (held : Held)
     (checker : Result Checking CheckFault) (end : Result (Unit {0}) FeedFault) → held.count ≡ length entries
-    → StandsFor judged table c checker entries → EndsWith judged table c entries held checker end
+    → IsCheckerOf judged table c checker entries → EndsWith judged table c entries held checker end
 ends_with judged table c entries held checker (Ok end) count stands = (count, stands)
 ends_with judged table c entries held checker (Err fault) count stands = tt
 

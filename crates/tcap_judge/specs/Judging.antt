@@ -14,22 +14,22 @@ use Rattle.tcap_judge.specs.declared.outcome.Outcome.{Outcome}
 use Rattle.tcap_judge.specs.Checked.{Device, ReadsRecord, out_of_memory, replay_says}
 
 -- A checker of whoever is judged took these entries; or the certificate's numbers are out of their ranges, and there is none.
-abbrev pub StandsFor : Option Side → Table → Certificate → Result Checking CheckFault → List Entry → Type 0
-StandsFor judged table c (Ok checker) entries =
+abbrev pub IsCheckerOf : Option Side → Table → Certificate → Result Checking CheckFault → List Entry → Type 0
+IsCheckerOf judged table c (Ok checker) entries =
     Took checker (map item_of entries) × (checker.judged ≡ judged) × (checker.table ≡ table) × (checker.certificate ≡ c)
-StandsFor judged table c (Err fault) entries = certificate_fits c ≡ Err fault
+IsCheckerOf judged table c (Err fault) entries = certificate_fits c ≡ Err fault
 
 -- one entry more
 abbrev pub Takes : Result Checking CheckFault → Entry → Result Checking CheckFault → Type 0
 Takes old entry new =
-    (judged : Option Side) (table : Table) (c : Certificate) (entries : List Entry) → StandsFor judged table c old entries
-    → StandsFor judged table c new (entries ++ entry ∷ [])
+    (judged : Option Side) (table : Table) (c : Certificate) (entries : List Entry) → IsCheckerOf judged table c old entries
+    → IsCheckerOf judged table c new (entries ++ entry ∷ [])
 
 -- The octets that were taken are these entries and what is held, and the checker took the entries.
 pub record TakenSoFar (judged : Option Side) (table : Table) (c : Certificate) (told : List ℕ) (entries : List Entry) (held : Held)
     (checker : Result Checking CheckFault) : Type 0 where
   pub fed : Fed told entries held
-  pub stands : StandsFor judged table c checker entries
+  pub stands : IsCheckerOf judged table c checker entries
 
 -- Wherever it was so before some octets were taken, it is so behind them, of those entries and more.
 abbrev pub Leads : Held → Result Checking CheckFault → List ℕ → Held → Result Checking CheckFault → Type 0
@@ -48,7 +48,7 @@ LeadsFed old_held old octets held =
 -- what the checker stands for, and how many entries were dropped, where the record ended
 abbrev pub EndsWith : Option Side → Table → Certificate → List Entry → Held → Result Checking CheckFault
     → Result (Unit {0}) FeedFault → Type 0
-EndsWith judged table c entries held checker (Ok end) = (held.count ≡ length entries) × StandsFor judged table c checker entries
+EndsWith judged table c entries held checker (Ok end) = (held.count ≡ length entries) × IsCheckerOf judged table c checker entries
 EndsWith judged table c entries held checker (Err fault) = Unit {0}
 
 -- What the reader told is these entries, which the checker took, and this end behind them.
@@ -62,12 +62,12 @@ pub record ReadsAll (judged : Option Side) (table : Table) (c : Certificate) (d 
 abbrev pub LeadsToEnd : Result Checking CheckFault → Device → Held → Result Checking CheckFault
     → Result (Unit {0}) FeedFault → Type 0
 LeadsToEnd old d held checker end =
-    (judged : Option Side) (table : Table) (c : Certificate) → StandsFor judged table c old []
+    (judged : Option Side) (table : Table) (c : Certificate) → IsCheckerOf judged table c old []
     → ReadsAll judged table c d held checker end
 
 -- what is said of entries, which are all of a record
 abbrev pub Finishes : Option Side → Result Checking CheckFault → ℕ → Outcome → Type 0
 Finishes judged checker count outcome =
-    (table : Table) (c : Certificate) (entries : List Entry) → StandsFor judged table c checker entries
+    (table : Table) (c : Certificate) (entries : List Entry) → IsCheckerOf judged table c checker entries
     → count ≡ length entries
     → (outcome ≡ out_of_memory) ⊎ (outcome ≡ replay_says judged (length entries) (replayed_by judged table c entries))

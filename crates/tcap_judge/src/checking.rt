@@ -12,7 +12,7 @@ ghost use Rattle.tcap_record.specs.Viewed.{entry_read};
 ghost use Rattle.tcap_judge.specs.Checked.{Checks, Judges, JudgesRecord};
 ghost use Rattle.tcap_judge.specs.LawfulRecord.{FindsLawful, FindsLawfulFor};
 ghost use Rattle.tcap_judge.specs.Judged.{said_lawful};
-ghost use Rattle.tcap_judge.specs.Judging.{Finishes, Leads, LeadsFed, LeadsToEnd, StandsFor, Takes};
+ghost use Rattle.tcap_judge.specs.Judging.{Finishes, Leads, LeadsFed, LeadsToEnd, IsCheckerOf, Takes};
 ghost use Rattle.tcap_judge.specs.Outcome.{Says};
 
 use crate::given::{read_certificate, read_table};
@@ -144,7 +144,7 @@ fn start<'a>(
     certificate: &'a Certificate,
     judged: Option<End>,
 ) -> Option<Result<Checker<'a>, CheckFault>>
-    ensures { IfSome result (λ checker. StandsFor judged table.entry.now certificate.entry.now checker []) }
+    ensures { IfSome result (λ checker. IsCheckerOf judged table.entry.now certificate.entry.now checker []) }
 {
     match Checker::judging(alloc, table, certificate, judged) {
         Err(fault) if matches!(fault.reason, Reason::Memory) => None,

@@ -19,6 +19,7 @@ use Rattle.tcap_model.specs.Run.{Event, Sends, Receives, Replies, Loses, Expires
 use Rattle.tcap_model.specs.Since.{WasSent}
 use Rattle.tcap_model.proofs.ListLaws.{all_both, all_weaker}
 use Rattle.tcap_model.proofs.RunLaws.{IsQuiet, closing, delivery, expiry, loss, quiet, reply, runs_keep, sending, telling}
+use Rattle.tcap_model.proofs.WorldLaws.{itself}
 use Rattle.tcap_model.proofs.SinceLaws.{drop_more, no_quiet}
 
 -- ---- the sent list
@@ -291,10 +292,6 @@ numbers_regroup : (gone left new : List OnItsWay)
 numbers_regroup [] left new = map-append (λ m. m.number) left new
 numbers_regroup (first ∷ gone) left new = ap (λ more. first.number ∷ more) (numbers_regroup gone left new)
 
-is_itself : (side : Side) → is_side side side ≡ true
-is_itself A = refl
-is_itself B = refl
-
 module _ {event : Event} {side : Side} {w next : World} (it : Passes event side w next) where
   -- What is taken, and then what is on the channel, is what was on it, and what is new.
   now_there : takes_from side event ++ numbers_of (channel_from side next) ≡ numbers_of (channel_from side w) ++ numbers_of it.new
@@ -309,7 +306,7 @@ module _ {event : Event} {side : Side} {w next : World} (it : Passes event side 
           → numbers_sent side 0 next.sent ≡ numbers_sent side 0 w.sent ++ numbers_of it.new
       by (inl (none, same)) = same ∙ rw none (sym (append-nil (numbers_sent side 0 w.sent)))
       by (inr (m, one, more)) =
-          rw (more, one, numbers_more side side m 0 w.sent, is_itself side)
+          rw (more, one, numbers_more side side m 0 w.sent, itself side)
           (ap (λ k. numbers_sent side 0 w.sent ++ k ∷ []) (let none : 0 + length w.sent ≡ length w.sent = omega arith in none))
 
 -- both channels

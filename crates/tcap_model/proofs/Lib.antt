@@ -1,4 +1,5 @@
 pub mod ListLaws
+pub mod WorldLaws
 pub mod RunLaws
 pub mod SinceLaws
 pub mod ChannelLaws

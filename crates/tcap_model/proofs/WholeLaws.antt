@@ -1,13 +1,12 @@
 -- What each of two ends makes of the same items, put together: a run in which both keep the rules.
-use Rattle.std.proofs.Common.{◌≡◌, ℕ, List, [], ◌∷◌, ◌++◌, length, Some, Ok, refl, subst, sym, ap, ◌∙◌, append_assoc, append-nil}
-use Rattle.tcap_msg.specs.declared.message.Message.{Message}
+use Rattle.std.proofs.Common.{◌≡◌, ℕ, List, [], ◌∷◌, ◌++◌, length, Some, refl, sym, ◌∙◌, append_assoc, append-nil}
 use Rattle.tcap_record.specs.declared.entry.End.TheVariants as sides
 use Rattle.tcap_end.specs.Table.{Table}
-use Rattle.tcap_end.specs.End.{End, nothing, quiet}
+use Rattle.tcap_end.specs.End.{End, nothing}
 use Rattle.tcap_model.specs.World.{Item, OnItsWay, Sent, World}
 use Rattle.tcap_model.specs.Run.{BothKeepRules, Event, IsLawful, IsLawfulFor, Quiet, after, played}
 use Rattle.tcap_model.proofs.RunLaws.{played_on}
-use Rattle.tcap_model.proofs.WholeTurns.{Drifts, Goes, Says, Takes, Turn, both_keep, with_newest}
+use Rattle.tcap_model.proofs.WholeTurns.{Drifts, Goes, Takes, Turn, both_keep, with_newest}
 use Rattle.tcap_model.proofs.WholeViews.{goes_lawful}
 
 -- both ends, what is on its way to each, and what was sent

@@ -1,8 +1,7 @@
 -- What an end that keeps the rules makes of each item of a run: what happens to it unseen before the item, and then the
 -- item. Nothing but the end itself and what is on its way to it matters, so the events are the same in each world.
-use Rattle.std.proofs.Common.{◌≡◌, ◌⊎◌, inl, inr, ℕ, ℤ, Bool, true, false, List, [], ◌∷◌, ◌++◌, length, Some, Ok, refl, sym, ap, ◌∙◌, append_assoc, append-nil}
+use Rattle.std.proofs.Common.{◌≡◌, ℤ, Bool, true, false, List, [], ◌∷◌, ◌++◌, length, Some, Ok, refl, ◌∙◌}
 use Rattle.std.proofs.lemmas.Bool.{eq-eqb, or_from, or_parts}
-use Rattle.std.specs.Prelude.{◌||◌}
 use Rattle.tcap_msg.specs.declared.message.Message.{Message}
 use Rattle.tcap_record.specs.declared.entry.End.{End as Side}
 use Rattle.tcap_record.specs.declared.entry.End.TheVariants as sides

@@ -1,12 +1,11 @@
 -- From a run in which an end keeps the rules: what it makes of each item that was sent.
-use Rattle.std.proofs.Common.{◌≡◌, ◌⊎◌, inl, inr, ℕ, ℤ, Bool, true, false, List, [], ◌∷◌, ◌++◌, Option, Some, None, Result, Ok, refl, subst, sym, ap, ◌∙◌, append_assoc, append-nil}
+use Rattle.std.proofs.Common.{◌≡◌, ◌⊎◌, inl, inr, ℕ, ℤ, Bool, true, false, List, [], ◌∷◌, ◌++◌, Option, Some, None, Ok, refl, subst, ap, ◌∙◌, append_assoc, append-nil}
 use Rattle.std.proofs.lemmas.Bool.{or_parts}
 use Rattle.std.specs.Prelude.{◌&&◌, option_map}
 use Rattle.std.specs.Result.{result_ok}
 use Rattle.tcap_msg.specs.declared.message.Message.{Message}
 use Rattle.tcap_record.specs.declared.entry.End.{End as Side}
 use Rattle.tcap_record.specs.declared.entry.End.TheVariants as sides
-use Rattle.tcap_end.specs.declared.fault.EndFault.{EndFault}
 use Rattle.tcap_end.specs.declared.fault.EndFault.TheVariants as faults
 use Rattle.tcap_end.specs.declared.half.HalfName.{HalfName}
 use Rattle.tcap_end.specs.Table.{Table}
@@ -17,8 +16,8 @@ use Rattle.tcap_end.specs.Step.{needs, ◌>>◌}
 use Rattle.tcap_record.specs.Ends.{other}
 use Rattle.tcap_model.specs.World.{Item, OnItsWay, Sent, World, channel_from, empty, end_at, is_side, with_channel, with_end}
 use Rattle.tcap_model.specs.Run.{Event, Sends, Receives, Replies, Loses, Expires, Closes, Quiet, Tells, IsLawfulFor, KeepsRules, after, after_quiet, is_told_by, joined, played, reply_to, tells, then_so}
-use Rattle.tcap_model.proofs.RunLaws.{IsQuiet, closing, delivery, expiry, loss, quiet as quiet_step, reply, sending, telling}
-use Rattle.tcap_model.proofs.WholeTurns.{Drifts, Goes, Says, Takes, closes, drifts_first, expires, hears, misses, no_drift, replies, sends}
+use Rattle.tcap_model.proofs.RunLaws.{closing, delivery, expiry, loss, quiet as quiet_step, reply, sending, telling}
+use Rattle.tcap_model.proofs.WholeTurns.{Drifts, Goes, Takes, closes, drifts_first, expires, hears, misses, no_drift, replies, sends}
 
 -- what is on its way to an end
 abbrev coming_to : Side → World → List OnItsWay

@@ -24,6 +24,7 @@ use Rattle.tcap_model.proofs.SentMoves.{begin_uses, closed_moves, continue_uses,
 use Rattle.tcap_model.proofs.ReceivedMoves.{received_moves}
 use Rattle.tcap_model.proofs.SinceLaws.{since_at, since_back, since_quiet, since_more}
 use Rattle.tcap_model.proofs.ChannelLaws.{were_sent}
+use Rattle.tcap_model.proofs.WorldLaws.{itself, sent_joined, sent_with_channel, sent_with_end}
 use Rattle.tcap_model.proofs.RunLaws.{IsDelivery, IsHidden, IsLoss, IsQuiet, IsReply, IsSending, IsTold, closing, delivery, expiry, loss, quiet, reply, runs_keep, sending, sound, telling}
 
 -- ---- what a step makes of a world
@@ -88,11 +89,6 @@ changes_sent : (side : Side) (m : Message) (made : End) (w : World) → Changes 
 changes_sent sides.A m made w = record { here = refl; there = refl }
 changes_sent sides.B m made w = record { here = refl; there = refl }
 
--- A message that joins its channel joins the sent list.
-sent_joined : (side : Side) (m : Message) (w : World) → (joined side m w).sent ≡ w.sent ++ Sent side m ∷ []
-sent_joined sides.A m w = refl
-sent_joined sides.B m w = refl
-
 -- one is received,
 changes_got : (side : Side) (more : List OnItsWay) (made : End) (w : World)
     → Changes side made w (with_end side made (with_channel (other side) more w))
@@ -117,16 +113,6 @@ changes_hidden sides.B made w = record { here = refl; there = refl }
 
 -- ---- the sent list
 
--- An end is no matter of it,
-sent_with_end : (side : Side) (e : End) (w : World) → (with_end side e w).sent ≡ w.sent
-sent_with_end sides.A e w = refl
-sent_with_end sides.B e w = refl
-
--- nor is a channel.
-sent_with_channel : (side : Side) (more : List OnItsWay) (w : World) → (with_channel side more w).sent ≡ w.sent
-sent_with_channel sides.A more w = refl
-sent_with_channel sides.B more w = refl
-
 -- Nothing is sent.
 none_sent : (event : Event) (w next : World) → next.sent ≡ w.sent → SentMore event w next
 none_sent event w next is = record {
@@ -147,11 +133,6 @@ one_sent event sender n w next is used ended = record {
     by side m (inl newest) = inr (rw (newest.0, newest.1) (used, ended))
     by side m (inr was) = inl was
 
--- A side is itself.
-is_itself : (side : Side) → is_side side side ≡ true
-is_itself sides.A = refl
-is_itself sides.B = refl
-
 -- A message is told.
 one_told : (teller : Side) (n : Message) (w next : World) → next.sent ≡ w.sent ++ Sent teller n ∷ [] → SentMore (Tells teller n) w next
 one_told teller n w next is = record {
@@ -161,7 +142,7 @@ one_told teller n w next is = record {
   where
     by : (side : Side) (m : Message) → is_side side teller ≡ false → ((side ≡ teller) × (m ≡ n)) ⊎ SentSince side m w.sent
         → SentSince side m w.sent ⊎ (HasUsed next side m × HasEnded next side m)
-    by side m told (inl newest) = let bad : true ≡ false = sym (is_itself teller) ∙ rw (newest.0) at told in cc
+    by side m told (inl newest) = let bad : true ≡ false = sym (itself teller) ∙ rw (newest.0) at told in cc
     by side m told (inr was) = inl was
 
 -- ---- steps

@@ -6,7 +6,7 @@ pub const FRAME_HEAD: &str = r##"<!doctype html>
 <head>
 <meta charset="utf-8">
 <meta name="viewport" content="width=device-width, initial-scale=1">
-<meta http-equiv="Content-Security-Policy" content="default-src 'none'; base-uri 'none'; form-action 'none'; img-src data:; style-src 'sha256-b0zgqhZQcEiID3cAmXbQG5ZjidSJJ+1gn/Cjo2FQ6OU='; script-src 'sha256-oTE1hcgZqAzxnlBV8s48A9Fnjyq23grB2XY9RT7/wWQ='">
+<meta http-equiv="Content-Security-Policy" content="default-src 'none'; base-uri 'none'; form-action 'none'; img-src data:; style-src 'sha256-b0zgqhZQcEiID3cAmXbQG5ZjidSJJ+1gn/Cjo2FQ6OU='; script-src 'sha256-0j7oibWAbyh24SAkGU6SyIUPxqv13K67S14u2M9aQUs='">
 <meta name="referrer" content="no-referrer">
 <title>TCAP dialogues, judged</title>
 <link rel="icon" href="data:,">
@@ -363,7 +363,7 @@ const KINDS = {
   F3: ["Its end has used the originating ID before.", "Q.774 3.3; that an ID is used once is this profile's choice"],
   F4: ["Its end has ended this dialogue before.", "Q.774 3.3"],
   F5: ["It answers or rejects what its peer never sent.", "Q.774 3.2"],
-  F6: ["It invokes or answers an operation as the table does not allow.", "Q.771 3.1.2, operation classes"],
+  F6: ["It invokes or answers an operation as the table does not allow.", "Q.771 3.1, operation classes"],
   F7: ["Its dialogue portion is one that it may not carry.", "Q.774 3.2, dialogues; Q.773 4.2.3"],
   F8: ["Its end has no transaction over which it may send it.", "Q.774 3.3"],
   F9: ["Its dialogue portion does not fit how the dialogue stands.", "Q.774 3.2, dialogues"],

@@ -17,16 +17,12 @@ use Rattle.tcap_model.specs.Run.{where_so}
 use Rattle.tcap_model.specs.World.{has_quiet}
 use Rattle.tcap_model.specs.Since.{originating}
 use Rattle.tcap_model.specs.Since.{SentSince}
+use Rattle.tcap_model.proofs.WorldLaws.{itself}
 use Rattle.tcap_model.proofs.RunLaws.{same_side}
 use Rattle.tcap_refute.specs.Before.{asked, components_of, message_of, sent_by, since_quiet}
 use Rattle.tcap_refute.proofs.Members.{filter_has, filter_map_has, flat_map_has, has_first, has_later}
 
 -- ---- tests
-
--- A side is that side.
-pub is_itself : (side : Side) → is_side side side ≡ true
-is_itself sides.A = refl
-is_itself sides.B = refl
 
 -- An ID is that ID.
 pub is_that_id : (id : List ℕ) (o : Option (List ℕ)) → o ≡ Some id → is_id id o ≡ true
@@ -64,7 +60,7 @@ pub sent_has : (side : Side) (m : Message) (items : List Item) → SentSince sid
 sent_has side m items (front, behind, is, none) =
     rw is
     (filter_map_has (message_of side) (since_quiet (front ++ Sent side m ∷ behind)) (Sent side m) m
-    (behind_mark side m front behind none) (ap (λ b. where_so b (Some m)) (is_itself side)))
+    (behind_mark side m front behind none) (ap (λ b. where_so b (Some m)) (itself side)))
 
 -- and among what the other end was asked from its originating ID;
 pub asked_has : (side : Side) (id : List ℕ) (m : Message) (items : List Item) → SentSince (other side) m items

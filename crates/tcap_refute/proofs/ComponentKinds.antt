@@ -1,5 +1,5 @@
 -- No message that is sent answers what its end was never asked (Q.774 3.2), or is of an operation that it may not be of
--- (Q.771 3.1.2).
+-- (Q.771 3.1).
 use Rattle.std.proofs.Common.{◌≡◌, ◌⊎◌, inl, inr, Bool, true, false, ℤ, List, [], ◌∷◌, Option, Some, None, Result, Ok, Err, is_none, is_some, not, refl, sym, ◌∙◌}
 use Rattle.std.specs.Prelude.{◌||◌, ok_or}
 use Rattle.std.specs.List.{AllByRecursion, list_any}

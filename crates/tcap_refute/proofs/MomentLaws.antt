@@ -12,8 +12,8 @@ use Rattle.tcap_end.specs.Message.{send}
 use Rattle.tcap_record.specs.Ends.{other}
 use Rattle.tcap_model.specs.World.{Item, OnItsWay, Sent, World, channel_from, end_at, with_channel}
 use Rattle.tcap_model.specs.Run.{Adds, Event, Sends, Receives, Replies, Loses, Expires, Closes, Quiet, Tells, KeepsRules, Runs, after, is_told_by, joined, reply_to, tells}
+use Rattle.tcap_model.proofs.WorldLaws.{itself, sent_joined, sent_with_channel}
 use Rattle.tcap_model.proofs.RunLaws.{IsReply, grows, reply, runs_keep, sending}
-use Rattle.tcap_refute.proofs.BeforeLaws.{is_itself}
 
 -- The end sends it.
 abbrev pub SendsIt : Table → World → Side → Message → Type 0
@@ -62,15 +62,6 @@ kept_before side (first ∷ before) event keeps =
     let (now, later) = or_parts (is_told_by side first) (tells side (before ++ event ∷ [])) keeps in
     let (kept, last) = kept_before side before event later in
     (rw (now, kept) refl, last)
-
--- What joins a channel joins the sent list; what is taken from one is no matter of it.
-sent_joined : (side : Side) (m : Message) (w : World) → (joined side m w).sent ≡ w.sent ++ Sent side m ∷ []
-sent_joined sides.A m w = refl
-sent_joined sides.B m w = refl
-
-sent_with_channel : (side : Side) (more : List OnItsWay) (w : World) → (with_channel side more w).sent ≡ w.sent
-sent_with_channel sides.A more w = refl
-sent_with_channel sides.B more w = refl
 
 -- ---- along a run
 
@@ -128,7 +119,7 @@ module _ (table : Table) (side : Side) (before : List Event) (w next : World) (r
   by_step (Tells teller m) is told =
       one_more (Sent teller m) (added (Tells teller m) (Sent teller m ∷ []) is (λ found adds. adds)) (λ last.
       let who : side ≡ teller = cc in
-      let bad : true ≡ false = sym (is_itself teller) ∙ rw who at told in cc)
+      let bad : true ≡ false = sym (itself teller) ∙ rw who at told in cc)
   by_step Quiet is told =
       one_more Item.Quiet (added Quiet (Item.Quiet ∷ []) is (λ found adds. adds)) (λ last. cc)
   by_step (Receives receiver number) is told =

@@ -1,5 +1,5 @@
 -- Which component of a message has F5 or F6: the first that answers what was never sent, or is of a wrong operation (Q.774 3.2,
--- Q.771 3.1.2).
+-- Q.771 3.1).
 use Rattle.std.specs.Prelude.{ℕ, ◌+◌, Bool, false, List, [], ◌∷◌, Option, Some, None, ◌||◌, cond}
 use Rattle.tcap_parts.specs.declared.component.Component.{Component}
 use Rattle.tcap_msg.specs.declared.message.Message.{Message}

@@ -114,7 +114,7 @@ answers_nothing side before message = by (dtid_in message)
     by None = false
     by (Some id) = list_any (answers_none_of (components_of (asked side id before))) (components_in message)
 
--- ---- F6: an operation of another kind (Q.771 3.1.2, operation classes)
+-- ---- F6: an operation of another kind (Q.771 3.1, operation classes)
 
 -- whether the table lacks the operation of an Invoke
 abbrev pub is_unknown_operation : Table → Component → Bool

@@ -55,7 +55,7 @@ pub fn first_kind<M: MessageParts>(
 }
 
 /// The number, from 0, of the component by which a message of an end has that kind, F5 or F6: the first that has it (Q.774 3.2,
-/// Q.771 3.1.2). `None` where none has it, or the kind is another. `of_one` says whether it is asked of one end, as `first_kind`
+/// Q.771 3.1). `None` where none has it, or the kind is another. `of_one` says whether it is asked of one end, as `first_kind`
 /// asks it, or of both, as `refute` does. It is given what the peer sent from the destination ID, where anything is kept of that.
 /// A few look-ups for each component.
 pub fn faulty_component<M: MessageParts>(

@@ -20,7 +20,7 @@ pub enum Kind {
     /// An answer, or a Reject, of what the peer never sent (Q.774 3.2).
     AnswersNothing,
     /// An Invoke of an operation that the table lacks, or that a Unidirectional may not carry; an answer that the class
-    /// of no such invocation allows (Q.771 3.1.2).
+    /// of no such invocation allows (Q.771 3.1).
     WrongOperation,
     /// A dialogue portion that no message of its kind carries (Q.774 3.2).
     MisplacedDialogue,
@@ -30,7 +30,7 @@ pub enum Kind {
     WrongDialogue,
     /// An Invoke of an ID that is in use (Q.774 3.2).
     InvokeIdBusy,
-    /// A linked ID of no invocation that is there, or of one to which the operation may not be linked (Q.771 3.1.2).
+    /// A linked ID of no invocation that is there, or of one to which the operation may not be linked (Q.771 3.1).
     BadLink,
     /// More answers to an ID than invocations that allow them (Q.774 3.2).
     AnsweredAlready,

@@ -1,6 +1,7 @@
 -- A checker that takes a quiet mark at once.
 use Rattle.std.proofs.Common.{◌≡◌, List, [], ◌∷◌, Result, Ok, Err, refl, sym, ap, ◌∙◌, IsTrue, is_ok}
-use Rattle.std.specs.Prelude.{◌≢◌}
+use Rattle.std.specs.Prelude.{◌≢◌, Option}
+use Rattle.tcap_record.specs.declared.entry.End.{End as Side}
 use Rattle.tcap_model.specs.World.{Item}
 use Rattle.tcap_check.specs.declared.certificate.Fate.{Fate}
 use Rattle.tcap_check.specs.declared.fault.CheckFault.{CheckFault}
@@ -23,7 +24,7 @@ is_kept (Ok k) is = refl
 is_kept (Err f) is = cc
 
 -- Nothing is delivered behind a quiet mark alone.
-pub none_ahead : (fates : List Fate) → count_ahead 1 fates (Ok Item.Quiet ∷ []) ≡ 0
-none_ahead [] = refl
-none_ahead (fate ∷ []) = refl
-none_ahead (fate ∷ next ∷ more) = refl
+pub none_ahead : (judged : Option Side) (fates : List Fate) → count_ahead judged 1 fates (Ok Item.Quiet ∷ []) ≡ 0
+none_ahead judged [] = refl
+none_ahead judged (fate ∷ []) = refl
+none_ahead judged (fate ∷ next ∷ more) = refl

@@ -2,8 +2,8 @@
 
 use crate::step_lines::{is_entry, letter, push_half, push_owner, push_reason};
 use std::alloc::{AllocError, Global};
-use tcap_check::{Certificate, Step, run_until};
-use tcap_end::{HalfName, Table};
+use tcap_check::Step;
+use tcap_end::HalfName;
 use tcap_judge::{Outcome, push_outcome};
 use tcap_page::{FRAME_HEAD, FRAME_TAIL, push_entry, push_named};
 use tcap_record::{Body, End, Entry, Record};
@@ -248,16 +248,5 @@ impl Chart<'_> {
         writeln!(page, ",\"left_out\":[{before},{behind}]}}}}")?;
         page.push_str(FRAME_TAIL)?;
         Ok(page)
-    }
-
-    /// The same of the run of a certificate, as far as it gives it.
-    pub(crate) fn of_certificate(
-        self,
-        alloc: Global,
-        table: &Table,
-        certificate: &Certificate,
-    ) -> Result<String, AllocError> {
-        let run = run_until(alloc, self.read, table, certificate, self.judged)?;
-        self.of_steps(alloc, &run.steps)
     }
 }

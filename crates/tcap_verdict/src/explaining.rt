@@ -1,12 +1,12 @@
 //! What is said of a record, and why.
 
-ghost use Rattle.std.specs.Prelude.{◌≡◌, ◌≢◌, ◌⊎◌, ◌≤◌, [], ℕ, List, None, Some, Ok, Err, IfOk, OnOk, OnErr, length, map};
+ghost use Rattle.std.specs.Prelude.{◌≡◌, ◌⊎◌, ◌≤◌, [], ℕ, List, None, Some, Ok, Err, IfOk, OnOk, OnErr, length, map};
 ghost use Rattle.std.specs.String.{string_bytes};
 ghost use Rattle.tcap_ber.specs.Device.{one_more};
 ghost use Rattle.tcap_check.specs.Unheard.{unheard_of};
 ghost use Rattle.tcap_check.specs.Checking.{map_ok};
-ghost use Rattle.tcap_check.specs.Replayed.{discards_by, fault_at};
-ghost use Rattle.tcap_model.specs.declared.reason.Reason.TheVariants as reasons;
+ghost use Rattle.tcap_check.specs.Replayed.{discards_by};
+ghost use Rattle.tcap_check.specs.Stands.{answered};
 ghost use Rattle.tcap_judge.specs.declared.outcome.Outcome.TheVariants.{Refuted};
 ghost use Rattle.tcap_judge.specs.Checked.{out_of_memory, replay_says};
 ghost use Rattle.tcap_judge.specs.Judged.{IsShown, lawful_by, replayed_by};
@@ -25,7 +25,7 @@ use crate::step_lines::{is_lost_from, push_steps};
 use crate::stops::stop_text;
 use std::alloc::{AllocError, Global};
 use tcap_ber::{Read, Write};
-use tcap_check::{Certificate, CheckFault, Reason, Step, run_of};
+use tcap_check::{Certificate, CheckFault, Partial, Step, run_until};
 use tcap_end::Table;
 use tcap_judge::{
     OUT_OF_MEMORY, Outcome, Status, WriteFailed, named, propose, read_certificate, read_table,
@@ -82,23 +82,23 @@ impl Why {
     }
 }
 
-/// The steps of the run that a certificate gives for a record, of both ends or of the one that is judged; else the first reason
-/// why it gives none, at an entry, or `Memory`.
-fn steps_of(
+/// The run that a certificate gives for a record, as far as it goes, of both ends or of the one that is judged, and why it gives none,
+/// where it gives none.
+fn run_so_far(
     alloc: Global,
     read: &Record,
     table: &Table,
     certificate: &Certificate,
     judged: Option<End>,
-) -> Result<Vec<Step>, CheckFault>
-    ensures exact { result ≢ Err (fault_at reasons.Memory 0) → map_ok (λ steps. events_of steps.items) result
-        ≡ replayed_by judged table.now certificate.now read.now.entries.items }
-    ensures lawful { IfOk result (λ steps. IsShown judged table.now read.now.entries.items
-        (lawful_by judged (length read.now.entries.items) (events_of steps.items))) }
-    ensures discards { result ≢ Err (fault_at reasons.Memory 0) → map_ok (λ steps. discards_of steps.items) result
-        ≡ discards_by judged table.now certificate.now (map item_of read.now.entries.items) }
+) -> Result<Partial, AllocError>
+    ensures exact { IfOk result (λ run. map_ok events_of (answered run.refused run.steps.items)
+        ≡ replayed_by judged table.now certificate.now read.now.entries.items) }
+    ensures lawful { IfOk result (λ run. IfOk (answered run.refused run.steps.items) (λ steps. IsShown judged table.now
+        read.now.entries.items (lawful_by judged (length read.now.entries.items) (events_of steps)))) }
+    ensures discards { IfOk result (λ run. map_ok discards_of (answered run.refused run.steps.items)
+        ≡ discards_by judged table.now certificate.now (map item_of read.now.entries.items)) }
 {
-    run_of(alloc, read, table, certificate, judged)
+    run_until(alloc, read, table, certificate, judged)
 }
 
 /// How many of its peer's messages an end is taken not to have received in a run.
@@ -124,6 +124,28 @@ fn said_of(judged: Option<End>, count: usize, steps: &[Step]) -> Outcome
     }
 }
 
+/// The chart of a run of these steps, where one is asked for.
+fn chart_of(
+    alloc: Global,
+    read: &Record,
+    asked: Asked,
+    outcome: Outcome,
+    behind: &str,
+    steps: &[Step],
+) -> Result<String, AllocError> {
+    if !asked.with_chart {
+        return Ok(String::new(alloc));
+    }
+    let judged = asked.judged;
+    Chart {
+        read,
+        judged,
+        outcome,
+        behind,
+    }
+    .of_steps(alloc, steps)
+}
+
 /// That a record is lawful, and the run that shows it.
 fn explain_run(
     alloc: Global,
@@ -138,17 +160,7 @@ fn explain_run(
     let outcome = said_of(asked.judged, read.entries.len(), steps);
     let mut behind = String::new(alloc);
     push_steps(&mut behind, asked.judged, steps)?;
-    let chart = if asked.with_chart {
-        Chart {
-            read,
-            judged: asked.judged,
-            outcome,
-            behind: &behind,
-        }
-        .of_steps(alloc, steps)?
-    } else {
-        String::new(alloc)
-    };
+    let chart = chart_of(alloc, read, asked, outcome, &behind, steps)?;
     Ok(Why {
         outcome,
         behind,
@@ -156,13 +168,14 @@ fn explain_run(
     })
 }
 
-/// That is said of a record of which the certificate shows nothing, and why.
+/// What is said of a record for which the certificate gives no run, and where its run stops. The ends of the run may be changed.
 fn explain_stop(
     alloc: Global,
     read: &Record,
     table: &Table,
     certificate: &Certificate,
     asked: Asked,
+    run: &mut Partial,
     fault: CheckFault,
     outcome: Outcome,
 ) -> Result<Why, AllocError>
@@ -170,18 +183,8 @@ fn explain_stop(
     ensures { IfOk result (λ why. (why.outcome ≡ outcome)
         × EndsWithEnds asked.judged table.now read.now.entries.items (string_bytes why.behind)) }
 {
-    let behind = stop_text(alloc, read, table, certificate, asked.judged, fault)?;
-    let chart = if asked.with_chart {
-        Chart {
-            read,
-            judged: asked.judged,
-            outcome,
-            behind: &behind,
-        }
-        .of_certificate(alloc, table, certificate)?
-    } else {
-        String::new(alloc)
-    };
+    let behind = stop_text(alloc, read, table, certificate, asked.judged, fault, run)?;
+    let chart = chart_of(alloc, read, asked, outcome, &behind, &run.steps)?;
     Ok(Why {
         outcome,
         behind,
@@ -205,13 +208,8 @@ fn explain_refuted(
     let behind = refuted_text(alloc, read, table, asked.judged, refutation)?;
     let chart = if asked.with_chart {
         let certificate = propose(alloc, read, asked.judged)?;
-        Chart {
-            read,
-            judged: asked.judged,
-            outcome,
-            behind: &behind,
-        }
-        .of_certificate(alloc, table, &certificate)?
+        let run = run_until(alloc, read, table, &certificate, asked.judged)?;
+        chart_of(alloc, read, asked, outcome, &behind, &run.steps)?
     } else {
         String::new(alloc)
     };
@@ -237,12 +235,21 @@ fn explain_by_search(
         (string_bytes why.behind)) }
 {
     let certificate = propose(alloc, read, asked.judged)?;
-    match steps_of(alloc, read, table, &certificate, asked.judged) {
-        Ok(steps) => explain_run(alloc, read, &steps, asked),
-        Err(fault) if matches!(fault.reason, Reason::Memory) => Err(AllocError),
-        Err(fault) => {
+    let mut run = run_so_far(alloc, read, table, &certificate, asked.judged)?;
+    match run.refused {
+        None => explain_run(alloc, read, &run.steps, asked),
+        Some(fault) => {
             let outcome = Outcome::Undecided(fault);
-            explain_stop(alloc, read, table, &certificate, asked, fault, outcome)
+            explain_stop(
+                alloc,
+                read,
+                table,
+                &certificate,
+                asked,
+                &mut run,
+                fault,
+                outcome,
+            )
         }
     }
 }
@@ -280,12 +287,21 @@ fn explain_replay(
         × IsShown asked.judged table.now read.now.entries.items why.outcome
         × IsWhy asked.judged table.now certificate.now read.now.entries.items why.outcome (string_bytes why.behind)) }
 {
-    match steps_of(alloc, read, table, certificate, asked.judged) {
-        Ok(steps) => explain_run(alloc, read, &steps, asked),
-        Err(fault) if matches!(fault.reason, Reason::Memory) => Err(AllocError),
-        Err(fault) => {
+    let mut run = run_so_far(alloc, read, table, certificate, asked.judged)?;
+    match run.refused {
+        None => explain_run(alloc, read, &run.steps, asked),
+        Some(fault) => {
             let outcome = Outcome::NotShown(fault);
-            explain_stop(alloc, read, table, certificate, asked, fault, outcome)
+            explain_stop(
+                alloc,
+                read,
+                table,
+                certificate,
+                asked,
+                &mut run,
+                fault,
+                outcome,
+            )
         }
     }
 }

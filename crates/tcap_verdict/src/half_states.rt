@@ -7,7 +7,7 @@ use tcap_msg::TransactionId;
 use tcap_parts::{CodeView, ComponentView};
 use tcap_record::{End, push_component, push_hex};
 
-/// How many components, and how many operations of one invoke ID, are told.
+/// How many operations of one invoke ID are told.
 const MOST: usize = 8;
 
 /// A phase in words (Q.774 3.3).

@@ -75,7 +75,7 @@ fn front_of(alloc: Global, message: &Message, count: usize) -> Result<Option<Mes
 }
 
 /// The place of the component for which an end refuses to send a message: the one behind the longest front of the message that it
-/// sends. `None` where it refuses the message without components too, or where there are too many.
+/// sends. `None` where it refuses the message without components too. Where it sends a front, the end is as it is behind that.
 pub(crate) fn refused_component(
     alloc: Global,
     state: &mut EndState,
@@ -83,9 +83,6 @@ pub(crate) fn refused_component(
     message: &Message,
 ) -> Result<Option<usize>, AllocError> {
     let count = message.count();
-    if count > MANY {
-        return Ok(None);
-    }
     for behind in 1..=count {
         let place = count.saturating_sub(behind);
         let Some(front) = front_of(alloc, message, place)? else {

@@ -11,8 +11,8 @@ use crate::refuted::push_ends;
 use crate::step_lines::letter;
 use std::alloc::{AllocError, Global};
 use tcap_ber::Fault;
-use tcap_check::{Certificate, CheckFault, Fate, Partial, Reason, run_until};
-use tcap_end::{EndFault, EndState, HalfName, OpenHalf, Table};
+use tcap_check::{Certificate, CheckFault, Fate, Partial, Reason};
+use tcap_end::{EndFault, EndState, HalfName, Table};
 use tcap_msg::{Kind, Message, MessageParts};
 use tcap_parts::ComponentView;
 use tcap_record::{Body, End, Entry, Record, push_view};
@@ -26,15 +26,7 @@ struct Stop<'a> {
     read: &'a Record,
     table: &'a Table,
     certificate: &'a Certificate,
-    judged: Option<End>,
     fault: CheckFault,
-}
-
-impl Stop<'_> {
-    /// The run as far as it goes.
-    fn run(&self, alloc: Global) -> Result<Partial, AllocError> {
-        run_until(alloc, self.read, self.table, self.certificate, self.judged)
-    }
 }
 
 /// Appends what a reason says, and its name behind it.
@@ -92,7 +84,7 @@ fn push_entry(
     Ok(())
 }
 
-/// The names of the half over which a message is sent, the first that is asked for first.
+/// The name of the half over which a message is sent: by its own ID where the end knows that, or of a Begin; else by its peer's.
 fn sending_name(message: &Message, state: &EndState) -> Option<HalfName> {
     let own = message
         .otid()
@@ -113,19 +105,59 @@ fn receiving_name(message: &Message) -> Option<HalfName> {
     }
 }
 
-/// Appends the component of that place, and what an end knows of its invoke ID over a half, where that is open.
+/// The name of the half over which a message is sent, where there is one or should be: not that of a Begin whose ID is new.
+fn name_to_tell(message: &Message, state: &EndState) -> Option<HalfName> {
+    let name = sending_name(message, state)?;
+    if message.kind() == Kind::Begin && !state.knows(&name) {
+        return None;
+    }
+    Some(name)
+}
+
+/// Each component of a message in words, with what an end knows of its invoke ID over the half of that name, where that is open.
+fn words_of_components(
+    alloc: Global,
+    state: &EndState,
+    name: Option<&HalfName>,
+    message: &Message,
+) -> Result<Vec<String>, AllocError> {
+    let half = match name {
+        Some(name) => state.open_half(name),
+        None => None,
+    };
+    let mut all = Vec::new(alloc);
+    for component in message.components() {
+        let mut words = String::new(alloc);
+        push_component_state(alloc, &mut words, half.as_ref(), component)?;
+        all.push(words)?;
+    }
+    Ok(all)
+}
+
+/// Appends which component of a message an end refuses to send, where it is one, and what it knows of it. The end is used up: it may have
+/// sent the components before that one.
 fn push_refused(
     alloc: Global,
     text: &mut String,
-    half: Option<&OpenHalf>,
+    state: &mut EndState,
+    name: Option<&HalfName>,
+    table: &Table,
     message: &Message,
-    place: usize,
 ) -> Result<(), AllocError> {
-    let Some(component) = message.components().nth(place) else {
+    if message.count() > MANY {
+        return text.push_str(
+            "  it has over 64 components: which one is refused is not looked for\n",
+        );
+    }
+    let all = words_of_components(alloc, state, name, message)?;
+    let Some(place) = refused_component(alloc, state, table, message)? else {
+        return Ok(());
+    };
+    let Some(words) = all.get(place) else {
         return Ok(());
     };
     writeln!(text, "  component {place} is what it refuses:")?;
-    push_component_state(alloc, text, half, component)
+    text.push_str(words)
 }
 
 /// The end's state behind the run as far as it goes.
@@ -158,48 +190,30 @@ fn is_left_to_user(message: &Message, fault: EndFault) -> bool {
         ))
 }
 
-/// The same, to look at.
-fn state_in(run: &Partial, end: End) -> &EndState {
-    match end {
-        End::A => &run.a,
-        End::B => &run.b,
-    }
-}
-
-/// Appends what the end knows that sends a message, and which component it refuses. Of the two runs, which are equal, the second
-/// is used up.
+/// Appends what the end knows that sends a message, and which component it refuses.
 fn push_sender(
     alloc: Global,
     text: &mut String,
-    run: &Partial,
-    spare: &mut Partial,
+    run: &mut Partial,
     table: &Table,
     sender: End,
     message: &Message,
     fault: EndFault,
 ) -> Result<(), AllocError> {
-    let state = state_in(run, sender);
-    let mut half = None;
-    if let Some(name) = sending_name(message, state) {
-        if message.kind() != Kind::Begin || state.knows(&name) {
-            push_half_state(text, sender, state, &name)?;
-            half = state.open_half(&name);
-        }
+    let state = state_of(run, sender);
+    let name = name_to_tell(message, state);
+    if let Some(name) = &name {
+        push_half_state(text, sender, state, name)?;
     }
     if is_left_to_user(message, fault) {
         text.push_str(
             "  a Unidirectional carries Invokes alone here; a Reject in one is left to the user, and blamed on nobody\n",
         )?;
     }
-    if !is_of_component(fault) {
-        return Ok(());
-    }
-    match refused_component(alloc, state_of(spare, sender), table, message)? {
-        Some(place) => push_refused(alloc, text, half.as_ref(), message, place),
-        None if message.count() > MANY => {
-            text.push_str("  it has over 64 components: which one is refused is not looked for\n")
-        }
-        None => Ok(()),
+    if is_of_component(fault) {
+        push_refused(alloc, text, state, name.as_ref(), table, message)
+    } else {
+        Ok(())
     }
 }
 
@@ -303,39 +317,37 @@ fn push_known(
     alloc: Global,
     text: &mut String,
     stop: &Stop,
+    run: &mut Partial,
     sender: End,
     message: &Message,
 ) -> Result<(), AllocError> {
     match stop.fault.reason {
         Reason::SendRefused(fault) => {
-            let run = stop.run(alloc)?;
-            let mut spare = stop.run(alloc)?;
-            push_sender(
-                alloc, text, &run, &mut spare, stop.table, sender, message, fault,
-            )
+            push_sender(alloc, text, run, stop.table, sender, message, fault)
         }
         Reason::BadReply if message.cause().is_some() => push_tied(text, stop, true),
         Reason::BadReply if is_tied(stop) => push_tied(text, stop, false),
-        Reason::BadReply => {
-            let mut run = stop.run(alloc)?;
-            push_receiver(text, &mut run, stop.table, sender.other(), message)
-        }
+        Reason::BadReply => push_receiver(text, run, stop.table, sender.other(), message),
         Reason::HiddenRefused(_) => push_listed(alloc, text, stop),
         _ => Ok(()),
     }
 }
 
 /// Appends where the run stops: the reason, the entry, and what the end knows there that sends or receives it.
-fn push_stop(alloc: Global, text: &mut String, stop: &Stop) -> Result<(), AllocError> {
+fn push_stop(
+    alloc: Global,
+    text: &mut String,
+    stop: &Stop,
+    run: &mut Partial,
+) -> Result<(), AllocError> {
     let fault = stop.fault;
     push_reason(text, fault.reason)?;
     if let Some(entry) = stop.read.entries.get(fault.entry as usize) {
         push_entry(alloc, text, fault.entry as usize, entry)?;
         if let (Some(sender), Body::Good(message)) = (entry.side, &entry.body) {
-            push_known(alloc, text, stop, sender, message)?;
+            push_known(alloc, text, stop, run, sender, message)?;
         }
         if let (Reason::NotQuiet, Body::Quiet) = (fault.reason, &entry.body) {
-            let run = stop.run(alloc)?;
             push_open(alloc, text, End::A, &run.a)?;
             push_open(alloc, text, End::B, &run.b)?;
         }
@@ -349,8 +361,8 @@ fn push_stop(alloc: Global, text: &mut String, stop: &Stop) -> Result<(), AllocE
     Ok(())
 }
 
-/// The lines behind that of a record of which the certificate shows nothing: where the run stops, and, where both ends are judged, what
-/// is said of each.
+/// The lines behind that of a record of which the certificate shows nothing: where its run stops, and, where both ends are judged, what
+/// is said of each. The ends of the run may be changed; its steps are not.
 pub(crate) fn stop_text(
     alloc: Global,
     read: &Record,
@@ -358,6 +370,7 @@ pub(crate) fn stop_text(
     certificate: &Certificate,
     judged: Option<End>,
     fault: CheckFault,
+    run: &mut Partial,
 ) -> Result<String, AllocError>
     requires few { length read.now.entries.items ≤ 100000 }
     ensures { IfOk result (λ text. EndsWithEnds judged table.now read.now.entries.items (string_bytes text)) }
@@ -366,11 +379,10 @@ pub(crate) fn stop_text(
         read,
         table,
         certificate,
-        judged,
         fault,
     };
     let mut text = String::new(alloc);
-    push_stop(alloc, &mut text, &stop)?;
+    push_stop(alloc, &mut text, &stop, run)?;
     match judged {
         Some(_) => Ok(text),
         None => {

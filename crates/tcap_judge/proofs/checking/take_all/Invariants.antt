@@ -6,14 +6,14 @@ use Rattle.tcap_record.specs.declared.entry.Entry.{Entry}
 use Rattle.tcap_record.specs.Held.{IsHeld, IsPart}
 use Rattle.tcap_end.specs.Table.{Table}
 use Rattle.tcap_check.specs.Certificate.{Certificate}
-use Rattle.tcap_judge.specs.Judging.{StandsFor, TakenSoFar}
+use Rattle.tcap_judge.specs.Judging.{IsCheckerOf, TakenSoFar}
 use Rattle.tcap_judge.proofs.checking.take_all.Given as goal
 
 abbrev pub invariant-loop-frames : goal.invariant-loop-frames
 invariant-loop-frames g l = record {
   told : List ℕ;
   consumed : Consumes (g.R.Read.untold l.fn.reader) (g.R.Read.untold l.reader) told;
-  taken : (judged : Option Side) (table : Table) (c : Certificate) → StandsFor judged table c l.initial.checker []
+  taken : (judged : Option Side) (table : Table) (c : Certificate) → IsCheckerOf judged table c l.initial.checker []
       → (entries : List Entry) × TakenSoFar judged table c told entries l.frames l.checker;
   held : IsHeld l.frames;
   sound : l.frames.fault ≡ None;

@@ -7,7 +7,7 @@ pub returns-in-Ok-marked : goal.returns-in-Ok-marked
 returns-in-Ok-marked c =
     let s = c.mark-marked.new.self in (
       c.pending-waiting.ensures.ahead (Ok Item.Quiet ∷ []) (c.in-Ok-marked.ensures.took [] c.in-Ok.ensures.took.0 (λ e. cc))
-          (is_kept s.so_far c.in-Ok-marked.ensures.answers) (c.in-Ok-marked.ensures.judged ∙ c.in-Ok.ensures.took.1)
-          ∙ none_ahead s.certificate.fates,
+          (is_kept s.so_far c.in-Ok-marked.ensures.answers)
+          ∙ none_ahead s.judged s.certificate.fates,
       refl,
     )

@@ -3,11 +3,8 @@ use Rattle.tcap_check.specs.declared.fault.CheckFault.{CheckFault}
 use Rattle.tcap_check.specs.Checking.{Checking, answer_of, so_far_of}
 use Rattle.tcap_check.specs.Ready.{kept_in}
 use Rattle.tcap_check.proofs.CheckerLaws.{stays, took_ok, took_err, turned}
-use Rattle.tcap_check.proofs.RefusalLaws.{refuses_for_good}
+use Rattle.tcap_check.proofs.RefusalLaws.{refusal, refuses_for_good}
 use Rattle.tcap_check.proofs.checker.Checker.step.Goals as goal
-
-abbrev refusal : CheckFault → Result (Unit {0}) CheckFault
-refusal fault = Err fault
 
 pub returns-in-Some-clause-took : goal.returns-in-Some-clause-took
 returns-in-Some-clause-took g c = λ entries took other.

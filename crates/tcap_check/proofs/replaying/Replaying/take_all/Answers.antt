@@ -9,6 +9,9 @@ use Rattle.tcap_check.specs.Checking.{TookListed, taken}
 use Rattle.tcap_check.specs.Ready.{checking_of, kept_in}
 use Rattle.tcap_check.specs.Replayed.{replay_by}
 use Rattle.tcap_check.proofs.RecordLaws.{refused_at, taken_at, took_more, whole_is}
+use Rattle.tcap_end.specs.Table.{Table}
+use Rattle.tcap_check.specs.Stands.{IsRefusedThere}
+use Rattle.tcap_check.proofs.SendShows.{next_shows}
 use Rattle.tcap_check.proofs.StandsTaken.{GoesAlike, among_taken, among_then, refused_next}
 use Rattle.tcap_check.proofs.replaying.Replaying.take_all.Goals as goal
 
@@ -78,3 +81,16 @@ returns-clause-so_far c =
     λ start. among_taken c.args.self.now c.loop-entry.self c.args.record.now.entries.items c.loop-entry.entry-index
     (record { judged = kept.judged; table = kept.table; certificate = kept.certificate }) (omega (arith, all, within)) (kept.took true start)
     (λ less. absurd (omega (arith, all, past, less)))
+
+pub returns-in_err-take_entry-clause-shows : goal.returns-in_err-take_entry-clause-shows
+returns-in_err-take_entry-clause-shows c =
+    let all = c.args.record.now.entries.items in
+    let kept = c.loop-entry.invariant in
+    let left = c.take_entry.new.self.progress in
+    let p = err_from_is_err_and c.from_residual.result c.from_residual.ensures.1 in
+    rw p.1 (λ start.
+    subst (λ (f : CheckFault). IsRefusedThere c.args.self.now.table.now all f left.a.end left.b.end) (sym p.2)
+    (subst (λ (t : Table). IsRefusedThere t all c.in_err-take_entry.field-0.0 left.a.end left.b.end) (ap (λ x. x.now) kept.table)
+    (next_shows c.loop-entry.self.table.now all c.deref-entry-items.result.now c.loop-entry.entry-index c.entry-item.result c.loop-entry.self
+    c.in_err-take_entry.field-0.0 left c.deref-entry-items.ensures.value c.loop-entry-test.true c.entry-item.is (kept.took true start)
+    c.in_err-take_entry.ensures.shows)))
