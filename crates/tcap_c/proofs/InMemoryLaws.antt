@@ -23,7 +23,7 @@ use Rattle.tcap_judge.specs.declared.finding.Finding.{Finding}
 use Rattle.tcap_judge.specs.declared.finding.Finding.TheVariants as findings
 use Rattle.tcap_judge.specs.declared.outcome.Outcome.{Outcome}
 use Rattle.tcap_judge.specs.declared.outcome.Outcome.TheVariants.{Lawful, LawfulFor, NotShown, Refuted, Undecided, Faulty}
-use Rattle.tcap_judge.specs.declared.status.Status.TheVariants as statuses
+use Rattle.tcap_lines.specs.declared.status.Status.TheVariants as statuses
 use Rattle.tcap_judge.specs.Outcome.{outcome_status}
 use Rattle.tcap_judge.specs.Judged.{AreLawful, MayBeSent, MayBeSentUnheard, replayed_by}
 use Rattle.tcap_judge.specs.Checked.{JudgesWith, ReadsRecord, ReadsTable}

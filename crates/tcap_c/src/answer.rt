@@ -1,7 +1,7 @@
 //! What is said, as numbers that a program in C reads.
 
 ghost use Rattle.std.specs.Prelude.{◌≡◌};
-ghost use Rattle.tcap_judge.specs.Shown.{status_number};
+ghost use Rattle.tcap_lines.specs.Shown.{status_number};
 ghost use Rattle.tcap_judge.specs.Outcome.{outcome_status};
 ghost use Rattle.tcap_judge.specs.Blamed.{blame_status};
 ghost use Rattle.tcap_c.specs.InMemory.{answer, blame_answers, fault_answer, finding_answer, no_answer, outcome_answer, refutation_answer};

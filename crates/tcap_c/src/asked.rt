@@ -22,7 +22,7 @@ pub struct Asked {
 }
 
 /// The same, of numbers that are known.
-#[derive(Clone, Copy, Debug, PartialEq, Eq)]
+#[derive(Clone, Copy, PartialEq, Eq)]
 pub(crate) struct Rules {
     /// The end whose verdicts are asked; both where it is none.
     pub(crate) of: Option<End>,

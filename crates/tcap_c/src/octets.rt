@@ -8,7 +8,7 @@ use std::io;
 use tcap_ber::{Failed, Read};
 
 /// The octets that are left to read. It never fails.
-#[derive(Debug, Drop)]
+#[derive(Drop)]
 pub(crate) struct Octets<'a> {
     rest: &'a [u8],
 }

@@ -14,18 +14,18 @@ use Rattle.tcap_end.specs.Table.{Table}
 use Rattle.tcap_end.specs.Hidden.{open_halves, open_names}
 use Rattle.tcap_end.specs.End.{End, all_closed}
 use Rattle.tcap_end.proofs.AnsweringLaws.{needs_ok, ok_same, some_ok, then_ok}
-use Rattle.tcap_check.specs.declared.certificate.Fate.{Fate}
-use Rattle.tcap_check.specs.declared.fault.CheckFault.{CheckFault}
+use Rattle.tcap_certificate.specs.declared.certificate.Fate.{Fate}
+use Rattle.tcap_certificate.specs.declared.fault.CheckFault.{CheckFault}
 use Rattle.tcap_model.specs.declared.reason.Reason.{Reason}
 use Rattle.tcap_model.specs.declared.reason.Reason.TheVariants.{BadReply, FateCount, FateRange, NotQuiet, OutOfOrder}
 use Rattle.tcap_record.specs.Ends.{other}
 use Rattle.tcap_model.specs.World.{Item, Sent, World, end_at}
 use Rattle.tcap_model.specs.Run.{Event, Quiet, after}
-use Rattle.tcap_check.specs.declared.certificate.Fate.TheVariants.{Lost}
-use Rattle.tcap_check.specs.Certificate.{Certificate}
+use Rattle.tcap_certificate.specs.declared.certificate.Fate.TheVariants.{Lost}
+use Rattle.tcap_certificate.specs.Certificate.{Certificate}
 use Rattle.tcap_model.specs.Entries.{AreItems, item_of}
-use Rattle.tcap_check.specs.Follows.{losses_from, lost_from, sending_by, taken_by}
-use Rattle.tcap_check.specs.Replayed.{Replay, all_lost_from, certificate_fits, closed_at_mark, discards_by, entries_by, entry_by, fault_at, gap_by, is_gap, is_nothing, is_overtaking, item_by, lost_from_both, lost_from_front, mark_judged, message_by, next_entry, nothing_replayed, own_judged, own_message, replayed_by, stepped, tied, told_replayed}
+use Rattle.tcap_certificate.specs.Follows.{losses_from, lost_from, sending_by, taken_by}
+use Rattle.tcap_certificate.specs.Replayed.{Replay, all_lost_from, certificate_fits, closed_at_mark, discards_by, entries_by, entry_by, fault_at, gap_by, is_gap, is_nothing, is_overtaking, item_by, lost_from_both, lost_from_front, mark_judged, message_by, next_entry, nothing_replayed, own_judged, own_message, replayed_by, stepped, tied, told_replayed}
 use Rattle.tcap_check.specs.AloneGiven.{DiscardsNothing}
 use Rattle.tcap_check.proofs.DiscardReasons.{none_discarded}
 use Rattle.tcap_check.proofs.DescribedGaps.{ok_both, ok_needs, ok_some, ok_then}

@@ -12,20 +12,20 @@ use Rattle.tcap_end.specs.declared.half.HalfName.TheVariants as names
 use Rattle.tcap_end.specs.Table.{Table}
 use Rattle.tcap_end.specs.Step.{◌>>=◌}
 use Rattle.tcap_end.proofs.AnsweringLaws.{ok_same, some_ok, then_ok}
-use Rattle.tcap_check.specs.declared.certificate.Closing.{Closing}
-use Rattle.tcap_check.specs.declared.certificate.Expiry.{Expiry}
-use Rattle.tcap_check.specs.declared.certificate.Fate.{Fate}
-use Rattle.tcap_check.specs.declared.certificate.Fate.TheVariants.{Gap, Lost, By}
-use Rattle.tcap_check.specs.declared.fault.CheckFault.{CheckFault}
+use Rattle.tcap_certificate.specs.declared.certificate.Closing.{Closing}
+use Rattle.tcap_certificate.specs.declared.certificate.Expiry.{Expiry}
+use Rattle.tcap_certificate.specs.declared.certificate.Fate.{Fate}
+use Rattle.tcap_certificate.specs.declared.certificate.Fate.TheVariants.{Gap, Lost, By}
+use Rattle.tcap_certificate.specs.declared.fault.CheckFault.{CheckFault}
 use Rattle.tcap_model.specs.declared.reason.Reason.{Reason}
 use Rattle.tcap_model.specs.declared.reason.Reason.TheVariants.{BadReply, FateRange, HiddenRefused}
 use Rattle.tcap_record.specs.Ends.{other}
 use Rattle.tcap_model.specs.World.{Item, Sent, World, is_side, with_channel, with_end}
 use Rattle.tcap_model.specs.Run.{Event, Receives, Expires, Closes, after, then_so}
-use Rattle.tcap_check.specs.Certificate.{Certificate}
+use Rattle.tcap_certificate.specs.Certificate.{Certificate}
 use Rattle.tcap_model.specs.Since.{originating}
-use Rattle.tcap_check.specs.Follows.{closing_by, closing_event, expiry_by, expiry_event, half_begun, invoke_id, losses_from, named_entry}
-use Rattle.tcap_check.specs.Replayed.{Replay, closings_replayed, deliveries_by, delivery_by, expiries_replayed, fault_at, gap_by, happens, heard, lost_before, lost_from_front, next_entry, stepped}
+use Rattle.tcap_certificate.specs.Follows.{closing_by, closing_event, expiry_by, expiry_event, half_begun, invoke_id, losses_from, named_entry}
+use Rattle.tcap_certificate.specs.Replayed.{Replay, closings_replayed, deliveries_by, delivery_by, expiries_replayed, fault_at, gap_by, happens, heard, lost_before, lost_from_front, next_entry, stepped}
 use Rattle.tcap_check.proofs.DescribedGaps.{ok_some, ok_then}
 use Rattle.tcap_model.proofs.RunLaws.{same_side}
 use Rattle.tcap_model.proofs.RunLaws.{closing, delivery, expiry, some_is, then_some, where_some}

@@ -9,20 +9,20 @@ use Rattle.tcap_record.specs.declared.entry.End.{End as Side}
 use Rattle.tcap_record.specs.declared.entry.Entry.{Entry}
 use Rattle.tcap_end.specs.Table.{Table}
 use Rattle.tcap_end.proofs.AnsweringLaws.{needs_ok, ok_same, then_ok}
-use Rattle.tcap_check.specs.declared.certificate.Fate.{Fate}
-use Rattle.tcap_check.specs.declared.certificate.Fate.TheVariants.{Gap, Lost, By}
-use Rattle.tcap_check.specs.declared.fault.CheckFault.{CheckFault}
+use Rattle.tcap_certificate.specs.declared.certificate.Fate.{Fate}
+use Rattle.tcap_certificate.specs.declared.certificate.Fate.TheVariants.{Gap, Lost, By}
+use Rattle.tcap_certificate.specs.declared.fault.CheckFault.{CheckFault}
 use Rattle.tcap_model.specs.declared.reason.Reason.{Reason}
 use Rattle.tcap_model.specs.declared.reason.Reason.TheVariants.{FateCount}
 use Rattle.tcap_record.specs.Ends.{other}
 use Rattle.tcap_model.specs.World.{Item, OnItsWay, World, channel_from, empty, is_side}
 use Rattle.tcap_model.specs.Run.{Event, Sends, Receives, Replies, Loses, Expires, Closes, Quiet, Tells, Runs, numbers_of, numbers_taken, played}
-use Rattle.tcap_check.specs.Certificate.{Certificate}
+use Rattle.tcap_certificate.specs.Certificate.{Certificate}
 use Rattle.tcap_model.specs.Entries.{item_of}
-use Rattle.tcap_check.specs.Follows.{FatesFit, losses_from}
-use Rattle.tcap_check.specs.Replayed.{Replay, certificate_fits, entries_by, entry_by, fault_at, gap_by, lost_from_front, next_entry, nothing_replayed, replayed_by}
+use Rattle.tcap_certificate.specs.Follows.{FatesFit, losses_from}
+use Rattle.tcap_certificate.specs.Replayed.{Replay, certificate_fits, entries_by, entry_by, fault_at, gap_by, lost_from_front, next_entry, nothing_replayed, replayed_by}
 use Rattle.tcap_model.specs.Since.{WasSent}
-use Rattle.tcap_check.specs.Unheard.{is_lost_from, unheard_of}
+use Rattle.tcap_certificate.specs.Unheard.{is_lost_from, unheard_of}
 use Rattle.tcap_model.proofs.ChannelLaws.{in_order, were_sent}
 use Rattle.tcap_check.proofs.GivenLosses.{all_numbered, fits_gap, fits_reply, is_lost, says_lost}
 use Rattle.tcap_check.proofs.GivenRuns.{are_fit, both_ok, front_empty}

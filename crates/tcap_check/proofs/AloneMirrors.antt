@@ -4,13 +4,13 @@ use Rattle.tcap_record.specs.declared.entry.End.{End as Side}
 use Rattle.tcap_record.specs.declared.entry.End.TheVariants.{A, B}
 use Rattle.tcap_end.specs.Table.{Table}
 use Rattle.tcap_end.specs.Step.{◌>>=◌}
-use Rattle.tcap_check.specs.declared.fault.CheckFault.{CheckFault}
+use Rattle.tcap_certificate.specs.declared.fault.CheckFault.{CheckFault}
 use Rattle.tcap_record.specs.Ends.{other}
 use Rattle.tcap_model.specs.World.{OnItsWay, World, channel_from, with_channel}
 use Rattle.tcap_model.specs.Run.{Event, Loses, after, numbers_of}
-use Rattle.tcap_check.specs.Certificate.{Certificate}
-use Rattle.tcap_check.specs.Follows.{losses_from}
-use Rattle.tcap_check.specs.Replayed.{Replay, all_lost_from, lost_from_both, lost_from_front, lost_front, stepped, with_step}
+use Rattle.tcap_certificate.specs.Certificate.{Certificate}
+use Rattle.tcap_certificate.specs.Follows.{losses_from}
+use Rattle.tcap_certificate.specs.Replayed.{Replay, all_lost_from, lost_from_both, lost_from_front, lost_front, stepped, with_step}
 use Rattle.tcap_check.proofs.DescribedGaps.{ok_then}
 use Rattle.tcap_check.proofs.NumberLaws.{loss_of, losses_first}
 use Rattle.tcap_model.proofs.RunLaws.{map_some}

@@ -9,15 +9,15 @@ use Rattle.tcap_record.specs.declared.entry.End.TheVariants as sides
 use Rattle.tcap_record.specs.declared.entry.Entry.{Entry}
 use Rattle.tcap_end.specs.End.{nothing}
 use Rattle.tcap_end.specs.Table.{Table}
-use Rattle.tcap_check.specs.declared.certificate.Fate.{Fate}
-use Rattle.tcap_check.specs.declared.certificate.Fate.TheVariants.{Gap, Lost, By}
+use Rattle.tcap_certificate.specs.declared.certificate.Fate.{Fate}
+use Rattle.tcap_certificate.specs.declared.certificate.Fate.TheVariants.{Gap, Lost, By}
 use Rattle.tcap_record.specs.Ends.{other}
 use Rattle.tcap_model.specs.World.{Item, Sent, World, empty, end_at, is_side, with_channel, with_end}
 use Rattle.tcap_model.specs.Run.{Event, Sends, Receives, Replies, Loses, Expires, Closes, Quiet, Tells, Runs, after, numbers_taken, played}
-use Rattle.tcap_check.specs.Certificate.{Certificate}
+use Rattle.tcap_certificate.specs.Certificate.{Certificate}
 use Rattle.tcap_model.specs.Entries.{IsItem}
-use Rattle.tcap_check.specs.Follows.{FatesFit}
-use Rattle.tcap_check.specs.Replayed.{Replay, gap_by, item_by, next_entry}
+use Rattle.tcap_certificate.specs.Follows.{FatesFit}
+use Rattle.tcap_certificate.specs.Replayed.{Replay, gap_by, item_by, next_entry}
 use Rattle.tcap_model.proofs.ListLaws.{all_both}
 use Rattle.tcap_model.proofs.RunLaws.{closing, delivery, expiry, loss, quiet as quiet_step, reply, same_side, sending, some_is, telling, then_some}
 use Rattle.tcap_check.proofs.AloneCounts.{IsOwn}

@@ -12,20 +12,20 @@ use Rattle.tcap_end.specs.Hidden.{open_halves}
 use Rattle.tcap_end.specs.Table.{Table}
 use Rattle.tcap_end.specs.Step.{needs, ◌>>◌, ◌>>=◌}
 use Rattle.tcap_end.proofs.AnsweringLaws.{needs_ok, ok_same, some_ok, then_ok}
-use Rattle.tcap_check.specs.declared.certificate.Closing.{Closing}
-use Rattle.tcap_check.specs.declared.certificate.Expiry.{Expiry}
-use Rattle.tcap_check.specs.declared.certificate.Fate.{Fate}
-use Rattle.tcap_check.specs.declared.certificate.Fate.TheVariants.{Gap, Lost, By}
-use Rattle.tcap_check.specs.declared.fault.CheckFault.{CheckFault}
+use Rattle.tcap_certificate.specs.declared.certificate.Closing.{Closing}
+use Rattle.tcap_certificate.specs.declared.certificate.Expiry.{Expiry}
+use Rattle.tcap_certificate.specs.declared.certificate.Fate.{Fate}
+use Rattle.tcap_certificate.specs.declared.certificate.Fate.TheVariants.{Gap, Lost, By}
+use Rattle.tcap_certificate.specs.declared.fault.CheckFault.{CheckFault}
 use Rattle.tcap_model.specs.declared.reason.Reason.{Reason}
 use Rattle.tcap_model.specs.declared.reason.Reason.TheVariants.{BadReply, FateCount, FateRange, NotQuiet, OutOfOrder}
 use Rattle.tcap_record.specs.Ends.{other}
 use Rattle.tcap_model.specs.World.{World, Item, Sent, end_at, is_side}
 use Rattle.tcap_model.specs.Run.{Event, Sends, Receives, Replies, Loses, Expires, Closes, Quiet, Tells, joined, then_so}
-use Rattle.tcap_check.specs.Certificate.{Certificate}
+use Rattle.tcap_certificate.specs.Certificate.{Certificate}
 use Rattle.tcap_model.specs.Since.{originating}
-use Rattle.tcap_check.specs.Follows.{IsImplied, closing_by, closing_event, expiry_by, expiry_event, invoke_id, invoking_half, named_entry, sending_by, taken_by}
-use Rattle.tcap_check.specs.Replayed.{Replay, all_lost_from, closed_at_mark, closings_replayed, deliveries_by, delivery_by, discarded, entries_by, entry_by, expiries_replayed, fault_at, gap_by, heard, implied_over, is_gap, is_nothing, is_overtaking, is_sent_by, item_by, lost_from_front, mark_judged, message_by, next_entry, or_else, own_judged, stepped, tied, told_replayed, with_step}
+use Rattle.tcap_certificate.specs.Follows.{IsImplied, closing_by, closing_event, expiry_by, expiry_event, invoke_id, invoking_half, named_entry, sending_by, taken_by}
+use Rattle.tcap_certificate.specs.Replayed.{Replay, all_lost_from, closed_at_mark, closings_replayed, deliveries_by, delivery_by, discarded, entries_by, entry_by, expiries_replayed, fault_at, gap_by, heard, implied_over, is_gap, is_nothing, is_overtaking, is_sent_by, item_by, lost_from_front, mark_judged, message_by, next_entry, or_else, own_judged, stepped, tied, told_replayed, with_step}
 use Rattle.tcap_check.proofs.ReplaySteps.{discard_is}
 use Rattle.tcap_model.proofs.RunLaws.{some_is, then_some, where_some}
 use Rattle.tcap_model.proofs.RunLaws.{same_side}

@@ -4,13 +4,13 @@ use Rattle.tcap_record.specs.declared.entry.End.{End as Side}
 use Rattle.tcap_record.specs.declared.entry.Entry.{Entry}
 use Rattle.tcap_end.specs.Table.{Table}
 use Rattle.tcap_end.proofs.AnsweringLaws.{ok_same, then_ok}
-use Rattle.tcap_check.specs.declared.fault.CheckFault.{CheckFault}
+use Rattle.tcap_certificate.specs.declared.fault.CheckFault.{CheckFault}
 use Rattle.tcap_record.specs.Ends.{other}
 use Rattle.tcap_model.specs.World.{Item, channel_from}
 use Rattle.tcap_model.specs.Run.{Event, Runs}
-use Rattle.tcap_check.specs.Certificate.{Certificate}
+use Rattle.tcap_certificate.specs.Certificate.{Certificate}
 use Rattle.tcap_model.specs.Entries.{AreItems, count_components, item_of}
-use Rattle.tcap_check.specs.Replayed.{Replay, certificate_fits, entries_by, lost_from_front, nothing_replayed, replayed_by}
+use Rattle.tcap_certificate.specs.Replayed.{Replay, certificate_fits, entries_by, lost_from_front, nothing_replayed, replayed_by}
 use Rattle.tcap_check.specs.AloneGiven.{IsGivenFor}
 use Rattle.tcap_check.proofs.GivenRuns.{are_items, both_ok}
 use Rattle.tcap_check.proofs.AloneLeft.{none_waits}

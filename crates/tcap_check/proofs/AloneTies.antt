@@ -14,14 +14,14 @@ use Rattle.tcap_end.specs.Table.{Table}
 use Rattle.tcap_end.specs.End.{End}
 use Rattle.tcap_end.specs.Message.{send}
 use Rattle.tcap_end.proofs.AnsweringLaws.{needs_ok, ok_same, some_ok, then_ok}
-use Rattle.tcap_check.specs.declared.fault.CheckFault.{CheckFault}
+use Rattle.tcap_certificate.specs.declared.fault.CheckFault.{CheckFault}
 use Rattle.tcap_model.specs.declared.reason.Reason.TheVariants.{BadReply}
 use Rattle.tcap_record.specs.Ends.{other}
 use Rattle.tcap_model.specs.World.{Item, OnItsWay, Sent, World, channel_from, empty, end_at, is_side, with_channel, with_end}
 use Rattle.tcap_model.specs.Run.{Event, Sends, Receives, Replies, Loses, Expires, Closes, Quiet, Tells, Runs, after, joined, played}
-use Rattle.tcap_check.specs.Certificate.{Certificate}
-use Rattle.tcap_check.specs.Follows.{invoke_id, invoking_half, losses_from, sending_by}
-use Rattle.tcap_check.specs.Replayed.{Replay, fault_at, happens, implied, implied_over, is_abort, is_sent_by, lost_from_front, message_by, next_entry, or_same, reply_replayed, send_replayed, sent_or_refused, stepped, with_step}
+use Rattle.tcap_certificate.specs.Certificate.{Certificate}
+use Rattle.tcap_certificate.specs.Follows.{invoke_id, invoking_half, losses_from, sending_by}
+use Rattle.tcap_certificate.specs.Replayed.{Replay, fault_at, happens, implied, implied_over, is_abort, is_sent_by, lost_from_front, message_by, next_entry, or_same, reply_replayed, send_replayed, sent_or_refused, stepped, with_step}
 use Rattle.tcap_model.specs.Since.{WasSent}
 use Rattle.tcap_model.proofs.ChannelLaws.{were_sent}
 use Rattle.tcap_check.proofs.DescribedGaps.{ok_needs, ok_some, ok_then}

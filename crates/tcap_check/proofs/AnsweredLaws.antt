@@ -6,16 +6,16 @@ use Rattle.tcap_record.specs.declared.entry.Entry.{Entry}
 use Rattle.tcap_end.specs.Table.{Table}
 use Rattle.tcap_model.specs.declared.reason.Reason.TheVariants.{Memory}
 use Rattle.tcap_model.specs.Entries.{item_of}
-use Rattle.tcap_check.specs.declared.fault.CheckFault.{CheckFault}
+use Rattle.tcap_certificate.specs.declared.fault.CheckFault.{CheckFault}
 use Rattle.tcap_check.specs.declared.progress.Progress.{Progress}
 use Rattle.tcap_check.specs.declared.replaying.Replaying.{Replaying}
 use Rattle.tcap_check.specs.declared.runs.Partial.{Partial}
 use Rattle.tcap_check.specs.declared.step.Step.{Step}
-use Rattle.tcap_check.specs.Certificate.{Certificate}
+use Rattle.tcap_certificate.specs.Certificate.{Certificate}
 use Rattle.tcap_check.specs.Checking.{TookListed, kept_ended, map_ok}
 use Rattle.tcap_check.specs.Progress.{YieldsInMemory}
 use Rattle.tcap_check.specs.Ready.{checking_of, kept_in}
-use Rattle.tcap_check.specs.Replayed.{certificate_fits, discards_by, fault_at, replay_by, replayed_by}
+use Rattle.tcap_certificate.specs.Replayed.{certificate_fits, discards_by, fault_at, replay_by, replayed_by}
 use Rattle.tcap_check.specs.Stands.{EndsListed, UnlessMemory, IsAnswered, IsRefusedThere, ShowsAmong, answered}
 use Rattle.tcap_check.specs.Told.{discards_of, events_of, told_of}
 use Rattle.tcap_check.proofs.CheckerLaws.{discards_so, ends_so, listed_err, listed_ok}

@@ -11,10 +11,10 @@ use Rattle.tcap_record.specs.declared.entry.End.TheVariants as sides
 use Rattle.tcap_record.specs.Ends.{other}
 use Rattle.tcap_model.specs.World.{Item, Sent}
 use Rattle.tcap_model.specs.Run.{Event, Sends, Receives, Replies, Loses, Expires, Closes, Quiet, Tells, numbers_sent, numbers_taken, where_so}
-use Rattle.tcap_check.specs.declared.certificate.Fate.{Fate}
-use Rattle.tcap_check.specs.declared.certificate.Fate.TheVariants.{Gap, Lost, By}
-use Rattle.tcap_check.specs.Certificate.{Certificate, IsPrompt, prompt_fates, prompt_from}
-use Rattle.tcap_check.specs.Follows.{FatesFit, FollowsFrom, IsImplied, deliveries, gap_events, quiet_by, sending, taken_by}
+use Rattle.tcap_certificate.specs.declared.certificate.Fate.{Fate}
+use Rattle.tcap_certificate.specs.declared.certificate.Fate.TheVariants.{Gap, Lost, By}
+use Rattle.tcap_certificate.specs.Certificate.{Certificate, IsPrompt, prompt_fates, prompt_from}
+use Rattle.tcap_certificate.specs.Follows.{FatesFit, FollowsFrom, IsImplied, deliveries, gap_events, quiet_by, sending, taken_by}
 use Rattle.tcap_check.specs.Given.{is_over_or_sends}
 use Rattle.tcap_model.proofs.ListLaws.{all_both}
 use Rattle.tcap_model.proofs.RunLaws.{same_events}

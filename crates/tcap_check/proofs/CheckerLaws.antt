@@ -5,16 +5,16 @@ use Rattle.tcap_record.specs.declared.entry.End.TheVariants as sides
 use Rattle.tcap_end.specs.declared.fault.EndFault.{EndFault}
 use Rattle.tcap_end.specs.Table.{Table}
 use Rattle.tcap_end.specs.Step.{◌>>◌, ◌>>=◌}
-use Rattle.tcap_check.specs.declared.certificate.Fate.{Fate}
+use Rattle.tcap_certificate.specs.declared.certificate.Fate.{Fate}
 use Rattle.tcap_check.specs.declared.checker.Report.{Report}
-use Rattle.tcap_check.specs.declared.fault.CheckFault.{CheckFault}
+use Rattle.tcap_certificate.specs.declared.fault.CheckFault.{CheckFault}
 use Rattle.tcap_check.specs.declared.progress.Progress.{Progress}
 use Rattle.tcap_model.specs.declared.reason.Reason.{Reason}
 use Rattle.tcap_model.specs.World.{Item}
 use Rattle.tcap_model.specs.Run.{Event}
-use Rattle.tcap_check.specs.Certificate.{Certificate}
+use Rattle.tcap_certificate.specs.Certificate.{Certificate}
 use Rattle.tcap_check.specs.Progress.{nothing_kept}
-use Rattle.tcap_check.specs.Replayed.{Replay, certificate_fits, discards_by, entries_by, lost_last, nothing_replayed, replay_by, run_by}
+use Rattle.tcap_certificate.specs.Replayed.{Replay, certificate_fits, discards_by, entries_by, lost_last, nothing_replayed, replay_by, run_by}
 use Rattle.tcap_check.specs.Checking.{Checking, Kept, TookListed, count_ahead, count_waiting, kept_ended, kept_next, kept_of, map_ok, progress_of, report_of, reported, so_far_of, taken}
 use Rattle.tcap_check.specs.declared.step.Step.{Step}
 use Rattle.tcap_check.specs.Told.{Told, discards_of, events_of, told_if, told_of}

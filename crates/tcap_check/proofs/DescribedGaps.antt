@@ -16,16 +16,16 @@ use Rattle.tcap_end.specs.Step.{needs, ◌>>◌, ◌>>=◌}
 use Rattle.tcap_record.specs.Ends.{other}
 use Rattle.tcap_model.specs.World.{Item, Sent, World, is_side}
 use Rattle.tcap_model.specs.Run.{Event, Sends, Receives, Replies, Loses, Expires, Closes, Quiet, Tells, after, then_so}
-use Rattle.tcap_check.specs.declared.certificate.Closing.{Closing}
-use Rattle.tcap_check.specs.declared.certificate.Expiry.{Expiry}
-use Rattle.tcap_check.specs.declared.certificate.Fate.{Fate}
-use Rattle.tcap_check.specs.declared.certificate.Fate.TheVariants.{Gap, Lost, By}
-use Rattle.tcap_check.specs.declared.fault.CheckFault.{CheckFault}
+use Rattle.tcap_certificate.specs.declared.certificate.Closing.{Closing}
+use Rattle.tcap_certificate.specs.declared.certificate.Expiry.{Expiry}
+use Rattle.tcap_certificate.specs.declared.certificate.Fate.{Fate}
+use Rattle.tcap_certificate.specs.declared.certificate.Fate.TheVariants.{Gap, Lost, By}
+use Rattle.tcap_certificate.specs.declared.fault.CheckFault.{CheckFault}
 use Rattle.tcap_model.specs.declared.reason.Reason.TheVariants.{BadReply, FateRange, HiddenRefused}
-use Rattle.tcap_check.specs.Certificate.{Certificate}
+use Rattle.tcap_certificate.specs.Certificate.{Certificate}
 use Rattle.tcap_model.specs.Since.{originating}
-use Rattle.tcap_check.specs.Follows.{closing_by, closing_event, deliveries, expiry_by, expiry_event, gap_events, half_begun, invoke_id, is_loss, losses_from, lost_from, named_entry, taken_by, without_losses}
-use Rattle.tcap_check.specs.Replayed.{Replay, closings_replayed, deliveries_by, expiries_replayed, fault_at, gap_by, happens, lost_before, next_entry, stepped, with_step}
+use Rattle.tcap_certificate.specs.Follows.{closing_by, closing_event, deliveries, expiry_by, expiry_event, gap_events, half_begun, invoke_id, is_loss, losses_from, lost_from, named_entry, taken_by, without_losses}
+use Rattle.tcap_certificate.specs.Replayed.{Replay, closings_replayed, deliveries_by, expiries_replayed, fault_at, gap_by, happens, lost_before, next_entry, stepped, with_step}
 use Rattle.tcap_model.proofs.RunLaws.{grows, map_some, same_events, then_some, where_some}
 use Rattle.tcap_check.proofs.ReplaySteps.{Replays, without_both}
 use Rattle.tcap_check.proofs.ReplayLaws.{gap_replays}

@@ -8,17 +8,17 @@ use Rattle.tcap_msg.specs.declared.message.Message.{Message}
 use Rattle.tcap_record.specs.declared.entry.End.{End as Side}
 use Rattle.tcap_record.specs.declared.entry.End.TheVariants as sides
 use Rattle.tcap_end.specs.Table.{Table}
-use Rattle.tcap_check.specs.declared.certificate.Closing.{Closing}
-use Rattle.tcap_check.specs.declared.certificate.Expiry.{Expiry}
-use Rattle.tcap_check.specs.declared.certificate.Fate.{Fate}
-use Rattle.tcap_check.specs.declared.certificate.Fate.TheVariants.{Gap, Lost, By}
+use Rattle.tcap_certificate.specs.declared.certificate.Closing.{Closing}
+use Rattle.tcap_certificate.specs.declared.certificate.Expiry.{Expiry}
+use Rattle.tcap_certificate.specs.declared.certificate.Fate.{Fate}
+use Rattle.tcap_certificate.specs.declared.certificate.Fate.TheVariants.{Gap, Lost, By}
 use Rattle.tcap_record.specs.Ends.{other}
 use Rattle.tcap_model.specs.World.{Item, Sent, World, channel_from, is_side}
 use Rattle.tcap_model.specs.Run.{Event, Receives, Replies, Runs, numbers_of, numbers_sent, numbers_taken, takes_from, then_so, where_so}
-use Rattle.tcap_check.specs.Certificate.{Certificate}
+use Rattle.tcap_certificate.specs.Certificate.{Certificate}
 use Rattle.tcap_model.specs.World.{has_quiet}
-use Rattle.tcap_check.specs.Follows.{FatesFit, Follows, FollowsFrom, closing_by, closing_event, deliveries, expiry_by, expiry_event, gap_events, named_entry, taken_by, without_losses}
-use Rattle.tcap_check.specs.Replayed.{all_fit, certificate_fits, fates_fit, is_later, is_overtaking, time_of}
+use Rattle.tcap_certificate.specs.Follows.{FatesFit, Follows, FollowsFrom, closing_by, closing_event, deliveries, expiry_by, expiry_event, gap_events, named_entry, taken_by, without_losses}
+use Rattle.tcap_certificate.specs.Replayed.{all_fit, certificate_fits, fates_fit, is_later, is_overtaking, time_of}
 use Rattle.tcap_model.proofs.ListLaws.{all_weaker}
 use Rattle.tcap_model.proofs.ChannelLaws.{are_whole, in_order}
 use Rattle.tcap_check.proofs.OrderLaws.{IsIn, Rises, Takes, here_takes, in_left, in_right, in_turn, rises_front, rises_without, run_timed, sending_takes, step_takes, taken_too}

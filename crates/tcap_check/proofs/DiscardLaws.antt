@@ -12,9 +12,9 @@ use Rattle.tcap_model.specs.World.{Item, channel_from, end_at}
 use Rattle.tcap_model.specs.Run.{Event, Receives, Loses, after}
 use Rattle.tcap_model.proofs.ListLaws.{all_both}
 use Rattle.tcap_model.proofs.RunLaws.{map_some}
-use Rattle.tcap_check.specs.declared.fault.CheckFault.{CheckFault}
-use Rattle.tcap_check.specs.Certificate.{Certificate}
-use Rattle.tcap_check.specs.Replayed.{Replay, certificate_fits, discarded, discards_by, entries_by, fault_at, heard, lost_from_front, lost_last, nothing_replayed, or_else, stepped, why_not_first}
+use Rattle.tcap_certificate.specs.declared.fault.CheckFault.{CheckFault}
+use Rattle.tcap_certificate.specs.Certificate.{Certificate}
+use Rattle.tcap_certificate.specs.Replayed.{Replay, certificate_fits, discarded, discards_by, entries_by, fault_at, heard, lost_from_front, lost_last, nothing_replayed, or_else, stepped, why_not_first}
 use Rattle.tcap_check.specs.Told.{MayAllBeDiscarded, MayBeDiscarded}
 use Rattle.tcap_check.proofs.GivenRuns.{both_ok}
 use Rattle.tcap_check.proofs.ReplayKeeps.{IsKept, entries_keep, last_keeps}

@@ -19,12 +19,12 @@ use Rattle.tcap_model.specs.World.{Item, OnItsWay, Sent, World, channel_from, em
 use Rattle.tcap_model.specs.Run.{Event, Loses, Receives, Runs, after, numbers_of, played}
 use Rattle.tcap_model.proofs.ListLaws.{all_more, all_weaker, contains_first}
 use Rattle.tcap_model.proofs.RunLaws.{loss, map_some, played_on, same_side, some_is}
-use Rattle.tcap_check.specs.declared.certificate.Fate.{Fate}
-use Rattle.tcap_check.specs.declared.certificate.Fate.TheVariants.{Gap, Lost, By}
-use Rattle.tcap_check.specs.declared.fault.CheckFault.{CheckFault}
-use Rattle.tcap_check.specs.Certificate.{Certificate}
-use Rattle.tcap_check.specs.Follows.{is_loss, losses_from, lost_from}
-use Rattle.tcap_check.specs.Replayed.{Replay, all_lost_from, certificate_fits, discarded, discards_by, entries_by, fault_at, heard, if_lost, is_heard, lost_front, lost_from_front, lost_last, nothing_replayed, or_else, run_by, stepped, why_not_first, with_discards, with_step}
+use Rattle.tcap_certificate.specs.declared.certificate.Fate.{Fate}
+use Rattle.tcap_certificate.specs.declared.certificate.Fate.TheVariants.{Gap, Lost, By}
+use Rattle.tcap_certificate.specs.declared.fault.CheckFault.{CheckFault}
+use Rattle.tcap_certificate.specs.Certificate.{Certificate}
+use Rattle.tcap_certificate.specs.Follows.{is_loss, losses_from, lost_from}
+use Rattle.tcap_certificate.specs.Replayed.{Replay, all_lost_from, certificate_fits, discarded, discards_by, entries_by, fault_at, heard, if_lost, is_heard, lost_front, lost_from_front, lost_last, nothing_replayed, or_else, run_by, stepped, why_not_first, with_discards, with_step}
 use Rattle.tcap_check.specs.Checking.{taken, taken_from}
 use Rattle.tcap_check.specs.Stands.{DiscardsSo, IsDiscardOf, TellsSo}
 use Rattle.tcap_check.specs.Told.{IsDiscarded, IsTold, MayAllBeDiscarded}

@@ -4,15 +4,15 @@ use Rattle.std.specs.Prelude.{ok_or, slice_get}
 use Rattle.tcap_record.specs.declared.entry.End.{End as Side}
 use Rattle.tcap_end.specs.Table.{Table}
 use Rattle.tcap_end.specs.Step.{needs, ◌>>◌, ◌>>=◌}
-use Rattle.tcap_check.specs.declared.certificate.Fate.{Fate}
-use Rattle.tcap_check.specs.declared.fault.CheckFault.{CheckFault}
+use Rattle.tcap_certificate.specs.declared.certificate.Fate.{Fate}
+use Rattle.tcap_certificate.specs.declared.fault.CheckFault.{CheckFault}
 use Rattle.tcap_model.specs.declared.reason.Reason.{Reason}
 use Rattle.tcap_model.specs.declared.reason.Reason.TheVariants.{FateCount}
 use Rattle.tcap_check.specs.declared.outline.Outline.{Outline}
 use Rattle.tcap_check.specs.declared.progress.Progress.{Progress}
 use Rattle.tcap_model.specs.World.{Item}
-use Rattle.tcap_check.specs.Certificate.{Certificate}
-use Rattle.tcap_check.specs.Replayed.{Replay, certificate_fits, entries_by, entry_by, fault_at, gap_by, item_by, lost_last, next_entry, nothing_replayed}
+use Rattle.tcap_certificate.specs.Certificate.{Certificate}
+use Rattle.tcap_certificate.specs.Replayed.{Replay, certificate_fits, entries_by, entry_by, fault_at, gap_by, item_by, lost_last, next_entry, nothing_replayed}
 use Rattle.tcap_check.specs.Outlines.{is_named, outline_of, outlines_from, since_from}
 use Rattle.tcap_check.specs.Progress.{last_lost}
 use Rattle.tcap_check.specs.Checking.{Checking, Kept, TookListed, ended, entry_kept, gap_before, kept_ended, kept_next, kept_of, kept_with, map_ok, progress_of, taken, taken_from, taken_next}

@@ -5,9 +5,9 @@ use Rattle.std.proofs.lemmas.List.{length-append}
 use Rattle.tcap_end.specs.Table.{Table}
 use Rattle.tcap_model.specs.World.{Item}
 use Rattle.tcap_model.specs.Run.{Event}
-use Rattle.tcap_check.specs.Certificate.{Certificate}
-use Rattle.tcap_check.specs.Follows.{FatesFit, FollowsFrom, IsImplied, gap_events, sending, without_losses}
-use Rattle.tcap_check.specs.Replayed.{Replay}
+use Rattle.tcap_certificate.specs.Certificate.{Certificate}
+use Rattle.tcap_certificate.specs.Follows.{FatesFit, FollowsFrom, IsImplied, gap_events, sending, without_losses}
+use Rattle.tcap_certificate.specs.Replayed.{Replay}
 use Rattle.tcap_check.proofs.ReplayGaps.{gap_events_before}
 use Rattle.tcap_check.proofs.ReplaySteps.{Replays, without_both}
 

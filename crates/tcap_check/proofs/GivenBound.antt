@@ -19,13 +19,13 @@ use Rattle.tcap_end.proofs.StepLaws.{expires}
 use Rattle.tcap_record.specs.Ends.{other}
 use Rattle.tcap_model.specs.World.{Item, OnItsWay, Sent, World, empty, end_at, with_channel, with_end}
 use Rattle.tcap_model.specs.Run.{Event, Sends, Receives, Replies, Loses, Expires, Closes, Quiet, Tells, IsRunOf, Runs, after, played, then_so, where_so}
-use Rattle.tcap_check.specs.declared.certificate.Closing.{Closing}
-use Rattle.tcap_check.specs.declared.certificate.Expiry.{Expiry}
-use Rattle.tcap_check.specs.declared.certificate.Fate.{Fate}
-use Rattle.tcap_check.specs.declared.certificate.Fate.TheVariants.{Gap, Lost, By}
-use Rattle.tcap_check.specs.Certificate.{Certificate}
+use Rattle.tcap_certificate.specs.declared.certificate.Closing.{Closing}
+use Rattle.tcap_certificate.specs.declared.certificate.Expiry.{Expiry}
+use Rattle.tcap_certificate.specs.declared.certificate.Fate.{Fate}
+use Rattle.tcap_certificate.specs.declared.certificate.Fate.TheVariants.{Gap, Lost, By}
+use Rattle.tcap_certificate.specs.Certificate.{Certificate}
 use Rattle.tcap_model.specs.Entries.{count_components}
-use Rattle.tcap_check.specs.Follows.{Follows, FollowsFrom, IsImplied, closing_event, deliveries, expiry_event, gap_events, invoke_id, invoking_half, is_loss, quiet_by, sending, sending_by, taken_by, without_losses}
+use Rattle.tcap_certificate.specs.Follows.{Follows, FollowsFrom, IsImplied, closing_event, deliveries, expiry_event, gap_events, invoke_id, invoking_half, is_loss, quiet_by, sending, sending_by, taken_by, without_losses}
 use Rattle.tcap_model.proofs.RunLaws.{played_on}
 use Rattle.tcap_model.proofs.RunLaws.{expiry, loss, sound as ends_sound}
 use Rattle.tcap_check.proofs.StepCounts.{expired, fewer, filter_map_most, hides, in_use, joins_most, one, one_most, steps_most, taken_most, total, total_both, total_most}

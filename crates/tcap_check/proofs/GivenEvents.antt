@@ -13,13 +13,13 @@ use Rattle.tcap_end.specs.declared.half.HalfName.TheVariants as names
 use Rattle.tcap_record.specs.Ends.{other}
 use Rattle.tcap_model.specs.World.{Item, Sent, is_side}
 use Rattle.tcap_model.specs.Run.{Event, Sends, Receives, Replies, Loses, Expires, Closes, Quiet, Tells, numbers_taken, takes_from, then_so, where_so}
-use Rattle.tcap_check.specs.declared.certificate.Closing.{Closing}
-use Rattle.tcap_check.specs.declared.certificate.Expiry.{Expiry}
-use Rattle.tcap_check.specs.declared.certificate.Fate.{Fate}
-use Rattle.tcap_check.specs.declared.certificate.Fate.TheVariants.{Gap, Lost, By}
-use Rattle.tcap_check.specs.Certificate.{Certificate}
+use Rattle.tcap_certificate.specs.declared.certificate.Closing.{Closing}
+use Rattle.tcap_certificate.specs.declared.certificate.Expiry.{Expiry}
+use Rattle.tcap_certificate.specs.declared.certificate.Fate.{Fate}
+use Rattle.tcap_certificate.specs.declared.certificate.Fate.TheVariants.{Gap, Lost, By}
+use Rattle.tcap_certificate.specs.Certificate.{Certificate}
 use Rattle.tcap_model.specs.Since.{originating}
-use Rattle.tcap_check.specs.Follows.{FollowsFrom, IsImplied, closing_by, closing_event, deliveries, expiry_by, expiry_event, gap_events, half_begun, invoke_id, named_entry, quiet_by, sending, sending_by, taken_by}
+use Rattle.tcap_certificate.specs.Follows.{FollowsFrom, IsImplied, closing_by, closing_event, deliveries, expiry_by, expiry_event, gap_events, half_begun, invoke_id, named_entry, quiet_by, sending, sending_by, taken_by}
 use Rattle.tcap_check.proofs.NumberLaws.{IsAmong, among_left, among_right, taken_left, taken_right}
 use Rattle.tcap_check.proofs.GivenLosses.{IsFated, deliveries_fated, is_lost, taken_fated}
 use Rattle.tcap_model.proofs.ListLaws.{all_both}

@@ -15,17 +15,17 @@ use Rattle.tcap_end.proofs.AnsweringLaws.{ok_same, then_ok}
 use Rattle.tcap_record.specs.Ends.{other}
 use Rattle.tcap_model.specs.World.{Item, OnItsWay, Sent, World, channel_from, is_side}
 use Rattle.tcap_model.specs.Run.{BothKeepRules, Event, Receives, Runs, numbers_taken, takes_from}
-use Rattle.tcap_check.specs.declared.certificate.Closing.{Closing}
-use Rattle.tcap_check.specs.declared.certificate.Expiry.{Expiry}
-use Rattle.tcap_check.specs.declared.certificate.Fate.{Fate}
-use Rattle.tcap_check.specs.declared.certificate.Fate.TheVariants.{Gap, Lost, By}
-use Rattle.tcap_check.specs.declared.fault.CheckFault.{CheckFault}
+use Rattle.tcap_certificate.specs.declared.certificate.Closing.{Closing}
+use Rattle.tcap_certificate.specs.declared.certificate.Expiry.{Expiry}
+use Rattle.tcap_certificate.specs.declared.certificate.Fate.{Fate}
+use Rattle.tcap_certificate.specs.declared.certificate.Fate.TheVariants.{Gap, Lost, By}
+use Rattle.tcap_certificate.specs.declared.fault.CheckFault.{CheckFault}
 use Rattle.tcap_model.specs.declared.reason.Reason.{Reason}
-use Rattle.tcap_check.specs.Certificate.{Certificate}
+use Rattle.tcap_certificate.specs.Certificate.{Certificate}
 use Rattle.tcap_model.specs.Entries.{AreItems, count_components, item_of}
-use Rattle.tcap_check.specs.Follows.{FatesFit, Follows, FollowsFrom, deliveries, taken_by, without_losses}
+use Rattle.tcap_certificate.specs.Follows.{FatesFit, Follows, FollowsFrom, deliveries, taken_by, without_losses}
 use Rattle.tcap_check.specs.Given.{IsGiven}
-use Rattle.tcap_check.specs.Replayed.{Replay, all_fit, certificate_fits, entries_by, fates_fit, if_lost, lost_from_both, lost_front, nothing_replayed, replayed_by}
+use Rattle.tcap_certificate.specs.Replayed.{Replay, all_fit, certificate_fits, entries_by, fates_fit, if_lost, lost_from_both, lost_front, nothing_replayed, replayed_by}
 use Rattle.tcap_check.proofs.GivenBound.{described_bound}
 use Rattle.tcap_check.proofs.NumberLaws.{IsAmong, among_plain, among_right, taken_right}
 use Rattle.tcap_check.proofs.GivenLosses.{IsFated, IsSettled, fated_keeps, fits_gap, fits_reply, is_lost, left_lost, losses_are, says_lost, taken_sent}

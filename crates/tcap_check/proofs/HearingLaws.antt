@@ -1,14 +1,14 @@
 -- Steps over what is kept, one after the other: what is left, and what it does to what is kept now, tell of all.
 use Rattle.std.proofs.Common.{◌≡◌, ℕ, zero, suc, true, false, ◌+◌, ◌^◌, ◌≤◌, ◌<◌, List, [], ◌∷◌, length, drop, get_or, Option, Some, None, Result, refl, ap, ◌∙◌, arith}
 use Rattle.tcap_record.specs.declared.entry.End.{End as Side}
-use Rattle.tcap_check.specs.declared.fault.CheckFault.{CheckFault}
+use Rattle.tcap_certificate.specs.declared.fault.CheckFault.{CheckFault}
 use Rattle.tcap_check.specs.declared.progress.Progress.{Progress}
 use Rattle.tcap_end.specs.Step.{◌>>=◌}
 use Rattle.tcap_end.specs.Table.{Table}
 use Rattle.tcap_check.specs.declared.outline.Outline.{Outline}
-use Rattle.tcap_check.specs.declared.certificate.Closing.{Closing}
-use Rattle.tcap_check.specs.declared.certificate.Expiry.{Expiry}
-use Rattle.tcap_check.specs.Replayed.{closings_judged, expiries_judged, is_judged}
+use Rattle.tcap_certificate.specs.declared.certificate.Closing.{Closing}
+use Rattle.tcap_certificate.specs.declared.certificate.Expiry.{Expiry}
+use Rattle.tcap_certificate.specs.Replayed.{closings_judged, expiries_judged, is_judged}
 use Rattle.tcap_check.specs.Progress.{HasNoMore, closing_kept, closings_kept, expiries_kept, expiry_kept}
 use Rattle.tcap_check.specs.Hearing.{deliveries_kept}
 

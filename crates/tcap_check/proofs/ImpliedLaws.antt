@@ -38,9 +38,9 @@ use Rattle.tcap_end.proofs.MapLaws.{found_other}
 use Rattle.tcap_end.proofs.StepLaws.{expires, none_is}
 use Rattle.tcap_model.specs.World.{Sent, World, end_at, with_end}
 use Rattle.tcap_model.specs.Run.{Event, Sends, Receives, Replies, Loses, Expires, Closes, Quiet, Tells, after, played, then_so}
-use Rattle.tcap_check.specs.Follows.{IsImplied, invoke_id, invoking_half}
+use Rattle.tcap_certificate.specs.Follows.{IsImplied, invoke_id, invoking_half}
 use Rattle.tcap_check.specs.Given.{IsInUse}
-use Rattle.tcap_check.specs.Replayed.{Replay, implied, or_same, stepped, with_step}
+use Rattle.tcap_certificate.specs.Replayed.{Replay, implied, or_same, stepped, with_step}
 use Rattle.tcap_model.proofs.RunLaws.{expiry}
 use Rattle.tcap_model.proofs.ListLaws.{contains_first}
 use Rattle.tcap_check.proofs.ExpiryLaws.{Expire, all_in_use, ends_in_use, expires_first, in_use, not_in_use, one_of_them}

@@ -7,16 +7,16 @@ use Rattle.tcap_record.specs.declared.entry.End.TheVariants as sides
 use Rattle.tcap_end.specs.declared.fault.EndFault.{EndFault}
 use Rattle.tcap_end.specs.End.{End}
 use Rattle.tcap_end.specs.Step.{◌>>=◌}
-use Rattle.tcap_check.specs.declared.certificate.Fate.{Fate}
-use Rattle.tcap_check.specs.declared.certificate.Fate.TheVariants.{Gap, Lost, By}
+use Rattle.tcap_certificate.specs.declared.certificate.Fate.{Fate}
+use Rattle.tcap_certificate.specs.declared.certificate.Fate.TheVariants.{Gap, Lost, By}
 use Rattle.tcap_check.specs.declared.progress.Progress.{Progress}
 use Rattle.tcap_check.specs.declared.progress.Waiting.{Waiting}
 use Rattle.tcap_record.specs.Ends.{other}
 use Rattle.tcap_model.specs.World.{OnItsWay, World, channel_from, end_at, with_channel, with_end}
 use Rattle.tcap_model.specs.Run.{Event, Loses, numbers_of}
-use Rattle.tcap_check.specs.Certificate.{Certificate}
-use Rattle.tcap_check.specs.Replayed.{Replay, all_lost_from, if_lost, is_heard, losing, lost_front, lost_from_front, lost_last, with_step}
-use Rattle.tcap_check.specs.Unheard.{is_lost_from}
+use Rattle.tcap_certificate.specs.Certificate.{Certificate}
+use Rattle.tcap_certificate.specs.Replayed.{Replay, all_lost_from, if_lost, is_heard, losing, lost_front, lost_from_front, lost_last, with_step}
+use Rattle.tcap_certificate.specs.Unheard.{is_lost_from}
 use Rattle.tcap_check.specs.Progress.{discard_told, front_lost, last_lost, losing_kept, lost_counted, lost_told, moved, seat_at, with_seat_end, with_waiting}
 use Rattle.tcap_check.specs.Hearing.{sent_lost}
 use Rattle.tcap_check.specs.Checking.{fate_of, is_alone, kept_by, map_ok, progress_of, reported, waiting_at}

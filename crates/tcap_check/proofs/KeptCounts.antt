@@ -6,14 +6,14 @@ use Rattle.tcap_msg.specs.declared.message.Message.{Message}
 use Rattle.tcap_record.specs.declared.entry.End.{End as Side}
 use Rattle.tcap_record.specs.declared.entry.End.TheVariants as sides
 use Rattle.tcap_model.specs.declared.reason.Reason.{Reason}
-use Rattle.tcap_check.specs.declared.certificate.Fate.{Fate}
-use Rattle.tcap_check.specs.declared.certificate.Fate.TheVariants.{Gap, Lost, By}
+use Rattle.tcap_certificate.specs.declared.certificate.Fate.{Fate}
+use Rattle.tcap_certificate.specs.declared.certificate.Fate.TheVariants.{Gap, Lost, By}
 use Rattle.tcap_record.specs.Ends.{other}
 use Rattle.tcap_model.specs.World.{Item, OnItsWay, Sent, World, channel_from, with_channel}
 use Rattle.tcap_model.specs.Run.{joined}
-use Rattle.tcap_check.specs.Certificate.{Certificate}
-use Rattle.tcap_check.specs.Follows.{FatesFit, taken_by}
-use Rattle.tcap_check.specs.Replayed.{Replay, if_lost, is_sent_by, lost_from_front, lost_front}
+use Rattle.tcap_certificate.specs.Certificate.{Certificate}
+use Rattle.tcap_certificate.specs.Follows.{FatesFit, taken_by}
+use Rattle.tcap_certificate.specs.Replayed.{Replay, if_lost, is_sent_by, lost_from_front, lost_front}
 use Rattle.tcap_check.specs.Checking.{count_ahead}
 use Rattle.tcap_check.specs.Hearing.{is_heard}
 use Rattle.tcap_check.proofs.PendingLaws.{IsAhead}

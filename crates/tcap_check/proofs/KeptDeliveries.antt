@@ -11,15 +11,15 @@ use Rattle.tcap_end.specs.Step.{needs, ◌>>◌, ◌>>=◌}
 use Rattle.tcap_record.specs.Ends.{other}
 use Rattle.tcap_model.specs.World.{Item, OnItsWay, Sent, channel_from, end_at, with_channel, with_end}
 use Rattle.tcap_model.specs.Run.{Receives}
-use Rattle.tcap_check.specs.declared.certificate.Fate.{Fate}
-use Rattle.tcap_check.specs.declared.certificate.Fate.TheVariants.{Gap, Lost, By}
-use Rattle.tcap_check.specs.declared.fault.CheckFault.{CheckFault}
+use Rattle.tcap_certificate.specs.declared.certificate.Fate.{Fate}
+use Rattle.tcap_certificate.specs.declared.certificate.Fate.TheVariants.{Gap, Lost, By}
+use Rattle.tcap_certificate.specs.declared.fault.CheckFault.{CheckFault}
 use Rattle.tcap_model.specs.declared.reason.Reason.TheVariants.{BadReply}
 use Rattle.tcap_check.specs.declared.outline.Outline.{Outline}
 use Rattle.tcap_check.specs.declared.progress.Progress.{Progress}
 use Rattle.tcap_check.specs.declared.progress.Waiting.{Waiting}
-use Rattle.tcap_check.specs.Certificate.{Certificate}
-use Rattle.tcap_check.specs.Replayed.{Replay, deliveries_by, delivery_by, fault_at, is_due, lost_from_front, lost_front, next_entry, received, refused, with_step}
+use Rattle.tcap_certificate.specs.Certificate.{Certificate}
+use Rattle.tcap_certificate.specs.Replayed.{Replay, deliveries_by, delivery_by, fault_at, is_due, lost_from_front, lost_front, next_entry, received, refused, with_step}
 use Rattle.tcap_check.specs.Outlines.{outlines_from}
 use Rattle.tcap_check.specs.Progress.{discard_told, due_in, lost_counted, map_ok, moved, seat_at, with_seat_end, with_waiting}
 use Rattle.tcap_check.specs.Hearing.{deliveries_kept, delivery_kept, first_received, is_heard, received_or_not}

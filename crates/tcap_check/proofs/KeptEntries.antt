@@ -6,17 +6,17 @@ use Rattle.tcap_record.specs.declared.entry.End.{End as Side}
 use Rattle.tcap_record.specs.declared.entry.End.TheVariants as sides
 use Rattle.tcap_end.specs.Table.{Table}
 use Rattle.tcap_end.specs.Step.{needs, ◌>>◌, ◌>>=◌}
-use Rattle.tcap_check.specs.declared.certificate.Fate.{Fate}
-use Rattle.tcap_check.specs.declared.fault.CheckFault.{CheckFault}
+use Rattle.tcap_certificate.specs.declared.certificate.Fate.{Fate}
+use Rattle.tcap_certificate.specs.declared.fault.CheckFault.{CheckFault}
 use Rattle.tcap_model.specs.declared.reason.Reason.TheVariants.{BadReply, FateRange, OutOfOrder}
 use Rattle.tcap_check.specs.declared.outline.Outline.{Outline}
 use Rattle.tcap_check.specs.declared.progress.Progress.{Progress}
 use Rattle.tcap_record.specs.Ends.{other}
 use Rattle.tcap_model.specs.World.{Item, Sent}
 use Rattle.tcap_model.specs.Run.{Tells, joined}
-use Rattle.tcap_check.specs.Certificate.{Certificate}
-use Rattle.tcap_check.specs.Follows.{taken_by}
-use Rattle.tcap_check.specs.Replayed.{Replay, behind_sending, fault_at, gap_by, is_gap, is_nothing, is_overtaking, is_sent_by, item_by, mark_judged, next_entry, own_message, tied, told_replayed, with_step}
+use Rattle.tcap_certificate.specs.Certificate.{Certificate}
+use Rattle.tcap_certificate.specs.Follows.{taken_by}
+use Rattle.tcap_certificate.specs.Replayed.{Replay, behind_sending, fault_at, gap_by, is_gap, is_nothing, is_overtaking, is_sent_by, item_by, mark_judged, next_entry, own_message, tied, told_replayed, with_step}
 use Rattle.tcap_check.specs.Outlines.{is_named, outline_of, outlines_from, since_from}
 use Rattle.tcap_check.specs.Progress.{overtakes, seat_at}
 use Rattle.tcap_check.specs.Hearing.{is_heard, is_told, mark_taken, own_taken, told_among, told_taken}

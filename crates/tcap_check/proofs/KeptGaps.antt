@@ -3,14 +3,14 @@ use Rattle.std.proofs.Common.{◌≡◌, Bool, ℕ, ◌==◌, List, filter, leng
 use Rattle.tcap_record.specs.declared.entry.End.{End as Side}
 use Rattle.tcap_end.specs.Table.{Table}
 use Rattle.tcap_end.specs.Step.{◌>>=◌}
-use Rattle.tcap_check.specs.declared.certificate.Closing.{Closing}
-use Rattle.tcap_check.specs.declared.certificate.Expiry.{Expiry}
-use Rattle.tcap_check.specs.declared.fault.CheckFault.{CheckFault}
+use Rattle.tcap_certificate.specs.declared.certificate.Closing.{Closing}
+use Rattle.tcap_certificate.specs.declared.certificate.Expiry.{Expiry}
+use Rattle.tcap_certificate.specs.declared.fault.CheckFault.{CheckFault}
 use Rattle.tcap_check.specs.declared.outline.Outline.{Outline}
 use Rattle.tcap_check.specs.declared.progress.Progress.{Progress}
 use Rattle.tcap_model.specs.World.{Item}
-use Rattle.tcap_check.specs.Certificate.{Certificate}
-use Rattle.tcap_check.specs.Replayed.{Replay, closings_judged, closings_replayed, deliveries_by, expiries_judged, expiries_replayed, gap_by, next_entry}
+use Rattle.tcap_certificate.specs.Certificate.{Certificate}
+use Rattle.tcap_certificate.specs.Replayed.{Replay, closings_judged, closings_replayed, deliveries_by, expiries_judged, expiries_replayed, gap_by, next_entry}
 use Rattle.tcap_check.specs.Outlines.{outlines_from, since_from}
 use Rattle.tcap_check.specs.Progress.{closings_kept, due_in, expiries_kept, map_ok}
 use Rattle.tcap_check.specs.Hearing.{deliveries_kept, gap_kept}

@@ -13,11 +13,11 @@ use Rattle.tcap_end.specs.Hidden.{close, expire}
 use Rattle.tcap_end.specs.Step.{◌>>=◌}
 use Rattle.tcap_end.specs.Table.{Table}
 use Rattle.tcap_end.proofs.AnsweringLaws.{needs_ok, ok_same, then_ok}
-use Rattle.tcap_check.specs.declared.fault.CheckFault.{CheckFault}
-use Rattle.tcap_check.specs.declared.certificate.Closing.{Closing}
-use Rattle.tcap_check.specs.declared.certificate.Expiry.{Expiry}
-use Rattle.tcap_check.specs.declared.certificate.Fate.{Fate}
-use Rattle.tcap_check.specs.declared.certificate.Fate.TheVariants.{Gap, Lost, By}
+use Rattle.tcap_certificate.specs.declared.fault.CheckFault.{CheckFault}
+use Rattle.tcap_certificate.specs.declared.certificate.Closing.{Closing}
+use Rattle.tcap_certificate.specs.declared.certificate.Expiry.{Expiry}
+use Rattle.tcap_certificate.specs.declared.certificate.Fate.{Fate}
+use Rattle.tcap_certificate.specs.declared.certificate.Fate.TheVariants.{Gap, Lost, By}
 use Rattle.tcap_model.specs.declared.reason.Reason.TheVariants.{BadReply, FateRange, HiddenRefused, NotQuiet}
 use Rattle.tcap_record.specs.Ends.{other}
 use Rattle.tcap_check.specs.declared.outline.Outline.{Outline}
@@ -28,7 +28,7 @@ use Rattle.tcap_check.specs.Outlines.{half_closed, invocation_ended}
 use Rattle.tcap_check.specs.Progress.{GrewBy, HasNoMore, YieldsInMemory, closing_kept, closings_kept, discard_told, due_in, end_moved, expiries_kept, expiry_kept, first_answered, front_lost, half_closes, invocation_ends, is_none_kept, losing_kept, lost_counted, lost_told, may_be_answered, moved, on_way, reply_kept, seat_at, sent_by, unless_lost, with_seat_end, with_told, with_waiting}
 use Rattle.tcap_model.specs.Run.{Event, Closes, Expires, Loses, Receives, Replies}
 use Rattle.tcap_check.specs.Hearing.{first_heard, first_received, halves_shut, message_received, received_or_not}
-use Rattle.tcap_check.specs.Replayed.{closings_judged, expiries_judged, fault_at}
+use Rattle.tcap_certificate.specs.Replayed.{closings_judged, expiries_judged, fault_at}
 
 -- ---- one step
 

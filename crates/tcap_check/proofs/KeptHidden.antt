@@ -22,20 +22,20 @@ use Rattle.tcap_end.specs.Table.{Table}
 use Rattle.tcap_model.specs.World.{Item, Sent, end_at, is_side, with_end}
 use Rattle.tcap_model.specs.Run.{Event, Closes, Expires, then_so, where_so}
 use Rattle.tcap_check.specs.Noted.{Noted}
-use Rattle.tcap_check.specs.declared.certificate.Closing.{Closing}
-use Rattle.tcap_check.specs.declared.certificate.Expiry.{Expiry}
-use Rattle.tcap_check.specs.Certificate.{Certificate}
-use Rattle.tcap_check.specs.declared.fault.CheckFault.{CheckFault}
+use Rattle.tcap_certificate.specs.declared.certificate.Closing.{Closing}
+use Rattle.tcap_certificate.specs.declared.certificate.Expiry.{Expiry}
+use Rattle.tcap_certificate.specs.Certificate.{Certificate}
+use Rattle.tcap_certificate.specs.declared.fault.CheckFault.{CheckFault}
 use Rattle.tcap_model.specs.declared.reason.Reason.TheVariants.{FateRange, HiddenRefused}
 use Rattle.tcap_check.specs.declared.outline.Outline.TheVariants as outlines
 use Rattle.tcap_model.specs.World.{has_quiet}
 use Rattle.tcap_model.specs.Since.{originating}
-use Rattle.tcap_check.specs.Follows.{closing_by, closing_event, expiry_by, expiry_event, invoke_id, named_entry}
-use Rattle.tcap_check.specs.Replayed.{Replay, closings_judged, closings_replayed, expiries_judged, expiries_replayed, fault_at, happens, with_step}
+use Rattle.tcap_certificate.specs.Follows.{closing_by, closing_event, expiry_by, expiry_event, invoke_id, named_entry}
+use Rattle.tcap_certificate.specs.Replayed.{Replay, closings_judged, closings_replayed, expiries_judged, expiries_replayed, fault_at, happens, with_step}
 use Rattle.tcap_check.specs.Outlines.{begins, half_closed, half_closed_by, invocation_ended, invocation_ended_by, is_named, outline_named, outline_of, outlines_from, since_from}
 use Rattle.tcap_check.specs.Progress.{closing_kept, closings_kept, end_moved, expiries_kept, expiry_kept, half_closes, invocation_ends}
 use Rattle.tcap_check.specs.Checking.{map_ok, progress_of}
-use Rattle.tcap_check.specs.Unheard.{is_lost_from}
+use Rattle.tcap_certificate.specs.Unheard.{is_lost_from}
 use Rattle.tcap_check.proofs.KeptBasics.{end_kept, end_step_is, ok_behind, then_is, then_then}
 use Rattle.tcap_model.proofs.ListLaws.{all_weaker}
 use Rattle.tcap_check.proofs.ReplayLaws.{closings_replay, expiries_replay}

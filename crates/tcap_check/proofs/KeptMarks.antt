@@ -12,16 +12,16 @@ use Rattle.tcap_end.specs.Hidden.{close, close_each, open_halves, quiet_unseen}
 use Rattle.tcap_end.specs.Table.{Table}
 use Rattle.tcap_end.specs.Step.{needs, ◌>>◌, ◌>>=◌}
 use Rattle.tcap_end.proofs.AnsweringLaws.{needs_ok, ok_same}
-use Rattle.tcap_check.specs.declared.certificate.Fate.{Fate}
-use Rattle.tcap_check.specs.declared.fault.CheckFault.{CheckFault}
+use Rattle.tcap_certificate.specs.declared.certificate.Fate.{Fate}
+use Rattle.tcap_certificate.specs.declared.fault.CheckFault.{CheckFault}
 use Rattle.tcap_model.specs.declared.reason.Reason.TheVariants.{NotQuiet}
 use Rattle.tcap_check.specs.declared.progress.Progress.{Progress}
 use Rattle.tcap_check.specs.declared.progress.Waiting.{Waiting}
 use Rattle.tcap_record.specs.Ends.{other}
 use Rattle.tcap_model.specs.World.{Item, OnItsWay, Sent, World, channel_from, end_at, with_end}
 use Rattle.tcap_model.specs.Run.{Event, Closes, Quiet, after}
-use Rattle.tcap_check.specs.Certificate.{Certificate}
-use Rattle.tcap_check.specs.Replayed.{Replay, closed_at_mark, closed_before, fault_at, is_nothing, lost_from_front, lost_last, stepped, with_step}
+use Rattle.tcap_certificate.specs.Certificate.{Certificate}
+use Rattle.tcap_certificate.specs.Replayed.{Replay, closed_at_mark, closed_before, fault_at, is_nothing, lost_from_front, lost_last, stepped, with_step}
 use Rattle.tcap_check.specs.Progress.{YieldsInMemory, both_quiet, end_moved, front_lost, is_empty, is_none_kept, last_lost, losing_kept, lost_told, moved, quiet_kept, seat_at, with_seat_end, with_told, with_waiting}
 use Rattle.tcap_check.specs.Hearing.{alone_marked, closed_or_not, halves_closed, halves_shut, mark_taken, quieted}
 use Rattle.tcap_check.specs.Checking.{is_alone, latest_at, latest_of, map_ok, progress_of, waiting_at}

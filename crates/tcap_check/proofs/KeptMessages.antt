@@ -18,18 +18,18 @@ use Rattle.tcap_end.specs.Hidden.{expire}
 use Rattle.tcap_end.specs.Message.{send}
 use Rattle.tcap_end.specs.Reply.{aborts, is_open}
 use Rattle.tcap_end.specs.Step.{needs, ◌>>◌}
-use Rattle.tcap_check.specs.declared.certificate.Fate.{Fate}
-use Rattle.tcap_check.specs.declared.fault.CheckFault.{CheckFault}
+use Rattle.tcap_certificate.specs.declared.certificate.Fate.{Fate}
+use Rattle.tcap_certificate.specs.declared.fault.CheckFault.{CheckFault}
 use Rattle.tcap_model.specs.declared.reason.Reason.TheVariants.{BadReply, SendRefused}
 use Rattle.tcap_check.specs.declared.progress.Progress.{Progress}
 use Rattle.tcap_check.specs.declared.progress.Waiting.{Waiting}
 use Rattle.tcap_record.specs.Ends.{other}
 use Rattle.tcap_model.specs.World.{OnItsWay, Sent, World, channel_from, end_at, with_end}
 use Rattle.tcap_model.specs.Run.{Event, Sends, Replies, Expires, Tells, joined, may_refuse, provider_abort, reply_to, where_so}
-use Rattle.tcap_check.specs.Certificate.{Certificate}
-use Rattle.tcap_check.specs.Follows.{invoke_id, invoking_half, sending_by}
-use Rattle.tcap_check.specs.Replayed.{Replay, behind_sending, fault_at, implied, implied_over, is_nothing, lost_from_front, message_by, next_entry, or_same, refused, reply_replayed, send_replayed, sent_or_refused, stepped, with_step}
-use Rattle.tcap_check.specs.Unheard.{is_lost_from}
+use Rattle.tcap_certificate.specs.Certificate.{Certificate}
+use Rattle.tcap_certificate.specs.Follows.{invoke_id, invoking_half, sending_by}
+use Rattle.tcap_certificate.specs.Replayed.{Replay, behind_sending, fault_at, implied, implied_over, is_nothing, lost_from_front, message_by, next_entry, or_same, refused, reply_replayed, send_replayed, sent_or_refused, stepped, with_step}
+use Rattle.tcap_certificate.specs.Unheard.{is_lost_from}
 use Rattle.tcap_check.specs.Progress.{end_tried, first_answered, ids_ended, ids_ended_over, message_kept, or_still, reply_kept, seat_at, send_kept, sent_by, sent_or_not, with_waiting}
 use Rattle.tcap_check.specs.Hearing.{is_heard, own_fate, own_taken, sent_lost, told_taken}
 use Rattle.tcap_check.specs.Checking.{map_ok, progress_of, waiting_at}

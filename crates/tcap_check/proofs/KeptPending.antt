@@ -8,17 +8,17 @@ use Rattle.tcap_record.specs.declared.entry.End.TheVariants as sides
 use Rattle.tcap_end.specs.Table.{Table}
 use Rattle.tcap_end.specs.Step.{◌>>◌}
 use Rattle.tcap_end.proofs.AnsweringLaws.{needs_ok, ok_same, some_ok, then_ok}
-use Rattle.tcap_check.specs.declared.fault.CheckFault.{CheckFault}
+use Rattle.tcap_certificate.specs.declared.fault.CheckFault.{CheckFault}
 use Rattle.tcap_model.specs.declared.reason.Reason.{Reason}
 use Rattle.tcap_model.specs.declared.reason.Reason.TheVariants.{BadReply, FateCount, FateRange, NotQuiet, OutOfOrder}
-use Rattle.tcap_check.specs.declared.certificate.Fate.{Fate}
-use Rattle.tcap_check.specs.declared.certificate.Fate.TheVariants.{Gap, Lost, By}
+use Rattle.tcap_certificate.specs.declared.certificate.Fate.{Fate}
+use Rattle.tcap_certificate.specs.declared.certificate.Fate.TheVariants.{Gap, Lost, By}
 use Rattle.tcap_record.specs.Ends.{other}
 use Rattle.tcap_model.specs.World.{Item, OnItsWay, Sent}
 use Rattle.tcap_model.specs.Run.{Tells, joined}
-use Rattle.tcap_check.specs.Certificate.{Certificate}
-use Rattle.tcap_check.specs.Follows.{FatesFit, taken_by}
-use Rattle.tcap_check.specs.Replayed.{Replay, certificate_fits, comes_in_order, entry_by, fates_fit, fault_at, gap_by, is_gap, is_nothing, is_overtaking, item_by, mark_judged, next_entry, nothing_replayed, own_judged, own_message, tied, told_replayed, with_step}
+use Rattle.tcap_certificate.specs.Certificate.{Certificate}
+use Rattle.tcap_certificate.specs.Follows.{FatesFit, taken_by}
+use Rattle.tcap_certificate.specs.Replayed.{Replay, certificate_fits, comes_in_order, entry_by, fates_fit, fault_at, gap_by, is_gap, is_nothing, is_overtaking, item_by, mark_judged, next_entry, nothing_replayed, own_judged, own_message, tied, told_replayed, with_step}
 use Rattle.tcap_check.specs.Progress.{count_kept}
 use Rattle.tcap_check.specs.Checking.{count_ahead, count_waiting, is_alone, kept_by, progress_of, taken, taken_from, taken_next, waiting_at}
 use Rattle.tcap_check.specs.Hearing.{is_heard}

@@ -5,15 +5,15 @@ use Rattle.std.proofs.lemmas.Bool.{ltb-true, ltb-false, lt-ltb, le-ltb}
 use Rattle.tcap_msg.specs.declared.message.Message.{Message}
 use Rattle.tcap_record.specs.declared.entry.End.{End as Side}
 use Rattle.tcap_record.specs.declared.entry.End.TheVariants as sides
-use Rattle.tcap_check.specs.declared.certificate.Fate.{Fate}
-use Rattle.tcap_check.specs.declared.certificate.Fate.TheVariants.{Gap, Lost, By}
+use Rattle.tcap_certificate.specs.declared.certificate.Fate.{Fate}
+use Rattle.tcap_certificate.specs.declared.certificate.Fate.TheVariants.{Gap, Lost, By}
 use Rattle.tcap_check.specs.declared.progress.Waiting.{Waiting}
 use Rattle.tcap_model.specs.World.{Item, OnItsWay, Sent, is_side}
 use Rattle.tcap_model.specs.Run.{Event, joined}
-use Rattle.tcap_check.specs.Certificate.{Certificate}
-use Rattle.tcap_check.specs.Replayed.{Replay, is_later, is_overtaking, next_entry, time_of, with_step}
+use Rattle.tcap_certificate.specs.Certificate.{Certificate}
+use Rattle.tcap_certificate.specs.Replayed.{Replay, is_later, is_overtaking, next_entry, time_of, with_step}
 use Rattle.tcap_record.specs.Ends.{other}
-use Rattle.tcap_check.specs.Unheard.{is_lost_from}
+use Rattle.tcap_certificate.specs.Unheard.{is_lost_from}
 use Rattle.tcap_check.specs.Progress.{greater, overtakes, seat_at, sent_by, time_or_zero, unless_lost}
 use Rattle.tcap_check.specs.Checking.{fate_of, is_alone, kept_by, latest_at, latest_of, progress_of, waiting_at}
 use Rattle.tcap_check.proofs.KeptBasics.{moved_counts}

@@ -12,18 +12,18 @@ use Rattle.tcap_end.specs.declared.half.HalfName.TheVariants as names
 use Rattle.tcap_end.specs.End.{End}
 use Rattle.tcap_end.specs.Table.{Table}
 use Rattle.tcap_end.proofs.AnsweringLaws.{ok_same, some_ok, then_ok}
-use Rattle.tcap_check.specs.declared.certificate.Closing.{Closing}
-use Rattle.tcap_check.specs.declared.certificate.Expiry.{Expiry}
-use Rattle.tcap_check.specs.declared.fault.CheckFault.{CheckFault}
+use Rattle.tcap_certificate.specs.declared.certificate.Closing.{Closing}
+use Rattle.tcap_certificate.specs.declared.certificate.Expiry.{Expiry}
+use Rattle.tcap_certificate.specs.declared.fault.CheckFault.{CheckFault}
 use Rattle.tcap_model.specs.declared.reason.Reason.{Reason}
 use Rattle.tcap_model.specs.declared.reason.Reason.TheVariants.{FateRange, HiddenRefused}
 use Rattle.tcap_model.specs.World.{Item, Sent, World, channel_from, is_side, with_end}
 use Rattle.tcap_model.specs.Run.{Event, Closes, Expires, after, then_so}
-use Rattle.tcap_check.specs.Certificate.{Certificate}
+use Rattle.tcap_certificate.specs.Certificate.{Certificate}
 use Rattle.tcap_model.specs.Since.{originating}
-use Rattle.tcap_check.specs.Follows.{closing_by, closing_event, expiry_by, expiry_event, half_begun, invoke_id, named_entry}
-use Rattle.tcap_check.specs.Unheard.{is_lost_from}
-use Rattle.tcap_check.specs.Replayed.{Replay, closings_replayed, expiries_replayed, fault_at, happens, implied, implied_over, or_same, stepped, with_step}
+use Rattle.tcap_certificate.specs.Follows.{closing_by, closing_event, expiry_by, expiry_event, half_begun, invoke_id, named_entry}
+use Rattle.tcap_certificate.specs.Unheard.{is_lost_from}
+use Rattle.tcap_certificate.specs.Replayed.{Replay, closings_replayed, expiries_replayed, fault_at, happens, implied, implied_over, or_same, stepped, with_step}
 use Rattle.tcap_model.proofs.RunLaws.{closing, expiry, map_some, some_is, then_some, where_some}
 
 -- ---- losses

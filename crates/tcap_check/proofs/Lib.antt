@@ -1,7 +1,4 @@
-pub mod WorkedRuns
-pub mod WorkedRefusals
 pub mod PromptLaws
-pub mod NotDescribed
 pub mod WaitingLaws
 pub mod ReplaySteps
 pub mod ReplayLaws
@@ -41,7 +38,6 @@ pub mod ReasonItems
 pub mod ReasonPending
 pub mod ReasonMarks
 pub mod ReasonLaws
-pub mod CertificateTextLaws
 pub mod SendingLaws
 pub mod PlanLaws
 pub mod HearingLaws
@@ -82,6 +78,3 @@ pub mod AloneTies
 pub mod AloneBoth
 pub mod AloneTaken
 pub mod AloneLeft
-pub mod BehindLaws
-pub mod WrittenLaws
-pub mod CompactLaws

@@ -14,11 +14,11 @@ use Rattle.tcap_end.specs.Hidden.{close, expire, may_close, may_expire, without_
 use Rattle.tcap_end.specs.Step.{needs, ◌>>◌, ◌>>=◌}
 use Rattle.tcap_model.specs.World.{Item, World, empty, end_at, with_end}
 use Rattle.tcap_model.specs.Run.{Event, Sends, Receives, Replies, Loses, Expires, Closes, Quiet, Tells, IsRunOf, after, played, then_so}
-use Rattle.tcap_check.specs.Certificate.{Certificate}
+use Rattle.tcap_certificate.specs.Certificate.{Certificate}
 use Rattle.tcap_model.specs.Entries.{AreItems}
-use Rattle.tcap_check.specs.Follows.{Follows}
-use Rattle.tcap_check.specs.Named.{AreSameEvents, IsDescribedBy, IsSameEvent}
-use Rattle.tcap_check.specs.Replayed.{replayed_by}
+use Rattle.tcap_certificate.specs.Follows.{Follows}
+use Rattle.tcap_certificate.specs.Named.{AreSameEvents, IsDescribedBy, IsSameEvent}
+use Rattle.tcap_certificate.specs.Replayed.{replayed_by}
 use Rattle.tcap_check.proofs.DescribedRuns.{followed_is_given}
 
 -- What an expiry leaves is said by the half alone that the name finds,

@@ -12,19 +12,19 @@ use Rattle.tcap_end.specs.Table.{Table}
 use Rattle.tcap_end.specs.Step.{needs, ◌>>◌, ◌>>=◌}
 use Rattle.tcap_model.specs.declared.reason.Reason.TheVariants.{BadReply, FateRange, NotQuiet}
 use Rattle.tcap_model.specs.Run.{Closes, Event, Replies}
-use Rattle.tcap_check.specs.declared.certificate.Closing.{Closing}
-use Rattle.tcap_check.specs.declared.certificate.Expiry.{Expiry}
-use Rattle.tcap_check.specs.declared.certificate.Fate.{Fate}
-use Rattle.tcap_check.specs.declared.fault.CheckFault.{CheckFault}
+use Rattle.tcap_certificate.specs.declared.certificate.Closing.{Closing}
+use Rattle.tcap_certificate.specs.declared.certificate.Expiry.{Expiry}
+use Rattle.tcap_certificate.specs.declared.certificate.Fate.{Fate}
+use Rattle.tcap_certificate.specs.declared.fault.CheckFault.{CheckFault}
 use Rattle.tcap_check.specs.declared.outline.Outline.{Outline}
 use Rattle.tcap_check.specs.declared.progress.Progress.{Progress}
 use Rattle.tcap_check.specs.declared.progress.Waiting.{Waiting}
-use Rattle.tcap_check.specs.Certificate.{Certificate}
+use Rattle.tcap_certificate.specs.Certificate.{Certificate}
 use Rattle.tcap_check.specs.Checking.{taken}
 use Rattle.tcap_check.specs.Hearing.{closed_or_not, deliveries_kept, delivery_kept, first_heard, gap_kept, halves_closed, halves_quieted, heard_from, mark_taken, message_heard, message_received, received_or_not}
 use Rattle.tcap_check.specs.Outlines.{half_closed, invocation_ended}
 use Rattle.tcap_check.specs.Progress.{both_quiet, closing_kept, closings_kept, due_in, end_moved, expiries_kept, expiry_kept, first_answered, front_lost, half_closes, invocation_ends, is_empty, last_lost, map_ok, may_be_answered, quiet_kept, seat_at, sent_by, with_told, with_waiting}
-use Rattle.tcap_check.specs.Replayed.{closings_judged, expiries_judged, fault_at, is_nothing}
+use Rattle.tcap_certificate.specs.Replayed.{closings_judged, expiries_judged, fault_at, is_nothing}
 use Rattle.tcap_check.specs.Stands.{refusal_to_send}
 use Rattle.tcap_check.proofs.ReasonGaps.{needs_err, none_err, then_err}
 

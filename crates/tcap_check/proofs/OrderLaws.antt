@@ -15,14 +15,14 @@ use Rattle.tcap_record.specs.declared.entry.End.{End as Side}
 use Rattle.tcap_record.specs.Ends.{other}
 use Rattle.tcap_model.specs.World.{Item, Sent, is_side}
 use Rattle.tcap_model.specs.Run.{Event, Sends, Receives, Replies, Loses, Expires, Closes, Quiet, Tells, numbers_taken, takes_from, then_so}
-use Rattle.tcap_check.specs.declared.certificate.Closing.{Closing}
-use Rattle.tcap_check.specs.declared.certificate.Expiry.{Expiry}
-use Rattle.tcap_check.specs.declared.certificate.Fate.{Fate}
-use Rattle.tcap_check.specs.declared.certificate.Fate.TheVariants.{Gap, Lost, By}
-use Rattle.tcap_check.specs.Certificate.{Certificate}
+use Rattle.tcap_certificate.specs.declared.certificate.Closing.{Closing}
+use Rattle.tcap_certificate.specs.declared.certificate.Expiry.{Expiry}
+use Rattle.tcap_certificate.specs.declared.certificate.Fate.{Fate}
+use Rattle.tcap_certificate.specs.declared.certificate.Fate.TheVariants.{Gap, Lost, By}
+use Rattle.tcap_certificate.specs.Certificate.{Certificate}
 use Rattle.tcap_model.specs.Since.{originating}
-use Rattle.tcap_check.specs.Follows.{FollowsFrom, IsImplied, closing_by, closing_event, deliveries, expiry_by, expiry_event, gap_events, invoke_id, is_loss, named_entry, quiet_by, sending_by, taken_by, without_losses}
-use Rattle.tcap_check.specs.Replayed.{time_of}
+use Rattle.tcap_certificate.specs.Follows.{FollowsFrom, IsImplied, closing_by, closing_event, deliveries, expiry_by, expiry_event, gap_events, invoke_id, is_loss, named_entry, quiet_by, sending_by, taken_by, without_losses}
+use Rattle.tcap_certificate.specs.Replayed.{time_of}
 use Rattle.tcap_model.proofs.ListLaws.{all_both}
 use Rattle.tcap_model.proofs.RunLaws.{where_some, then_some, some_is, same_events}
 use Rattle.tcap_check.proofs.NumberLaws.{taken_both}

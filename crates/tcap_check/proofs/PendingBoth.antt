@@ -13,14 +13,14 @@ use Rattle.tcap_end.specs.Table.{Table}
 use Rattle.tcap_record.specs.Ends.{other}
 use Rattle.tcap_model.specs.World.{Item, Sent}
 use Rattle.tcap_model.specs.Run.{Event, Receives, Replies, numbers_taken}
-use Rattle.tcap_check.specs.declared.certificate.Closing.{Closing}
-use Rattle.tcap_check.specs.declared.certificate.Expiry.{Expiry}
-use Rattle.tcap_check.specs.declared.certificate.Fate.{Fate}
-use Rattle.tcap_check.specs.declared.certificate.Fate.TheVariants.{Gap, Lost, By}
-use Rattle.tcap_check.specs.Certificate.{Certificate}
+use Rattle.tcap_certificate.specs.declared.certificate.Closing.{Closing}
+use Rattle.tcap_certificate.specs.declared.certificate.Expiry.{Expiry}
+use Rattle.tcap_certificate.specs.declared.certificate.Fate.{Fate}
+use Rattle.tcap_certificate.specs.declared.certificate.Fate.TheVariants.{Gap, Lost, By}
+use Rattle.tcap_certificate.specs.Certificate.{Certificate}
 use Rattle.tcap_model.specs.Entries.{IsItem}
-use Rattle.tcap_check.specs.Follows.{FatesFit, closing_event, deliveries, expiry_event, gap_events, sending_by, taken_by, without_losses}
-use Rattle.tcap_check.specs.Replayed.{Replay, next_entry}
+use Rattle.tcap_certificate.specs.Follows.{FatesFit, closing_event, deliveries, expiry_event, gap_events, sending_by, taken_by, without_losses}
+use Rattle.tcap_certificate.specs.Replayed.{Replay, next_entry}
 use Rattle.tcap_check.proofs.ReplayGaps.{get_before}
 use Rattle.tcap_check.proofs.ReplaySteps.{Replays}
 use Rattle.tcap_check.proofs.ReplayLaws.{IsSentBy}

@@ -11,12 +11,12 @@ use Rattle.tcap_record.specs.declared.entry.Entry.{Entry}
 use Rattle.tcap_end.specs.Table.{Table}
 use Rattle.tcap_model.specs.World.{Item, Sent, empty}
 use Rattle.tcap_model.specs.Run.{Event, Runs, numbers_taken}
-use Rattle.tcap_check.specs.declared.certificate.Fate.{Fate}
-use Rattle.tcap_check.specs.declared.certificate.Fate.TheVariants.{Gap, Lost, By}
-use Rattle.tcap_check.specs.Certificate.{Certificate}
+use Rattle.tcap_certificate.specs.declared.certificate.Fate.{Fate}
+use Rattle.tcap_certificate.specs.declared.certificate.Fate.TheVariants.{Gap, Lost, By}
+use Rattle.tcap_certificate.specs.Certificate.{Certificate}
 use Rattle.tcap_model.specs.Entries.{AreItems, IsItem}
-use Rattle.tcap_check.specs.Follows.{FatesFit, without_losses}
-use Rattle.tcap_check.specs.Replayed.{Replay, is_heard, next_entry}
+use Rattle.tcap_certificate.specs.Follows.{FatesFit, without_losses}
+use Rattle.tcap_certificate.specs.Replayed.{Replay, is_heard, next_entry}
 use Rattle.tcap_model.proofs.RunLaws.{played_on}
 use Rattle.tcap_check.proofs.AloneCounts.{IsOwn}
 use Rattle.tcap_check.proofs.ReplaySteps.{Extends}

@@ -8,21 +8,21 @@ use Rattle.tcap_record.specs.declared.entry.Entry.{Entry}
 use Rattle.tcap_end.specs.declared.fault.EndFault.TheVariants as faults
 use Rattle.tcap_end.specs.Step.{needs, ◌>>=◌, ◌>>◌}
 use Rattle.tcap_end.specs.Table.{Table}
-use Rattle.tcap_check.specs.declared.fault.CheckFault.{CheckFault}
+use Rattle.tcap_certificate.specs.declared.fault.CheckFault.{CheckFault}
 use Rattle.tcap_model.specs.declared.reason.Reason.{Reason}
 use Rattle.tcap_model.specs.declared.reason.Reason.TheVariants as reasons
-use Rattle.tcap_check.specs.declared.certificate.Closing.{Closing}
-use Rattle.tcap_check.specs.declared.certificate.Expiry.{Expiry}
-use Rattle.tcap_check.specs.declared.certificate.Fate.{Fate}
-use Rattle.tcap_check.specs.declared.certificate.Fate.TheVariants.{Gap, Lost, By}
+use Rattle.tcap_certificate.specs.declared.certificate.Closing.{Closing}
+use Rattle.tcap_certificate.specs.declared.certificate.Expiry.{Expiry}
+use Rattle.tcap_certificate.specs.declared.certificate.Fate.{Fate}
+use Rattle.tcap_certificate.specs.declared.certificate.Fate.TheVariants.{Gap, Lost, By}
 use Rattle.tcap_record.specs.Ends.{other}
 use Rattle.tcap_model.specs.World.{Item, Sent, is_side}
 use Rattle.tcap_model.specs.Run.{Event, Receives}
-use Rattle.tcap_check.specs.Certificate.{Certificate}
+use Rattle.tcap_certificate.specs.Certificate.{Certificate}
 use Rattle.tcap_model.specs.Entries.{AreItems, IsItem}
-use Rattle.tcap_check.specs.Follows.{closing_event, expiry_event}
+use Rattle.tcap_certificate.specs.Follows.{closing_event, expiry_event}
 use Rattle.tcap_check.specs.Given.{IsAt, IsOutside, IsReason}
-use Rattle.tcap_check.specs.Replayed.{Replay, all_fit, certificate_fits, closings_judged, closings_replayed, deliveries_by, delivery_by, discarded, expiries_judged, expiries_replayed, fate_fits, fates_fit, fault_at, gap_by, happens, is_due, is_judged, lost_before, lost_from_front, next_entry, or_else, received, stepped}
+use Rattle.tcap_certificate.specs.Replayed.{Replay, all_fit, certificate_fits, closings_judged, closings_replayed, deliveries_by, delivery_by, discarded, expiries_judged, expiries_replayed, fate_fits, fates_fit, fault_at, gap_by, happens, is_due, is_judged, lost_before, lost_from_front, next_entry, or_else, received, stepped}
 use Rattle.tcap_check.proofs.ReplayLaws.{closings_replay, expiries_replay}
 use Rattle.tcap_check.proofs.TakenLaws.{IsIn, contained}
 

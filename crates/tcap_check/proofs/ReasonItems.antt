@@ -12,17 +12,17 @@ use Rattle.tcap_end.specs.End.{End}
 use Rattle.tcap_end.specs.Message.{send}
 use Rattle.tcap_end.specs.Step.{needs, ◌>>=◌, ◌>>◌}
 use Rattle.tcap_end.specs.Table.{Table}
-use Rattle.tcap_check.specs.declared.fault.CheckFault.{CheckFault}
+use Rattle.tcap_certificate.specs.declared.fault.CheckFault.{CheckFault}
 use Rattle.tcap_model.specs.declared.reason.Reason.TheVariants as reasons
-use Rattle.tcap_check.specs.declared.certificate.Fate.{Fate}
+use Rattle.tcap_certificate.specs.declared.certificate.Fate.{Fate}
 use Rattle.tcap_record.specs.Ends.{other}
 use Rattle.tcap_model.specs.World.{Item, Sent, end_at, is_side}
 use Rattle.tcap_model.specs.Run.{Event, Sends, Receives, Replies, Loses, Expires, Closes, Quiet, Tells, joined}
-use Rattle.tcap_check.specs.Certificate.{Certificate}
+use Rattle.tcap_certificate.specs.Certificate.{Certificate}
 use Rattle.tcap_model.specs.Entries.{IsItem}
-use Rattle.tcap_check.specs.Follows.{invoking_half, sending_by}
+use Rattle.tcap_certificate.specs.Follows.{invoking_half, sending_by}
 use Rattle.tcap_check.specs.Given.{IsAt}
-use Rattle.tcap_check.specs.Replayed.{Replay, behind_sending, comes_in_order, fault_at, gap_by, happens, implied_over, is_abort, is_heard, is_later, is_nothing, is_overtaking, lost_before, message_by, message_judged, next_entry, own_judged, own_message, refused, sent_or_refused, stepped, tied, time_of, told_replayed, with_step}
+use Rattle.tcap_certificate.specs.Replayed.{Replay, behind_sending, comes_in_order, fault_at, gap_by, happens, implied_over, is_abort, is_heard, is_later, is_nothing, is_overtaking, lost_before, message_by, message_judged, next_entry, own_judged, own_message, refused, sent_or_refused, stepped, tied, time_of, told_replayed, with_step}
 use Rattle.tcap_check.proofs.PendingLaws.{SendsSoFar}
 use Rattle.tcap_model.proofs.RunLaws.{same_side}
 use Rattle.tcap_model.proofs.WorldLaws.{itself}

@@ -13,19 +13,19 @@ use Rattle.tcap_record.specs.declared.entry.Entry.{Entry}
 use Rattle.tcap_end.specs.Step.{◌>>=◌, ◌>>◌}
 use Rattle.tcap_end.specs.Table.{Table}
 use Rattle.tcap_end.proofs.AnsweringLaws.{needs_ok, some_ok, then_ok}
-use Rattle.tcap_check.specs.declared.fault.CheckFault.{CheckFault}
+use Rattle.tcap_certificate.specs.declared.fault.CheckFault.{CheckFault}
 use Rattle.tcap_model.specs.declared.reason.Reason.{Reason}
 use Rattle.tcap_model.specs.declared.reason.Reason.TheVariants as reasons
-use Rattle.tcap_check.specs.declared.certificate.Fate.{Fate}
-use Rattle.tcap_check.specs.declared.certificate.Fate.TheVariants.{Gap, Lost, By}
+use Rattle.tcap_certificate.specs.declared.certificate.Fate.{Fate}
+use Rattle.tcap_certificate.specs.declared.certificate.Fate.TheVariants.{Gap, Lost, By}
 use Rattle.tcap_model.specs.World.{Item, Sent}
 use Rattle.tcap_model.specs.Run.{Event, Quiet}
-use Rattle.tcap_check.specs.Certificate.{Certificate}
+use Rattle.tcap_certificate.specs.Certificate.{Certificate}
 use Rattle.tcap_model.specs.Entries.{IsItem, item_by, item_of}
-use Rattle.tcap_check.specs.Follows.{FatesFit, quiet_by, sending, sending_by, taken_by}
+use Rattle.tcap_certificate.specs.Follows.{FatesFit, quiet_by, sending, sending_by, taken_by}
 use Rattle.tcap_check.specs.Given.{IsNoItem, IsReason}
 use Rattle.tcap_check.specs.Checking.{taken, taken_from, taken_next}
-use Rattle.tcap_check.specs.Replayed.{Replay, certificate_fits, entries_by, entry_by, fates_fit, fault_at, gap_by, is_gap, is_nothing, is_overtaking, lost_last, mark_judged, next_entry, nothing_replayed, own_judged, replayed_by}
+use Rattle.tcap_certificate.specs.Replayed.{Replay, certificate_fits, entries_by, entry_by, fates_fit, fault_at, gap_by, is_gap, is_nothing, is_overtaking, lost_last, mark_judged, next_entry, nothing_replayed, own_judged, replayed_by}
 use Rattle.tcap_check.proofs.ReplayGaps.{fates_ok}
 use Rattle.tcap_check.proofs.ReplayLaws.{IsSentBy, message_replays}
 use Rattle.tcap_check.proofs.FollowingLaws.{follows_nothing}

@@ -10,18 +10,18 @@ use Rattle.tcap_end.specs.declared.fault.EndFault.TheVariants as faults
 use Rattle.tcap_end.specs.End.{End, quiet}
 use Rattle.tcap_end.specs.Step.{needs, ◌>>=◌, ◌>>◌}
 use Rattle.tcap_end.specs.Table.{Table}
-use Rattle.tcap_check.specs.declared.fault.CheckFault.{CheckFault}
+use Rattle.tcap_certificate.specs.declared.fault.CheckFault.{CheckFault}
 use Rattle.tcap_model.specs.declared.reason.Reason.TheVariants as reasons
-use Rattle.tcap_check.specs.declared.certificate.Fate.{Fate}
-use Rattle.tcap_check.specs.declared.certificate.Fate.TheVariants.{Gap}
+use Rattle.tcap_certificate.specs.declared.certificate.Fate.{Fate}
+use Rattle.tcap_certificate.specs.declared.certificate.Fate.TheVariants.{Gap}
 use Rattle.tcap_record.specs.Ends.{other}
 use Rattle.tcap_model.specs.World.{Item, OnItsWay, channel_from, end_at}
 use Rattle.tcap_model.specs.Run.{Quiet, after, after_quiet}
-use Rattle.tcap_check.specs.Certificate.{Certificate}
+use Rattle.tcap_certificate.specs.Certificate.{Certificate}
 use Rattle.tcap_model.specs.Entries.{AreItems, IsItem, item_of}
-use Rattle.tcap_check.specs.Follows.{FatesFit, without_losses}
+use Rattle.tcap_certificate.specs.Follows.{FatesFit, without_losses}
 use Rattle.tcap_check.specs.Given.{IsAt, IsPending, IsStillOpen}
-use Rattle.tcap_check.specs.Replayed.{Replay, closed_before, fault_at, gap_by, is_gap, is_nothing, lost_from_both, lost_last, mark_judged, next_entry, stepped, tied, with_step}
+use Rattle.tcap_certificate.specs.Replayed.{Replay, closed_before, fault_at, gap_by, is_gap, is_nothing, lost_from_both, lost_last, mark_judged, next_entry, stepped, tied, with_step}
 use Rattle.tcap_check.proofs.ReplayLaws.{gap_replays}
 use Rattle.tcap_check.proofs.FollowingLaws.{follows_all}
 use Rattle.tcap_check.proofs.PendingLaws.{SendsSoFar}

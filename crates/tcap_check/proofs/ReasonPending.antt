@@ -14,16 +14,16 @@ use Rattle.tcap_end.specs.declared.fault.EndFault.TheVariants as faults
 use Rattle.tcap_end.specs.End.{End, all_closed, nothing, quiet}
 use Rattle.tcap_end.specs.Step.{needs, ◌>>◌}
 use Rattle.tcap_end.specs.Table.{Table}
-use Rattle.tcap_check.specs.declared.fault.CheckFault.{CheckFault}
-use Rattle.tcap_check.specs.declared.certificate.Fate.{Fate}
-use Rattle.tcap_check.specs.declared.certificate.Fate.TheVariants.{Gap, Lost, By}
+use Rattle.tcap_certificate.specs.declared.fault.CheckFault.{CheckFault}
+use Rattle.tcap_certificate.specs.declared.certificate.Fate.{Fate}
+use Rattle.tcap_certificate.specs.declared.certificate.Fate.TheVariants.{Gap, Lost, By}
 use Rattle.tcap_record.specs.Ends.{other}
 use Rattle.tcap_model.specs.World.{Item, OnItsWay, Sent, World, channel_from, end_at}
 use Rattle.tcap_model.specs.Run.{after_quiet, then_so}
-use Rattle.tcap_check.specs.Certificate.{Certificate}
-use Rattle.tcap_check.specs.Follows.{FatesFit, taken_by}
+use Rattle.tcap_certificate.specs.Certificate.{Certificate}
+use Rattle.tcap_certificate.specs.Follows.{FatesFit, taken_by}
 use Rattle.tcap_check.specs.Given.{IsAt, IsPending}
-use Rattle.tcap_check.specs.Replayed.{Replay, closed_before, is_heard, is_nothing, is_sent_by, lost_from_both, lost_from_front, lost_front, lost_last, next_entry, tied}
+use Rattle.tcap_certificate.specs.Replayed.{Replay, closed_before, is_heard, is_nothing, is_sent_by, lost_from_both, lost_from_front, lost_front, lost_last, next_entry, tied}
 use Rattle.tcap_model.specs.Since.{WasSent}
 use Rattle.tcap_model.proofs.ChannelLaws.{were_sent}
 use Rattle.tcap_check.proofs.WaitingLaws.{head_stays}

@@ -10,15 +10,15 @@ use Rattle.tcap_end.specs.Table.{Table}
 use Rattle.tcap_end.specs.Step.{◌>>=◌}
 use Rattle.tcap_check.specs.declared.replaying.Replaying.{Replaying}
 use Rattle.tcap_check.specs.declared.checker.Report.{Report}
-use Rattle.tcap_check.specs.declared.fault.CheckFault.{CheckFault}
+use Rattle.tcap_certificate.specs.declared.fault.CheckFault.{CheckFault}
 use Rattle.tcap_model.specs.declared.reason.Reason.{Reason}
 use Rattle.tcap_model.specs.World.{Item}
 use Rattle.tcap_model.specs.Run.{Event}
-use Rattle.tcap_check.specs.Certificate.{Certificate}
+use Rattle.tcap_certificate.specs.Certificate.{Certificate}
 use Rattle.tcap_model.specs.Entries.{AreItems, item_of}
 use Rattle.tcap_check.specs.AloneGiven.{IsGivenTo}
 use Rattle.tcap_check.specs.Given.{SaysLawful}
-use Rattle.tcap_check.specs.Replayed.{Replay, discards_by, fault_at, replay_by, replayed_by}
+use Rattle.tcap_certificate.specs.Replayed.{Replay, discards_by, fault_at, replay_by, replayed_by}
 use Rattle.tcap_check.specs.Told.{MayAllBeDiscarded}
 use Rattle.tcap_model.specs.declared.reason.Reason.TheVariants.{Memory}
 use Rattle.tcap_check.specs.Checking.{Checking, Kept, TookListed, ended, kept_next, kept_of, map_ok, reported, taken, taken_next}

@@ -13,12 +13,12 @@ use Rattle.tcap_model.specs.Entries.{AreItems, IsItem, entry_of, item_of}
 use Rattle.tcap_model.specs.Run.{Event, IsRunOf}
 use Rattle.tcap_model.specs.World.{Item, Sent}
 use Rattle.tcap_check.specs.declared.checker.Report.{Report}
-use Rattle.tcap_check.specs.declared.fault.CheckFault.{CheckFault}
-use Rattle.tcap_check.specs.Certificate.{Certificate}
+use Rattle.tcap_certificate.specs.declared.fault.CheckFault.{CheckFault}
+use Rattle.tcap_certificate.specs.Certificate.{Certificate}
 use Rattle.tcap_check.specs.Checking.{Checking, Kept, Took, answer_of, ended, map_ok, reported, taken}
 use Rattle.tcap_check.specs.Given.{IsRefused, RefusesForGood, SaysLawful, ShowsReason}
-use Rattle.tcap_check.specs.Named.{IsDescribedBy}
-use Rattle.tcap_check.specs.Replayed.{Replay, certificate_fits, entries_by, fault_at, nothing_replayed, replayed_by, run_by}
+use Rattle.tcap_certificate.specs.Named.{IsDescribedBy}
+use Rattle.tcap_certificate.specs.Replayed.{Replay, certificate_fits, entries_by, fault_at, nothing_replayed, replayed_by, run_by}
 use Rattle.tcap_check.proofs.AloneReplays.{entries_lead}
 use Rattle.tcap_check.proofs.CheckerLaws.{ends_so, given, refusing}
 use Rattle.tcap_check.proofs.EntryLaws.{replayed_is}

@@ -8,15 +8,15 @@ use Rattle.tcap_end.proofs.AnsweringLaws.{needs_ok}
 use Rattle.tcap_record.specs.Ends.{other}
 use Rattle.tcap_model.specs.World.{Item, Sent}
 use Rattle.tcap_model.specs.Run.{Event, Receives, then_so, where_so}
-use Rattle.tcap_check.specs.declared.certificate.Closing.{Closing}
-use Rattle.tcap_check.specs.declared.certificate.Expiry.{Expiry}
-use Rattle.tcap_check.specs.declared.certificate.Fate.{Fate}
-use Rattle.tcap_check.specs.declared.certificate.Fate.TheVariants.{Gap, Lost, By}
-use Rattle.tcap_check.specs.Certificate.{Certificate}
+use Rattle.tcap_certificate.specs.declared.certificate.Closing.{Closing}
+use Rattle.tcap_certificate.specs.declared.certificate.Expiry.{Expiry}
+use Rattle.tcap_certificate.specs.declared.certificate.Fate.{Fate}
+use Rattle.tcap_certificate.specs.declared.certificate.Fate.TheVariants.{Gap, Lost, By}
+use Rattle.tcap_certificate.specs.Certificate.{Certificate}
 use Rattle.tcap_model.specs.World.{has_quiet}
-use Rattle.tcap_check.specs.Follows.{FatesFit, closing_by, closing_event, deliveries, expiry_by, expiry_event, gap_events, named_entry}
+use Rattle.tcap_certificate.specs.Follows.{FatesFit, closing_by, closing_event, deliveries, expiry_by, expiry_event, gap_events, named_entry}
 use Rattle.tcap_model.specs.declared.reason.Reason.TheVariants.{FateRange}
-use Rattle.tcap_check.specs.Replayed.{all_fit, fate_fits, fates_fit, fault_at}
+use Rattle.tcap_certificate.specs.Replayed.{all_fit, fate_fits, fates_fit, fault_at}
 
 -- ---- what is listed
 

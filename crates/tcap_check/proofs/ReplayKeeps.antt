@@ -18,15 +18,15 @@ use Rattle.tcap_model.specs.declared.reason.Reason.{Reason}
 use Rattle.tcap_model.specs.declared.reason.Reason.TheVariants.{BadReply, FateCount, FateRange, HiddenRefused, NotQuiet, OutOfOrder}
 use Rattle.tcap_model.specs.World.{Item, Sent, end_at, is_side, with_end}
 use Rattle.tcap_model.specs.Run.{Event, Sends, Receives, Replies, Loses, Expires, Closes, Quiet, Tells, joined}
-use Rattle.tcap_check.specs.declared.certificate.Closing.{Closing}
-use Rattle.tcap_check.specs.declared.certificate.Expiry.{Expiry}
-use Rattle.tcap_check.specs.declared.certificate.Fate.{Fate}
-use Rattle.tcap_check.specs.declared.certificate.Fate.TheVariants.{Gap, Lost, By}
-use Rattle.tcap_check.specs.declared.fault.CheckFault.{CheckFault}
-use Rattle.tcap_check.specs.Certificate.{Certificate}
-use Rattle.tcap_check.specs.Follows.{closing_event, expiry_event, invoke_id, invoking_half, is_loss, sending_by}
+use Rattle.tcap_certificate.specs.declared.certificate.Closing.{Closing}
+use Rattle.tcap_certificate.specs.declared.certificate.Expiry.{Expiry}
+use Rattle.tcap_certificate.specs.declared.certificate.Fate.{Fate}
+use Rattle.tcap_certificate.specs.declared.certificate.Fate.TheVariants.{Gap, Lost, By}
+use Rattle.tcap_certificate.specs.declared.fault.CheckFault.{CheckFault}
+use Rattle.tcap_certificate.specs.Certificate.{Certificate}
+use Rattle.tcap_certificate.specs.Follows.{closing_event, expiry_event, invoke_id, invoking_half, is_loss, sending_by}
 use Rattle.tcap_check.specs.Checking.{taken_from, taken_next}
-use Rattle.tcap_check.specs.Replayed.{Replay, all_lost_from, behind_sending, closed_at_mark, closed_before, closings_judged, closings_replayed, comes_in_order, deliveries_by, delivery_by, entries_by, entry_by, expiries_judged, expiries_replayed, fault_at, gap_by, happens, heard, implied, implied_over, is_abort, is_due, is_gap, is_nothing, is_overtaking, item_by, lost_before, lost_from_front, lost_last, mark_judged, message_by, next_entry, or_same, own_judged, received, sent_or_refused, stepped, tied, told_replayed, with_step}
+use Rattle.tcap_certificate.specs.Replayed.{Replay, all_lost_from, behind_sending, closed_at_mark, closed_before, closings_judged, closings_replayed, comes_in_order, deliveries_by, delivery_by, entries_by, entry_by, expiries_judged, expiries_replayed, fault_at, gap_by, happens, heard, implied, implied_over, is_abort, is_due, is_gap, is_nothing, is_overtaking, item_by, lost_before, lost_from_front, lost_last, mark_judged, message_by, next_entry, or_same, own_judged, received, sent_or_refused, stepped, tied, told_replayed, with_step}
 use Rattle.tcap_check.proofs.ReplayLaws.{closing_in_gap, expiry_in_gap}
 use Rattle.tcap_check.proofs.GivenRuns.{both_ok}
 

@@ -24,19 +24,19 @@ use Rattle.tcap_end.proofs.AnsweringLaws.{needs_ok, ok_same, some_ok, then_ok}
 use Rattle.tcap_record.specs.Ends.{other}
 use Rattle.tcap_model.specs.World.{Item, Sent, World, end_at, is_side, with_end}
 use Rattle.tcap_model.specs.Run.{Event, Sends, Receives, Replies, Loses, Expires, Closes, Quiet, Tells, after, joined, then_so}
-use Rattle.tcap_check.specs.declared.certificate.Closing.{Closing}
-use Rattle.tcap_check.specs.declared.certificate.Expiry.{Expiry}
-use Rattle.tcap_check.specs.declared.certificate.Fate.{Fate}
-use Rattle.tcap_check.specs.declared.certificate.Fate.TheVariants.{Gap, Lost, By}
-use Rattle.tcap_check.specs.Certificate.{Certificate}
+use Rattle.tcap_certificate.specs.declared.certificate.Closing.{Closing}
+use Rattle.tcap_certificate.specs.declared.certificate.Expiry.{Expiry}
+use Rattle.tcap_certificate.specs.declared.certificate.Fate.{Fate}
+use Rattle.tcap_certificate.specs.declared.certificate.Fate.TheVariants.{Gap, Lost, By}
+use Rattle.tcap_certificate.specs.Certificate.{Certificate}
 use Rattle.tcap_model.specs.Since.{originating}
-use Rattle.tcap_check.specs.Follows.{IsImplied, invoking_half, closing_by, closing_event, deliveries, expiry_by, expiry_event, gap_events, half_begun, invoke_id, is_loss, named_entry, sending, sending_by}
+use Rattle.tcap_certificate.specs.Follows.{IsImplied, invoking_half, closing_by, closing_event, deliveries, expiry_by, expiry_event, gap_events, half_begun, invoke_id, is_loss, named_entry, sending, sending_by}
 use Rattle.tcap_model.proofs.RunLaws.{grows, map_some, where_some, then_some, some_is}
-use Rattle.tcap_check.specs.declared.fault.CheckFault.{CheckFault}
+use Rattle.tcap_certificate.specs.declared.fault.CheckFault.{CheckFault}
 use Rattle.tcap_model.specs.declared.reason.Reason.{Reason}
 use Rattle.tcap_model.specs.declared.reason.Reason.TheVariants.{BadReply, FateRange, HiddenRefused}
 use Rattle.tcap_model.proofs.ChannelLaws.{get_new}
-use Rattle.tcap_check.specs.Replayed.{Replay, closings_replayed, deliveries_by, expiries_replayed, fault_at, gap_by, happens, implied, implied_over, is_abort, lost_before, lost_from_front, message_by, next_entry, or_same, own_message, reply_replayed, send_replayed, sent_or_refused, stepped, with_step}
+use Rattle.tcap_certificate.specs.Replayed.{Replay, closings_replayed, deliveries_by, expiries_replayed, fault_at, gap_by, happens, implied, implied_over, is_abort, lost_before, lost_from_front, message_by, next_entry, or_same, own_message, reply_replayed, send_replayed, sent_or_refused, stepped, with_step}
 use Rattle.tcap_check.proofs.ReplaySteps.{Replays, before_replays, losing_replays, replays_nothing, replays_then, stepped_replays}
 
 -- ---- a gap

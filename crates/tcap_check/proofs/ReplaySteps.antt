@@ -8,12 +8,12 @@ use Rattle.tcap_end.specs.Table.{Table}
 use Rattle.tcap_record.specs.Ends.{other}
 use Rattle.tcap_model.specs.World.{Item, OnItsWay, World, channel_from, with_channel}
 use Rattle.tcap_model.specs.Run.{Event, Sends, Receives, Replies, Loses, Expires, Closes, Quiet, Tells, after, played}
-use Rattle.tcap_check.specs.declared.certificate.Fate.{Fate}
-use Rattle.tcap_check.specs.declared.certificate.Fate.TheVariants.{Gap, Lost, By}
-use Rattle.tcap_check.specs.Certificate.{Certificate}
-use Rattle.tcap_check.specs.Follows.{is_loss, without_losses}
+use Rattle.tcap_certificate.specs.declared.certificate.Fate.{Fate}
+use Rattle.tcap_certificate.specs.declared.certificate.Fate.TheVariants.{Gap, Lost, By}
+use Rattle.tcap_certificate.specs.Certificate.{Certificate}
+use Rattle.tcap_certificate.specs.Follows.{is_loss, without_losses}
 use Rattle.tcap_model.proofs.RunLaws.{map_some, played_on}
-use Rattle.tcap_check.specs.Replayed.{Replay, discarded, lost_before, lost_from_both, lost_from_front, if_lost, lost_front, stepped}
+use Rattle.tcap_certificate.specs.Replayed.{Replay, discarded, lost_before, lost_from_both, lost_from_front, if_lost, lost_front, stepped}
 use Rattle.tcap_model.proofs.WorldLaws.{sent_with_channel, with_same}
 
 -- ---- runs, one behind the other

@@ -15,19 +15,19 @@ use Rattle.tcap_model.specs.declared.reason.Reason.TheVariants.{BadReply, FateRa
 use Rattle.tcap_model.specs.World.{Item, end_at}
 use Rattle.tcap_model.specs.Run.{Adds, Event, Receives, Expires, Closes}
 use Rattle.tcap_model.proofs.RunLaws.{some_is, where_some}
-use Rattle.tcap_check.specs.declared.certificate.Closing.{Closing}
-use Rattle.tcap_check.specs.declared.certificate.Expiry.{Expiry}
-use Rattle.tcap_check.specs.declared.fault.CheckFault.{CheckFault}
+use Rattle.tcap_certificate.specs.declared.certificate.Closing.{Closing}
+use Rattle.tcap_certificate.specs.declared.certificate.Expiry.{Expiry}
+use Rattle.tcap_certificate.specs.declared.fault.CheckFault.{CheckFault}
 use Rattle.tcap_check.specs.declared.outline.Outline.{Outline}
 use Rattle.tcap_check.specs.declared.outline.Outline.TheVariants as outlines
 use Rattle.tcap_check.specs.declared.progress.Progress.{Progress}
-use Rattle.tcap_check.specs.Certificate.{Certificate}
-use Rattle.tcap_check.specs.Replayed.{Replay, closings_judged, expiries_judged, fault_at, happens, lost_from_front, lost_last, or_same, received, stepped}
+use Rattle.tcap_certificate.specs.Certificate.{Certificate}
+use Rattle.tcap_certificate.specs.Replayed.{Replay, closings_judged, expiries_judged, fault_at, happens, lost_from_front, lost_last, or_same, received, stepped}
 use Rattle.tcap_check.specs.Progress.{closing_kept, closings_kept, due_in, end_moved, end_tried, expiries_kept, expiry_kept, front_lost, half_closes, ids_ended, ids_ended_over, invocation_ends, last_lost, seat_at}
 use Rattle.tcap_check.specs.Hearing.{deliveries_kept, delivery_kept, gap_kept, halves_shut, heard_from, is_heard, is_judged, message_received}
 use Rattle.tcap_check.specs.Checking.{map_ok, progress_of}
 use Rattle.tcap_check.specs.Outlines.{half_closed, invocation_ended}
-use Rattle.tcap_check.specs.Follows.{is_loss}
+use Rattle.tcap_certificate.specs.Follows.{is_loss}
 use Rattle.tcap_check.specs.Stands.{StandsFor, TellsSo}
 use Rattle.tcap_check.specs.Told.{Told}
 use Rattle.tcap_check.proofs.ReplaySteps.{Extends, extends_nothing, extends_then, losing_replays, stepped_extends}

@@ -12,15 +12,15 @@ use Rattle.tcap_model.specs.Entries.{AreItems, item_of}
 use Rattle.tcap_model.specs.World.{Item, empty}
 use Rattle.tcap_model.specs.Run.{Event, played}
 use Rattle.tcap_model.proofs.RunLaws.{played_on}
-use Rattle.tcap_check.specs.declared.fault.CheckFault.{CheckFault}
+use Rattle.tcap_certificate.specs.declared.fault.CheckFault.{CheckFault}
 use Rattle.tcap_check.specs.declared.progress.Progress.{Progress}
 use Rattle.tcap_check.specs.declared.replaying.Replaying.{Replaying}
 use Rattle.tcap_check.specs.declared.step.Step.{Step}
-use Rattle.tcap_check.specs.Certificate.{Certificate}
+use Rattle.tcap_certificate.specs.Certificate.{Certificate}
 use Rattle.tcap_check.specs.Checking.{Kept, TookListed, gap_before, kept_next, kept_of, map_ok, taken, taken_from, taken_next}
-use Rattle.tcap_check.specs.Follows.{FatesFit}
+use Rattle.tcap_certificate.specs.Follows.{FatesFit}
 use Rattle.tcap_check.specs.Ready.{IsSameBesideProgress, checking_of, kept_in}
-use Rattle.tcap_check.specs.Replayed.{Replay, certificate_fits, entry_by, fates_fit, fault_at, next_entry, nothing_replayed}
+use Rattle.tcap_certificate.specs.Replayed.{Replay, certificate_fits, entry_by, fates_fit, fault_at, next_entry, nothing_replayed}
 use Rattle.tcap_check.specs.Stands.{DiscardsSo, UnlessMemory, IsSoFar, StandsAmong, StandsFor, StopsSo}
 use Rattle.tcap_check.specs.Told.{Told, told_of}
 use Rattle.tcap_check.proofs.CheckerLaws.{checking, took_err}

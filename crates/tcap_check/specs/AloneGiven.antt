@@ -7,11 +7,11 @@ use Rattle.tcap_end.specs.Table.{Table}
 use Rattle.tcap_record.specs.Ends.{other}
 use Rattle.tcap_model.specs.World.{Item, channel_from}
 use Rattle.tcap_model.specs.Run.{Event, IsRunOf, KeepsRules}
-use Rattle.tcap_check.specs.Certificate.{Certificate}
+use Rattle.tcap_certificate.specs.Certificate.{Certificate}
 use Rattle.tcap_model.specs.Entries.{AreItems, count_components}
-use Rattle.tcap_check.specs.Follows.{losses_from, lost_from}
+use Rattle.tcap_certificate.specs.Follows.{losses_from, lost_from}
 use Rattle.tcap_check.specs.Given.{IsGiven}
-use Rattle.tcap_check.specs.Unheard.{steps_of, unheard_of}
+use Rattle.tcap_certificate.specs.Unheard.{steps_of, unheard_of}
 
 -- The entries are items, and these events are a run that sends them, in which that end keeps the rules, whatever its peer sends, and
 -- that leaves nothing on its way to it.

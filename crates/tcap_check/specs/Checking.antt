@@ -6,9 +6,9 @@ use Rattle.tcap_record.specs.declared.entry.End.{End as Side}
 use Rattle.tcap_record.specs.declared.entry.End.TheVariants as sides
 use Rattle.tcap_end.specs.Table.{Table}
 use Rattle.tcap_end.specs.Step.{needs, ◌>>◌, ◌>>=◌}
-use Rattle.tcap_check.specs.declared.certificate.Fate.{Fate}
-use Rattle.tcap_check.specs.declared.certificate.Fate.TheVariants.{Gap, Lost, By}
-use Rattle.tcap_check.specs.declared.fault.CheckFault.{CheckFault}
+use Rattle.tcap_certificate.specs.declared.certificate.Fate.{Fate}
+use Rattle.tcap_certificate.specs.declared.certificate.Fate.TheVariants.{Gap, Lost, By}
+use Rattle.tcap_certificate.specs.declared.fault.CheckFault.{CheckFault}
 use Rattle.tcap_model.specs.declared.reason.Reason.{Reason}
 use Rattle.tcap_model.specs.declared.reason.Reason.TheVariants.{BadMessage, FateCount, FateRange, OutOfOrder}
 use Rattle.tcap_check.specs.declared.outline.Outline.{Outline}
@@ -19,15 +19,15 @@ use Rattle.tcap_check.specs.declared.checker.Report.{Report}
 use Rattle.tcap_record.specs.Ends.{other}
 use Rattle.tcap_model.specs.Run.{Event}
 use Rattle.tcap_model.specs.World.{Item, OnItsWay, Sent, channel_from, end_at, is_side}
-use Rattle.tcap_check.specs.Certificate.{Certificate}
-use Rattle.tcap_check.specs.Follows.{taken_by}
+use Rattle.tcap_certificate.specs.Certificate.{Certificate}
+use Rattle.tcap_certificate.specs.Follows.{taken_by}
 use Rattle.tcap_check.specs.Hearing.{gap_kept, mark_taken, message_taken, told_among}
 use Rattle.tcap_check.specs.Outlines.{is_named, outline_of, outlines_from, since_from}
 pub use Rattle.tcap_check.specs.Progress.{map_ok}
 use Rattle.tcap_check.specs.Progress.{count_kept, greater, last_lost, overtakes, seat_at, time_or_zero}
-use Rattle.tcap_check.specs.Replayed.{Replay, certificate_fits, entry_by, fault_at, gap_by, is_gap, is_heard, next_entry, nothing_replayed, refused}
+use Rattle.tcap_certificate.specs.Replayed.{Replay, certificate_fits, entry_by, fault_at, gap_by, is_gap, is_heard, next_entry, nothing_replayed, refused}
 use Rattle.tcap_check.specs.Told.{told_if}
-use Rattle.tcap_check.specs.Unheard.{steps_of, unheard_of}
+use Rattle.tcap_certificate.specs.Unheard.{steps_of, unheard_of}
 
 -- ---- the replay of entries, one after the other
 

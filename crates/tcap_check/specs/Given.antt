@@ -12,22 +12,22 @@ use Rattle.tcap_end.specs.declared.fault.EndFault.{EndFault}
 use Rattle.tcap_end.specs.Hidden.{quiet_unseen}
 use Rattle.tcap_end.specs.End.{End, KeptHalf, named, quiet}
 use Rattle.tcap_end.specs.Table.{Table}
-use Rattle.tcap_check.specs.declared.certificate.Closing.{Closing}
-use Rattle.tcap_check.specs.declared.certificate.Expiry.{Expiry}
-use Rattle.tcap_check.specs.declared.certificate.Fate.{Fate}
-use Rattle.tcap_check.specs.declared.certificate.Fate.TheVariants.{Gap, Lost, By}
+use Rattle.tcap_certificate.specs.declared.certificate.Closing.{Closing}
+use Rattle.tcap_certificate.specs.declared.certificate.Expiry.{Expiry}
+use Rattle.tcap_certificate.specs.declared.certificate.Fate.{Fate}
+use Rattle.tcap_certificate.specs.declared.certificate.Fate.TheVariants.{Gap, Lost, By}
 use Rattle.tcap_check.specs.declared.checker.Report.{Report}
-use Rattle.tcap_check.specs.declared.fault.CheckFault.{CheckFault}
+use Rattle.tcap_certificate.specs.declared.fault.CheckFault.{CheckFault}
 use Rattle.tcap_model.specs.declared.reason.Reason.{Reason}
 use Rattle.tcap_model.specs.declared.reason.Reason.TheVariants as reasons
 use Rattle.tcap_model.specs.World.{Item, Sent, World, end_at}
 use Rattle.tcap_model.specs.Run.{BothKeepRules, Event, IsLawful, IsRunOf, Runs, Sends, Replies, Loses, Expires, Closes, Quiet, Tells}
-use Rattle.tcap_check.specs.Certificate.{Certificate}
+use Rattle.tcap_certificate.specs.Certificate.{Certificate}
 use Rattle.tcap_model.specs.Entries.{AreItems, IsItem, count_components, item_of}
-use Rattle.tcap_check.specs.Follows.{Follows, FollowsFrom, closing_event, expiry_event, without_losses}
+use Rattle.tcap_certificate.specs.Follows.{Follows, FollowsFrom, closing_event, expiry_event, without_losses}
 use Rattle.tcap_check.specs.Checking.{Checking, Took, taken}
-use Rattle.tcap_check.specs.Replayed.{Replay, fate_fits, fault_at, gap_by, is_heard, is_judged, is_later, replayed_by, time_of}
-use Rattle.tcap_check.specs.Unheard.{IsLawfulUnheard}
+use Rattle.tcap_certificate.specs.Replayed.{Replay, fate_fits, fault_at, gap_by, is_heard, is_judged, is_later, replayed_by, time_of}
+use Rattle.tcap_certificate.specs.Unheard.{IsLawfulUnheard}
 
 -- ---- a run
 

@@ -10,9 +10,9 @@ use Rattle.tcap_end.specs.declared.half.HalfName.{HalfName}
 use Rattle.tcap_end.specs.Hidden.{close, open_halves, quiet_unseen}
 use Rattle.tcap_end.specs.Message.{receive}
 use Rattle.tcap_end.specs.Step.{needs, ◌>>◌, ◌>>=◌}
-use Rattle.tcap_check.specs.declared.certificate.Fate.{Fate}
-use Rattle.tcap_check.specs.declared.certificate.Fate.TheVariants.{Lost}
-use Rattle.tcap_check.specs.declared.fault.CheckFault.{CheckFault}
+use Rattle.tcap_certificate.specs.declared.certificate.Fate.{Fate}
+use Rattle.tcap_certificate.specs.declared.certificate.Fate.TheVariants.{Lost}
+use Rattle.tcap_certificate.specs.declared.fault.CheckFault.{CheckFault}
 use Rattle.tcap_model.specs.declared.reason.Reason.TheVariants.{BadReply, Memory, NotQuiet}
 use Rattle.tcap_check.specs.declared.outline.Outline.{Outline}
 use Rattle.tcap_check.specs.declared.outline.Outline.TheVariants as outlines
@@ -21,9 +21,9 @@ use Rattle.tcap_check.specs.declared.progress.Waiting.{Waiting}
 use Rattle.tcap_record.specs.Ends.{other}
 use Rattle.tcap_model.specs.World.{is_side}
 use Rattle.tcap_model.specs.Run.{Closes, Receives, Tells, where_so}
-use Rattle.tcap_check.specs.Certificate.{Certificate}
-pub use Rattle.tcap_check.specs.Replayed.{is_heard, is_judged}
-use Rattle.tcap_check.specs.Replayed.{closings_judged, expiries_judged, fault_at, is_nothing, refused}
+use Rattle.tcap_certificate.specs.Certificate.{Certificate}
+pub use Rattle.tcap_certificate.specs.Replayed.{is_heard, is_judged}
+use Rattle.tcap_certificate.specs.Replayed.{closings_judged, expiries_judged, fault_at, is_nothing, refused}
 use Rattle.tcap_check.specs.Progress.{closings_kept, discard_told, due_in, end_moved, expiries_kept, front_lost, last_lost, lost_counted, map_ok, message_kept, moved, quiet_kept, seat_at, sent_by, with_seat_end, with_told, with_waiting}
 
 -- ---- who is judged

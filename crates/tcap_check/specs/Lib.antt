@@ -1,15 +1,5 @@
-pub mod Certificate
-pub mod CertificateText
-pub mod Follows
-pub mod Named
-pub mod Worked
-pub mod Refused
-pub mod Replayed
 pub mod AloneGiven
-pub mod Unheard
-pub mod AloneWorked
 pub mod Given
-pub mod Replays
 pub mod Told
 pub mod Noted
 pub mod Outlines

@@ -9,13 +9,13 @@ use Rattle.tcap_end.specs.declared.half.HalfName.TheVariants as names
 use Rattle.tcap_model.specs.World.{Item, Sent, is_side}
 use Rattle.tcap_model.specs.Run.{then_so, where_so}
 use Rattle.tcap_check.specs.Noted.{Noted}
-use Rattle.tcap_check.specs.declared.certificate.Closing.{Closing}
-use Rattle.tcap_check.specs.declared.certificate.Expiry.{Expiry}
+use Rattle.tcap_certificate.specs.declared.certificate.Closing.{Closing}
+use Rattle.tcap_certificate.specs.declared.certificate.Expiry.{Expiry}
 use Rattle.tcap_check.specs.declared.outline.Outline.{Outline}
 use Rattle.tcap_check.specs.declared.outline.Outline.TheVariants as outlines
-use Rattle.tcap_check.specs.Certificate.{Certificate}
+use Rattle.tcap_certificate.specs.Certificate.{Certificate}
 use Rattle.tcap_model.specs.Since.{originating}
-use Rattle.tcap_check.specs.Follows.{half_begun, invoke_id}
+use Rattle.tcap_certificate.specs.Follows.{half_begun, invoke_id}
 
 -- whether it is a Begin
 abbrev pub begins : Message → Bool

@@ -1,8 +1,8 @@
 -- What a certificate says, by gap and by entry.
 use Rattle.std.specs.Prelude.{◌≡◌, ◌≤◌, ℕ, Bool, false, filter, length, slice_get, Option, Some, None, ◌==◌}
 use Rattle.tcap_check.specs.declared.plan.Plan.{Plan}
-use Rattle.tcap_check.specs.Certificate.{Certificate}
-use Rattle.tcap_check.specs.Follows.{taken_by}
+use Rattle.tcap_certificate.specs.Certificate.{Certificate}
+use Rattle.tcap_certificate.specs.Follows.{taken_by}
 use Rattle.tcap_check.specs.Buckets.{list_at}
 use Rattle.tcap_check.specs.Outlines.{is_named}
 use Rattle.tcap_check.specs.Progress.{due_in}

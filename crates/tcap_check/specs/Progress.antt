@@ -14,11 +14,11 @@ use Rattle.tcap_end.specs.End.{End, nothing, quiet}
 use Rattle.tcap_end.specs.Hidden.{close, expire}
 use Rattle.tcap_end.specs.Message.{send}
 use Rattle.tcap_end.specs.Step.{needs, ◌>>◌, ◌>>=◌}
-use Rattle.tcap_check.specs.declared.certificate.Closing.{Closing}
-use Rattle.tcap_check.specs.declared.certificate.Expiry.{Expiry}
-use Rattle.tcap_check.specs.declared.certificate.Fate.{Fate}
-use Rattle.tcap_check.specs.declared.certificate.Fate.TheVariants.{Gap, Lost, By}
-use Rattle.tcap_check.specs.declared.fault.CheckFault.{CheckFault}
+use Rattle.tcap_certificate.specs.declared.certificate.Closing.{Closing}
+use Rattle.tcap_certificate.specs.declared.certificate.Expiry.{Expiry}
+use Rattle.tcap_certificate.specs.declared.certificate.Fate.{Fate}
+use Rattle.tcap_certificate.specs.declared.certificate.Fate.TheVariants.{Gap, Lost, By}
+use Rattle.tcap_certificate.specs.declared.fault.CheckFault.{CheckFault}
 use Rattle.tcap_model.specs.declared.reason.Reason.TheVariants.{FateRange, BadReply, SendRefused, HiddenRefused, NotQuiet, Memory}
 use Rattle.tcap_check.specs.declared.outline.Outline.{Outline}
 use Rattle.tcap_check.specs.declared.progress.Progress.{Progress}
@@ -29,8 +29,9 @@ use Rattle.tcap_model.specs.Run.{Event, Closes, Expires, Loses, Quiet, Replies, 
 use Rattle.tcap_check.specs.declared.sending.Way.{Way}
 use Rattle.tcap_check.specs.declared.sending.Way.TheVariants as ways
 use Rattle.tcap_model.specs.World.{is_side}
-use Rattle.tcap_check.specs.Follows.{invoke_id, invoking_half}
-use Rattle.tcap_check.specs.Replayed.{fault_at, refused}
+use Rattle.tcap_certificate.specs.Follows.{invoke_id, invoking_half}
+pub use Rattle.tcap_certificate.specs.Replayed.{map_ok}
+use Rattle.tcap_certificate.specs.Replayed.{fault_at, refused}
 use Rattle.tcap_check.specs.Outlines.{half_closed, invocation_ended}
 use Rattle.tcap_check.specs.Told.{Told, discard_more, more_told}
 
@@ -50,11 +51,6 @@ YieldsInMemory step (Err fault) left = fault ≢ fault_at Memory 0 → step ≡ 
 abbrev pub IsMemory : Result (Unit {0}) CheckFault → Type 0
 IsMemory (Ok done) = Unit {0}
 IsMemory (Err fault) = fault ≡ fault_at Memory 0
-
--- what is Ok, by that function; a reason stays as it is
-abbrev pub map_ok : {A B F : Type 0} → (A → B) → Result A F → Result B F
-map_ok f (Ok x) = Ok (f x)
-map_ok f (Err reason) = Err reason
 
 -- ---- an end, and what it sent that is on its way
 

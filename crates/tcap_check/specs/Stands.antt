@@ -14,16 +14,16 @@ use Rattle.tcap_model.specs.declared.reason.Reason.TheVariants.{Memory, SendRefu
 use Rattle.tcap_model.specs.Entries.{AreItems, item_of}
 use Rattle.tcap_model.specs.Run.{Event, Loses, Runs, played}
 use Rattle.tcap_model.specs.World.{Item, Sent, World}
-use Rattle.tcap_check.specs.declared.certificate.Fate.TheVariants.{Lost}
-use Rattle.tcap_check.specs.declared.fault.CheckFault.{CheckFault}
+use Rattle.tcap_certificate.specs.declared.certificate.Fate.TheVariants.{Lost}
+use Rattle.tcap_certificate.specs.declared.fault.CheckFault.{CheckFault}
 use Rattle.tcap_check.specs.declared.progress.Progress.{Progress}
 use Rattle.tcap_check.specs.declared.step.Step.{Step}
-use Rattle.tcap_check.specs.Certificate.{Certificate}
+use Rattle.tcap_certificate.specs.Certificate.{Certificate}
 use Rattle.tcap_check.specs.Progress.{seat_at}
 use Rattle.tcap_check.specs.Checking.{map_ok, progress_of, taken}
 use Rattle.tcap_check.specs.AloneGiven.{IsGivenTo}
 use Rattle.tcap_check.specs.Given.{IsAt}
-use Rattle.tcap_check.specs.Replayed.{Replay, discards_by, fault_at, is_heard, replayed_by}
+use Rattle.tcap_certificate.specs.Replayed.{Replay, discards_by, fault_at, is_heard, replayed_by}
 use Rattle.tcap_check.specs.Told.{IsDiscarded, IsTold, MayAllBeDiscarded, discards_of, events_of, told_of}
 
 -- Where one end alone is judged, the message of that number, which the fates do not say is lost, is discarded in these events for that reason.

@@ -8,10 +8,10 @@ use Rattle.tcap_end.specs.Table.{Table}
 use Rattle.tcap_end.specs.Message.{receive}
 use Rattle.tcap_model.specs.World.{OnItsWay, World, channel_from, end_at}
 use Rattle.tcap_model.specs.Run.{Event, Sends, Receives, Replies, Loses, Expires, Closes, Quiet, Tells, Runs}
-use Rattle.tcap_check.specs.declared.certificate.Fate.TheVariants.{Gap, Lost}
+use Rattle.tcap_certificate.specs.declared.certificate.Fate.TheVariants.{Gap, Lost}
 use Rattle.tcap_check.specs.declared.step.Step.{Step}
 use Rattle.tcap_check.specs.declared.step.Step.TheVariants as steps
-use Rattle.tcap_check.specs.Certificate.{Certificate}
+use Rattle.tcap_certificate.specs.Certificate.{Certificate}
 
 -- what a step stands for: a discard for the loss of the message
 abbrev pub event_of : Step → Event

@@ -10,12 +10,12 @@ ghost use Rattle.tcap_end.specs.Table.{Table};
 ghost use Rattle.tcap_record.specs.Ends.{other};
 ghost use Rattle.tcap_model.specs.World.{Item, World, channel_from};
 ghost use Rattle.tcap_model.specs.Run.{Event, IsLawfulFor, Loses, Runs};
-ghost use Rattle.tcap_check.specs.Certificate.{Certificate};
+ghost use Rattle.tcap_certificate.specs.Certificate.{Certificate};
 ghost use Rattle.tcap_model.specs.Entries.{AreItems, item_of};
-ghost use Rattle.tcap_check.specs.Follows.{losses_from};
-ghost use Rattle.tcap_check.specs.Replayed.{discards_by, replayed_by};
+ghost use Rattle.tcap_certificate.specs.Follows.{losses_from};
+ghost use Rattle.tcap_certificate.specs.Replayed.{discards_by, replayed_by};
 ghost use Rattle.tcap_check.specs.Told.{IsDiscarded, IsTold};
-ghost use Rattle.tcap_check.specs.Unheard.{unheard_of};
+ghost use Rattle.tcap_certificate.specs.Unheard.{unheard_of};
 ghost use Rattle.tcap_check.specs.AloneGiven.{DiscardsNothing, IsGivenFor};
 
 /// A run of one end from any certificate: what it gives is a run, from the empty world, which sends the items that the

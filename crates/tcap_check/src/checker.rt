@@ -2,7 +2,7 @@
 //! believes nothing of it, nor of a peer that is not judged.
 
 ghost use Rattle.std.specs.Prelude.{◌≡◌, ◌≢◌, ◌++◌, ◌∷◌, [], List, length, map, None, Result, Ok, Err, IfOk, IsTrue, OnOk, is_ok};
-ghost use Rattle.tcap_check.specs.declared.fault.CheckFault.{CheckFault as Refusal};
+ghost use Rattle.tcap_certificate.specs.declared.fault.CheckFault.{CheckFault as Refusal};
 ghost use Rattle.tcap_model.specs.declared.reason.Reason.{Reason as Why};
 ghost use Rattle.tcap_model.specs.declared.reason.Reason.TheVariants as reasons;
 ghost use Rattle.tcap_model.specs.World.{Item};
@@ -10,17 +10,16 @@ ghost use Rattle.tcap_model.specs.Run.{Event, IsRunOf};
 ghost use Rattle.tcap_model.specs.Entries.{item_of};
 ghost use Rattle.tcap_record.specs.declared.entry.Entry.{Entry as Recorded};
 ghost use Rattle.tcap_check.specs.Given.{RefusesForGood, SaysLawful, ShowsReason};
-ghost use Rattle.tcap_check.specs.Named.{IsDescribedBy};
+ghost use Rattle.tcap_certificate.specs.Named.{IsDescribedBy};
 ghost use Rattle.tcap_check.specs.declared.checker.Report.{Report as Reported};
-ghost use Rattle.tcap_check.specs.Replayed.{certificate_fits, fault_at, run_by};
+ghost use Rattle.tcap_certificate.specs.Replayed.{certificate_fits, fault_at, run_by};
 ghost use Rattle.tcap_check.specs.Checking.{Kept, Took, answer_of, count_ahead, count_waiting, map_ok, reading, reported};
 
-use crate::certificate::Certificate;
-use crate::fault::CheckFault;
 use crate::replaying::Replaying;
 use std::alloc::Global;
 use std::marker::Model;
 use tcap_ber::Fault;
+use tcap_certificate::{Certificate, CheckFault};
 use tcap_end::Table;
 use tcap_model::Reason;
 use tcap_msg::MessageParts;

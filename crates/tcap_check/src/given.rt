@@ -11,17 +11,17 @@ ghost use Rattle.tcap_end.specs.declared.half.HalfName.{HalfName};
 ghost use Rattle.tcap_end.specs.End.{End};
 ghost use Rattle.tcap_end.specs.Message.{send};
 ghost use Rattle.tcap_end.specs.Table.{Table};
-ghost use Rattle.tcap_check.specs.declared.fault.CheckFault.{CheckFault};
+ghost use Rattle.tcap_certificate.specs.declared.fault.CheckFault.{CheckFault};
 ghost use Rattle.tcap_check.specs.declared.step.Step.{Step};
 ghost use Rattle.tcap_check.specs.Told.{discards_of, events_of};
 ghost use Rattle.tcap_model.specs.World.{Item, Sent, World, end_at};
 ghost use Rattle.tcap_model.specs.Run.{BothKeepRules, Event, Expires, IsLawful, IsRunOf, Runs, played};
-ghost use Rattle.tcap_check.specs.Certificate.{Certificate, IsPrompt, prompt};
+ghost use Rattle.tcap_certificate.specs.Certificate.{Certificate, IsPrompt, prompt};
 ghost use Rattle.tcap_model.specs.Entries.{AreItems};
-ghost use Rattle.tcap_check.specs.Follows.{Follows, IsImplied, IsPlain, invoke_id, invoking_half};
-ghost use Rattle.tcap_check.specs.Named.{AreSameEvents, IsDescribedBy};
+ghost use Rattle.tcap_certificate.specs.Follows.{Follows, IsImplied, IsPlain, invoke_id, invoking_half};
+ghost use Rattle.tcap_certificate.specs.Named.{AreSameEvents, IsDescribedBy};
 ghost use Rattle.tcap_check.specs.Given.{DeliversAtOnce, IsGiven, IsInUse, IsReason, IsSeen};
-ghost use Rattle.tcap_check.specs.Replayed.{replayed_by};
+ghost use Rattle.tcap_certificate.specs.Replayed.{replayed_by};
 
 /// A run from any certificate: what it gives is a run of two ends, from the empty world, which sends the items that the
 /// entries are, in their order, and nothing else; the certificate describes it. It has at most twice as many steps as

@@ -8,14 +8,13 @@ ghost use Rattle.tcap_check.specs.Plan.{IsPlan};
 ghost use Rattle.tcap_check.specs.Stands.{StopsSo};
 ghost use Rattle.tcap_check.specs.Progress.{GrewBy, HasNoMore, YieldsInMemory, load, seat_at, unheard_load};
 
-use crate::certificate::Certificate;
-use crate::fault::CheckFault;
 use crate::outline::Outline;
 use crate::plan::Plan;
 use crate::progress::{OUT_OF_MEMORY, Progress, Waiting, receive};
 use crate::step::Step;
 use std::alloc::{AllocError, Global};
 use std::collections::LinkedList;
+use tcap_certificate::{Certificate, CheckFault};
 use tcap_end::{EndFault, EndState, Table};
 use tcap_model::Reason;
 use tcap_record::End;

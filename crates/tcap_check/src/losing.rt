@@ -4,9 +4,9 @@ ghost use Rattle.std.specs.Prelude.{◌≡◌, ◌<◌, ◌+◌, ◌^◌, OnOk, 
 ghost use Rattle.tcap_check.specs.Progress.{HasNoMore, IsMemory, discard_told, first_lost, front_lost, last_lost, load, lost_counted};
 ghost use Rattle.tcap_check.specs.Progress.{lost_told, seat_at, unheard_load, with_waiting};
 
-use crate::fault::CheckFault;
 use crate::progress::Progress;
 use crate::step::Step;
+use tcap_certificate::CheckFault;
 use tcap_end::EndFault;
 use tcap_record::End;
 

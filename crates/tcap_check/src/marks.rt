@@ -7,14 +7,14 @@ ghost use Rattle.tcap_check.specs.Hearing.{alone_marked, halves_closed, halves_q
 ghost use Rattle.tcap_check.specs.Progress.{GrewBy, Yields, YieldsInMemory, end_moved, load, quiet_kept, seat_at, unheard_load};
 ghost use Rattle.tcap_record.specs.declared.entry.End.{End as Side};
 ghost use Rattle.tcap_end.specs.Table.{Table as Operations};
-ghost use Rattle.tcap_check.specs.Replayed.{fault_at};
+ghost use Rattle.tcap_certificate.specs.Replayed.{fault_at};
 ghost use Rattle.tcap_check.specs.Stands.{StopsSo};
 ghost use Rattle.tcap_model.specs.declared.reason.Reason.TheVariants.{NotQuiet};
 
-use crate::fault::CheckFault;
 use crate::progress::{OUT_OF_MEMORY, Progress, copy_name};
 use crate::step::Step;
 use std::alloc::Global;
+use tcap_certificate::CheckFault;
 use tcap_end::{HalfName, Table};
 use tcap_model::Reason;
 use tcap_record::End;

@@ -5,12 +5,12 @@ ghost use Rattle.tcap_parts.specs.Meaning.{components_left};
 ghost use Rattle.tcap_end.specs.declared.half.HalfName.TheVariants as names;
 ghost use Rattle.tcap_model.specs.World.{Sent};
 ghost use Rattle.tcap_model.specs.Run.{then_so, where_so};
-ghost use Rattle.tcap_check.specs.Follows.{half_begun, invoke_id};
+ghost use Rattle.tcap_certificate.specs.Follows.{half_begun, invoke_id};
 ghost use Rattle.tcap_check.specs.Outlines.{half_closed, invocation_ended, note_of, outline_named, outline_of};
 
-use crate::certificate::{Closing, Expiry};
 use std::alloc::{AllocError, Global};
 use std::marker::Model;
+use tcap_certificate::{Closing, Expiry};
 use tcap_end::HalfName;
 use tcap_msg::{Kind, MessageParts, TransactionId};
 use tcap_parts::{ComponentView, Components};

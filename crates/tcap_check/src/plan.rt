@@ -5,13 +5,12 @@ ghost use Rattle.tcap_check.specs.Buckets.{count_lists, list_at};
 ghost use Rattle.tcap_check.specs.Outlines.{is_named};
 ghost use Rattle.tcap_check.specs.Plan.{IsPlan, flag_by};
 ghost use Rattle.tcap_check.specs.Progress.{due_in};
-ghost use Rattle.tcap_check.specs.Follows.{taken_by};
-ghost use Rattle.tcap_check.specs.Replayed.{all_fit, certificate_fits, fate_fits, fates_fit};
+ghost use Rattle.tcap_certificate.specs.Follows.{taken_by};
+ghost use Rattle.tcap_certificate.specs.Replayed.{all_fit, certificate_fits, fate_fits, fates_fit};
 
 use crate::buckets::Buckets;
-use crate::certificate::{Certificate, Closing, Expiry, Fate};
-use crate::fault::CheckFault;
 use std::alloc::{AllocError, Global};
+use tcap_certificate::{Certificate, CheckFault, Closing, Expiry, Fate};
 use tcap_model::Reason;
 
 /// What a certificate says: what is listed, what is delivered and what is taken, by gap and by entry; and which entries
@@ -197,7 +196,7 @@ impl Plan {
         ensures plan { IfOk result (λ plan. IsPlan certificate.now plan) }
         ensures few { length certificate.now.fates ≤ 100000 }
     {
-        let fates: &[Fate] = &certificate.fates;
+        let fates = certificate.fates();
         let count = fates.len() + 1;
         Ok(Plan {
             closings: closings_by_gap(alloc, count, certificate.closings())?,

@@ -3,23 +3,22 @@
 ghost use Rattle.std.specs.Prelude.{◌≡◌, ◌≢◌, ◌++◌, ◌∷◌, [], Bool, true, List, length, map, Result, Ok, Err, OnOk};
 ghost use Rattle.tcap_record.specs.Viewed.{entry_read};
 ghost use Rattle.tcap_check.specs.Given.{RefusesForGood, SaysLawful};
-ghost use Rattle.tcap_check.specs.declared.fault.CheckFault.{CheckFault as Refusal};
+ghost use Rattle.tcap_certificate.specs.declared.fault.CheckFault.{CheckFault as Refusal};
 ghost use Rattle.tcap_model.specs.declared.reason.Reason.{Reason as Why};
 ghost use Rattle.tcap_model.specs.declared.reason.Reason.TheVariants as reasons;
 ghost use Rattle.tcap_model.specs.World.{Item};
 ghost use Rattle.tcap_model.specs.Entries.{AreItems, item_of};
-ghost use Rattle.tcap_check.specs.Replayed.{fault_at, replay_by, replayed_by};
+ghost use Rattle.tcap_certificate.specs.Replayed.{fault_at, replay_by, replayed_by};
 ghost use Rattle.tcap_check.specs.Checking.{Took, TookListed, answer_of, kept_next, map_ok, reported};
 ghost use Rattle.tcap_check.specs.Progress.{YieldsInMemory};
 ghost use Rattle.tcap_check.specs.Ready.{IsReady, checking_of, kept_in};
 ghost use Rattle.tcap_check.specs.Stands.{UnlessMemory, ShowsAmong, ShowsItem, StandsAmong, StopsSo};
 ghost use Rattle.tcap_check.specs.declared.checker.Report.{Report as Reported};
 
-use crate::certificate::Certificate;
 use crate::checker::{Checker, Report};
-use crate::fault::CheckFault;
 use crate::replaying::Replaying;
 use std::alloc::Global;
+use tcap_certificate::{Certificate, CheckFault};
 use tcap_end::Table;
 use tcap_model::Reason;
 use tcap_msg::MessageView;

@@ -1,24 +1,22 @@
 //! A certificate that is replayed over entries, for both ends or for the one that is judged: what a checker does with each.
 
 ghost use Rattle.std.specs.Prelude.{◌≡◌, ◌≢◌, ◌++◌, ◌∷◌, ◌+◌, ◌<◌, ◌≤◌, ◌^◌, [], List, length, not, slice_get, true, ◌||◌, Bool, Some, Result, Ok, Err, IfOk, IfSome, OnOk, ok_or};
-ghost use Rattle.tcap_check.specs.declared.fault.CheckFault.{CheckFault as Refusal};
+ghost use Rattle.tcap_certificate.specs.declared.fault.CheckFault.{CheckFault as Refusal};
 ghost use Rattle.tcap_model.specs.declared.reason.Reason.{Reason as Why};
 ghost use Rattle.tcap_model.specs.declared.reason.Reason.TheVariants as reasons;
 ghost use Rattle.tcap_model.specs.World.{Item, Sent};
 ghost use Rattle.tcap_check.specs.Outlines.{outline_of};
 ghost use Rattle.tcap_check.specs.Progress.{GrewBy, YieldsInMemory, load, overtakes, seat_at, unheard_load};
-ghost use Rattle.tcap_check.specs.Replayed.{Replay, certificate_fits, discards_by, fault_at, is_gap, run_by};
+ghost use Rattle.tcap_certificate.specs.Replayed.{Replay, certificate_fits, discards_by, fault_at, is_gap, run_by};
 ghost use Rattle.tcap_check.specs.Told.{discards_of, events_of};
 ghost use Rattle.tcap_check.specs.Checking.{TookListed, gap_before, is_alone, kept_ended, kept_next, map_ok, reading, reported, tied_now};
 ghost use Rattle.tcap_check.specs.Hearing.{mark_taken, message_taken};
 ghost use Rattle.tcap_check.specs.Plan.{IsPlan, flag_by};
-ghost use Rattle.tcap_check.specs.Certificate.{Certificate as Certified};
+ghost use Rattle.tcap_certificate.specs.Certificate.{Certificate as Certified};
 ghost use Rattle.tcap_check.specs.Stands.{UnlessMemory, ShowsSend, StandsFor, StopsSo};
 ghost use Rattle.tcap_check.specs.Ready.{IsReady, IsSameBesideEntries, IsSameBesideProgress, checking_of, kept_in};
 
-use crate::certificate::{Certificate, Fate};
 use crate::checker::Report;
-use crate::fault::CheckFault;
 use crate::hearing::told_among;
 use crate::outline::Outline;
 use crate::plan::{Plan, check_ranges};
@@ -26,6 +24,7 @@ use crate::progress::{OUT_OF_MEMORY, Progress};
 use crate::step::Step;
 use std::alloc::Global;
 use tcap_ber::Fault;
+use tcap_certificate::{Certificate, CheckFault, Fate};
 use tcap_end::Table;
 use tcap_model::Reason;
 use tcap_msg::{Message, MessageParts};

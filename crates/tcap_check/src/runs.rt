@@ -1,7 +1,7 @@
 //! The run that a certificate gives for a record, step by step, as far as it goes.
 
 ghost use Rattle.std.specs.Prelude.{◌≡◌, ◌≢◌, [], true, map, Some, Ok, Err, IfOk, IfSome, OnOk};
-ghost use Rattle.tcap_check.specs.declared.fault.CheckFault.{CheckFault as Refusal};
+ghost use Rattle.tcap_certificate.specs.declared.fault.CheckFault.{CheckFault as Refusal};
 ghost use Rattle.tcap_end.specs.End.{nothing};
 ghost use Rattle.tcap_model.specs.declared.reason.Reason.TheVariants as reasons;
 ghost use Rattle.tcap_model.specs.Entries.{item_of};
@@ -9,15 +9,14 @@ ghost use Rattle.tcap_check.specs.AloneGiven.{IsGivenTo};
 ghost use Rattle.tcap_check.specs.Checking.{TookListed, map_ok};
 ghost use Rattle.tcap_check.specs.Ready.{IsReady, checking_of};
 ghost use Rattle.tcap_check.specs.Stands.{EndsListed, UnlessMemory, IsAnswered, IsRefusedThere, IsSoFar, ShowsAmong, StandsAmong, answered};
-ghost use Rattle.tcap_check.specs.Replayed.{certificate_fits, discards_by, fault_at, replayed_by};
+ghost use Rattle.tcap_certificate.specs.Replayed.{certificate_fits, discards_by, fault_at, replayed_by};
 ghost use Rattle.tcap_check.specs.Told.{MayAllBeDiscarded, discards_of, events_of};
 
-use crate::certificate::Certificate;
-use crate::fault::CheckFault;
 use crate::progress::{OUT_OF_MEMORY, Progress};
 use crate::replaying::Replaying;
 use crate::step::Step;
 use std::alloc::{AllocError, Global};
+use tcap_certificate::{Certificate, CheckFault};
 use tcap_end::{EndState, Table};
 use tcap_model::Reason;
 use tcap_record::{End, Record};

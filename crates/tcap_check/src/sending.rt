@@ -7,22 +7,21 @@ ghost use Rattle.tcap_end.specs.Step.{AnswersInMemory};
 ghost use Rattle.tcap_end.specs.Message.{send};
 ghost use Rattle.tcap_record.specs.Ends.{other};
 ghost use Rattle.tcap_model.specs.declared.reason.Reason.TheVariants.{Memory};
-ghost use Rattle.tcap_check.specs.Follows.{invoke_id, invoking_half};
+ghost use Rattle.tcap_certificate.specs.Follows.{invoke_id, invoking_half};
 ghost use Rattle.tcap_check.specs.Progress.{GrewBy, IsAsMany, IsMemory, YieldsInMemory, end_tried, first_answered, first_may_be_answered};
 ghost use Rattle.tcap_check.specs.Progress.{ids_ended_over, invoked_ended, load, may_be_answered, message_kept, overtakes, reply_kept};
 ghost use Rattle.tcap_check.specs.Progress.{seat_at, seat_with, send_kept, sending, sent_by, time_or_zero, unheard_load, with_seat};
 ghost use Rattle.tcap_check.specs.Progress.{with_seat_end, with_told};
 ghost use Rattle.tcap_record.specs.declared.entry.End.{End as Side};
 ghost use Rattle.tcap_end.specs.Table.{Table as Operations};
-ghost use Rattle.tcap_check.specs.Replayed.{fault_at, is_heard};
+ghost use Rattle.tcap_certificate.specs.Replayed.{fault_at, is_heard};
 ghost use Rattle.tcap_check.specs.Stands.{ShowsSend, StopsSo};
 
-use crate::certificate::Fate;
-use crate::fault::CheckFault;
 use crate::held::Held;
 use crate::progress::{OUT_OF_MEMORY, Progress, Seat, Waiting, copy_name};
 use crate::step::Step;
 use std::alloc::{AllocError, Global};
+use tcap_certificate::{CheckFault, Fate};
 use tcap_end::{EndFault, HalfName, Table};
 use tcap_model::Reason;
 use tcap_msg::{Kind, Message, MessageParts};
@@ -30,7 +29,7 @@ use tcap_parts::ComponentView;
 use tcap_record::End;
 
 /// The step by which a message is sent.
-#[derive(Clone, Copy, Debug)]
+#[derive(Clone, Copy)]
 pub(crate) enum Way {
     /// Its end sends it.
     Sends,

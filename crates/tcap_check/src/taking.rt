@@ -7,11 +7,10 @@ ghost use Rattle.tcap_check.specs.Stands.{ShowsSend, StopsSo};
 ghost use Rattle.tcap_check.specs.Hearing.{is_judged, message_taken, own_taken, told_taken};
 ghost use Rattle.tcap_check.specs.Progress.{GrewBy, YieldsInMemory, load, unheard_load};
 
-use crate::certificate::Fate;
-use crate::fault::CheckFault;
 use crate::progress::{Progress, is_judged};
 use crate::sending::Way;
 use std::alloc::Global;
+use tcap_certificate::{CheckFault, Fate};
 use tcap_end::Table;
 use tcap_model::Reason;
 use tcap_msg::{Message, MessageParts};

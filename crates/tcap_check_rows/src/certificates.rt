@@ -2,7 +2,8 @@
 
 use std::alloc::Global;
 use std::test::Fail;
-use tcap_check::{Certificate, Closing, Expiry, Fate};
+use tcap_certificate::{Certificate, Closing, Expiry, Fate};
+use tcap_certificate_text::{from_json, to_json};
 use tcap_msg_rows::{Row, each_row};
 use tcap_record::End;
 
@@ -63,8 +64,8 @@ const TEXTS: &str = r#"
 
 /// What is written of the certificate that a text is, or the number of the reason why it is none.
 pub(crate) fn written(alloc: Global, octets: &[u8]) -> Result<String, Fail> {
-    match Certificate::from_json(alloc, octets) {
-        Ok(certificate) => Ok(certificate.to_json(alloc)?),
+    match from_json(alloc, octets) {
+        Ok(certificate) => Ok(to_json(alloc, &certificate)?),
         Err(fault) => Ok(format!(in alloc; "{}", fault.reason.number())?),
     }
 }
@@ -138,7 +139,7 @@ fn made_by_hand(rt: HostRuntime) -> Result<(), Fail> {
     );
     let wanted =
         r#"{"close":[{"at":1,"end":"B","entry":0}],"expire":[{"at":1,"component":0,"end":"A","entry":0}],"fates":["lost"],"version":1}"#;
-    assert_eq!(rt; certificate.to_json(rt.alloc())?.as_str(), wanted);
+    assert_eq!(rt; to_json(rt.alloc(), &certificate)?.as_str(), wanted);
     assert!(rt; made(rt.alloc(), Fate::Gap(100_000), 100_000, 100_000)?.is_some());
     assert!(rt; made(rt.alloc(), Fate::Gap(100_001), 1, 0)?.is_none());
     assert!(rt; made(rt.alloc(), Fate::By(100_001), 1, 0)?.is_none());

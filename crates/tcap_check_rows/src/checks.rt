@@ -4,6 +4,7 @@ use std::alloc::Global;
 use std::fmt::Write;
 use std::test::Fail;
 use tcap_ber::Counted;
+use tcap_certificate_text::from_json;
 use tcap_check::{Certificate, CheckFault, Reason, Report, check};
 use tcap_end::Table;
 use tcap_msg_rows::{Row, each_row, octets_of, vector};
@@ -164,9 +165,7 @@ impl Row for Checks {
         };
         let table = if *name == "N" { LASTING } else { TABLE };
         let table = Table::from_json(alloc, table.as_bytes()).map_err(|_| "a table")?;
-        let certificate = Certificate::from_json(alloc, text.as_bytes()).map_err(
-            |_| "a certificate",
-        )?;
+        let certificate = from_json(alloc, text.as_bytes()).map_err(|_| "a certificate")?;
         let answer = checked(alloc, record_of(alloc, entries)?, table, certificate);
         Ok(text_of(alloc, answer)?.as_str() == *wanted)
     }
@@ -190,9 +189,7 @@ impl Row for EndChecks {
         };
         let end = if *name == "A" { End::A } else { End::B };
         let table = Table::from_json(alloc, TABLE.as_bytes()).map_err(|_| "a table")?;
-        let certificate = Certificate::from_json(alloc, text.as_bytes()).map_err(
-            |_| "a certificate",
-        )?;
+        let certificate = from_json(alloc, text.as_bytes()).map_err(|_| "a certificate")?;
         let answer = checked_end(alloc, record_of(alloc, entries)?, table, certificate, end);
         Ok(end_text_of(alloc, answer)?.as_str() == *wanted)
     }

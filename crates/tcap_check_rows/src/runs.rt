@@ -4,6 +4,7 @@ use crate::checks::{TABLE, record_of, write_fault};
 use std::alloc::Global;
 use std::fmt::Write;
 use std::test::Fail;
+use tcap_certificate_text::from_json;
 use tcap_check::{Certificate, CheckFault, Partial, Step, run_of, run_until};
 use tcap_end::{EndState, HalfName, Table};
 use tcap_msg::TransactionId;
@@ -191,9 +192,7 @@ impl Row for Runs {
             return Ok(false);
         };
         let table = Table::from_json(alloc, TABLE.as_bytes()).map_err(|_| "a table")?;
-        let certificate = Certificate::from_json(alloc, text.as_bytes()).map_err(
-            |_| "a certificate",
-        )?;
+        let certificate = from_json(alloc, text.as_bytes()).map_err(|_| "a certificate")?;
         let answer = run(alloc, record_of(alloc, entries)?, table, certificate);
         Ok(text_of(alloc, answer)?.as_str() == *wanted)
     }
@@ -255,9 +254,7 @@ impl Row for EndRuns {
             return Ok(false);
         };
         let table = Table::from_json(alloc, TABLE.as_bytes()).map_err(|_| "a table")?;
-        let certificate = Certificate::from_json(alloc, text.as_bytes()).map_err(
-            |_| "a certificate",
-        )?;
+        let certificate = from_json(alloc, text.as_bytes()).map_err(|_| "a certificate")?;
         let end = end_of(end).ok_or("an end")?;
         let answer = run_alone(alloc, record_of(alloc, entries)?, table, certificate, end);
         Ok(text_of(alloc, answer)?.as_str() == *wanted)
@@ -313,9 +310,7 @@ impl Row for RunsUntil {
             return Ok(false);
         };
         let table = Table::from_json(alloc, TABLE.as_bytes()).map_err(|_| "a table")?;
-        let certificate = Certificate::from_json(alloc, text.as_bytes()).map_err(
-            |_| "a certificate",
-        )?;
+        let certificate = from_json(alloc, text.as_bytes()).map_err(|_| "a certificate")?;
         let record = record_of(alloc, entries)?;
         let run = until(alloc, record, table, certificate, end_of(judged))?;
         is_so_far(alloc, run, wanted)

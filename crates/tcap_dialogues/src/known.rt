@@ -30,7 +30,7 @@ pub(crate) struct Known {
 }
 
 /// What becomes of the IDs of a dialogue.
-#[derive(Clone, Copy, Debug)]
+#[derive(Clone, Copy)]
 pub(crate) enum Change {
     /// They are free: the dialogue is done, as the one of that number.
     Free(u64),

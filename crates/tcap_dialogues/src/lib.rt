@@ -10,8 +10,6 @@ mod known;
 pub mod laws;
 mod live;
 mod reuse;
-#[cfg(test)]
-mod rows;
 
 pub use cut::Cut;
 pub use gathered::Gathered;

@@ -9,7 +9,3 @@ pub mod Marked
 pub mod Words
 pub mod Pairing
 pub mod Unblamed
-pub mod Shown
-pub mod HalvesShown
-pub mod ComponentsShown
-pub mod Given

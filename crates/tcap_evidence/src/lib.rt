@@ -3,7 +3,6 @@
 #![tactic(auto)]
 
 mod finding;
-pub mod laws;
 mod listing;
 mod mark;
 mod operation_lines;

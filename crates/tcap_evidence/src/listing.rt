@@ -26,7 +26,7 @@ use tcap_msg::{Kind as Form, Message, MessageParts, TransactionId, TransactionId
 use tcap_parts::{CodeView, ComponentView, DialogueView, ProblemView};
 
 /// A test of a message.
-#[derive(Clone, Copy, Debug)]
+#[derive(Clone, Copy)]
 pub(crate) enum Test<'a> {
     /// Any message.
     Any,

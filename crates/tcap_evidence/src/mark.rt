@@ -21,7 +21,7 @@ use tcap_end::Table;
 use tcap_msg::{Message, TransactionId};
 
 /// What tells which halves of an end are open.
-#[derive(Debug, Drop)]
+#[derive(Drop)]
 struct Halves {
     /// The first ID to which the end sent a Continue from each of its own.
     first: BTreeMap<TransactionId, TransactionId>,

@@ -12,7 +12,7 @@ use tcap_msg::{Message, TransactionId, TransactionIdView};
 use tcap_record::{Body, End, Entry, Record};
 
 /// The entries that begin an ID, and those of the Continues in which it stands with another ID than in the one before.
-#[derive(Debug, Drop)]
+#[derive(Drop)]
 struct Pairs {
     entries: Vec<u64>,
     /// The ID with which it stood in the last Continue from it since it was begun.

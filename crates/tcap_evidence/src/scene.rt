@@ -29,7 +29,7 @@ use tcap_parts::ComponentView;
 use tcap_refute::Kind;
 
 /// What is known of a message at fault.
-#[derive(Debug, Drop)]
+#[derive(Drop)]
 pub(crate) struct Scene<'a> {
     pub(crate) table: &'a Table,
     /// The number of its entry.

@@ -11,14 +11,14 @@ use tcap_msg::Message;
 use tcap_record::{Body, End, Entry, Record};
 
 /// A message, with the number of its entry.
-#[derive(Clone, Copy, Debug)]
+#[derive(Clone, Copy)]
 pub(crate) struct Sent<'a> {
     pub(crate) number: u64,
     pub(crate) message: &'a Message,
 }
 
 /// What each end sent before the entry of that number, since the last quiet mark.
-#[derive(Debug, Drop)]
+#[derive(Drop)]
 pub(crate) struct Stretch<'a> {
     pub(crate) own: Vec<Sent<'a>>,
     pub(crate) peer: Vec<Sent<'a>>,

@@ -5,7 +5,7 @@ use serde_json::Value;
 use std::alloc::{AllocError, Global};
 
 /// A code that is written as a text, and what stands around it.
-#[derive(Clone, Copy, Debug)]
+#[derive(Clone, Copy)]
 struct Meant<'a> {
     before: &'static str,
     digits: &'a str,

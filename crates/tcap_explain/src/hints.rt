@@ -4,10 +4,10 @@ ghost use Rattle.std.specs.Prelude.{◌≡◌, OnOk, OnErr};
 ghost use Rattle.tcap_ber.specs.Device.{one_more};
 
 use tcap_ber::Write;
-use tcap_judge::WriteFailed;
+use tcap_lines::WriteFailed;
 
 /// What octets look like.
-#[derive(Clone, Copy, Debug, PartialEq, Eq)]
+#[derive(Clone, Copy, PartialEq, Eq)]
 enum Look {
     /// A record.
     Record,

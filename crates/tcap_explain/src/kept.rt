@@ -7,7 +7,7 @@ use std::alloc::Global;
 use tcap_ber::{Failed, Read};
 
 /// What a reader of lines told last.
-#[derive(Debug, Drop)]
+#[derive(Drop)]
 pub(crate) struct Tail {
     /// The octets from the beginning of a line on.
     pub(crate) octets: Vec<u8>,

@@ -9,7 +9,7 @@ use crate::showing::Showing;
 use crate::stop::Stop;
 use std::alloc::{AllocError, Global};
 use tcap_ber::{Counted, Failed, Read, Write};
-use tcap_judge::{Status, WriteFailed};
+use tcap_lines::{Status, WriteFailed};
 use tcap_record::{FeedFault, FeedReason, PIECE_LEN, PackFault, pack};
 
 /// The greatest count of octets of a line with its end.
@@ -174,7 +174,7 @@ impl Lines {
 }
 
 /// Prints the entries of the record that the lines of digits stand for which `reader` tells up to its end: what
-/// [`run_pack`](tcap_judge::run_pack) makes of them, as [`run_show`](tcap_judge::run_show) prints it. Behind the line of
+/// [`run_pack`](tcap_lines::run_pack) makes of them, as [`run_show`](tcap_lines::run_show) prints it. Behind the line of
 /// the fault of a line of digits stands which rule it breaks, and in which column; with `why`, under each other line of
 /// fault one that says why in words. The status says whether a line of fault was printed. Where memory runs out, lines of
 /// the first entries are printed, whole ones, and its line. `WriteFailed` where the writer failed in this call. One line

@@ -3,7 +3,7 @@
 use crate::part_tables::parts_of;
 
 /// What holds elements.
-#[derive(Clone, Copy, Debug, PartialEq, Eq)]
+#[derive(Clone, Copy, PartialEq, Eq)]
 pub(crate) enum Holder {
     /// The octets that are to be a message.
     Whole,
@@ -38,7 +38,7 @@ pub(crate) enum Holder {
 }
 
 /// Which element may stand in a place of a holder.
-#[derive(Clone, Copy, Debug)]
+#[derive(Clone, Copy)]
 pub(crate) enum Holds {
     /// One of this tag.
     Once(u8),
@@ -55,7 +55,7 @@ pub(crate) enum Holds {
 }
 
 /// An element of a holder: its name, the place in the order of the parts that comes next, and what it holds.
-#[derive(Clone, Copy, Debug)]
+#[derive(Clone, Copy)]
 pub(crate) struct Named {
     pub(crate) name: &'static str,
     pub(crate) next: u8,

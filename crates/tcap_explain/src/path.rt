@@ -21,14 +21,14 @@ struct Element<'a> {
 }
 
 /// Elements that are held by one.
-#[derive(Clone, Copy, Debug)]
+#[derive(Clone, Copy)]
 struct Level<'a> {
     holder: Holder,
     window: Window<'a>,
 }
 
 /// What of a level leads to a place.
-#[derive(Clone, Copy, Debug)]
+#[derive(Clone, Copy)]
 struct Found<'a> {
     /// The element that the place lies in, by its name, and the level in it, where it holds one.
     element: Option<(&'static str, Option<Level<'a>>)>,

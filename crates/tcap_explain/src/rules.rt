@@ -9,7 +9,7 @@ use crate::names::name_of;
 use crate::told::Told;
 use std::alloc::{AllocError, Global};
 use tcap_ber::{Outer, Reason, Write, outer};
-use tcap_judge::WriteFailed;
+use tcap_lines::WriteFailed;
 
 /// The greatest count of octets of a line, its end left out.
 pub const LINE_LIMIT: usize = 131_092;
@@ -204,7 +204,7 @@ fn rule_line(alloc: Global, tail: &Tail) -> Result<String, AllocError> {
     Ok(text)
 }
 
-/// Writes which rule the line of digits breaks at which [`run_pack`](tcap_judge::run_pack) left `lines`, and in which
+/// Writes which rule the line of digits breaks at which [`run_pack`](tcap_lines::run_pack) left `lines`, and in which
 /// column, from 1, where that is the fault which `faults` was told last; else nothing, also where memory runs out.
 /// `WriteFailed` where the writer failed in this call.
 pub fn write_rule<R, W: Write>(

@@ -9,7 +9,7 @@ use crate::stop::Stop;
 use crate::why::{push_entry_why, push_record_why};
 use std::alloc::{AllocError, Global};
 use tcap_ber::Write;
-use tcap_judge::{MEMORY_LINE, Status, WriteFailed};
+use tcap_lines::{MEMORY_LINE, Status, WriteFailed};
 use tcap_record::{BodyView, FeedFault, FeedReason, Frames, push_fault, push_view};
 
 /// What is shown of a record as its octets come.

@@ -10,7 +10,7 @@ use tcap_ber::Failed;
 use tcap_record::FeedFault;
 
 /// Why the lines of a record go no further.
-#[derive(Clone, Copy, Debug, PartialEq, Eq)]
+#[derive(Clone, Copy, PartialEq, Eq)]
 pub(crate) enum Stop {
     /// What was read has a fault, or memory ran out.
     Fault(FeedFault),

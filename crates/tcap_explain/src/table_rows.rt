@@ -10,7 +10,7 @@ use tcap_end::Table;
 use tcap_parts::CodeView;
 
 /// The rows of a table in the order of their codes: the local ones by their numbers, then the global ones by their octets.
-#[derive(Debug, Drop)]
+#[derive(Drop)]
 struct Order {
     locals: BTreeMap<i32, usize>,
     globals: BTreeMap<Vec<u8>, usize>,

@@ -4,7 +4,7 @@ ghost use Rattle.std.specs.Prelude.{◌≡◌, ℕ, List, Ok, Err, IfOk, OnOk, O
 ghost use Rattle.std.specs.Io.KnownBytes.{Consumes, IsAtEnd};
 ghost use Rattle.tcap_ber.specs.Device.{one_more};
 ghost use Rattle.tcap_explain.specs.Tables.{IsTableText};
-ghost use Rattle.tcap_judge.specs.declared.status.Status.{Status};
+ghost use Rattle.tcap_lines.specs.declared.status.Status.{Status};
 
 use crate::code_hints::push_code_hints;
 use crate::table_faults::push_book_fault;
@@ -14,14 +14,14 @@ use std::alloc::{AllocError, Global};
 use tcap_ber::{Failed, Read, Write};
 use tcap_books::{Book, BookFault};
 use tcap_end::TableReason;
-use tcap_judge::{MEMORY_LINE, Status, WriteFailed};
+use tcap_lines::{MEMORY_LINE, Status, WriteFailed};
 use tcap_record::{FeedReason, PIECE_LEN, push_fault};
 
 /// The greatest count of octets of a table.
 const TABLE_LIMIT: usize = 67_108_864;
 
 /// Why a text was not read.
-#[derive(Clone, Copy, Debug, PartialEq, Eq)]
+#[derive(Clone, Copy, PartialEq, Eq)]
 enum TextFault {
     /// It is longer than the limit.
     TooLong,

@@ -12,7 +12,7 @@ use crate::showing::Showing;
 use crate::stop::Stop;
 use std::alloc::{AllocError, Global};
 use tcap_ber::{Failed, Fault, Read, Reason, Window, Write, next_tlv};
-use tcap_judge::{Status, WriteFailed};
+use tcap_lines::{Status, WriteFailed};
 use tcap_record::{FeedFault, FeedReason, PIECE_LEN};
 
 /// The tag of an originating transaction ID (Q.773 4.2.1).
@@ -148,7 +148,7 @@ fn show_all<R: Read, W: Write>(
     Ok(())
 }
 
-/// Prints the entries of the record that `reader` tells up to its end, as [`run_show`](tcap_judge::run_show) does, and
+/// Prints the entries of the record that `reader` tells up to its end, as [`run_show`](tcap_lines::run_show) does, and
 /// under each line of fault one line more that says why in words. The status says whether a line of fault was printed.
 /// Where memory runs out, lines of the first entries are printed, whole ones, and its line. `WriteFailed` where the
 /// writer failed in this call. One entry is held at a time.

@@ -10,7 +10,7 @@ use crate::tallies::count;
 use crate::tally::Tally;
 
 /// What stands before a component: what the half heard, invoked and told, and the components of the message.
-#[derive(Clone, Copy, Debug)]
+#[derive(Clone, Copy)]
 pub(crate) struct Before<'a> {
     pub(crate) half: &'a Half<'a>,
     /// Those of the message before that one.

@@ -30,7 +30,7 @@ pub struct BlamedEnds {
 }
 
 /// What was found of an end.
-#[derive(Clone, Copy, Debug)]
+#[derive(Clone, Copy)]
 pub(crate) struct Looking {
     /// Whether nothing more is looked for.
     pub(crate) is_over: bool,
@@ -38,7 +38,7 @@ pub(crate) struct Looking {
 }
 
 /// What is kept of the entries so far, and what was found.
-#[derive(Debug, Drop)]
+#[derive(Drop)]
 pub(crate) struct SearchState {
     pub(crate) kept: Facts,
     pub(crate) a: Looking,

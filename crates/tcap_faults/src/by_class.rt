@@ -10,7 +10,7 @@ use crate::sort::Class;
 use crate::sums::more;
 
 /// Counts by classes of operations (Q.771 3.1).
-#[derive(Clone, Copy, Debug)]
+#[derive(Clone, Copy)]
 pub(crate) struct ByClass {
     /// Of operations that the table lacks, too.
     pub(crate) all: u128,

@@ -18,7 +18,7 @@ use tcap_end::Table;
 use tcap_parts::CodeView;
 
 /// How often operation codes were counted. Most often there is one code, a local one, which takes no memory.
-#[derive(Debug, Drop)]
+#[derive(Drop)]
 pub(crate) struct CodeCounts {
     /// The local code that came first.
     pub(crate) first: Option<i32>,

@@ -25,7 +25,7 @@ use tcap_parts::{ComponentView, Components};
 use tcap_refute::Kind;
 
 /// Of the components of a message the numbers of the first that are so.
-#[derive(Clone, Copy, Debug)]
+#[derive(Clone, Copy)]
 pub(crate) struct ComponentFaults {
     /// An Invoke of an ID that is in use.
     pub(crate) busy: Option<u64>,

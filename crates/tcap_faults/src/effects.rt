@@ -17,7 +17,7 @@ use crate::sent_from::begins;
 use crate::sent_to::is_ended;
 
 /// What a message does. Where it lacks an ID, nothing is said of what rests on that.
-#[derive(Clone, Copy, Debug)]
+#[derive(Clone, Copy)]
 pub(crate) struct Effects {
     /// Whether it uses an own ID again.
     pub(crate) again: bool,

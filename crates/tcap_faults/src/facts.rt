@@ -27,7 +27,7 @@ use tcap_record::End;
 use tcap_refute::FromId;
 
 /// What is kept of an end.
-#[derive(Debug, Drop)]
+#[derive(Drop)]
 pub(crate) struct SideFacts {
     /// What it sent, by originating IDs.
     pub(crate) from: BTreeMap<TransactionId, SentFrom>,
@@ -46,7 +46,7 @@ pub(crate) struct SideFacts {
 }
 
 /// What is kept of both ends.
-#[derive(Debug, Drop)]
+#[derive(Drop)]
 pub(crate) struct Facts {
     pub(crate) a: SideFacts,
     pub(crate) b: SideFacts,

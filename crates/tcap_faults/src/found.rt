@@ -25,7 +25,7 @@ use tcap_msg::{TransactionId, TransactionIdView};
 use tcap_refute::FromId;
 
 /// An own ID.
-#[derive(Clone, Copy, Debug)]
+#[derive(Clone, Copy)]
 pub(crate) struct Own<'a> {
     pub(crate) id: &'a TransactionId,
     /// What the end sent from there.
@@ -35,7 +35,7 @@ pub(crate) struct Own<'a> {
 }
 
 /// An ID of the peer.
-#[derive(Clone, Copy, Debug)]
+#[derive(Clone, Copy)]
 pub(crate) struct There<'a> {
     pub(crate) id: &'a TransactionId,
     /// What the peer sent from there.
@@ -47,7 +47,7 @@ pub(crate) struct There<'a> {
 }
 
 /// The IDs of a message that an end sends.
-#[derive(Clone, Copy, Debug)]
+#[derive(Clone, Copy)]
 pub(crate) struct Found<'a> {
     /// Its originating ID.
     pub(crate) own: Option<Own<'a>>,

@@ -4,7 +4,7 @@ use std::cell::Cell;
 
 /// Where a linked Invoke with a problem was found last. It is a hint for speed alone, of which no clause speaks: whoever takes it
 /// looks whether it is so.
-#[derive(Debug, Drop)]
+#[derive(Drop)]
 pub(crate) struct FoundLink {
     /// Its linked ID.
     pub(crate) linked: Cell<i8>,

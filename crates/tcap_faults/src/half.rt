@@ -5,7 +5,7 @@ use crate::tally::Tally;
 use tcap_msg::TransactionId;
 
 /// The half with an ID of the peer.
-#[derive(Debug, Drop)]
+#[derive(Drop)]
 pub(crate) struct Half<'a> {
     pub(crate) how: How,
     /// Its own ID, where that is known.

@@ -9,7 +9,7 @@ use std::alloc::{AllocError, Global};
 use tcap_msg::{TransactionId, TransactionIdView};
 
 /// Transaction IDs. Most lists have one.
-#[derive(Debug, Drop)]
+#[derive(Drop)]
 pub(crate) struct Ids {
     pub(crate) first: Option<TransactionId>,
     /// Those behind it, each of which differs from the one before it.

@@ -12,7 +12,7 @@ use tcap_end::Table;
 use tcap_parts::{CodeView, ComponentView};
 
 /// Components by which own invocations of an ID can have ended.
-#[derive(Clone, Copy, Debug)]
+#[derive(Clone, Copy)]
 struct Ended {
     /// Those that were heard: last Return Results, Return Errors, and Rejects with an invoke or a general problem.
     heard: u128,

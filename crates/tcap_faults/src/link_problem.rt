@@ -7,7 +7,7 @@ use crate::linkable::Linkable;
 use tcap_parts::CodeView;
 
 /// An invoke problem of a linked Invoke (Q.773 4.2.2).
-#[derive(Clone, Copy, Debug)]
+#[derive(Clone, Copy)]
 pub(crate) enum LinkProblem {
     /// linkedResponseUnexpected (6): none may be linked to the operation.
     Response,

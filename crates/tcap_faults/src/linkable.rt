@@ -8,7 +8,7 @@ use tcap_end::Table;
 use tcap_parts::CodeView;
 
 /// What may be linked to an operation (Q.771 3.1).
-#[derive(Clone, Copy, Debug)]
+#[derive(Clone, Copy)]
 pub(crate) enum Linkable<'a> {
     /// That operation.
     This(CodeView<'a>),

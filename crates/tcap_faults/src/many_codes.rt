@@ -12,7 +12,7 @@ use tcap_end::Table;
 use tcap_parts::{Code, CodeView};
 
 /// How often operation codes were counted, local and global ones.
-#[derive(Debug, Drop)]
+#[derive(Drop)]
 pub(crate) struct ManyCodes {
     pub(crate) locals: BTreeMap<i32, u128>,
     /// By the octets of global codes.

@@ -20,7 +20,7 @@ use tcap_end::Table;
 use tcap_parts::{CodeView, ComponentView, ProblemView, ResultBodyView};
 
 /// Components of an invoke ID that are counted.
-#[derive(Debug, Drop)]
+#[derive(Drop)]
 pub(crate) struct OfId {
     /// Invokes.
     pub(crate) invokes: ByClass,

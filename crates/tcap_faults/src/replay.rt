@@ -18,7 +18,7 @@ use tcap_record::{Body, End, Entry, Record};
 use tcap_refute::SearchFault;
 
 /// What is kept of so many entries of a record, and what was found in them of an end.
-#[derive(Debug, Drop)]
+#[derive(Drop)]
 pub(crate) struct Replay {
     pub(crate) kept: Facts,
     /// The number of the first of them in which the end used an own ID again, since the last quiet mark.

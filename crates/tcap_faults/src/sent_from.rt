@@ -29,7 +29,7 @@ use tcap_parts::DialogueView;
 use tcap_refute::FromId;
 
 /// The Continues from an ID to another.
-#[derive(Debug, Drop)]
+#[derive(Drop)]
 pub(crate) struct Came {
     /// Whether one of them answers a dialogue request.
     pub(crate) answered: bool,
@@ -40,7 +40,7 @@ pub(crate) struct Came {
 }
 
 /// The first Begin from an ID.
-#[derive(Debug, Drop)]
+#[derive(Drop)]
 pub(crate) struct FirstBegin {
     /// Whether it has a dialogue request.
     pub(crate) requests: bool,
@@ -48,7 +48,7 @@ pub(crate) struct FirstBegin {
 }
 
 /// What was sent from an ID.
-#[derive(Debug, Drop)]
+#[derive(Drop)]
 pub(crate) struct SentFrom {
     /// What F2 to F7 ask of it.
     pub(crate) first: FromId,

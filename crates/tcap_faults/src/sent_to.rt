@@ -24,7 +24,7 @@ use tcap_end::Table;
 use tcap_msg::{Kind as Form, MessageParts, TransactionId};
 
 /// What was sent to an ID.
-#[derive(Debug, Drop)]
+#[derive(Drop)]
 pub(crate) struct SentTo {
     /// Whether a message is no Abort of the provider.
     pub(crate) spoke: bool,

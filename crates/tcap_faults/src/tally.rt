@@ -19,7 +19,7 @@ use tcap_end::Table;
 use tcap_parts::{CodeView, ComponentView, Components};
 
 /// Components that are counted, by their invoke IDs (Q.773 4.2.2).
-#[derive(Debug, Drop)]
+#[derive(Drop)]
 pub(crate) struct Tally {
     pub(crate) ids: BTreeMap<i8, Box<OfId>>,
 }

@@ -31,7 +31,7 @@ use tcap_msg::{Kind as Form, MessageParts, TransactionId};
 use tcap_record::End;
 
 /// An end and its peer, as they are kept.
-#[derive(Clone, Copy, Debug)]
+#[derive(Clone, Copy)]
 pub(crate) struct Ends<'a> {
     pub(crate) own: &'a SideFacts,
     pub(crate) peer: &'a SideFacts,

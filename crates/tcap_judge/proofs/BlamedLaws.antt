@@ -19,9 +19,9 @@ use Rattle.tcap_judge.specs.declared.finding.Finding.{Finding}
 use Rattle.tcap_judge.specs.declared.finding.Finding.TheVariants as findings
 use Rattle.tcap_judge.specs.declared.outcome.Outcome.{Outcome}
 use Rattle.tcap_judge.specs.declared.outcome.Outcome.TheVariants.{Lawful, LawfulFor, NotShown, Refuted, Undecided, Faulty}
-use Rattle.tcap_judge.specs.declared.status.Status.{Status}
-use Rattle.tcap_judge.specs.declared.status.Status.TheVariants as statuses
-use Rattle.tcap_judge.specs.declared.status.WriteFailed.{WriteFailed}
+use Rattle.tcap_lines.specs.declared.status.Status.{Status}
+use Rattle.tcap_lines.specs.declared.status.Status.TheVariants as statuses
+use Rattle.tcap_lines.specs.declared.status.WriteFailed.{WriteFailed}
 use Rattle.tcap_judge.specs.Outcome.{outcome_status}
 use Rattle.tcap_judge.specs.Judged.{AreLawful, IsShown}
 use Rattle.tcap_judge.specs.Checked.{Device, ReadsRecord, ReadsTable, out_of_memory}

@@ -8,11 +8,11 @@ use Rattle.tcap_record.specs.Held.{Held, Fed, dropped, grown}
 use Rattle.std.specs.Io.KnownBytes.{IsAtEnd}
 use Rattle.tcap_record.specs.Feeding.{FinishesAs}
 use Rattle.tcap_record.specs.Reading.{EndsOnlyAtEnd, FailsOnlyByReader}
-use Rattle.tcap_judge.proofs.ShowLaws.{ended_counts}
+use Rattle.tcap_lines.proofs.ShowLaws.{ended_counts}
 use Rattle.tcap_record.proofs.FeederLaws.{taken_all, taken_on}
 use Rattle.tcap_end.specs.Table.{Table}
-use Rattle.tcap_check.specs.declared.fault.CheckFault.{CheckFault}
-use Rattle.tcap_check.specs.Certificate.{Certificate}
+use Rattle.tcap_certificate.specs.declared.fault.CheckFault.{CheckFault}
+use Rattle.tcap_certificate.specs.Certificate.{Certificate}
 use Rattle.tcap_check.specs.Checking.{Checking}
 use Rattle.tcap_judge.specs.Judging.{EndsWith, Leads, LeadsFed, IsCheckerOf, Takes, TakenSoFar}
 

@@ -10,14 +10,14 @@ use Rattle.tcap_record.specs.Framed.{FramedFrom, IsBody, octet_of}
 use Rattle.tcap_end.specs.Fault.{table_number_of}
 use Rattle.tcap_end.specs.Table.{Table}
 use Rattle.tcap_end.specs.TableText.{IsTableOf}
-use Rattle.tcap_check.specs.declared.fault.CheckFault.{CheckFault}
+use Rattle.tcap_certificate.specs.declared.fault.CheckFault.{CheckFault}
 use Rattle.tcap_model.specs.World.{Item, Sent}
 use Rattle.tcap_model.specs.Run.{Event}
-use Rattle.tcap_check.specs.Certificate.{Certificate}
+use Rattle.tcap_certificate.specs.Certificate.{Certificate}
 use Rattle.tcap_model.specs.Entries.{AreItems}
 use Rattle.tcap_check.specs.Given.{SaysLawful}
 use Rattle.tcap_check.specs.declared.checker.Report.{Report}
-use Rattle.tcap_check.specs.Unheard.{unheard_of}
+use Rattle.tcap_certificate.specs.Unheard.{unheard_of}
 use Rattle.tcap_check.proofs.AloneRuns.{gives_for}
 use Rattle.tcap_check.proofs.GivenRuns.{gives}
 use Rattle.tcap_check.proofs.ReasonGaps.{as_many}
@@ -25,9 +25,9 @@ use Rattle.tcap_judge.specs.declared.text_reading.TextFault.{TextFault}
 use Rattle.tcap_judge.specs.declared.text_reading.TextFault.TheVariants as faults
 use Rattle.tcap_judge.specs.declared.outcome.Outcome.{Outcome}
 use Rattle.tcap_judge.specs.declared.outcome.Outcome.TheVariants.{Faulty}
-use Rattle.tcap_judge.specs.declared.status.Status.{Status}
-use Rattle.tcap_judge.specs.declared.status.Status.TheVariants as statuses
-use Rattle.tcap_judge.specs.declared.status.WriteFailed.{WriteFailed}
+use Rattle.tcap_lines.specs.declared.status.Status.{Status}
+use Rattle.tcap_lines.specs.declared.status.Status.TheVariants as statuses
+use Rattle.tcap_lines.specs.declared.status.WriteFailed.{WriteFailed}
 use Rattle.tcap_judge.specs.Outcome.{Says, SaysWith, outcome_line, outcome_status}
 use Rattle.tcap_judge.specs.Text.{ReadsText}
 use Rattle.tcap_judge.specs.Judged.{AreLawfulUnheard, IsShown, MayBeSentUnheard, lawful_by, replayed_by, said_lawful}

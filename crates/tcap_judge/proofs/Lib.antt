@@ -1,5 +1,3 @@
-pub mod PrintLaws
-pub mod ShowLaws
 pub mod JudgeLaws
 pub mod LawfulLaws
 pub mod VerdictLaws

@@ -7,9 +7,9 @@ use Rattle.tcap_record.specs.declared.entry.Entry.{Entry}
 use Rattle.tcap_end.specs.Table.{Table}
 use Rattle.tcap_model.specs.World.{Item, Sent, World}
 use Rattle.tcap_model.specs.Run.{Event, KeepsRules, Runs}
-use Rattle.tcap_check.specs.Certificate.{Certificate}
+use Rattle.tcap_certificate.specs.Certificate.{Certificate}
 use Rattle.tcap_model.specs.Entries.{item_by, item_of}
-use Rattle.tcap_check.specs.Replayed.{replayed_by}
+use Rattle.tcap_certificate.specs.Replayed.{replayed_by}
 use Rattle.tcap_check.proofs.AloneRuns.{gives_for}
 use Rattle.tcap_refute.specs.declared.kind.Refutation.{Refutation}
 use Rattle.tcap_refute.proofs.RefutedLaws.{are_oks, oks, split_oks}

@@ -30,10 +30,10 @@ use Rattle.tcap_model.specs.World.{Item, Sent}
 use Rattle.tcap_model.specs.Entries.{AreItems}
 use Rattle.tcap_model.specs.Run.{Event, IsRunOf}
 use Rattle.tcap_end.specs.Table.{Table}
-use Rattle.tcap_check.specs.Certificate.{Certificate, IsPrompt, prompt}
-use Rattle.tcap_check.specs.Follows.{IsPlain}
+use Rattle.tcap_certificate.specs.Certificate.{Certificate, IsPrompt, prompt}
+use Rattle.tcap_certificate.specs.Follows.{IsPlain}
 use Rattle.tcap_check.specs.Given.{DeliversAtOnce, IsSeen}
-use Rattle.tcap_check.specs.Replayed.{replayed_by}
+use Rattle.tcap_certificate.specs.Replayed.{replayed_by}
 use Rattle.tcap_check.proofs.AtOnceLaws.{at_once_follows, followed_at_once}
 use Rattle.tcap_check.proofs.DescribedRuns.{followed_is_given}
 use Rattle.tcap_check.proofs.GivenRuns.{gives}

@@ -22,10 +22,10 @@ use Rattle.tcap_judge.specs.declared.finding.Finding.{Finding}
 use Rattle.tcap_judge.specs.declared.finding.Finding.TheVariants as findings
 use Rattle.tcap_judge.specs.declared.outcome.Outcome.{Outcome}
 use Rattle.tcap_judge.specs.declared.outcome.Outcome.TheVariants.{LawfulFor, Refuted}
-use Rattle.tcap_judge.specs.declared.status.Status.{Status}
-use Rattle.tcap_judge.specs.declared.status.Status.TheVariants as statuses
+use Rattle.tcap_lines.specs.declared.status.Status.{Status}
+use Rattle.tcap_lines.specs.declared.status.Status.TheVariants as statuses
 use Rattle.tcap_judge.specs.Outcome.{outcome_line, outcome_status}
-use Rattle.tcap_judge.specs.Shown.{memory_line}
+use Rattle.tcap_lines.specs.Shown.{memory_line}
 use Rattle.tcap_judge.specs.Judged.{AreLawful, IsShown}
 use Rattle.tcap_judge.specs.Checked.{Device, IsUntouched, ReadsRecord, ReadsTable, out_of_memory}
 use Rattle.tcap_judge.specs.Verdict.{record_verdict, verdict_for}

@@ -6,9 +6,9 @@ use Rattle.tcap_end.specs.Table.{Table}
 use Rattle.tcap_model.specs.World.{Item}
 use Rattle.tcap_model.specs.Run.{Event, IsLawful, IsLawfulFor}
 use Rattle.tcap_model.specs.Entries.{AreItems}
-pub use Rattle.tcap_check.specs.Replayed.{replayed_by}
-use Rattle.tcap_check.specs.Unheard.{unheard_of}
-use Rattle.tcap_check.specs.Unheard.{IsLawfulUnheard}
+pub use Rattle.tcap_certificate.specs.Replayed.{replayed_by}
+use Rattle.tcap_certificate.specs.Unheard.{unheard_of}
+use Rattle.tcap_certificate.specs.Unheard.{IsLawfulUnheard}
 use Rattle.tcap_judge.specs.declared.outcome.Outcome.{Outcome}
 use Rattle.tcap_judge.specs.declared.outcome.Outcome.TheVariants.{Lawful, LawfulFor}
 

@@ -5,11 +5,11 @@ use Rattle.tcap_record.specs.declared.entry.Entry.{Entry}
 use Rattle.tcap_record.specs.declared.fault.FeedFault.{FeedFault}
 use Rattle.tcap_record.specs.Held.{Held, Fed}
 use Rattle.tcap_end.specs.Table.{Table}
-use Rattle.tcap_check.specs.declared.fault.CheckFault.{CheckFault}
-use Rattle.tcap_check.specs.Certificate.{Certificate}
+use Rattle.tcap_certificate.specs.declared.fault.CheckFault.{CheckFault}
+use Rattle.tcap_certificate.specs.Certificate.{Certificate}
 use Rattle.tcap_check.specs.Checking.{Checking, Took}
 use Rattle.tcap_model.specs.Entries.{item_of}
-use Rattle.tcap_check.specs.Replayed.{certificate_fits, replayed_by}
+use Rattle.tcap_certificate.specs.Replayed.{certificate_fits, replayed_by}
 use Rattle.tcap_judge.specs.declared.outcome.Outcome.{Outcome}
 use Rattle.tcap_judge.specs.Checked.{Device, ReadsRecord, out_of_memory, replay_says}
 

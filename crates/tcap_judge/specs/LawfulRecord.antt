@@ -9,7 +9,7 @@ use Rattle.tcap_end.specs.Table.{Table}
 use Rattle.tcap_end.specs.TableText.{IsTableOf}
 use Rattle.tcap_model.specs.World.{Item, Sent}
 use Rattle.tcap_model.specs.Run.{IsLawful}
-use Rattle.tcap_check.specs.Unheard.{IsLawfulUnheard}
+use Rattle.tcap_certificate.specs.Unheard.{IsLawfulUnheard}
 use Rattle.tcap_judge.specs.declared.outcome.Outcome.TheVariants.{Lawful, LawfulFor}
 use Rattle.tcap_judge.specs.Outcome.{outcome_line}
 use Rattle.tcap_judge.specs.Checked.{Device}

@@ -1,6 +1,3 @@
-pub mod Shown
-pub mod Showing
-pub mod Packed
 pub mod Text
 pub mod Outcome
 pub mod Judged

@@ -4,17 +4,17 @@ use Rattle.std.specs.Fmt.{decimal}
 use Rattle.tcap_ber.specs.Fault.{number_of}
 use Rattle.tcap_end.specs.Fault.{fault_number}
 use Rattle.tcap_record.specs.Lines.{fault_line, line_end}
-use Rattle.tcap_check.specs.declared.fault.CheckFault.{CheckFault}
+use Rattle.tcap_certificate.specs.declared.fault.CheckFault.{CheckFault}
 use Rattle.tcap_model.specs.declared.reason.Reason.{Reason}
 use Rattle.tcap_model.specs.declared.reason.Reason.TheVariants as reasons
 use Rattle.tcap_model.specs.Reason.{reason_number}
 use Rattle.tcap_refute.specs.declared.kind.Refutation.{Refutation}
 use Rattle.tcap_refute.specs.Kind.{kind_number}
-use Rattle.tcap_judge.specs.Shown.{memory_line}
+use Rattle.tcap_lines.specs.Shown.{memory_line}
 use Rattle.tcap_judge.specs.declared.outcome.Outcome.{Outcome}
 use Rattle.tcap_judge.specs.declared.outcome.Outcome.TheVariants.{Lawful, LawfulFor, NotShown, Refuted, Undecided, Faulty}
-use Rattle.tcap_judge.specs.declared.status.Status.{Status}
-use Rattle.tcap_judge.specs.declared.status.Status.TheVariants as statuses
+use Rattle.tcap_lines.specs.declared.status.Status.{Status}
+use Rattle.tcap_lines.specs.declared.status.Status.TheVariants as statuses
 
 -- the number of the fault that a reason holds, where it holds one
 abbrev pub inner_number : Reason → Option ℕ

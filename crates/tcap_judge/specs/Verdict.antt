@@ -11,9 +11,9 @@ use Rattle.tcap_record.specs.Lines.{line_end}
 use Rattle.tcap_record.specs.Reading.{IsReadAs}
 use Rattle.tcap_end.specs.Table.{Table}
 use Rattle.tcap_end.specs.TableText.{IsTableOf}
-use Rattle.tcap_check.specs.declared.fault.CheckFault.{CheckFault}
-use Rattle.tcap_check.specs.Certificate.{Certificate}
-use Rattle.tcap_check.specs.CertificateText.{certificate_data}
+use Rattle.tcap_certificate.specs.declared.fault.CheckFault.{CheckFault}
+use Rattle.tcap_certificate.specs.Certificate.{Certificate}
+use Rattle.tcap_certificate_text.specs.CertificateText.{certificate_data}
 use Rattle.tcap_model.specs.Entries.{item_of}
 use Rattle.tcap_model.specs.Run.{Event}
 use Rattle.tcap_refute.specs.declared.kind.Refutation.{Refutation}
@@ -24,7 +24,7 @@ use Rattle.tcap_faults.specs.Fault.{blamed}
 use Rattle.tcap_search.specs.Proposed.{proposed, proposed_for}
 use Rattle.tcap_judge.specs.declared.outcome.Outcome.{Outcome}
 use Rattle.tcap_judge.specs.declared.outcome.Outcome.TheVariants.{Lawful, LawfulFor, Refuted, Undecided, Faulty}
-use Rattle.tcap_judge.specs.declared.status.Status.{Status}
+use Rattle.tcap_lines.specs.declared.status.Status.{Status}
 use Rattle.tcap_judge.specs.Judged.{IsShown, lawful_by, replayed_by}
 use Rattle.tcap_judge.specs.Outcome.{SaysWith, refuted_line}
 use Rattle.tcap_judge.specs.Checked.{Device, IsUntouched, ReadsRecord, ReadsTable, out_of_memory}

@@ -17,11 +17,11 @@ ghost use Rattle.tcap_judge.specs.Outcome.{Says};
 
 use crate::given::{read_certificate, read_table};
 use crate::outcome::{OUT_OF_MEMORY, Outcome, write_outcome};
-use crate::status::{Status, WriteFailed};
 use std::alloc::{AllocError, Global};
 use tcap_ber::{Failed, Read, Write};
 use tcap_check::{Certificate, CheckFault, Checker, Reason, Report};
 use tcap_end::Table;
+use tcap_lines::{Status, WriteFailed};
 use tcap_record::{End, EntryView, FeedFault, FeedReason, Frames, PIECE_LEN};
 
 /// Takes the next entry; fails where memory ran out. A refusal is kept.

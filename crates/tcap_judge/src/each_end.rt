@@ -3,7 +3,7 @@
 ghost use Rattle.std.specs.Prelude.{◌≡◌, ◌≤◌, List, length, map, None, Ok, IfOk};
 ghost use Rattle.tcap_model.specs.Entries.{item_of};
 ghost use Rattle.tcap_model.specs.Run.{Event};
-ghost use Rattle.tcap_check.specs.Replayed.{replayed_by};
+ghost use Rattle.tcap_certificate.specs.Replayed.{replayed_by};
 ghost use Rattle.tcap_faults.specs.Fault.{blamed};
 ghost use Rattle.tcap_search.specs.Proposed.{proposed_for};
 ghost use Rattle.tcap_judge.specs.Blamed.{IsFound, finding, items_before};

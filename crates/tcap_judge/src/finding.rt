@@ -6,8 +6,8 @@ ghost use Rattle.tcap_record.specs.Ends.{letter};
 ghost use Rattle.tcap_judge.specs.Blamed.{blame_status, ends_lines, finding_by, finding_line, is_blamed, is_lawful, stands_behind, unblamed_status};
 
 use crate::outcome::Outcome;
-use crate::status::Status;
 use std::alloc::AllocError;
+use tcap_lines::Status;
 use tcap_record::End;
 use tcap_refute::Refutation;
 

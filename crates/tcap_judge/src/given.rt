@@ -7,7 +7,8 @@ use crate::outcome::{OUT_OF_MEMORY, Outcome};
 use crate::text_reading::{TextFault, read_text};
 use std::alloc::Global;
 use tcap_ber::Read;
-use tcap_check::{Certificate, Reason};
+use tcap_certificate::{Certificate, Reason};
+use tcap_certificate_text::from_json;
 use tcap_end::{Table, TableReason};
 use tcap_record::FeedReason;
 
@@ -62,7 +63,7 @@ pub fn read_certificate<R: Read>(alloc: Global, reader: &mut R) -> Result<Certif
     }) result }
 {
     match read_text(alloc, reader, TEXT_LIMIT) {
-        Ok(text) => match Certificate::from_json(alloc, &text) {
+        Ok(text) => match from_json(alloc, &text) {
             Ok(certificate) => Ok(certificate),
             Err(fault) if matches!(fault.reason, Reason::Memory) => Err(OUT_OF_MEMORY),
             Err(_) => Err(Outcome::Faulty(CERTIFICATE_SHAPE, 0)),

@@ -8,11 +8,11 @@ ghost use Rattle.tcap_judge.specs.Verdict.{FindsFault, FindsLawfulThen, GivesVer
 
 use crate::given::read_table;
 use crate::outcome::{OUT_OF_MEMORY, Outcome, write_outcome};
-use crate::status::{Status, WriteFailed};
 use crate::verdicts::{Said, judge_record};
 use std::alloc::{AllocError, Global};
 use tcap_ber::{Read, Write};
 use tcap_end::Table;
+use tcap_lines::{Status, WriteFailed};
 use tcap_record::{End, read_record};
 use tcap_refute::laws;
 

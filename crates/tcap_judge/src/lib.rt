@@ -1,29 +1,21 @@
-//! What `tcapjudge` does: its runs over readers and writers, and what they say as values.
+//! What `tcapjudge` says of a record: its runs over readers and writers, and what they say as values.
 #![tactic(auto)]
 
 mod blaming;
 mod checking;
 mod each_end;
-mod fault_lines;
 mod finding;
 mod given;
 mod judging;
 pub mod laws;
 mod outcome;
-mod packing;
-mod showing;
-mod status;
 mod text_reading;
 mod verdicts;
 
 pub use blaming::{Blame, blame_outcome, blame_record, find_both, run_blame};
 pub use checking::{check_outcome, run_check, run_check_end};
-pub use fault_lines::MEMORY_LINE;
 pub use finding::{Ends, Finding, blame_status, push_finding, stands_behind};
 pub use given::{read_certificate, read_table};
 pub use judging::{judge_outcome, run_judge, run_judge_end};
 pub use outcome::{OUT_OF_MEMORY, Outcome, inner_number, push_outcome, write_outcome};
-pub use packing::run_pack;
-pub use showing::run_show;
-pub use status::{Status, WriteFailed};
 pub use verdicts::{Said, judge_record, named, propose, replay};

@@ -7,11 +7,10 @@ ghost use Rattle.tcap_ber.specs.Device.{one_more};
 ghost use Rattle.tcap_judge.specs.Outcome.{SaysWith, inner_number, not_shown_line, reason_text};
 ghost use Rattle.tcap_judge.specs.Outcome.{outcome_line, outcome_status, refuted_line, undecided_line};
 
-use crate::fault_lines::{MEMORY_LINE, write_line};
-use crate::status::{Status, WriteFailed};
 use std::alloc::{AllocError, Global};
 use tcap_ber::Write;
 use tcap_check::{CheckFault, Reason};
+use tcap_lines::{MEMORY_LINE, Status, WriteFailed, write_line};
 use tcap_record::push_fault;
 use tcap_refute::Refutation;
 

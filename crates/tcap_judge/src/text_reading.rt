@@ -9,7 +9,7 @@ use tcap_ber::{Failed, Read};
 use tcap_record::PIECE_LEN;
 
 /// Why a text was not read.
-#[derive(Clone, Copy, Debug, PartialEq, Eq)]
+#[derive(Clone, Copy, PartialEq, Eq)]
 pub(crate) enum TextFault {
     /// It is longer than the limit.
     TooLong,

@@ -3,7 +3,7 @@
 ghost use Rattle.std.specs.Prelude.{◌≡◌, ◌≢◌, [], ◌≤◌, length, map, is_some, Some, Err, IfOk};
 ghost use Rattle.std.specs.String.{string_bytes};
 ghost use Rattle.tcap_check.specs.Checking.{map_ok};
-ghost use Rattle.tcap_check.specs.Replayed.{fault_at};
+ghost use Rattle.tcap_certificate.specs.Replayed.{fault_at};
 ghost use Rattle.tcap_model.specs.declared.reason.Reason.TheVariants as reasons;
 ghost use Rattle.tcap_model.specs.Entries.{item_of};
 ghost use Rattle.tcap_refute.specs.Kind.{refuted};
@@ -14,6 +14,7 @@ use crate::checking::lawful_of;
 use crate::laws;
 use crate::outcome::Outcome;
 use std::alloc::{AllocError, Global};
+use tcap_certificate_text::to_json;
 use tcap_check::{Certificate, CheckFault, Reason, check};
 use tcap_end::Table;
 use tcap_faults::blame;
@@ -95,7 +96,7 @@ pub fn replay(
 fn line_of(alloc: Global, certificate: &Certificate) -> Result<String, AllocError>
     ensures { IfOk result (λ line. string_bytes line ≡ line_of_certificate certificate.now) }
 {
-    let mut line = certificate.to_json(alloc)?;
+    let mut line = to_json(alloc, certificate)?;
     line.push_str("\n")?;
     Ok(line)
 }

@@ -3,7 +3,7 @@
 use crate::octets::octets_of;
 use std::alloc::Global;
 use tcap_ber::Counted;
-use tcap_judge::run_pack;
+use tcap_lines::run_pack;
 use tcap_record::{FeedFault, PackFault, pack};
 
 /// The octets of lines, in which `|` and `^` stand for the two ends of lines.

@@ -2,7 +2,8 @@
 
 use crate::commands::Command;
 use std::alloc::Global;
-use tcap_check::{Certificate, Checker};
+use tcap_certificate_text::from_json;
+use tcap_check::Checker;
 use tcap_end::Table;
 use tcap_record::Frames;
 
@@ -55,7 +56,7 @@ fn replayed_by(alloc: Global, mut checker: Checker, record: &[u8], len: usize) -
 /// The same of a record, a table and a certificate.
 pub(crate) fn replayed(alloc: Global, command: &Command, len: usize) -> Option<String> {
     let table = Table::from_json(alloc, command.table.as_bytes()).ok()?;
-    let certificate = Certificate::from_json(alloc, command.certificate.as_bytes()).ok()?;
+    let certificate = from_json(alloc, command.certificate.as_bytes()).ok()?;
     let checker = Checker::new(alloc, &table, &certificate).ok()?;
     replayed_by(alloc, checker, &command.record, len)
 }

@@ -16,7 +16,7 @@ use tcap_msg::{Kind as Form, MessageParts};
 use tcap_parts::{CodeView, ComponentView, ProblemView, ResultBodyView};
 
 /// What is asked of a component.
-#[derive(Clone, Copy, Debug)]
+#[derive(Clone, Copy)]
 pub(crate) enum Test {
     /// Whether it is an answer.
     Answer,

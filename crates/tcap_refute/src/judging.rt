@@ -17,7 +17,7 @@ use tcap_msg::MessageParts;
 use tcap_record::{Body, End, Entry};
 
 /// What an entry is to a search.
-#[derive(Clone, Copy, Debug, PartialEq, Eq)]
+#[derive(Clone, Copy, PartialEq, Eq)]
 pub(crate) enum Judged {
     /// An item that has no kind: it is noted.
     Passed,

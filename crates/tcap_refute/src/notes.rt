@@ -27,7 +27,7 @@ use tcap_msg::{Kind as Form, MessageParts, TransactionId, TransactionIdView};
 use tcap_record::End;
 
 /// What an end sent.
-#[derive(Debug, Drop)]
+#[derive(Drop)]
 pub(crate) struct EndNotes {
     /// Its messages, by their originating IDs.
     pub(crate) from: BTreeMap<TransactionId, FromId>,
@@ -36,7 +36,7 @@ pub(crate) struct EndNotes {
 }
 
 /// What is noted of the messages that two ends sent since the last quiet mark.
-#[derive(Debug, Drop)]
+#[derive(Drop)]
 pub(crate) struct Notes {
     pub(crate) a: EndNotes,
     pub(crate) b: EndNotes,

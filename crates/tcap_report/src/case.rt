@@ -17,7 +17,7 @@ use tcap_traces::{Circumstances, Ends, Verdict, judge_dialogue};
 pub(crate) const MOST: usize = 100_000;
 
 /// An entry that is held until its dialogue is judged.
-#[derive(Debug, Drop)]
+#[derive(Drop)]
 pub(crate) struct Held {
     /// As a record has it.
     pub(crate) octets: Vec<u8>,
@@ -28,7 +28,7 @@ pub(crate) struct Held {
 }
 
 /// What stands behind a dialogue.
-#[derive(Clone, Copy, Debug, PartialEq, Eq)]
+#[derive(Clone, Copy, PartialEq, Eq)]
 pub(crate) enum Behind {
     /// Other entries of its stretch.
     More,
@@ -39,7 +39,7 @@ pub(crate) enum Behind {
 }
 
 /// A dialogue that is judged, with its entries.
-#[derive(Debug, Drop)]
+#[derive(Drop)]
 pub(crate) struct Case {
     /// Its number among the dialogues of its trace.
     pub(crate) number: u64,
@@ -69,7 +69,7 @@ pub(crate) fn heading_of(octets: &[u8]) -> HeadingView<'_> {
 }
 
 /// What is said of a dialogue.
-#[derive(Debug, Drop)]
+#[derive(Drop)]
 pub(crate) struct Judged<'a> {
     pub(crate) record: Record,
     /// The application context name that its Begin asks for.
@@ -81,7 +81,7 @@ pub(crate) struct Judged<'a> {
 }
 
 /// What is asked of dialogues.
-#[derive(Clone, Copy, Debug)]
+#[derive(Clone, Copy)]
 pub(crate) struct Rules {
     /// The end whose verdict is asked, or both.
     pub(crate) of: Option<End>,

@@ -8,7 +8,7 @@ use tcap_msg::{Kind as Form, MessageParts};
 use tcap_record::{Body, Record};
 
 /// The table by which a dialogue is judged, its application context name, and whether it is unsure that this table is its own.
-#[derive(Debug, Drop)]
+#[derive(Drop)]
 pub(crate) struct Chosen<'a> {
     pub(crate) table: Option<&'a NamedTable>,
     pub(crate) context: Option<Vec<u8>>,

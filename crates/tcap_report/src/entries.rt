@@ -12,7 +12,7 @@ use tcap_explain::{LINE_LIMIT, broken_by, hint_of, name_of, push_broken_rule};
 use tcap_record::{End, Line, LineFault, read_line};
 
 /// What a trace is, by its first octets.
-#[derive(Clone, Copy, Debug, PartialEq, Eq)]
+#[derive(Clone, Copy, PartialEq, Eq)]
 enum Form {
     Unknown,
     Lines,
@@ -20,7 +20,7 @@ enum Form {
 }
 
 /// A piece of a trace that was read.
-#[derive(Debug, Drop)]
+#[derive(Drop)]
 pub(crate) enum Piece {
     /// An entry, as a record has it: the octet of its end and an element. With its line, where it has one, and the comment above it.
     Entry(Vec<u8>, u64, Vec<u8>),
@@ -31,7 +31,7 @@ pub(crate) enum Piece {
 }
 
 /// A trace that is read.
-#[derive(Debug, Drop)]
+#[derive(Drop)]
 pub(crate) struct Entries {
     alloc: Global,
     form: Form,

@@ -22,7 +22,7 @@ impl From<AllocError> for Stop {
 }
 
 /// What is wrong with the form of a trace.
-#[derive(Debug, Drop)]
+#[derive(Drop)]
 pub(crate) struct FormFault {
     /// The number of the line, from 1, where it has lines.
     pub(crate) line: Option<u64>,
@@ -31,7 +31,7 @@ pub(crate) struct FormFault {
 }
 
 /// Why a trace is read no further.
-#[derive(Debug, Drop)]
+#[derive(Drop)]
 pub(crate) enum Halt {
     /// Its form has a fault.
     Form(FormFault),

@@ -13,7 +13,7 @@ use tcap_traces::Said;
 const MOST: usize = 8;
 
 /// What the fault of each end rests on, where one is asked and at fault.
-#[derive(Debug, Drop)]
+#[derive(Drop)]
 pub(crate) struct Grounds {
     a: Option<Evidence>,
     b: Option<Evidence>,

@@ -19,8 +19,6 @@ mod page;
 mod reason;
 mod sum;
 mod telling;
-#[cfg(test)]
-mod tests;
 mod text;
 mod trace;
 mod unheard;

@@ -44,7 +44,7 @@ pub struct Sinks<'a, W, J, P> {
 }
 
 /// What is said of a trace.
-#[derive(Clone, Copy, Debug)]
+#[derive(Clone, Copy)]
 pub(crate) struct Told<'a> {
     pub(crate) name: &'a str,
     pub(crate) verdict: Verdict,

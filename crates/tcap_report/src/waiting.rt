@@ -12,7 +12,7 @@ use tcap_record::{Body, End, Entry};
 const MOST: usize = 8;
 
 /// An answer that is waited for.
-#[derive(Clone, Copy, Debug, PartialEq, Eq)]
+#[derive(Clone, Copy, PartialEq, Eq)]
 struct Wait {
     /// The end that is to answer.
     of: End,
@@ -23,7 +23,7 @@ struct Wait {
 }
 
 /// What an end sent behind an entry.
-#[derive(Debug, Drop)]
+#[derive(Drop)]
 struct Answers {
     /// Something.
     any: bool,

@@ -15,7 +15,7 @@ use tcap_refute::{Kind, Refutation};
 const MOST: usize = 8;
 
 /// An answer.
-#[derive(Clone, Copy, Debug)]
+#[derive(Clone, Copy)]
 struct Answer<'a> {
     /// Whether it is a Return Result; else it is a Return Error.
     is_result: bool,

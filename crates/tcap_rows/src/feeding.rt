@@ -4,7 +4,7 @@ use crate::tools::shown;
 use std::alloc::Global;
 use std::test::Fail;
 use tcap_ber::{Counted, Failing};
-use tcap_judge::run_show;
+use tcap_lines::run_show;
 use tcap_msg_rows::{Row, each_row, octets_of};
 use tcap_record::{
     BodyView, End, Entry, FeedFault, FeedReason, Feeder, Frames, Record, push_view, read_record,

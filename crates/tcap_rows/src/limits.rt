@@ -4,7 +4,7 @@ use crate::feeding::takes;
 use crate::tools::shown;
 use std::test::Fail;
 use tcap_ber::{CONTENT_LIMIT, Counted, DEPTH_LIMIT};
-use tcap_judge::run_show;
+use tcap_lines::run_show;
 use tcap_record::{FeedReason, Feeder, read_record};
 
 #[test]

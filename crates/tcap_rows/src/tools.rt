@@ -3,7 +3,7 @@
 use std::alloc::Global;
 use std::test::Fail;
 use tcap_ber::Counted;
-use tcap_judge::run_show;
+use tcap_lines::run_show;
 use tcap_msg_rows::{is_refused, octets_of};
 
 /// What is printed of a record, and the status.

@@ -3,7 +3,7 @@
 use std::alloc::Global;
 use std::test::Fail;
 use tcap_ber::{Counted, Failing};
-use tcap_judge::{run_pack, run_show};
+use tcap_lines::{run_pack, run_show};
 use tcap_msg_rows::edited;
 use tcap_record::{PackFault, pack, read_record};
 

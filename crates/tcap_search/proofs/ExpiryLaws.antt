@@ -9,9 +9,9 @@ use Rattle.tcap_record.specs.declared.entry.End.{End as Side}
 use Rattle.tcap_record.specs.declared.entry.Entry.{Entry}
 use Rattle.tcap_record.specs.Ends.{other}
 use Rattle.tcap_model.specs.Run.{then_so, where_so}
-use Rattle.tcap_check.specs.declared.certificate.Expiry.{Expiry}
-use Rattle.tcap_check.specs.declared.certificate.Fate.{Fate}
-use Rattle.tcap_check.specs.declared.certificate.Fate.TheVariants.{Gap, Lost, By}
+use Rattle.tcap_certificate.specs.declared.certificate.Expiry.{Expiry}
+use Rattle.tcap_certificate.specs.declared.certificate.Fate.{Fate}
+use Rattle.tcap_certificate.specs.declared.certificate.Fate.TheVariants.{Gap, Lost, By}
 use Rattle.tcap_search.specs.declared.sweep.Answer.{Answer}
 use Rattle.tcap_search.specs.Lines.{Line, are_of_one_end, is_of_peer, last, share_transaction}
 use Rattle.tcap_search.specs.Proposed.{Fated, components_at, expiries_by, expiries_from, expiry_by, invocation_at, is_answer_of, is_delivered_by, last_invocation, rejected_line, unrecognized, with_expiry}

@@ -9,7 +9,7 @@ use Rattle.tcap_msg.specs.declared.message.Message.TheVariants.{Unidirectional, 
 use Rattle.tcap_record.specs.declared.entry.End.{End as Side}
 use Rattle.tcap_record.specs.Ends.{other}
 use Rattle.tcap_model.specs.Run.{where_so}
-use Rattle.tcap_check.specs.declared.certificate.Fate.TheVariants.{Gap}
+use Rattle.tcap_certificate.specs.declared.certificate.Fate.TheVariants.{Gap}
 use Rattle.tcap_search.specs.declared.tie.Tie.{Tie}
 use Rattle.tcap_search.specs.Lines.{Line, is_end, is_of_peer, last, message_of, or_else, share_transaction}
 use Rattle.tcap_search.specs.Proposed.{fate_by, fate_of, first_gap, first_gap_by, gap_behind, gap_behind_reply, holds_back, last_of_receiver, raised, reply_of}

@@ -6,9 +6,9 @@ use Rattle.std.proofs.lemmas.Bool.Decides.{nat_tests}
 use Rattle.std.proofs.lemmas.List.{length-map}
 use Rattle.tcap_record.specs.declared.entry.End.{End as Side}
 use Rattle.tcap_record.specs.declared.entry.Entry.{Entry}
-use Rattle.tcap_check.specs.declared.certificate.Fate.{Fate}
-use Rattle.tcap_check.specs.declared.certificate.Fate.TheVariants.{Lost}
-use Rattle.tcap_check.specs.Replayed.{is_later, time_of}
+use Rattle.tcap_certificate.specs.declared.certificate.Fate.{Fate}
+use Rattle.tcap_certificate.specs.declared.certificate.Fate.TheVariants.{Lost}
+use Rattle.tcap_certificate.specs.Replayed.{is_later, time_of}
 use Rattle.tcap_search.specs.Lines.{Line, is_end, lines_of, message_of}
 use Rattle.tcap_search.specs.Proposed.{Fated, all_fated, fate_before, fate_of, fate_unanswered, fated, first_fates, is_gap, is_overtaken, ties_of, with_losses, without_unanswered}
 use Rattle.tcap_search.specs.declared.tie.Tie.{Tie}

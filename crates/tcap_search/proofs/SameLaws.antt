@@ -9,13 +9,13 @@ use Rattle.std.proofs.lemmas.Slice.Eq.{slice_eq-Decides}
 use Rattle.tcap_record.specs.declared.entry.End.{End as Side}
 use Rattle.tcap_record.specs.declared.entry.End.TheVariants.{A, B}
 use Rattle.tcap_record.specs.contracts.entry.EndPartialEq.TheImpl as side_eq
-use Rattle.tcap_check.specs.contracts.certificate.ClosingPartialEq.TheImpl as closing_eq
-use Rattle.tcap_check.specs.contracts.certificate.ExpiryPartialEq.TheImpl as expiry_eq
-use Rattle.tcap_check.specs.contracts.certificate.FatePartialEq.TheImpl as fate_eq
-use Rattle.tcap_check.specs.declared.certificate.Closing.{Closing}
-use Rattle.tcap_check.specs.declared.certificate.Expiry.{Expiry}
-use Rattle.tcap_check.specs.declared.certificate.Fate.{Fate}
-use Rattle.tcap_check.specs.declared.certificate.Fate.TheVariants.{Gap, Lost, By}
+use Rattle.tcap_certificate.specs.contracts.certificate.ClosingPartialEq.TheImpl as closing_eq
+use Rattle.tcap_certificate.specs.contracts.certificate.ExpiryPartialEq.TheImpl as expiry_eq
+use Rattle.tcap_certificate.specs.contracts.certificate.FatePartialEq.TheImpl as fate_eq
+use Rattle.tcap_certificate.specs.declared.certificate.Closing.{Closing}
+use Rattle.tcap_certificate.specs.declared.certificate.Expiry.{Expiry}
+use Rattle.tcap_certificate.specs.declared.certificate.Fate.{Fate}
+use Rattle.tcap_certificate.specs.declared.certificate.Fate.TheVariants.{Gap, Lost, By}
 
 pub fate_decides : (a b : Fate) → Decides (fate_eq.eq-value.it a b) (a ≡ b)
 fate_decides (Gap g) (Gap h) = (λ e. ap Gap ((Decides-eqb g h).0 e), λ e. (Decides-eqb g h).1 cc)

@@ -5,8 +5,8 @@ use Rattle.std.proofs.lemmas.List.{length-take-le, take_all, take_more}
 use Rattle.std.proofs.lemmas.Option.{cond_some}
 use Rattle.tcap_record.specs.declared.entry.End.{End as Side}
 use Rattle.tcap_record.specs.declared.entry.Entry.{Entry}
-use Rattle.tcap_check.specs.declared.certificate.Fate.{Fate}
-use Rattle.tcap_check.specs.declared.certificate.Fate.TheVariants.{Gap, Lost, By}
+use Rattle.tcap_certificate.specs.declared.certificate.Fate.{Fate}
+use Rattle.tcap_certificate.specs.declared.certificate.Fate.TheVariants.{Gap, Lost, By}
 use Rattle.tcap_search.specs.declared.leasts.Leasts.{Leasts}
 use Rattle.tcap_search.specs.Leasts.{HasRoom, is_transaction, is_within, least_at, lesser}
 use Rattle.tcap_search.specs.Lines.{Line, are_of_one_end, is_end, line_behind, lines_of, message_of, share_transaction}

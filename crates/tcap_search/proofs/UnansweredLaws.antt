@@ -15,8 +15,8 @@ use Rattle.tcap_record.specs.declared.entry.Entry.{Entry}
 use Rattle.tcap_end.specs.End.{is_id}
 use Rattle.tcap_end.specs.Table.{octets_cmp}
 use Rattle.tcap_record.specs.Ends.{other}
-use Rattle.tcap_check.specs.declared.certificate.Fate.{Fate}
-use Rattle.tcap_check.specs.declared.certificate.Fate.TheVariants.{Gap, Lost}
+use Rattle.tcap_certificate.specs.declared.certificate.Fate.{Fate}
+use Rattle.tcap_certificate.specs.declared.certificate.Fate.TheVariants.{Gap, Lost}
 use Rattle.tcap_search.specs.declared.unanswered.Spoken.{Spoken}
 use Rattle.tcap_search.specs.Lines.{Line, is_end, lines_of, message_of}
 use Rattle.tcap_search.specs.Proposed.{Fated, fate_unanswered, fated, goes_on_from, is_gap, is_unanswered, speaks_to, without_unanswered}

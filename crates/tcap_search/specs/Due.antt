@@ -1,7 +1,7 @@
 -- The numbers of entries by the gap in which they are delivered.
 use Rattle.std.specs.Prelude.{ℕ, ◌+◌, List, [], ◌∷◌, slice_get, Option, Some, None, ◌==◌, cond, Vec}
-use Rattle.tcap_check.specs.declared.certificate.Fate.{Fate}
-use Rattle.tcap_check.specs.declared.certificate.Fate.TheVariants.{Gap}
+use Rattle.tcap_certificate.specs.declared.certificate.Fate.{Fate}
+use Rattle.tcap_certificate.specs.declared.certificate.Fate.TheVariants.{Gap}
 
 abbrev pub numbers_of : {A : Type 0} → Option (Vec ℕ A) → List ℕ
 numbers_of None = []

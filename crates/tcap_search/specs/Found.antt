@@ -1,8 +1,8 @@
 -- A certificate under way.
 use Rattle.std.specs.Prelude.{ℕ, [], Option, Some, None}
 use Rattle.std.specs.List.{AllByRecursion}
-use Rattle.tcap_check.specs.Certificate.{Certificate}
-use Rattle.tcap_check.specs.CertificateText.{ClosingFits, ExpiryFits, FateFits}
+use Rattle.tcap_certificate.specs.Certificate.{Certificate}
+use Rattle.tcap_certificate.specs.Certificate.{ClosingFits, ExpiryFits, FateFits}
 use Rattle.tcap_search.specs.Proposed.{behind}
 
 abbrev pub nothing_found : Certificate

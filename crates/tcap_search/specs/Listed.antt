@@ -7,7 +7,7 @@ use Rattle.std.specs.BTreeSet.{contains}
 use Rattle.tcap_parts.specs.declared.component.Component.{Component}
 use Rattle.tcap_record.specs.declared.entry.End.{End as Side}
 use Rattle.tcap_record.specs.declared.entry.Entry.{Entry}
-use Rattle.tcap_check.specs.declared.certificate.Expiry.{Expiry}
+use Rattle.tcap_certificate.specs.declared.certificate.Expiry.{Expiry}
 use Rattle.tcap_search.specs.declared.expiries.Listed.{Listed}
 use Rattle.tcap_search.specs.declared.sweep.Answer.{Answer}
 use Rattle.tcap_search.specs.Proposed.{is_expiry_of, unrecognized, with_expiry}

@@ -1,7 +1,7 @@
 -- Of two messages of one end that are delivered, the later one comes in no earlier gap.
 use Rattle.std.specs.Prelude.{◌≡◌, ℕ, ◌≤◌, true, List, [], ◌∷◌, is_some}
 use Rattle.std.specs.List.{AllByRecursion}
-use Rattle.tcap_check.specs.declared.certificate.Fate.TheVariants.{Gap}
+use Rattle.tcap_certificate.specs.declared.certificate.Fate.TheVariants.{Gap}
 use Rattle.tcap_search.specs.Lines.{are_of_one_end, message_of}
 use Rattle.tcap_search.specs.Proposed.{Fated}
 

@@ -9,8 +9,8 @@ use Rattle.tcap_record.specs.declared.entry.End.{End as Side}
 use Rattle.tcap_record.specs.declared.entry.Entry.{Entry}
 use Rattle.tcap_end.specs.Table.{octets_cmp}
 use Rattle.tcap_record.specs.Ends.{other}
-use Rattle.tcap_check.specs.declared.certificate.Fate.{Fate}
-use Rattle.tcap_check.specs.declared.certificate.Fate.TheVariants.{Lost}
+use Rattle.tcap_certificate.specs.declared.certificate.Fate.{Fate}
+use Rattle.tcap_certificate.specs.declared.certificate.Fate.TheVariants.{Lost}
 use Rattle.tcap_search.specs.declared.unanswered.Spoken.{Spoken}
 use Rattle.tcap_search.specs.Lines.{is_end, message_of}
 use Rattle.tcap_search.specs.Proposed.{goes_on_from, is_gap, speaks_to}

@@ -7,9 +7,8 @@ use Rattle.tcap_end.specs.Table.{Table}
 use Rattle.tcap_model.specs.declared.reason.Reason.{Reason}
 use Rattle.tcap_model.specs.World.{Item}
 use Rattle.tcap_model.specs.Entries.{entry_of}
-use Rattle.tcap_check.specs.Checking.{map_ok}
-use Rattle.tcap_check.specs.Replayed.{refused, replayed_by}
-use Rattle.tcap_check.specs.Unheard.{unheard_of}
+use Rattle.tcap_certificate.specs.Replayed.{map_ok, refused, replayed_by}
+use Rattle.tcap_certificate.specs.Unheard.{unheard_of}
 use Rattle.tcap_search.specs.Proposed.{proposed_for}
 
 -- There is a run, in which so many of the peer's messages are not heard; or there is none, for that reason at that entry;

@@ -9,11 +9,11 @@ use Rattle.tcap_record.specs.declared.entry.End.TheVariants.{A, B}
 use Rattle.tcap_record.specs.declared.entry.Entry.{Entry}
 use Rattle.tcap_model.specs.World.{Item, Sent}
 use Rattle.tcap_model.specs.Run.{provider_abort}
-use Rattle.tcap_check.specs.Certificate.{Certificate}
-use Rattle.tcap_check.specs.declared.certificate.Fate.TheVariants.{Gap, Lost, By}
+use Rattle.tcap_certificate.specs.Certificate.{Certificate}
+use Rattle.tcap_certificate.specs.declared.certificate.Fate.TheVariants.{Gap, Lost, By}
 use Rattle.tcap_model.specs.Entries.{entry_of}
 use Rattle.tcap_model.specs.WorkedItems.{answer, begin, end_to, id}
-use Rattle.tcap_check.specs.Worked.{Worked, by_fates, both_again, closed_half, crossing, delayed, empty_record, end_implies, late_reject, over_a_mark, refused_begin, three_entries, two_entries}
+use Rattle.tcap_certificate.specs.Worked.{Worked, by_fates, both_again, closed_half, crossing, delayed, empty_record, end_implies, late_reject, over_a_mark, refused_begin, three_entries, two_entries}
 use Rattle.tcap_search.specs.Proposed.{proposed, proposed_for}
 
 -- The certificate that is proposed for the record of a worked run is the one that describes it.

@@ -8,7 +8,7 @@ use std::collections::BTreeMap;
 use tcap_record::End;
 
 /// Values by transaction, end and invoke ID.
-#[derive(Debug, Drop)]
+#[derive(Drop)]
 pub(crate) struct ByInvocation<T> {
     map: BTreeMap<(u64, i8), T>,
 }

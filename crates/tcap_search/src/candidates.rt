@@ -16,7 +16,7 @@ const UNRECOGNIZED_TRANSACTION_ID: u8 = 1;
 const RESOURCE_LIMITATION: u8 = 4;
 
 /// Entries that an Abort may answer and that are not tied, by their numbers; the newest of an ID is on top.
-#[derive(Debug, Drop)]
+#[derive(Drop)]
 pub(crate) struct Candidates {
     pub(crate) begins: Stacks,
     pub(crate) continues: Stacks,

@@ -11,7 +11,7 @@ ghost use Rattle.tcap_search.specs.Traced.{AreTies, AreTransactions};
 use crate::leasts::Leasts;
 use crate::tie::Tie;
 use std::alloc::{AllocError, Global};
-use tcap_check::{Closing, Fate};
+use tcap_certificate::{Closing, Fate};
 use tcap_msg::{AbortReason, Message};
 use tcap_record::{Body, End, Entry};
 

@@ -10,7 +10,7 @@ use crate::lines::transactions_of;
 use crate::searching::is_mark;
 use crate::ties::ties_of;
 use std::alloc::{AllocError, Global};
-use tcap_check::Certificate;
+use tcap_certificate::Certificate;
 use tcap_record::{End, Entry, Record};
 use tcap_refute::SearchFault;
 
@@ -26,7 +26,7 @@ pub struct Proposals {
 }
 
 /// What is proposed for the stretches so far: for both ends, and for each alone.
-#[derive(Debug, Drop)]
+#[derive(Drop)]
 pub(crate) struct Each {
     both: Found,
     a: Found,

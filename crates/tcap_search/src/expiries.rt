@@ -14,13 +14,13 @@ ghost use Rattle.tcap_search.specs.Sweep.{answer_rejected};
 use crate::sweep::{Answer, Sweep, components_of, unrecognized};
 use std::alloc::{AllocError, Global};
 use std::collections::BTreeSet;
-use tcap_check::{Expiry, Fate};
+use tcap_certificate::{Expiry, Fate};
 use tcap_parts::Component;
 use tcap_record::{End, Entry};
 
 /// Expiries as they are listed, and which invocations they name: the number of an entry, and the place of the Invoke
 /// there.
-#[derive(Debug, Drop)]
+#[derive(Drop)]
 pub(crate) struct Listed {
     expiries: Vec<Expiry>,
     named: BTreeSet<(u32, u32)>,

@@ -2,7 +2,7 @@
 
 ghost use Rattle.std.specs.Prelude.{◌≡◌, ◌≤◌, ◌<◌, ◌+◌, ◌^◌, ◌==◌, ◌&&◌, ℕ, max, cond, length, map, slice_get, Some, None, IfOk};
 ghost use Rattle.tcap_record.specs.declared.entry.End.{End as Side};
-ghost use Rattle.tcap_check.specs.Replayed.{time_of};
+ghost use Rattle.tcap_certificate.specs.Replayed.{time_of};
 ghost use Rattle.tcap_search.specs.Lines.{is_end, lines_of, message_of};
 ghost use Rattle.tcap_search.specs.Proposed.{fated, first_fates, gap_behind_reply, holds_back, is_provider_abort, reply_of, with_losses};
 ghost use Rattle.tcap_search.specs.Traced.{AreFates, AreTies, AreTransactions};
@@ -14,7 +14,7 @@ use crate::per_end::PerEnd;
 use crate::tie::Tie;
 use crate::unanswered::without_unanswered;
 use std::alloc::{AllocError, Global};
-use tcap_check::Fate;
+use tcap_certificate::Fate;
 use tcap_msg::{AbortReason, Message};
 use tcap_record::{Body, End, Entry};
 

@@ -3,7 +3,7 @@
 ghost use Rattle.std.specs.Prelude.{◌≡◌, ◌≤◌, ◌+◌, ◌++◌, Bool, true, Option, length, map, None, Some, IfOk, OnOk};
 ghost use Rattle.std.specs.List.{AllByRecursion};
 ghost use Rattle.tcap_record.specs.declared.entry.End.{End as Side};
-ghost use Rattle.tcap_check.specs.CertificateText.{ClosingFits, ExpiryFits, FateFits};
+ghost use Rattle.tcap_certificate.specs.Certificate.{ClosingFits, ExpiryFits, FateFits};
 ghost use Rattle.tcap_search.specs.Lines.{lines_of};
 ghost use Rattle.tcap_search.specs.Proposed.{behind, closing_behind, expiry_behind, fate_behind, of_mark, of_stretch, then_certificate};
 ghost use Rattle.tcap_search.specs.Found.{FitsBehind, nothing_found, or_both};
@@ -17,11 +17,11 @@ use crate::tie::Tie;
 use crate::ties::ties_of;
 use std::alloc::{AllocError, Global};
 use std::marker::Model;
-use tcap_check::{Certificate, Closing, Expiry, Fate};
+use tcap_certificate::{Certificate, Closing, Expiry, Fate};
 use tcap_record::{End, Entry};
 
 /// What is proposed for the stretches so far; its numbers are in the limits of a certificate.
-#[derive(Debug, Drop)]
+#[derive(Drop)]
 pub(crate) struct Found {
     fates: Vec<Fate>,
     expire: Vec<Expiry>,
@@ -30,8 +30,8 @@ pub(crate) struct Found {
 
 impl Model for Found {
     ghost use Rattle.std.specs.List.{AllByRecursion};
-    ghost use Rattle.tcap_check.specs.Certificate.{Certificate as Meant};
-    ghost use Rattle.tcap_check.specs.CertificateText.{ClosingFits, ExpiryFits, FateFits};
+    ghost use Rattle.tcap_certificate.specs.Certificate.{Certificate as Meant};
+    ghost use Rattle.tcap_certificate.specs.Certificate.{ClosingFits, ExpiryFits, FateFits};
 
     ghost Value = { Meant };
 

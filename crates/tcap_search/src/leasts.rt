@@ -10,7 +10,7 @@ use std::alloc::{AllocError, Global};
 use tcap_record::End;
 
 /// For each end and each of so many transactions, from 0, the least number that was noted.
-#[derive(Debug, Drop)]
+#[derive(Drop)]
 pub(crate) struct Leasts {
     pub(crate) a: Vec<Option<u32>>,
     pub(crate) b: Vec<Option<u32>>,

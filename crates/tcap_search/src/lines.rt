@@ -14,7 +14,7 @@ use tcap_msg::{Message, TransactionId, TransactionIdView};
 use tcap_record::{Body, End, Entry};
 
 /// The transactions of the last entries of each end, by their originating IDs.
-#[derive(Debug, Drop)]
+#[derive(Drop)]
 struct Latest {
     a: BTreeMap<TransactionId, Option<u32>>,
     b: BTreeMap<TransactionId, Option<u32>>,

@@ -3,7 +3,7 @@
 use tcap_record::End;
 
 /// A value for each end.
-#[derive(Clone, Copy, Debug)]
+#[derive(Clone, Copy)]
 pub(crate) struct PerEnd<T> {
     a: T,
     b: T,

@@ -5,7 +5,7 @@ ghost use Rattle.tcap_search.specs.Proposed.{is_mark, proposed, proposed_by, pro
 
 use crate::found::Found;
 use std::alloc::{AllocError, Global};
-use tcap_check::Certificate;
+use tcap_certificate::Certificate;
 use tcap_record::{Body, End, Entry, Record};
 use tcap_refute::SearchFault;
 

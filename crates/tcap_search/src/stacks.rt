@@ -12,7 +12,7 @@ use tcap_msg::{TransactionId, TransactionIdView};
 use tcap_record::End;
 
 /// Numbers of entries of each end, by their originating IDs: of each ID a stack.
-#[derive(Debug, Drop)]
+#[derive(Drop)]
 pub(crate) struct Stacks {
     pub(crate) a: BTreeMap<TransactionId, Vec<u32>>,
     pub(crate) b: BTreeMap<TransactionId, Vec<u32>>,

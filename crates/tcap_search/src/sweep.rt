@@ -23,7 +23,7 @@ const PLACE_LIMIT: usize = 100_000;
 
 /// An answer that came: in which gap, and the last Invoke of its ID before, by the number of its entry and its place
 /// among the entry's components.
-#[derive(Clone, Copy, Debug)]
+#[derive(Clone, Copy)]
 pub(crate) struct Answer {
     pub(crate) gap: u32,
     pub(crate) invoked: Option<(u32, u32)>,
@@ -31,7 +31,7 @@ pub(crate) struct Answer {
 
 /// For each transaction, end and invoke ID of its own: the last Invoke so far, and the last Return Result and the last
 /// Return Error that came to it.
-#[derive(Debug, Drop)]
+#[derive(Drop)]
 pub(crate) struct Sweep {
     pub(crate) invokes: ByInvocation<(u32, u32)>,
     pub(crate) results: ByInvocation<Answer>,

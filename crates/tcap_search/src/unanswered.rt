@@ -12,12 +12,12 @@ ghost use Rattle.tcap_search.specs.Unanswered.{IsSpoken, continued_from, fate_he
 
 use std::alloc::{AllocError, Global};
 use std::collections::BTreeSet;
-use tcap_check::Fate;
+use tcap_certificate::Fate;
 use tcap_msg::{Kind, Message, MessageParts, TransactionId, TransactionIdView};
 use tcap_record::{Body, End, Entry};
 
 /// To which IDs an end sent messages, and from which it sent Continues.
-#[derive(Debug, Drop)]
+#[derive(Drop)]
 pub(crate) struct Spoken {
     pub(crate) to: BTreeSet<TransactionId>,
     pub(crate) from: BTreeSet<TransactionId>,

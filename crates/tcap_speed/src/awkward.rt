@@ -11,7 +11,7 @@ const REPORTS: u8 = 45;
 const SILENT: u8 = 34;
 
 /// Components of messages.
-#[derive(Clone, Copy, Debug)]
+#[derive(Clone, Copy)]
 enum Part {
     Invoke(u8, u8),
     Result(u8),
@@ -19,7 +19,7 @@ enum Part {
 }
 
 /// A record that is made, and the octets of the message that is appended next.
-#[derive(Debug, Drop)]
+#[derive(Drop)]
 struct Making {
     made: Made,
     dice: Dice,

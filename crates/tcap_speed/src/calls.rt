@@ -6,10 +6,8 @@ use tcap_ber::Counted;
 use tcap_books::Book;
 use tcap_dialogues::Reuse;
 use tcap_end::Table;
-use tcap_judge::{
-    Status, WriteFailed, blame_record, blame_status, run_blame, run_check, run_judge,
-    run_judge_end, run_pack, run_show,
-};
+use tcap_judge::{blame_record, blame_status, run_blame, run_check, run_judge, run_judge_end};
+use tcap_lines::{Status, WriteFailed, run_pack, run_show};
 use tcap_record::{End, read_record};
 use tcap_report::{Asked as AskedOfTrace, Sinks, Stop, Sum, Watch, run_trace};
 use tcap_traces::Verdict;
@@ -34,7 +32,7 @@ fn status_of(verdict: Verdict) -> Status {
 }
 
 /// What the calls answered so far.
-#[derive(Clone, Copy, Debug)]
+#[derive(Clone, Copy)]
 pub(crate) struct Answers {
     /// How many ended as LAWFUL or without a fault, as REFUTED or BLAMED, as UNDECIDED, and by a fault.
     pub(crate) fine: u64,

@@ -4,7 +4,7 @@ use rand_core::utils::NextWord;
 use rand_pcg::Pcg32;
 
 /// A source of numbers.
-#[derive(Debug, Drop)]
+#[derive(Drop)]
 pub(crate) struct Dice {
     words: Pcg32,
 }

@@ -1,7 +1,7 @@
 //! What is at fault in a record.
 
 /// Which parts of its messages are at fault.
-#[derive(Clone, Copy, Debug)]
+#[derive(Clone, Copy)]
 pub(crate) enum Faults {
     /// None.
     None,

@@ -13,7 +13,7 @@ use tcap_end::Table;
 use tcap_record::End;
 
 /// A job that a user waits for.
-#[derive(Clone, Copy, Debug)]
+#[derive(Clone, Copy)]
 pub(crate) enum Job {
     /// A load test's record is judged.
     Load,

@@ -20,7 +20,7 @@ const UNKNOWN: u8 = 120;
 const NEVER: u8 = 0xC0;
 
 /// An invocation that its receiver answers: its invoke ID, its operation and its class.
-#[derive(Clone, Copy, Debug)]
+#[derive(Clone, Copy)]
 pub(crate) struct Asked {
     pub(crate) id: u8,
     pub(crate) code: u8,
@@ -31,7 +31,7 @@ pub(crate) struct Asked {
 const SOURCE: u32 = 4_096;
 
 /// The octets of a message that is made, part by part.
-#[derive(Debug, Drop)]
+#[derive(Drop)]
 pub(crate) struct Parts {
     /// Octets by chance, of which parameters are taken.
     source: Vec<u8>,

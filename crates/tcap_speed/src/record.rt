@@ -7,7 +7,7 @@ use std::fmt::Write;
 const DIGITS: [u8; 16] = *b"0123456789abcdef";
 
 /// An end.
-#[derive(Clone, Copy, Debug, PartialEq, Eq)]
+#[derive(Clone, Copy, PartialEq, Eq)]
 pub(crate) enum Side {
     A,
     B,
@@ -32,7 +32,7 @@ impl Side {
 }
 
 /// What became of a message.
-#[derive(Clone, Copy, Debug)]
+#[derive(Clone, Copy)]
 pub(crate) enum Fate {
     /// It was delivered in that gap.
     In(usize),
@@ -43,14 +43,14 @@ pub(crate) enum Fate {
 }
 
 /// An invocation that ended unseen: in that gap, of the first component of that entry of A.
-#[derive(Clone, Copy, Debug)]
+#[derive(Clone, Copy)]
 pub(crate) struct Expiry {
     pub(crate) at: usize,
     pub(crate) entry: usize,
 }
 
 /// A record, and the certificate of the run by which it was made.
-#[derive(Debug, Drop)]
+#[derive(Drop)]
 pub(crate) struct Made {
     pub(crate) octets: Vec<u8>,
     lens: Vec<usize>,

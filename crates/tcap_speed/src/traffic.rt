@@ -18,7 +18,7 @@ pub(crate) const TABLE: &str =
 {"class":2,"code":35},{"class":4,"code":31},{"class":4,"code":34},{"class":4,"code":49},{"class":4,"code":63}]}"#;
 
 /// How far a dialogue is.
-#[derive(Clone, Copy, Debug, PartialEq, Eq)]
+#[derive(Clone, Copy, PartialEq, Eq)]
 enum Phase {
     /// There is none.
     Over,
@@ -29,7 +29,7 @@ enum Phase {
 }
 
 /// What an end has of a dialogue.
-#[derive(Debug, Drop)]
+#[derive(Drop)]
 struct Half {
     own: Option<u32>,
     next_id: u8,
@@ -53,7 +53,7 @@ impl Half {
 }
 
 /// A dialogue under way.
-#[derive(Debug, Drop)]
+#[derive(Drop)]
 struct Dialogue {
     phase: Phase,
     a: Half,
@@ -96,7 +96,7 @@ impl Dialogue {
 }
 
 /// Traffic under way.
-#[derive(Debug, Drop)]
+#[derive(Drop)]
 pub(crate) struct Traffic {
     dice: Dice,
     made: Made,

@@ -5,8 +5,6 @@ mod doubts;
 mod judging;
 pub mod laws;
 mod said;
-#[cfg(test)]
-mod tests;
 mod verdict;
 
 pub use judging::{Ends, judge_dialogue};

@@ -2,7 +2,7 @@ ghost use Rattle.std.specs.Prelude.{◌≡◌, ◌≢◌, ◌∷◌, [], Ok, Err
 ghost use Rattle.tcap_model.specs.declared.reason.Reason.TheVariants as reasons;
 ghost use Rattle.tcap_model.specs.World.{Item};
 ghost use Rattle.tcap_check.specs.Checking.{map_ok, reported};
-ghost use Rattle.tcap_check.specs.Replayed.{fault_at, run_by};
+ghost use Rattle.tcap_certificate.specs.Replayed.{fault_at, run_by};
 
 use std::alloc::Global;
 use tcap_check::{Certificate, CheckFault, Checker, Report};

@@ -1,7 +1,7 @@
 use std::alloc::Global;
 use tcap_ber::Counted;
 use tcap_explain::run_why;
-use tcap_judge::{Status, WriteFailed};
+use tcap_lines::{Status, WriteFailed};
 
 /// What `tcapjudge show --why` prints of a record whose octets are in memory, and how the run ends.
 pub fn explained(alloc: Global, octets: &[u8]) -> Result<(Vec<u8>, Status), WriteFailed> {

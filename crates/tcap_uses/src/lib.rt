@@ -4,6 +4,7 @@
 
 mod ber;
 mod books;
+mod certificate_text;
 mod check;
 mod checker_lives;
 mod dialogues;
@@ -12,6 +13,7 @@ mod evidence;
 mod explain;
 mod faults;
 mod judge;
+mod lines;
 mod model;
 mod msg;
 mod parts;
@@ -24,6 +26,7 @@ mod words;
 
 pub use ber::integer_content;
 pub use books::operation_name;
+pub use certificate_text::written_again;
 pub use check::count_steps;
 pub use checker_lives::{end_waits_behind_mark, given_of_mark, heard_of_mark, waits_behind_mark};
 pub use dialogues::fault_of_a_part;
@@ -31,7 +34,8 @@ pub use end::{answered, first_sent};
 pub use evidence::told_fault;
 pub use explain::explained;
 pub use faults::fault_of;
-pub use judge::{is_called_lawful, shown};
+pub use judge::is_called_lawful;
+pub use lines::shown;
 pub use model::all_taken;
 pub use msg::read_again;
 pub use parts::first_component;

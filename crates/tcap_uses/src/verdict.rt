@@ -1,6 +1,6 @@
 use std::alloc::Global;
 use tcap_ber::Counted;
-use tcap_judge::{Status, WriteFailed};
+use tcap_lines::{Status, WriteFailed};
 use tcap_verdict::{Asked, run_explain};
 
 /// What `tcapjudge explain` prints of a record and an operation table whose octets are in memory, and how the run ends.

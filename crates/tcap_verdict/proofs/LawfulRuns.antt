@@ -5,12 +5,12 @@ use Rattle.tcap_record.specs.declared.entry.End.{End as Side}
 use Rattle.tcap_record.specs.declared.entry.Entry.{Entry}
 use Rattle.tcap_end.specs.Table.{Table}
 use Rattle.tcap_model.specs.Entries.{item_of}
-use Rattle.tcap_check.specs.declared.fault.CheckFault.{CheckFault}
+use Rattle.tcap_certificate.specs.declared.fault.CheckFault.{CheckFault}
 use Rattle.tcap_check.specs.declared.step.Step.{Step}
-use Rattle.tcap_check.specs.Certificate.{Certificate}
+use Rattle.tcap_certificate.specs.Certificate.{Certificate}
 use Rattle.tcap_check.specs.AloneGiven.{IsGivenTo}
 use Rattle.tcap_check.specs.Checking.{map_ok}
-use Rattle.tcap_check.specs.Replayed.{discards_by, replayed_by}
+use Rattle.tcap_certificate.specs.Replayed.{discards_by, replayed_by}
 use Rattle.tcap_check.specs.Stands.{IsAnswered, answered}
 use Rattle.tcap_check.specs.Told.{discards_of, events_of}
 use Rattle.tcap_judge.specs.declared.outcome.Outcome.{Outcome}

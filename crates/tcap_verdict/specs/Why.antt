@@ -6,14 +6,14 @@ use Rattle.tcap_record.specs.declared.entry.End.{End as Side}
 use Rattle.tcap_record.specs.declared.entry.Entry.{Entry}
 use Rattle.tcap_record.specs.declared.fault.FeedFault.{FeedFault}
 use Rattle.tcap_end.specs.Table.{Table}
-use Rattle.tcap_check.specs.Certificate.{Certificate}
+use Rattle.tcap_certificate.specs.Certificate.{Certificate}
 use Rattle.tcap_check.specs.declared.step.Step.{Step}
-use Rattle.tcap_check.specs.Replayed.{discards_by}
+use Rattle.tcap_certificate.specs.Replayed.{discards_by}
 use Rattle.tcap_check.specs.Told.{discards_of, events_of}
 use Rattle.tcap_model.specs.Entries.{item_of}
 use Rattle.tcap_judge.specs.declared.outcome.Outcome.{Outcome}
 use Rattle.tcap_judge.specs.declared.outcome.Outcome.TheVariants.{Lawful, LawfulFor, NotShown, Refuted, Undecided, Faulty}
-use Rattle.tcap_judge.specs.declared.status.Status.{Status}
+use Rattle.tcap_lines.specs.declared.status.Status.{Status}
 use Rattle.tcap_judge.specs.Judged.{IsShown, replayed_by}
 use Rattle.tcap_judge.specs.Outcome.{SaysWith}
 use Rattle.tcap_judge.specs.Checked.{Device, IsUntouched, ReadsCertificate, ReadsRecord, ReadsTable, out_of_memory, record_says}

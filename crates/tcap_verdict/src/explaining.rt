@@ -3,9 +3,9 @@
 ghost use Rattle.std.specs.Prelude.{◌≡◌, ◌⊎◌, ◌≤◌, [], ℕ, List, None, Some, Ok, Err, IfOk, OnOk, OnErr, length, map};
 ghost use Rattle.std.specs.String.{string_bytes};
 ghost use Rattle.tcap_ber.specs.Device.{one_more};
-ghost use Rattle.tcap_check.specs.Unheard.{unheard_of};
+ghost use Rattle.tcap_certificate.specs.Unheard.{unheard_of};
 ghost use Rattle.tcap_check.specs.Checking.{map_ok};
-ghost use Rattle.tcap_check.specs.Replayed.{discards_by};
+ghost use Rattle.tcap_certificate.specs.Replayed.{discards_by};
 ghost use Rattle.tcap_check.specs.Stands.{answered};
 ghost use Rattle.tcap_judge.specs.declared.outcome.Outcome.TheVariants.{Refuted};
 ghost use Rattle.tcap_judge.specs.Checked.{out_of_memory, replay_says};
@@ -28,14 +28,14 @@ use tcap_ber::{Read, Write};
 use tcap_check::{Certificate, CheckFault, Partial, Step, run_until};
 use tcap_end::Table;
 use tcap_judge::{
-    OUT_OF_MEMORY, Outcome, Status, WriteFailed, named, propose, read_certificate, read_table,
-    write_outcome,
+    OUT_OF_MEMORY, Outcome, named, propose, read_certificate, read_table, write_outcome,
 };
+use tcap_lines::{Status, WriteFailed};
 use tcap_record::{End, Record, read_record};
 use tcap_refute::Refutation;
 
 /// What is said, and why.
-#[derive(Debug, Drop)]
+#[derive(Drop)]
 struct Why {
     outcome: Outcome,
     // The lines behind that of the outcome.

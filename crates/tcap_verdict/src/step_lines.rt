@@ -3,7 +3,7 @@
 ghost use Rattle.std.specs.Prelude.{◌≡◌, ◌++◌, OnOk, codes};
 ghost use Rattle.std.specs.String.{string_bytes};
 ghost use Rattle.hex.specs.Hex.{encode_lower};
-ghost use Rattle.tcap_check.specs.Unheard.{is_lost_from};
+ghost use Rattle.tcap_certificate.specs.Unheard.{is_lost_from};
 ghost use Rattle.tcap_model.specs.World.{is_side};
 ghost use Rattle.tcap_record.specs.Ends.{letter};
 ghost use Rattle.tcap_check.specs.Told.{event_of};

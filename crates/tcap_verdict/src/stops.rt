@@ -21,7 +21,7 @@ use tcap_record::{Body, End, Entry, Record, push_view};
 const MOST: usize = 8;
 
 /// Where the run of a certificate stops.
-#[derive(Clone, Copy, Debug)]
+#[derive(Clone, Copy)]
 struct Stop<'a> {
     read: &'a Record,
     table: &'a Table,

@@ -24,7 +24,7 @@ use tcap_books::CARRIED_BOOK;
 use tcap_explain::{
     Kept, Noted, Role, Told, run_lines, run_table, run_why, write_hint, write_rule,
 };
-use tcap_judge::{MEMORY_LINE, Status, WriteFailed, run_pack, run_show};
+use tcap_lines::{MEMORY_LINE, Status, WriteFailed, run_pack, run_show};
 use tcap_verdict::Asked;
 use tcap_words::{Request, WordsFault, request};
 

@@ -5,7 +5,7 @@ use std::os::unix::fs::MetadataExt;
 use std::{fs, io};
 use tcap_ber::{Counted, Read, Unopened};
 use tcap_explain::{Noted, Role, write_code_hints, write_hint};
-use tcap_judge::{Status, WriteFailed};
+use tcap_lines::{Status, WriteFailed};
 
 /// So many octets of a file are looked at.
 const LOOKED_AT: usize = 512;

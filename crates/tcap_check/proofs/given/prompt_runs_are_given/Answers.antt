@@ -1,6 +1,6 @@
 use Rattle.tcap_check.proofs.AtOnceLaws.{at_once_follows}
 use Rattle.tcap_check.proofs.DescribedRuns.{followed_is_given}
-use Rattle.tcap_check.specs.Certificate.{prompt}
+use Rattle.tcap_certificate.specs.Certificate.{prompt}
 use Rattle.tcap_check.proofs.given.prompt_runs_are_given.Goals as goal
 
 pub returns : goal.returns

@@ -1,6 +1,6 @@
 -- what is left decides
 use Rattle.std.proofs.Common.{◌≡◌, map, drop}
-use Rattle.tcap_check.specs.Replayed.{all_fit}
+use Rattle.tcap_certificate.specs.Replayed.{all_fit}
 use Rattle.tcap_check.proofs.plan.check_expiries.Given as goal
 
 abbrev pub invariant-loop-x : goal.invariant-loop-x

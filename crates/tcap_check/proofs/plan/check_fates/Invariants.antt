@@ -1,6 +1,6 @@
 -- what is left decides
 use Rattle.std.proofs.Common.{◌≡◌, length, drop}
-use Rattle.tcap_check.specs.Replayed.{fates_fit}
+use Rattle.tcap_certificate.specs.Replayed.{fates_fit}
 use Rattle.tcap_check.proofs.plan.check_fates.Given as goal
 
 abbrev pub invariant-loop-entry : goal.invariant-loop-entry

@@ -5,8 +5,8 @@ use Rattle.tcap_record.specs.declared.entry.End.{End as Side}
 use Rattle.tcap_end.specs.Table.{Table}
 use Rattle.tcap_model.specs.declared.reason.Reason.TheVariants.{Memory}
 use Rattle.tcap_model.specs.Entries.{item_of}
-use Rattle.tcap_check.specs.Certificate.{Certificate}
-use Rattle.tcap_check.specs.Replayed.{fault_at}
+use Rattle.tcap_certificate.specs.Certificate.{Certificate}
+use Rattle.tcap_certificate.specs.Replayed.{fault_at}
 use Rattle.tcap_check.proofs.CheckerLaws.{given, refusing}
 use Rattle.tcap_check.proofs.RecordLaws.{is_report, lawful_is, no_report, refused_for}
 use Rattle.tcap_check.proofs.records.check.Goals as goal

@@ -1,7 +1,7 @@
 use Rattle.std.proofs.Common.{Err, sym, ap, subst, true}
 use Rattle.std.proofs.lemmas.Result.{err_from_is_err_and}
 use Rattle.tcap_end.specs.Table.{Table}
-use Rattle.tcap_check.specs.declared.fault.CheckFault.{CheckFault}
+use Rattle.tcap_certificate.specs.declared.fault.CheckFault.{CheckFault}
 use Rattle.tcap_check.specs.Ready.{kept_in}
 use Rattle.tcap_check.specs.Stands.{ShowsAmong}
 use Rattle.tcap_check.proofs.AnsweredLaws.{ends_listed, refused_listed}

@@ -3,7 +3,7 @@ use Rattle.std.proofs.KnownBytes.{Consumes-trans}
 use Rattle.std.proofs.lemmas.Result.{err_from_is_err_and}
 use Rattle.std.specs.Io.KnownBytes.{Consumes}
 use Rattle.tcap_record.proofs.ReadingLaws.{read_finished}
-use Rattle.tcap_judge.proofs.ShowLaws.{stopped_read, not_cut, stopped_counts}
+use Rattle.tcap_lines.proofs.ShowLaws.{stopped_read, not_cut, stopped_counts}
 use Rattle.tcap_judge.proofs.JudgeLaws.{ended_at_end, ended_fails, ends_with}
 use Rattle.tcap_judge.proofs.checking.take_all.Goals as goal
 

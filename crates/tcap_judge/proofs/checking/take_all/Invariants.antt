@@ -5,7 +5,7 @@ use Rattle.tcap_record.specs.declared.entry.End.{End as Side}
 use Rattle.tcap_record.specs.declared.entry.Entry.{Entry}
 use Rattle.tcap_record.specs.Held.{IsHeld, IsPart}
 use Rattle.tcap_end.specs.Table.{Table}
-use Rattle.tcap_check.specs.Certificate.{Certificate}
+use Rattle.tcap_certificate.specs.Certificate.{Certificate}
 use Rattle.tcap_judge.specs.Judging.{IsCheckerOf, TakenSoFar}
 use Rattle.tcap_judge.proofs.checking.take_all.Given as goal
 

@@ -1,9 +1,9 @@
 use Rattle.std.proofs.Common.{ℕ, List, Ok, refl, sym, ap, subst, inr}
 use Rattle.std.specs.Prelude.{◌≢◌}
-use Rattle.tcap_check.specs.declared.fault.CheckFault.{CheckFault}
+use Rattle.tcap_certificate.specs.declared.fault.CheckFault.{CheckFault}
 use Rattle.tcap_model.specs.declared.reason.Reason.TheVariants.{Memory}
-use Rattle.tcap_check.specs.Replayed.{fault_at}
-use Rattle.tcap_check.specs.CertificateText.{IsCertificateText}
+use Rattle.tcap_certificate.specs.Replayed.{fault_at}
+use Rattle.tcap_certificate_text.specs.CertificateText.{IsCertificateText}
 use Rattle.tcap_judge.proofs.given.read_certificate.Goals.{in-Memory, in_default}
 use Rattle.tcap_judge.proofs.given.read_certificate.Goals as goal
 

@@ -1,7 +1,7 @@
 -- The fates behind each rule.
 use Rattle.std.proofs.Common.{◌≡◌, List, drop, length, map, sym, ap, arith, ◌∙◌}
 use Rattle.std.proofs.lemmas.List.{length-map, take_at}
-use Rattle.tcap_check.specs.declared.certificate.Fate.{Fate}
+use Rattle.tcap_certificate.specs.declared.certificate.Fate.{Fate}
 use Rattle.tcap_search.specs.Lines.{lines_of}
 use Rattle.tcap_search.specs.Proposed.{fate_of, fated, with_losses}
 use Rattle.tcap_search.proofs.LineLaws.{count_lines}

@@ -5,8 +5,8 @@ use Rattle.tcap_end.specs.Table.{Table}
 use Rattle.tcap_end.specs.TableText.{IsTableOf}
 use Rattle.tcap_model.specs.World.{Item}
 use Rattle.tcap_model.specs.Run.{IsLawful}
-use Rattle.tcap_judge.specs.declared.status.Status.{Status}
-use Rattle.tcap_judge.specs.declared.status.Status.TheVariants.{Fine}
+use Rattle.tcap_lines.specs.declared.status.Status.{Status}
+use Rattle.tcap_lines.specs.declared.status.Status.TheVariants.{Fine}
 use Rattle.tcap_judge.specs.Checked.{Device}
 use Rattle.tcap_judge.specs.LawfulRecord.{FindsLawful, SpellsRecord}
 use Rattle.tcap_uses.proofs.judge.is_called_lawful.Goals.{in-Fine, in_default}

@@ -1,6 +1,6 @@
 -- Those so far, and those of the steps that are left, are all.
 use Rattle.std.proofs.Common.{◌≡◌, ◌≤◌, ◌+◌, drop}
-use Rattle.tcap_check.specs.Unheard.{unheard_of}
+use Rattle.tcap_certificate.specs.Unheard.{unheard_of}
 use Rattle.tcap_check.specs.Told.{events_of}
 use Rattle.tcap_verdict.proofs.explaining.count_unheard.Given as goal
 

@@ -1,6 +1,6 @@
 use Rattle.std.proofs.Common.{Option, Result, Err, sym, ap, ◌∙◌, false}
 use Rattle.tcap_check.specs.declared.checker.Report.{Report}
-use Rattle.tcap_check.specs.declared.fault.CheckFault.{CheckFault}
+use Rattle.tcap_certificate.specs.declared.fault.CheckFault.{CheckFault}
 use Rattle.tcap_check.specs.Checking.{Checking, so_far_of}
 use Rattle.tcap_check.specs.Ready.{kept_in}
 use Rattle.tcap_check.proofs.CheckerLaws.{finishes_so, finishes_still, kept_fault, no_fault}

@@ -1,5 +1,5 @@
 use Rattle.std.proofs.Common.{Option, None, Result, Err, refl, sym, ap, ◌∙◌, false}
-use Rattle.tcap_check.specs.declared.fault.CheckFault.{CheckFault}
+use Rattle.tcap_certificate.specs.declared.fault.CheckFault.{CheckFault}
 use Rattle.tcap_check.specs.Checking.{Checking, answer_of, so_far_of}
 use Rattle.tcap_check.specs.Ready.{kept_in}
 use Rattle.tcap_check.proofs.CheckerLaws.{stays, took_ok, took_err, turned}

@@ -1,9 +1,9 @@
 use Rattle.std.proofs.Common.{List, ap, drop, get_or, sym, ◌+◌, ◌∙◌, arith}
 use Rattle.tcap_record.specs.declared.entry.End.TheVariants.{A}
 use Rattle.tcap_end.specs.Step.{◌>>=◌}
-use Rattle.tcap_check.specs.declared.certificate.Closing.{Closing}
+use Rattle.tcap_certificate.specs.declared.certificate.Closing.{Closing}
 use Rattle.tcap_check.specs.Progress.{closings_kept}
-use Rattle.tcap_check.specs.Replayed.{closings_judged}
+use Rattle.tcap_certificate.specs.Replayed.{closings_judged}
 use Rattle.tcap_check.proofs.HearingLaws.{closes_first, closes_none, going_next}
 use Rattle.tcap_check.proofs.StandsLaws.{stands_closing}
 use Rattle.tcap_check.proofs.progress.Progress.close_all.Goals.{else-is_judged, then-is_judged+in_ok-close_listed}

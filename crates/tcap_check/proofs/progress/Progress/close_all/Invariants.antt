@@ -1,7 +1,7 @@
 -- what is left closes over what is kept now as all do over what was kept first
-use Rattle.tcap_check.specs.Certificate.{Certificate}
+use Rattle.tcap_certificate.specs.Certificate.{Certificate}
 use Rattle.tcap_check.specs.Progress.{closings_kept}
-use Rattle.tcap_check.specs.Replayed.{Replay, closings_judged}
+use Rattle.tcap_certificate.specs.Replayed.{Replay, closings_judged}
 use Rattle.tcap_check.specs.Stands.{StandsFor}
 use Rattle.tcap_check.proofs.HearingLaws.{Going}
 use Rattle.tcap_check.proofs.progress.Progress.close_all.Given as goal

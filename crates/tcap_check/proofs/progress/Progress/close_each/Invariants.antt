@@ -1,9 +1,9 @@
 -- what is left closes over what is kept now as all do over what was kept first
 use Rattle.std.proofs.Common.{Option}
 use Rattle.tcap_record.specs.declared.entry.End.{End as Side}
-use Rattle.tcap_check.specs.Certificate.{Certificate}
+use Rattle.tcap_certificate.specs.Certificate.{Certificate}
 use Rattle.tcap_check.specs.Hearing.{halves_shut}
-use Rattle.tcap_check.specs.Replayed.{Replay}
+use Rattle.tcap_certificate.specs.Replayed.{Replay}
 use Rattle.tcap_check.specs.Stands.{StandsFor}
 use Rattle.tcap_check.proofs.HearingLaws.{Going}
 use Rattle.tcap_check.proofs.progress.Progress.close_each.Given as goal

@@ -1,6 +1,6 @@
 -- what is left does to what is kept now what all do to what was kept first
-use Rattle.tcap_check.specs.Certificate.{Certificate}
-use Rattle.tcap_check.specs.Replayed.{Replay}
+use Rattle.tcap_certificate.specs.Certificate.{Certificate}
+use Rattle.tcap_certificate.specs.Replayed.{Replay}
 use Rattle.tcap_check.specs.Stands.{StandsFor}
 use Rattle.tcap_check.proofs.HearingLaws.{Listening}
 use Rattle.tcap_check.proofs.progress.Progress.deliver_all.Given as goal

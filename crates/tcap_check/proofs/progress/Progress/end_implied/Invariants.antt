@@ -1,7 +1,7 @@
 -- what is left of the components does to the ends as they are what all do to what they were
 use Rattle.tcap_parts.specs.Meaning.{components_left}
 use Rattle.tcap_msg.specs.Parts.{components_in}
-use Rattle.tcap_check.specs.Follows.{invoking_half}
+use Rattle.tcap_certificate.specs.Follows.{invoking_half}
 use Rattle.tcap_check.proofs.SendingLaws.{Ends}
 use Rattle.tcap_check.proofs.progress.Progress.end_implied.Given as goal
 

@@ -1,9 +1,9 @@
 use Rattle.std.proofs.Common.{List, ap, drop, get_or, sym, ◌+◌, ◌∙◌, arith}
 use Rattle.tcap_record.specs.declared.entry.End.TheVariants.{A}
 use Rattle.tcap_end.specs.Step.{◌>>=◌}
-use Rattle.tcap_check.specs.declared.certificate.Expiry.{Expiry}
+use Rattle.tcap_certificate.specs.declared.certificate.Expiry.{Expiry}
 use Rattle.tcap_check.specs.Progress.{expiries_kept}
-use Rattle.tcap_check.specs.Replayed.{expiries_judged}
+use Rattle.tcap_certificate.specs.Replayed.{expiries_judged}
 use Rattle.tcap_check.proofs.HearingLaws.{ends_first, ends_none, going_next}
 use Rattle.tcap_check.proofs.StandsLaws.{stands_expiry}
 use Rattle.tcap_check.proofs.progress.Progress.expire_all.Goals.{else-is_judged, then-is_judged+in_ok-expire_listed}

@@ -1,7 +1,7 @@
 -- what is left ends over what is kept now as all do over what was kept first
-use Rattle.tcap_check.specs.Certificate.{Certificate}
+use Rattle.tcap_certificate.specs.Certificate.{Certificate}
 use Rattle.tcap_check.specs.Progress.{expiries_kept}
-use Rattle.tcap_check.specs.Replayed.{Replay, expiries_judged}
+use Rattle.tcap_certificate.specs.Replayed.{Replay, expiries_judged}
 use Rattle.tcap_check.specs.Stands.{StandsFor}
 use Rattle.tcap_check.proofs.HearingLaws.{Going}
 use Rattle.tcap_check.proofs.progress.Progress.expire_all.Given as goal

@@ -1,5 +1,5 @@
 use Rattle.std.proofs.Common.{arith}
-use Rattle.tcap_check.specs.Replayed.{closings_judged, expiries_judged}
+use Rattle.tcap_certificate.specs.Replayed.{closings_judged, expiries_judged}
 use Rattle.tcap_check.proofs.KeptGrowth.{closings_grow, expiries_grow, on_ok, some_closings, some_expiries}
 use Rattle.tcap_check.proofs.progress.Progress.pass_gap.Goals as goal
 

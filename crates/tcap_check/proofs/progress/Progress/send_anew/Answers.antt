@@ -1,6 +1,6 @@
 use Rattle.std.proofs.Common.{filter_map}
 use Rattle.tcap_msg.specs.Parts.{components_in}
-use Rattle.tcap_check.specs.Follows.{invoke_id, invoking_half}
+use Rattle.tcap_certificate.specs.Follows.{invoke_id, invoking_half}
 use Rattle.tcap_check.specs.Stands.{StandsFor}
 use Rattle.tcap_check.proofs.StandsLaws.{stands_ended}
 use Rattle.tcap_check.proofs.progress.Progress.send_anew.Goals.{else-count-gt0, then-count-gt0+in_ok-end_implied}

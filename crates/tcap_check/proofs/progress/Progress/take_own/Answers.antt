@@ -1,6 +1,6 @@
 use Rattle.std.proofs.Common.{◌≡◌, Option, Some, true, subst, sym}
 use Rattle.tcap_record.specs.declared.entry.End.{End as Side}
-use Rattle.tcap_check.specs.Replayed.{is_judged}
+use Rattle.tcap_certificate.specs.Replayed.{is_judged}
 use Rattle.tcap_check.specs.Stands.{StandsFor}
 use Rattle.tcap_check.proofs.StandsLaws.{judged_heard}
 use Rattle.tcap_check.proofs.progress.Progress.take_own.Goals as goal

@@ -4,10 +4,10 @@ use Rattle.tcap_record.specs.declared.entry.End.{End as Side}
 use Rattle.tcap_model.specs.declared.reason.Reason.{Reason}
 use Rattle.tcap_model.specs.World.{Item}
 use Rattle.tcap_model.specs.Entries.{item_of}
-use Rattle.tcap_check.specs.declared.fault.CheckFault.{CheckFault}
+use Rattle.tcap_certificate.specs.declared.fault.CheckFault.{CheckFault}
 use Rattle.tcap_check.specs.Checking.{TookListed, taken}
 use Rattle.tcap_check.specs.Ready.{checking_of, kept_in}
-use Rattle.tcap_check.specs.Replayed.{replay_by}
+use Rattle.tcap_certificate.specs.Replayed.{replay_by}
 use Rattle.tcap_check.proofs.RecordLaws.{refused_at, taken_at, took_more, whole_is}
 use Rattle.tcap_end.specs.Table.{Table}
 use Rattle.tcap_check.specs.Stands.{IsRefusedThere}

@@ -1,5 +1,5 @@
 use Rattle.std.proofs.Common.{◌∙◌, ap, sym}
-use Rattle.tcap_check.specs.Certificate.{Certificate}
+use Rattle.tcap_certificate.specs.Certificate.{Certificate}
 use Rattle.tcap_search.proofs.FoundLaws.{same_as_both}
 use Rattle.tcap_search.proofs.SameLaws.{same_fates}
 use Rattle.tcap_search.proofs.found.Found.of_end.Goals as goal

@@ -1,0 +1,3 @@
+pub mod WorkedRuns
+pub mod WorkedRefusals
+pub mod NotDescribed

@@ -1,0 +1,9 @@
+pub mod Certificate
+pub mod Follows
+pub mod Named
+pub mod Worked
+pub mod Refused
+pub mod Replayed
+pub mod Unheard
+pub mod AloneWorked
+pub mod Replays

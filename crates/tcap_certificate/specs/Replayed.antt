@@ -1,0 +1,428 @@
+-- The run that a certificate gives for the entries of a record, built entry by entry, or the first reason why it gives
+-- none. Two ends are judged, or one alone, whatever its peer sends. A peer that is not judged keeps no rule: its messages are
+-- told, in an order that their fates allow; what the end that is judged can't receive is taken as lost; and what that end sends is
+-- lost at once, since nothing is asked of what the peer hears.
+use Rattle.std.specs.Prelude.{ℕ, ℤ, ◌+◌, ◌*◌, Bool, true, false, List, [], ◌∷◌, ◌++◌, map, length, drop, filter, filter_map, slice_get, Option, Some, None, Result, Ok, Err, ok_or, ◌==◌, ◌&&◌, ◌||◌, not, nat_lt, nat_le, cond, option_map}
+use Rattle.tcap_msg.specs.declared.message.AbortReason.TheVariants.{Cause}
+use Rattle.tcap_msg.specs.declared.message.Message.{Message}
+use Rattle.tcap_msg.specs.declared.message.Message.TheVariants.{Abort}
+use Rattle.tcap_msg.specs.Parts.{components_in}
+use Rattle.tcap_record.specs.declared.entry.End.{End as Side}
+use Rattle.tcap_record.specs.declared.entry.End.TheVariants as sides
+use Rattle.tcap_record.specs.declared.entry.Entry.{Entry}
+use Rattle.tcap_end.specs.declared.fault.EndFault.{EndFault}
+use Rattle.tcap_end.specs.declared.fault.EndFault.TheVariants as faults
+use Rattle.tcap_end.specs.declared.half.HalfName.{HalfName}
+use Rattle.tcap_end.specs.Table.{Table}
+use Rattle.tcap_end.specs.End.{End}
+use Rattle.tcap_end.specs.Hidden.{open_halves}
+use Rattle.tcap_end.specs.Message.{receive, send}
+use Rattle.tcap_end.specs.Reply.{aborts}
+use Rattle.tcap_end.specs.Step.{needs, ◌>>◌, ◌>>=◌}
+use Rattle.tcap_certificate.specs.declared.fault.CheckFault.{CheckFault}
+use Rattle.tcap_model.specs.declared.reason.Reason.{Reason}
+use Rattle.tcap_model.specs.declared.reason.Reason.TheVariants.{FateCount, FateRange, OutOfOrder, BadReply, SendRefused, HiddenRefused, NotQuiet}
+use Rattle.tcap_record.specs.Ends.{other}
+use Rattle.tcap_model.specs.World.{Item, OnItsWay, Sent, World, channel_from, empty, end_at, is_side, with_channel, with_end}
+use Rattle.tcap_model.specs.Run.{Event, Sends, Receives, Replies, Loses, Expires, Closes, Quiet, Tells, after, joined, numbers_of}
+use Rattle.tcap_certificate.specs.declared.certificate.Closing.{Closing}
+use Rattle.tcap_certificate.specs.declared.certificate.Expiry.{Expiry}
+use Rattle.tcap_certificate.specs.declared.certificate.Fate.{Fate}
+use Rattle.tcap_certificate.specs.declared.certificate.Fate.TheVariants.{Gap, Lost, By}
+use Rattle.tcap_certificate.specs.Certificate.{Certificate}
+use Rattle.tcap_model.specs.Entries.{item_of}
+use Rattle.tcap_certificate.specs.Follows.{closing_event, expiry_event, invoking_half, invoke_id, sending_by, taken_by}
+
+-- ---- reasons
+
+-- why, and at which entry
+abbrev pub fault_at : Reason → ℕ → CheckFault
+fault_at reason entry = record { reason = reason; entry = entry }
+
+abbrev pub refused : {A : Type 0} → Reason → ℕ → Result A CheckFault
+refused reason entry = Err (fault_at reason entry)
+
+-- what is Ok, by that function; a reason stays as it is
+abbrev pub map_ok : {A B F : Type 0} → (A → B) → Result A F → Result B F
+map_ok f (Ok x) = Ok (f x)
+map_ok f (Err reason) = Err reason
+
+-- ---- ranges, which are looked at before the first entry
+
+-- A message is delivered in a gap behind its entry, which may be the last gap, or taken by an entry behind it.
+abbrev pub fate_fits : ℕ → ℕ → Fate → Bool
+fate_fits count entry (Gap gap) = nat_lt entry gap && nat_le gap count
+fate_fits count entry (By reply) = nat_lt entry reply && nat_lt reply count
+fate_fits count entry Lost = true
+
+-- the first of these fates is that of this entry
+abbrev pub fates_fit : ℕ → ℕ → List Fate → Result (Unit {0}) CheckFault
+fates_fit count entry [] = Ok tt
+fates_fit count entry (fate ∷ fates) = do
+  needs (fate_fits count entry fate) (fault_at FateRange entry)
+  fates_fit count (entry + 1) fates
+
+-- What is listed stands behind the entry that it names, and not behind the end.
+abbrev pub all_fit : ℕ → List (ℕ × ℕ) → Result (Unit {0}) CheckFault
+all_fit count [] = Ok tt
+all_fit count ((entry, gap) ∷ listed) = do
+  needs (nat_lt entry gap && nat_le gap count) (fault_at FateRange entry)
+  all_fit count listed
+
+-- the fates, then the closings, then the expiries
+abbrev pub certificate_fits : Certificate → Result (Unit {0}) CheckFault
+certificate_fits c = do
+  fates_fit (length c.fates) 0 c.fates
+  all_fit (length c.fates) (map (λ x. (x.entry, x.gap)) c.close)
+  all_fit (length c.fates) (map (λ x. (x.entry, x.gap)) c.expire)
+
+-- ---- who is judged: both ends, or one alone
+
+-- whether an end is judged
+abbrev pub is_judged : Option Side → Side → Bool
+is_judged None side = true
+is_judged (Some judged) side = is_side judged side
+
+-- whether what an end sends comes to an end that is judged
+abbrev pub is_heard : Option Side → Side → Bool
+is_heard None sender = true
+is_heard (Some judged) sender = is_side (other judged) sender
+
+-- ---- steps
+
+-- What was built so far: the steps; the number of each message that was discarded, and why; and the world behind them.
+pub record Replay : Type 0 where
+  pub events : List Event
+  pub discards : List (ℕ × EndFault)
+  pub world : World
+
+abbrev pub nothing_replayed : Replay
+nothing_replayed = record { events = []; discards = []; world = empty }
+
+-- the number of the next entry
+abbrev pub next_entry : Replay → ℕ
+next_entry r = length r.world.sent
+
+-- one step more, and the world behind it
+abbrev pub with_step : Event → Replay → World → Replay
+with_step event r world = record { events = r.events ++ event ∷ []; discards = r.discards; world = world }
+
+-- the same, where it may happen
+abbrev pub stepped : Table → Event → Replay → Option Replay
+stepped table event r = option_map (with_step event r) (after table event r.world)
+
+abbrev pub if_lost : Option Fate → List ℕ → List ℕ
+if_lost (Some Lost) numbers = numbers
+if_lost _ numbers = []
+
+-- the lost messages at the front of a channel
+abbrev pub lost_front : List Fate → List OnItsWay → List ℕ
+lost_front fates [] = []
+lost_front fates (first ∷ more) = if_lost (slice_get fates first.number) (first.number ∷ lost_front fates more)
+
+-- so many messages at the front of an end's channel, which have these numbers, are lost
+abbrev pub losing : Side → List ℕ → Replay → Replay
+losing side numbers r = record {
+  events = r.events ++ map (Loses side) numbers;
+  discards = r.discards;
+  world = with_channel side (drop (length numbers) (channel_from side r.world)) r.world;
+}
+
+-- Those at the front of a channel are lost whose fate says so.
+abbrev pub lost_from_front : Certificate → Side → Replay → Replay
+lost_from_front c side r = losing side (lost_front c.fates (channel_from side r.world)) r
+
+abbrev pub lost_from_both : Certificate → Replay → Replay
+lost_from_both c r = lost_from_front c sides.B (lost_from_front c sides.A r)
+
+-- A message is lost as late as can be: right before what stands behind it is taken, or before a quiet mark.
+abbrev pub lost_before : Certificate → Event → Replay → Replay
+lost_before c (Receives side number) r = lost_from_front c (other side) r
+lost_before c (Replies side number) r = lost_from_front c (other side) r
+lost_before c Quiet r = lost_from_both c r
+lost_before c _ r = r
+
+-- a step, with the losses that it needs, or the reason for which it is refused at that entry
+abbrev pub happens : Table → Certificate → Event → Reason → ℕ → Replay → Result Replay CheckFault
+happens table c event reason entry r = ok_or (stepped table event (lost_before c event r)) (fault_at reason entry)
+
+-- ---- a gap
+
+abbrev pub closings_replayed : Table → Certificate → List Closing → Replay → Result Replay CheckFault
+closings_replayed table c [] r = Ok r
+closings_replayed table c (x ∷ more) r = do
+  event ← ok_or (closing_event r.world.sent x) (fault_at FateRange x.entry)
+  next ← happens table c event (HiddenRefused faults.CannotClose) x.entry r
+  closings_replayed table c more next
+
+abbrev pub expiries_replayed : Table → Certificate → List Expiry → Replay → Result Replay CheckFault
+expiries_replayed table c [] r = Ok r
+expiries_replayed table c (x ∷ more) r = do
+  event ← ok_or (expiry_event r.world.sent x) (fault_at FateRange x.entry)
+  next ← happens table c event (HiddenRefused faults.CannotExpire) x.entry r
+  expiries_replayed table c more next
+
+-- this, or the other where there is none
+abbrev pub or_else : {A : Type 0} → Option A → Option A → Option A
+or_else None other = other
+or_else (Some a) other = Some a
+
+-- why an end can't receive a message, where it can't
+abbrev pub why_not : Result End EndFault → List EndFault
+why_not (Ok e) = []
+why_not (Err reason) = reason ∷ []
+
+-- why an end can't receive the first of these messages
+abbrev pub why_not_first : Table → End → List OnItsWay → List EndFault
+why_not_first table e [] = []
+why_not_first table e (first ∷ more) = why_not (receive table e first.message)
+
+abbrev pub with_discards : List (ℕ × EndFault) → Replay → Replay
+with_discards more r = record r { discards = r.discards ++ more }
+
+-- The message of that number, which its peer sent, is lost where the end can't receive it: a discard.
+abbrev pub discarded : Table → Side → ℕ → Replay → Option Replay
+discarded table side number r = option_map
+    (with_discards (map (λ reason. (number, reason)) (why_not_first table (end_at side r.world) (channel_from (other side) r.world))))
+    (stepped table (Loses (other side) number) r)
+
+-- It is received, or, where it can't be, discarded.
+abbrev pub heard : Table → Certificate → Side → ℕ → Replay → Result Replay CheckFault
+heard table c side number r = by (lost_from_front c (other side) r)
+  where
+    by : Replay → Result Replay CheckFault
+    by before = ok_or
+        (or_else (stepped table (Receives side number) before) (discarded table side number before))
+        (fault_at BadReply number)
+
+-- Whether a message of that gap is delivered to an end that is judged.
+abbrev pub is_due : Option Side → ℕ → ℕ → Side → Bool
+is_due None gap g sender = g == gap
+is_due (Some judged) gap g sender = (g == gap) && is_side (other judged) sender
+
+-- An end receives it. Where it alone is judged it may fail to: that its peer sent what it can't receive is no fault of the end.
+abbrev pub received : Option Side → Table → Certificate → Side → ℕ → Replay → Result Replay CheckFault
+received None table c sender number r = happens table c (Receives (other sender) number) BadReply number r
+received (Some judged) table c sender number r = heard table c judged number r
+
+-- the message of that number, where it is delivered in the gap
+abbrev pub delivery_by : Option Side → Table → Certificate → ℕ → ℕ → Fate → Item → Replay → Result Replay CheckFault
+delivery_by judged table c gap number (Gap g) (Sent sender message) r =
+    cond (is_due judged gap g sender) (received judged table c sender number r) (Ok r)
+delivery_by judged table c gap number _ _ r = Ok r
+
+-- the messages of these items that are, by number; the first item has this number
+abbrev pub deliveries_by : Option Side → Table → Certificate → ℕ → ℕ → List Fate → List Item → Replay → Result Replay CheckFault
+deliveries_by judged table c gap number (fate ∷ fates) (item ∷ items) r =
+    delivery_by judged table c gap number fate item r >>= deliveries_by judged table c gap (number + 1) fates items
+deliveries_by judged table c gap number _ _ r = Ok r
+
+-- What is listed of the ends that are judged. What is listed of a peer that is not is passed over.
+abbrev pub closings_judged : Option Side → List Closing → List Closing
+closings_judged None listed = listed
+closings_judged (Some judged) listed = filter (λ x. is_side judged x.side) listed
+
+abbrev pub expiries_judged : Option Side → List Expiry → List Expiry
+expiries_judged None listed = listed
+expiries_judged (Some judged) listed = filter (λ x. is_side judged x.side) listed
+
+-- the gap before the next entry: its closings, then its expiries, each as they are listed, then its deliveries
+abbrev pub gap_by : Option Side → Table → Certificate → Replay → Result Replay CheckFault
+gap_by judged table c r = do
+  closed ← closings_replayed table c (closings_judged judged (filter (λ x. x.gap == next_entry r) c.close)) r
+  expired ← expiries_replayed table c (expiries_judged judged (filter (λ x. x.gap == next_entry r) c.expire)) closed
+  deliveries_by judged table c (next_entry r) 0 c.fates r.world.sent expired
+
+-- ---- an entry
+
+-- Where a fate stands in the order of what happens: a gap before the entry behind it. What is lost has no time.
+abbrev pub time_of : Fate → Option ℕ
+time_of (Gap gap) = Some (2 * gap)
+time_of (By reply) = Some (2 * reply + 1)
+time_of Lost = None
+
+-- whether both have a time, and the second is later
+abbrev pub is_later : Option ℕ → Option ℕ → Bool
+is_later (Some time) (Some other) = nat_lt time other
+is_later _ _ = false
+
+-- an earlier message of the same end is delivered or taken later; the first of these fates is that of the first item
+abbrev pub is_overtaking : Side → Fate → List Fate → List Item → Bool
+is_overtaking side fate (first ∷ fates) (Sent sender message ∷ items) =
+    (is_side side sender && is_later (time_of fate) (time_of first)) || is_overtaking side fate fates items
+is_overtaking side fate (first ∷ fates) (Item.Quiet ∷ items) = is_overtaking side fate fates items
+is_overtaking side fate _ _ = false
+
+abbrev pub or_same : Replay → Option Replay → Replay
+or_same r None = r
+or_same r (Some next) = next
+
+-- each of these IDs, where its invocation may end unseen
+abbrev pub implied : Table → Side → HalfName → List ℤ → Replay → Replay
+implied table side name [] r = r
+implied table side name (id ∷ ids) r = implied table side name ids (or_same r (stepped table (Expires side name id) r))
+
+-- What the Invokes of a message need that is sent over that half: that earlier invocations of their IDs on it have
+-- ended.
+abbrev pub implied_over : Table → Side → Message → Option HalfName → Replay → Replay
+implied_over table side message None r = r
+implied_over table side message (Some name) r = implied table side name (filter_map invoke_id (components_in message)) r
+
+-- the step by which an end sends a message, or the reason against it
+abbrev pub sent_or_refused : Side → Message → Replay → Result End EndFault → Result Replay CheckFault
+sent_or_refused side message r (Ok e) = Ok
+    (with_step (Sends side message) r (joined side message (with_end side e r.world)))
+sent_or_refused side message r (Err reason) = refused (SendRefused reason) (next_entry r)
+
+-- a message that an end sends
+abbrev pub send_replayed : Table → Side → Message → Replay → Result Replay CheckFault
+send_replayed table side message r = sent_or_refused side message r (send table (end_at side r.world) message)
+
+-- whether an item is that Abort with a cause
+abbrev pub is_abort : Message → Option Item → Bool
+is_abort abort (Some (Sent side (Abort dtid (Some (Cause cause))))) = aborts cause dtid abort
+is_abort abort _ = false
+
+-- An Abort by which the provider of an end answers the message of that number: the step, and what it sent is this
+-- Abort.
+abbrev pub reply_replayed : Table → Certificate → Side → Message → ℕ → Replay → Result Replay CheckFault
+reply_replayed table c side abort number r = do
+  next ← happens table c (Replies side number) BadReply (next_entry r) r
+  needs (is_abort abort (slice_get next.world.sent (next_entry r))) (fault_at BadReply (next_entry r))
+  Ok next
+
+-- a message that an end sends, or its provider, by that event
+abbrev pub message_by : Table → Certificate → Side → Message → Option Event → Replay → Result Replay CheckFault
+message_by table c side message (Some (Sends sender sent)) r =
+    send_replayed table side message (implied_over table side message (invoking_half message) r)
+message_by table c side message (Some (Replies replier number)) r = reply_replayed table c side message number r
+message_by table c side message _ r = refused BadReply (next_entry r)
+
+abbrev pub is_gap : ℕ → Fate → Bool
+is_gap gap (Gap g) = g == gap
+is_gap gap _ = false
+
+abbrev pub is_nothing : List ℕ → Bool
+is_nothing [] = true
+is_nothing (number ∷ more) = false
+
+abbrev pub is_sent_by : Side → Option Item → Bool
+is_sent_by side (Some (Sent sender message)) = is_side side sender
+is_sent_by side _ = false
+
+-- The numbers of the messages that the next entry takes. Where one end is judged, only its peer's fates say anything.
+abbrev pub tied : Option Side → Certificate → Replay → List ℕ
+tied None c r = taken_by (next_entry r) 0 c.fates
+tied (Some judged) c r =
+    filter (λ n. is_sent_by (other judged) (slice_get r.world.sent n)) (taken_by (next_entry r) 0 c.fates)
+
+-- Messages come in the order in which they were sent. What the end sends that alone is judged comes to nobody.
+abbrev pub comes_in_order : Option Side → Side → Fate → Certificate → Replay → Result (Unit {0}) CheckFault
+comes_in_order None sender fate c r =
+    needs (not (is_overtaking sender fate c.fates r.world.sent)) (fault_at OutOfOrder (next_entry r))
+comes_in_order (Some judged) sender fate c r = Ok tt
+
+-- all that is on its way from an end is lost
+abbrev pub all_lost_from : Side → Replay → Replay
+all_lost_from side r = losing side (numbers_of (channel_from side r.world)) r
+
+-- What an end sent that alone is judged is lost at once.
+abbrev pub behind_sending : Option Side → Result Replay CheckFault → Result Replay CheckFault
+behind_sending None sent = sent
+behind_sending (Some judged) sent = sent >>= λ next. Ok (all_lost_from judged next)
+
+-- a message that an end which is judged sends, or its provider
+abbrev pub own_message : Option Side → Table → Certificate → Side → Message → Replay → Result Replay CheckFault
+own_message judged table c side message r = message_by table c side message
+    (sending_by c (next_entry r) (Sent side message) (tied judged c r)) r
+
+-- the same, with this fate, behind its gap
+abbrev pub own_judged : Option Side → Table → Certificate → Fate → Side → Message → Replay → Result Replay CheckFault
+own_judged judged table c fate side message r = do
+  comes_in_order judged side fate c r
+  behind ← gap_by judged table c r
+  behind_sending judged (own_message judged table c side message behind)
+
+-- A message that the peer of the end tells which alone is judged, behind its gap: it does not come before what the peer told
+-- earlier, and takes none of that.
+abbrev pub told_replayed : Table → Certificate → Fate → Side → Message → Replay → Result Replay CheckFault
+told_replayed table c fate judged message r = do
+  needs (not (is_overtaking (other judged) fate c.fates r.world.sent)) (fault_at OutOfOrder (next_entry r))
+  behind ← gap_by (Some judged) table c r
+  needs (is_nothing (tied (Some judged) c r)) (fault_at BadReply (next_entry r))
+  Ok (with_step (Tells (other judged) message) behind (joined (other judged) message behind.world))
+
+abbrev pub message_judged : Option Side → Table → Certificate → Fate → Side → Message → Replay → Result Replay CheckFault
+message_judged None table c fate sender message r = own_judged None table c fate sender message r
+message_judged (Some judged) table c fate sender message r = cond (is_side judged sender)
+    (own_judged (Some judged) table c fate judged message r) (told_replayed table c fate judged message r)
+
+-- Each of these halves closes unseen; one that may not is still open at the mark.
+abbrev pub closed_at_mark : Table → Side → ℕ → List HalfName → Replay → Result Replay CheckFault
+closed_at_mark table side mark [] r = Ok r
+closed_at_mark table side mark (name ∷ more) r =
+    ok_or (stepped table (Closes side name) r) (fault_at NotQuiet mark) >>= closed_at_mark table side mark more
+
+-- The halves of the end that alone is judged close before a mark: nobody but the end says when they did.
+abbrev pub closed_before : Option Side → Table → ℕ → Replay → Result Replay CheckFault
+closed_before None table mark r = Ok r
+closed_before (Some judged) table mark r = closed_at_mark table judged mark (open_halves (end_at judged r.world)) r
+
+-- What is at the front on its way to an end that is judged is lost, where its fate says so.
+abbrev pub lost_last : Option Side → Certificate → Replay → Replay
+lost_last None c r = lost_from_both c r
+lost_last (Some judged) c r = lost_from_front c (other judged) r
+
+-- a quiet mark with this fate, which is the next gap; no message is taken by it
+abbrev pub mark_judged : Option Side → Table → Certificate → Fate → Replay → Result Replay CheckFault
+mark_judged judged table c fate r = do
+  needs (is_gap (next_entry r + 1) fate) (fault_at FateRange (next_entry r))
+  behind ← gap_by judged table c r
+  needs (is_nothing (tied judged c r)) (fault_at NotQuiet (next_entry r))
+  closed ← closed_before judged table (next_entry r) behind
+  ok_or (stepped table Quiet (lost_last judged c closed)) (fault_at NotQuiet (next_entry r))
+
+abbrev pub item_by : Option Side → Table → Certificate → Fate → Item → Replay → Result Replay CheckFault
+item_by judged table c fate (Sent sender message) r = message_judged judged table c fate sender message r
+item_by judged table c fate Item.Quiet r = mark_judged judged table c fate r
+
+-- what an entry is, with this fate, and the gap before it
+abbrev pub entry_by : Option Side → Table → Certificate → Fate → Result Item Reason → Replay → Result Replay CheckFault
+entry_by judged table c fate (Ok item) r = item_by judged table c fate item r
+entry_by judged table c fate (Err reason) r = refused reason (next_entry r)
+
+-- what the entries from the next one on are, and the last gap
+abbrev pub entries_by : Option Side → Table → Certificate → List (Result Item Reason) → Replay → Result Replay CheckFault
+entries_by judged table c [] r = do
+  needs (next_entry r == length c.fates) (fault_at FateCount (next_entry r))
+  gap_by judged table c r
+entries_by judged table c (entry ∷ entries) r = do
+  fate ← ok_or (slice_get c.fates (next_entry r)) (fault_at FateCount (next_entry r))
+  next ← entry_by judged table c fate entry r
+  entries_by judged table c entries next
+
+-- the replay of what entries are read as, up to the last gap
+abbrev pub replay_by : Option Side → Table → Certificate → List (Result Item Reason) → Result Replay CheckFault
+replay_by judged table c entries = certificate_fits c >> entries_by judged table c entries nothing_replayed
+
+-- The run that the certificate gives for what entries are read as; what is then at the front of a channel is lost, where its fate says so.
+abbrev pub run_by : Option Side → Table → Certificate → List (Result Item Reason) → Result (List Event) CheckFault
+run_by judged table c entries = do
+  certificate_fits c
+  r ← entries_by judged table c entries nothing_replayed
+  Ok (lost_last judged c r).events
+
+-- which messages are discarded in it, and why
+abbrev pub discards_by : Option Side → Table → Certificate → List (Result Item Reason) → Result (List (ℕ × EndFault)) CheckFault
+discards_by judged table c entries = do
+  certificate_fits c
+  r ← entries_by judged table c entries nothing_replayed
+  Ok (lost_last judged c r).discards
+
+-- the run that it gives for the entries of a record: where an end is named it alone is judged, else both are
+abbrev pub replayed_by : Option Side → Table → Certificate → List Entry → Result (List Event) CheckFault
+replayed_by judged table c entries = run_by judged table c (map item_of entries)
+
+-- how many steps the run of both ends has
+abbrev pub moves_of : Table → Certificate → List Entry → Result ℕ CheckFault
+moves_of table c entries = replayed_by None table c entries >>= λ events. Ok (length events)

@@ -1,0 +1,4 @@
+pub mod CertificateTextLaws
+pub mod BehindLaws
+pub mod WrittenLaws
+pub mod CompactLaws

@@ -1,0 +1,8 @@
+//! The text of a certificate: read from JSON, and written (RFC 8259).
+#![tactic(auto)]
+
+mod compact_reading;
+pub mod laws;
+mod text;
+
+pub use text::{from_json, to_json};

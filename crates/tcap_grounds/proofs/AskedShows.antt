@@ -1,0 +1,177 @@
+-- Where a component answers or rejects what was never sent, what is listed shows that.
+use Rattle.std.proofs.Common.{◌≡◌, ℕ, ℤ, Bool, true, false, cond, not, ◌||◌, List, [], Option, Some, None, refl, sym, ap, subst, ◌∙◌}
+use Rattle.std.specs.List.{list_any}
+use Rattle.std.proofs.lemmas.Bool.{not-true, or_left}
+use Rattle.tcap_parts.specs.declared.component.Component.{Component}
+use Rattle.tcap_parts.specs.declared.component.Component.TheVariants.{Invoke, ReturnResult, ReturnError, Reject}
+use Rattle.tcap_msg.specs.declared.message.Message.{Message}
+use Rattle.tcap_msg.specs.declared.message.Message.TheVariants.{Unidirectional, Begin, Continue, End as EndMessage, Abort}
+use Rattle.tcap_msg.specs.Parts.{components_in, dtid_in}
+use Rattle.tcap_record.specs.declared.entry.End.{End as Side}
+use Rattle.tcap_record.specs.declared.entry.Entry.{Entry}
+use Rattle.tcap_end.specs.Table.{Table}
+use Rattle.tcap_model.specs.World.{Item}
+use Rattle.tcap_refute.specs.Before.{answers, asked, components_of, invokes, is_answer, is_reject}
+use Rattle.tcap_refute.specs.FirstComponent.{answers_nothing_in}
+use Rattle.tcap_refute.specs.FirstKinds.{answers_none, answers_nothing_there}
+use Rattle.tcap_refute.specs.Kind.{answers_none_of, answers_nothing}
+use Rattle.tcap_faults.specs.Counts.{count, is_error, is_result}
+use Rattle.tcap_faults.specs.Tallied.{is_sort}
+use Rattle.tcap_faults.specs.declared.sort.Class.TheVariants.{Any}
+use Rattle.tcap_faults.specs.declared.sort.Sort.{Sort}
+use Rattle.tcap_faults.proofs.FewSums.{any_same, count_invokes}
+use Rattle.tcap_grounds.specs.ComponentsShown.{ShowsUnasked}
+use Rattle.tcap_evidence.specs.Scene.{Scene, there, with_sort, shown}
+use Rattle.tcap_grounds.specs.Shown.{ListsNone, component_with, has_kind_by, items_before, many, scene_at}
+use Rattle.tcap_grounds.proofs.CountedLaws.{components_counted}
+use Rattle.tcap_grounds.proofs.HasKindLaws.{first_so as blamed_so}
+use Rattle.tcap_grounds.proofs.ListsLaws.{nothing_there}
+use Rattle.tcap_grounds.proofs.SoLaws.{first_is, first_wins, none_so, scene_of_it}
+use Rattle.tcap_record.specs.Ends.{other}
+use Rattle.tcap_evidence.specs.Evidence.{invoke_id_of}
+use Rattle.tcap_parts.specs.declared.problem.Problem.TheVariants as problems
+use Rattle.tcap_refute.specs.declared.kind.Kind.TheVariants as kinds
+use Rattle.tcap_faults.specs.declared.sort.Sort.TheVariants as sorts
+use Rattle.tcap_evidence.specs.declared.what.What.TheVariants as whats
+
+-- ---- lists of what is there
+
+-- Of a message without destination ID nothing is there.
+alone_lists : (s : Scene) → s.to ≡ None → (sort : Sort) → ListsNone s (whats.There sort)
+alone_lists s to sort = ap (with_sort s sort) (nothing_there s to) ∙ by s.id refl
+  where
+    by : (o : Option ℤ) → s.id ≡ o → with_sort s sort [] ≡ []
+    by None is = rw is refl
+    by (Some id) is = rw is refl
+
+-- ---- F5
+
+-- whether a message has it, asked of one end or of both, is whether one of its components has
+asked_of : (of_one : Bool) (side : Side) (items : List Item) (m : Message)
+    → cond of_one (answers_nothing_there side items m) (answers_nothing side items m)
+    ≡ list_any (answers_nothing_in of_one side items m) (components_in m)
+asked_of true side items (Unidirectional dialogue components) = refl
+asked_of true side items (Begin otid dialogue components) = refl
+asked_of true side items (Continue otid dtid dialogue components) = refl
+asked_of true side items (EndMessage dtid dialogue components) = refl
+asked_of true side items (Abort dtid reason) = refl
+asked_of false side items (Unidirectional dialogue components) = refl
+asked_of false side items (Begin otid dialogue components) = refl
+asked_of false side items (Continue otid dtid dialogue components) = refl
+asked_of false side items (EndMessage dtid dialogue components) = refl
+asked_of false side items (Abort dtid reason) = refl
+
+-- Of a message without destination ID.
+unasked_alone : (s : Scene) → s.to ≡ None → (c : Component) → (is_answer c || is_reject c) ≡ true → ShowsUnasked s (Some c)
+unasked_alone s to (Invoke id linked code parameter) is = cc
+unasked_alone s to (ReturnResult last id body) is = alone_lists s to (sorts.Invokes Any)
+unasked_alone s to (ReturnError id code parameter) is = alone_lists s to (sorts.Invokes Any)
+unasked_alone s to (Reject None problem) is = tt
+unasked_alone s to (Reject (Some id) (problems.General n)) is = tt
+unasked_alone s to (Reject (Some id) (problems.Invoke n)) is = alone_lists s to (sorts.Invokes Any)
+unasked_alone s to (Reject (Some id) (problems.ReturnResult n)) is = alone_lists s to sorts.Results
+unasked_alone s to (Reject (Some id) (problems.ReturnError n)) is = alone_lists s to sorts.Errors
+
+-- A Return Result of an ID, and a Return Error.
+results_are : (id : ℤ) (c : Component) → answers true id c ≡ is_result id c
+results_are id (Invoke other linked code parameter) = refl
+results_are id (ReturnResult last other body) = refl
+results_are id (ReturnError other code parameter) = refl
+results_are id (Reject other problem) = refl
+
+errors_are : (id : ℤ) (c : Component) → answers false id c ≡ is_error id c
+errors_are id (Invoke other linked code parameter) = refl
+errors_are id (ReturnResult last other body) = refl
+errors_are id (ReturnError other code parameter) = refl
+errors_are id (Reject other problem) = refl
+
+-- What is counted there of an invoke ID is listed.
+abbrev pub AreThere : Scene → ℤ → List Component → Type 0
+AreThere s id there = (sort : Sort) → many s (whats.There sort) ≡ count (is_sort s.table id sort) there
+
+-- Of one with destination ID, of both ends,
+module _ (s : Scene) (there : List Component) where
+  none_invoked : (id : ℤ) → AreThere s id there → not (list_any (invokes id) there) ≡ true
+      → ListsNone s (whats.There (sorts.Invokes Any))
+  none_invoked id counts none =
+      none_so (shown s (whats.There (sorts.Invokes Any))) (invokes id) there
+      (counts (sorts.Invokes Any) ∙ count_invokes s.table id there) (not-true (list_any (invokes id) there) none)
+
+  unasked_to : (c : Component) → ((id : ℤ) → invoke_id_of kinds.AnswersNothing c ≡ Some id → AreThere s id there)
+      → answers_none_of there c ≡ true → ShowsUnasked s (Some c)
+  unasked_to (Invoke id linked code parameter) counts is = cc
+  unasked_to (ReturnResult last id body) counts is = none_invoked id (counts id refl) is
+  unasked_to (ReturnError id code parameter) counts is = none_invoked id (counts id refl) is
+  unasked_to (Reject None problem) counts is = tt
+  unasked_to (Reject (Some id) (problems.General n)) counts is = tt
+  unasked_to (Reject (Some id) (problems.Invoke n)) counts is = none_invoked id (counts id refl) is
+  unasked_to (Reject (Some id) (problems.ReturnResult n)) counts is =
+      none_so (shown s (whats.There sorts.Results)) (is_result id) there (counts id refl sorts.Results)
+      (sym (any_same (answers true id) (is_result id) there (results_are id))
+      ∙ not-true (list_any (answers true id) there) is)
+  unasked_to (Reject (Some id) (problems.ReturnError n)) counts is =
+      none_so (shown s (whats.There sorts.Errors)) (is_error id) there (counts id refl sorts.Errors)
+      (sym (any_same (answers false id) (is_error id) there (errors_are id))
+      ∙ not-true (list_any (answers false id) there) is)
+
+  -- and of one.
+  unasked_one : (c : Component) → ((id : ℤ) → invoke_id_of kinds.AnswersNothing c ≡ Some id → AreThere s id there)
+      → answers_none there c ≡ true → ShowsUnasked s (Some c)
+  unasked_one (Reject (Some id) (problems.General n)) counts is = tt
+  unasked_one (Invoke id linked code parameter) counts is = cc
+  unasked_one (ReturnResult last id body) counts is = unasked_to (ReturnResult last id body) counts is
+  unasked_one (ReturnError id code parameter) counts is = unasked_to (ReturnError id code parameter) counts is
+  unasked_one (Reject None problem) counts is = tt
+  unasked_one (Reject (Some id) (problems.Invoke n)) counts is = unasked_to (Reject (Some id) (problems.Invoke n)) counts is
+  unasked_one (Reject (Some id) (problems.ReturnResult n)) counts is =
+      unasked_to (Reject (Some id) (problems.ReturnResult n)) counts is
+  unasked_one (Reject (Some id) (problems.ReturnError n)) counts is =
+      unasked_to (Reject (Some id) (problems.ReturnError n)) counts is
+
+  unasked_by : (of_one : Bool) (c : Component)
+      → ((id : ℤ) → invoke_id_of kinds.AnswersNothing c ≡ Some id → AreThere s id there)
+      → cond of_one (answers_none there c) (answers_none_of there c) ≡ true → ShowsUnasked s (Some c)
+  unasked_by true c counts is = unasked_one c counts is
+  unasked_by false c counts is = unasked_to c counts is
+
+-- The message has it where it is named for that.
+named_so : (of_one : Bool) (table : Table) (side : Side) (items : List Item) (m : Message)
+    → has_kind_by of_one table side items m kinds.AnswersNothing ≡ true
+    → cond of_one (answers_nothing_there side items m) (answers_nothing side items m) ≡ true
+named_so true table side items m is = blamed_so table side items m kinds.AnswersNothing refl is
+named_so false table side items m is = is
+
+module _ (of_one : Bool) (table : Table) (side : Side) (entries : List Entry) (number : ℕ) (m : Message) where
+  abbrev items : List Item
+  items = items_before entries number
+
+  abbrev s : Scene
+  s = scene_at of_one table side entries number m kinds.AnswersNothing
+
+  to_there : (dtid : List ℕ) → dtid_in m ≡ Some dtid → (c : Component) → s.id ≡ invoke_id_of kinds.AnswersNothing c
+      → cond of_one (answers_none (components_of (asked side dtid items)) c)
+      (answers_none_of (components_of (asked side dtid items)) c) ≡ true
+      → ShowsUnasked s (Some c)
+  to_there dtid to c id is = unasked_by s (components_of (asked side dtid items)) of_one c counts is
+    where
+      counts : (i : ℤ) → invoke_id_of kinds.AnswersNothing c ≡ Some i
+          → AreThere s i (components_of (asked side dtid items))
+      counts i of_it sort =
+          (components_counted of_one table side entries number m kinds.AnswersNothing dtid i sort to (id ∙ of_it)).there
+
+  unasked_in : (x : Message) → x ≡ m → (c : Component) → s.id ≡ invoke_id_of kinds.AnswersNothing c
+      → answers_nothing_in of_one side items x c ≡ true → ShowsUnasked s (Some c)
+  unasked_in (Unidirectional dialogue components) same c id is =
+      unasked_alone s (ap dtid_in (sym same)) c (or_left (is_answer c) (is_reject c) is)
+  unasked_in (Begin otid dialogue components) same c id is = unasked_alone s (ap dtid_in (sym same)) c is
+  unasked_in (Continue otid dtid dialogue components) same c id is = to_there dtid (ap dtid_in (sym same)) c id is
+  unasked_in (EndMessage dtid dialogue components) same c id is = to_there dtid (ap dtid_in (sym same)) c id is
+  unasked_in (Abort dtid reason) same c id is = to_there dtid (ap dtid_in (sym same)) c id is
+
+  pub unasked_shows : has_kind_by of_one table side items m kinds.AnswersNothing ≡ true
+      → ShowsUnasked s (component_with of_one table side entries number m kinds.AnswersNothing)
+  unasked_shows has =
+      let some = sym (asked_of of_one side items m) ∙ named_so of_one table side items m has in
+      let (k, c, first, here, is) = first_is (answers_nothing_in of_one side items m) 0 (components_in m) some in
+      let of_it = scene_of_it of_one table side entries number m kinds.AnswersNothing k c (first_wins _ _ k first) here in
+      subst (ShowsUnasked s) (sym of_it.it) (unasked_in m refl c of_it.id is)

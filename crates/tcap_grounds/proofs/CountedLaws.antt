@@ -1,0 +1,156 @@
+-- As many components, and as many messages, are listed as the kinds of faults count.
+use Rattle.std.proofs.Common.{◌≡◌, ◌≢◌, ℕ, ℤ, arith, Bool, true, ◌&&◌, List, [], ◌∷◌, ◌++◌, length, Option, Some, refl, ap, ◌∙◌}
+use Rattle.std.specs.Prelude.{filter}
+use Rattle.std.proofs.lemmas.List.{length-append, length-map}
+use Rattle.tcap_parts.specs.declared.component.Component.{Component}
+use Rattle.tcap_msg.specs.declared.kind.Kind.TheVariants as forms
+use Rattle.tcap_msg.specs.declared.message.Message.{Message}
+use Rattle.tcap_msg.specs.Parts.{cause_in, components_in, dtid_in}
+use Rattle.tcap_record.specs.declared.entry.End.{End as Side}
+use Rattle.tcap_record.specs.declared.entry.Entry.{Entry}
+use Rattle.tcap_record.specs.Ends.{other}
+use Rattle.tcap_end.specs.Table.{Table}
+use Rattle.tcap_model.specs.World.{Item}
+use Rattle.tcap_refute.specs.declared.kind.Kind.{Kind}
+use Rattle.tcap_refute.specs.Before.{asked, components_of, is_a, sent_by}
+use Rattle.tcap_faults.specs.Told.{is_abort_with, is_cause, told}
+use Rattle.tcap_faults.specs.Counts.{count}
+use Rattle.tcap_refute.specs.Kind.{is_begin_with_request}
+use Rattle.tcap_faults.proofs.LedLawsAnswered.{count_takes, count_takes_all}
+use Rattle.tcap_faults.proofs.LedLawsCounts.{count_both}
+use Rattle.tcap_faults.specs.declared.how.How.TheVariants.{Nowhere}
+use Rattle.tcap_faults.specs.declared.sort.Sort.{Sort}
+use Rattle.tcap_faults.specs.declared.subject.Subject.{Subject}
+use Rattle.tcap_faults.specs.HalfOf.{half_of}
+use Rattle.tcap_faults.specs.Subject.{subject}
+use Rattle.tcap_faults.specs.Tallied.{is_sort}
+use Rattle.tcap_faults.proofs.FewSums.{count_invokes}
+use Rattle.tcap_evidence.specs.Evidence.{scene_of}
+use Rattle.tcap_evidence.specs.Numbered.{Numbered, entries_where}
+use Rattle.tcap_evidence.specs.Scene.{Scene, heard_by, invoked_by, is_that, there, told_there, with_sort, with_sort_in}
+use Rattle.tcap_grounds.specs.Shown.{AreAllThere, AreCounted, SortsAre, items_before, scene_at}
+use Rattle.tcap_grounds.proofs.NumberedLists.{where_counted, with_counted}
+use Rattle.tcap_grounds.proofs.SceneLists.{IsOver, IsTo, heard_are, invoked_are, there_are, told_are, told_of}
+use Rattle.tcap_grounds.proofs.SentBefore.{messages, sent_are}
+
+-- ---- components
+
+module _ (s : Scene) (invoke : ℤ) (is : s.id ≡ Some invoke) (sort : Sort) where
+  abbrev is_so : Component → Bool
+  is_so = is_sort s.table invoke sort
+
+  counted_in : (sent : List Numbered) → length (with_sort s sort sent) ≡ count is_so (components_of (messages sent))
+  counted_in sent = rw is (with_counted is_so sent)
+
+  counted_itself : (cs : List Component) → length (with_sort_in s sort cs) ≡ count is_so cs
+  counted_itself cs = rw is (length-map (filter is_so cs) (λ (c : Component). s.number))
+
+  module _ (side : Side) (items : List Item) (id : List ℕ) (of : IsTo side items id s) where
+    -- in what the end told there, and in these of the message itself
+    told_and_itself : (cs : List Component) → length (with_sort s sort (told_there s) ++ with_sort_in s sort cs)
+        ≡ count is_so (components_of (told side id items) ++ cs)
+    told_and_itself cs =
+        let both = length-append (with_sort s sort (told_there s)) (with_sort_in s sort cs) in
+        let first : length (with_sort s sort (told_there s)) ≡ count is_so (components_of (told side id items)) =
+        counted_in (told_there s)
+        ∙ ap (λ (ms : List Message). count is_so (components_of ms)) (told_are side items id s of) in
+        let last = counted_itself cs in
+        let all = count_both is_so (components_of (told side id items)) cs in omega (arith, both, first, last, all)
+
+    half_and_itself : (half_of side items id).how ≢ Nowhere → (cs : List Component)
+        → length (with_sort s sort (told_there s) ++ with_sort_in s sort cs)
+        ≡ count is_so ((half_of side items id).told ++ cs)
+    half_and_itself some cs =
+        told_and_itself cs ∙ ap (λ (ts : List Component). count is_so (ts ++ cs)) (told_of side items id s of some)
+
+    pub counted : (m : Message) → s.all ≡ components_in m → IsOver side items id s
+        → AreCounted side items id m s sort is_so
+    counted m all over = record {
+      there = counted_in (there s)
+          ∙ ap (λ (ms : List Message). count is_so (components_of ms)) (there_are side items id s of);
+      heard = counted_in (heard_by s s.how) ∙ ap (count is_so) (heard_are side items id s of over);
+      before = told_and_itself s.earlier;
+      half_before = λ some. half_and_itself some s.earlier;
+      whole = rw all (told_and_itself (components_in m));
+      half_whole = λ some. rw all (half_and_itself some (components_in m));
+      invoked = λ some.
+          counted_in (invoked_by s s.how) ∙ ap (count is_so) (invoked_are side items id s of over some);
+    }
+
+-- ---- the sorts
+
+pub sorts_are : (table : Table) (id : ℤ) (cs : List Component) → SortsAre table id cs
+sorts_are table id cs = record {
+  any = count_invokes table id cs;
+  one = refl;
+  two = refl;
+  three = refl;
+  lasting = refl;
+  lasting_one = refl;
+  lasting_three = refl;
+  taken = omega (arith, count_takes id cs, count_takes_all id cs);
+}
+
+-- ---- messages
+
+all_kept : (ms : List Message) → filter (λ m. true) ms ≡ ms
+all_kept [] = refl
+all_kept (m ∷ ms) = ap (λ (others : List Message). m ∷ others) (all_kept ms)
+
+module _ (side : Side) (items : List Item) (id : List ℕ) (s : Scene) (of : IsTo side items id s) where
+  asked_so : (p : Message → Bool) → length (entries_where p (there s)) ≡ count p (asked side id items)
+  asked_so p = where_counted p (there s) ∙ ap (count p) (there_are side items id s of)
+
+  told_so : (p : Message → Bool) → length (entries_where p (told_there s)) ≡ count p (told side id items)
+  told_so p = where_counted p (told_there s) ∙ ap (count p) (told_are side items id s of)
+
+  aborts : (cause : ℕ)
+      → length (entries_where (λ m. is_that s.to (dtid_in m) && is_cause cause (cause_in m)) s.own)
+      ≡ count (is_abort_with cause id) (sent_by side items)
+  aborts cause =
+      where_counted (λ m. is_that s.to (dtid_in m) && is_cause cause (cause_in m)) s.own
+      ∙ ap (count (λ (m : Message). is_that s.to (dtid_in m) && is_cause cause (cause_in m))) of.own
+      ∙ ap (λ (o : Option (List ℕ)). count (λ (m : Message). is_that o (dtid_in m) && is_cause cause (cause_in m))
+      (sent_by side items)) of.to
+
+  pub all_there : AreAllThere side items id s
+  all_there = record {
+    begins = asked_so (is_a forms.Begin);
+    requests = asked_so is_begin_with_request;
+    continues = asked_so (is_a forms.Continue);
+    all_told = told_so (λ m. true) ∙ ap length (all_kept (told side id items));
+    continues_told = told_so (is_a forms.Continue);
+    unknown = aborts 1;
+    refused = aborts 4;
+  }
+
+-- ---- a message at fault
+
+pub scene_to : (table : Table) (side : Side) (entries : List Entry) (number : ℕ) (m : Message) (kind : Kind)
+    (about : Subject) (id : List ℕ) → dtid_in m ≡ Some id
+    → IsTo side (items_before entries number) id (scene_of table side entries number m kind about)
+scene_to table side entries number m kind about id is =
+    record { own = sent_are side entries number; peer = sent_are (other side) entries number; to = is }
+
+pub scene_over : (of_one : Bool) (table : Table) (side : Side) (entries : List Entry) (number : ℕ) (m : Message) (kind : Kind)
+    (id : List ℕ) → dtid_in m ≡ Some id
+    → IsOver side (items_before entries number) id (scene_at of_one table side entries number m kind)
+scene_over of_one table side entries number m kind id is = record { how = rw is refl; half = rw is refl }
+
+pub components_counted : (of_one : Bool) (table : Table) (side : Side) (entries : List Entry) (number : ℕ) (m : Message)
+    (kind : Kind) (to : List ℕ) (id : ℤ) (sort : Sort) → dtid_in m ≡ Some to
+    → (scene_at of_one table side entries number m kind).id ≡ Some id
+    → AreCounted side (items_before entries number) to m (scene_at of_one table side entries number m kind) sort
+    (is_sort table id sort)
+components_counted of_one table side entries number m kind to id sort goes is =
+    counted (scene_at of_one table side entries number m kind) id is sort side (items_before entries number) to
+    (scene_to table side entries number m kind
+    (subject of_one table side (items_before entries number) m kind) to goes) m refl
+    (scene_over of_one table side entries number m kind to goes)
+
+pub messages_counted : (table : Table) (side : Side) (entries : List Entry) (number : ℕ) (m : Message) (kind : Kind)
+    (about : Subject) (to : List ℕ) → dtid_in m ≡ Some to
+    → AreAllThere side (items_before entries number) to (scene_of table side entries number m kind about)
+messages_counted table side entries number m kind about to goes =
+    all_there side (items_before entries number) to (scene_of table side entries number m kind about)
+    (scene_to table side entries number m kind about to goes)

@@ -1,0 +1,272 @@
+-- Where the dialogue portion of a message does not fit the dialogue of its half, what is listed shows that.
+use Rattle.std.proofs.Common.{◌≡◌, ◌⊎◌, inl, inr, ℕ, ◌<◌, arith, Bool, true, false, cond, not, ◌&&◌, ◌||◌, List, [], ◌∷◌, Option, Some, None, is_some, refl, sym, ap, subst, ◌∙◌}
+use Rattle.std.specs.Prelude.{◌==◌}
+use Rattle.std.specs.List.{find}
+use Rattle.std.proofs.lemmas.Bool.{and_from, and_parts, not-true, or_cases, or_parts, eqb-true, not-false}
+use Rattle.tcap_parts.specs.declared.dialogue.Dialogue.{Dialogue}
+use Rattle.tcap_msg.specs.declared.message.Message.{Message}
+use Rattle.tcap_msg.specs.declared.message.Message.TheVariants.{Unidirectional, Begin, Continue, End as EndMessage, Abort}
+use Rattle.tcap_msg.specs.Parts.{dialogue_in, otid_in}
+use Rattle.tcap_record.specs.declared.entry.End.{End as Side}
+use Rattle.tcap_record.specs.declared.entry.Entry.{Entry}
+use Rattle.tcap_end.specs.Dialogue.{is_response, is_user_abort}
+use Rattle.tcap_end.specs.Table.{Table}
+use Rattle.tcap_model.specs.World.{Item}
+use Rattle.tcap_refute.specs.Before.{asked, has_a, is_a, sent_by}
+use Rattle.tcap_refute.specs.Kind.{is_begin_with_request, or_else}
+use Rattle.tcap_faults.specs.declared.how.How.{How}
+use Rattle.tcap_faults.specs.declared.how.How.TheVariants.{Accepted, Refused, Begun, Unanswered}
+use Rattle.tcap_faults.specs.Counts.{count, is_nothing}
+use Rattle.tcap_faults.specs.HalfKinds.{goes_from_other, is_provider_abort, is_wrong_aborting, is_wrong_dialogue, is_wrong_going_on, is_wrong_half, may_not_speak}
+use Rattle.tcap_faults.specs.HalfOf.{HalfOf, begun_from, continued_to, half_by, half_of, heard_of}
+use Rattle.tcap_faults.specs.Told.{began, begin_from, is_request_of, told, was_refused}
+use Rattle.tcap_faults.proofs.LedLawsCounts.{count_more, count_weaker, one}
+use Rattle.tcap_faults.proofs.TangledLaws.{plain_to}
+use Rattle.tcap_grounds.specs.HalvesShown.{MisfitsAccepted, MisfitsBegun, ShowsWrongDialogue}
+use Rattle.tcap_evidence.specs.Scene.{Scene, is_that, own_id}
+use Rattle.tcap_grounds.specs.Shown.{HasKind, ListsNone, ListsOne, items_before, many, scene_at}
+use Rattle.tcap_grounds.proofs.CountedLaws.{scene_over, scene_to}
+use Rattle.tcap_grounds.proofs.HasKindLaws.{further_so, goes_so, half_so}
+use Rattle.tcap_grounds.proofs.ListsLaws.{none_there, none_told, one_there, one_told}
+use Rattle.tcap_grounds.proofs.SceneLists.{IsOver, IsTo}
+use Rattle.tcap_grounds.proofs.NumberedLists.{where_counted}
+use Rattle.tcap_faults.specs.Subject.{subject}
+use Rattle.tcap_grounds.proofs.HalfScene.{begun_one, goes_on, requests_are, request_begins}
+use Rattle.tcap_parts.specs.declared.dialogue.Dialogue.TheVariants as dialogues
+use Rattle.tcap_msg.specs.declared.kind.Kind.TheVariants as forms
+use Rattle.tcap_refute.specs.declared.kind.Kind.TheVariants as kinds
+use Rattle.tcap_evidence.specs.declared.what.What.TheVariants as whats
+
+-- Fewer pass a test than another which follows from it, and which the first that passes does not show.
+count_fewer : (p q : Message → Bool) (ms : List Message) (m : Message) → ((x : Message) → q x ≡ true → p x ≡ true)
+    → find p ms ≡ Some m → q m ≡ false → count q ms < count p ms
+count_fewer p q [] m weaker is apart = cc
+count_fewer p q (x ∷ ms) m weaker is apart = by (p x) refl (q x) refl is (λ rest. count_fewer p q ms m weaker rest apart)
+  where
+    by : (b : Bool) → p x ≡ b → (c : Bool) → q x ≡ c → cond b (Some x) (find p ms) ≡ Some m
+        → (find p ms ≡ Some m → count q ms < count p ms) → count q (x ∷ ms) < count p (x ∷ ms)
+    by true so false not_so first rest =
+        let here : one (p x) ≡ 1 = ap one so in
+        let none : one (q x) ≡ 0 = ap one not_so in
+        omega (arith, count_more p x ms, count_more q x ms, here, none, count_weaker q p ms weaker)
+    by true so true also first rest =
+        let same : x ≡ m = cc in let bad : true ≡ false = sym also ∙ ap q same ∙ apart in cc
+    by false not_so true also first rest = let bad : true ≡ false = sym (weaker x also) ∙ not_so in cc
+    by false not_so false none first rest =
+        let here : one (p x) ≡ 0 = ap one not_so in
+        let none_here : one (q x) ≡ 0 = ap one none in
+        omega (arith, count_more p x ms, count_more q x ms, here, none_here, rest first)
+
+-- ---- a dialogue portion
+
+module _ (side : Side) (items : List Item) (s : Scene) (id : List ℕ) (of : IsTo side items id s)
+    (few : count (is_a forms.Begin) (asked side id items) < 2) where
+  abbrev first : Option Message
+  first = find (is_a forms.Begin) (asked side id items)
+
+  abbrev has_continue : Bool
+  has_continue = has_a forms.Continue (told side id items)
+
+  request_there : is_request_of first ≡ true → ListsOne s whats.RequestsThere
+  request_there asks =
+      one_there side items s id of is_begin_with_request (requests_are side items s id of few first refl ∙ asks)
+
+  no_request_there : is_request_of first ≡ false → ListsNone s whats.RequestsThere
+  no_request_there asks =
+      none_there side items s id of is_begin_with_request (requests_are side items s id of few first refl ∙ asks)
+
+  -- In a Continue or an End of a half that the peer began,
+  accepted_going : (d : Option Dialogue) → is_wrong_going_on (not has_continue) (is_request_of first) d ≡ true
+      → ((is_some d ≡ true) × ListsOne s whats.ContinuesTold)
+      ⊎ ((is_response d ≡ false) × ListsNone s whats.ContinuesTold × ListsOne s whats.RequestsThere)
+  accepted_going d is =
+      by has_continue refl (or_cases (not (not has_continue) && is_some d) (not has_continue && is_request_of first && not (is_response d)) is)
+    where
+      by : (told_some : Bool) → has_continue ≡ told_some
+          → ((not (not told_some) && is_some d) ≡ true)
+          ⊎ ((not told_some && is_request_of first && not (is_response d)) ≡ true)
+          → ((is_some d ≡ true) × ListsOne s whats.ContinuesTold)
+          ⊎ ((is_response d ≡ false) × ListsNone s whats.ContinuesTold × ListsOne s whats.RequestsThere)
+      by true some (inl so) = inl (so, one_told side items s id of (is_a forms.Continue) some)
+      by true some (inr so) = cc
+      by false none (inl so) = cc
+      by false none (inr so) =
+          let (asks, apart) = and_parts (is_request_of first) (not (is_response d)) so in
+          inr (
+            not-true (is_response d) apart,
+            none_told side items s id of (is_a forms.Continue) none,
+            request_there asks,
+          )
+
+  -- and in an Abort.
+  accepted_aborting : (d : Option Dialogue) → is_wrong_aborting (not has_continue) (is_request_of first) d ≡ true
+      → ((is_response d ≡ true) × ListsOne s whats.ContinuesTold)
+      ⊎ ((is_user_abort d ≡ true) × ListsNone s whats.RequestsThere)
+  accepted_aborting d is =
+      by has_continue refl (or_cases (not (not has_continue) && is_response d) (is_user_abort d && not (is_request_of first)) is)
+    where
+      by : (told_some : Bool) → has_continue ≡ told_some
+          → ((not (not told_some) && is_response d) ≡ true) ⊎ ((is_user_abort d && not (is_request_of first)) ≡ true)
+          → ((is_response d ≡ true) × ListsOne s whats.ContinuesTold)
+          ⊎ ((is_user_abort d ≡ true) × ListsNone s whats.RequestsThere)
+      by true some (inl so) = inl (so, one_told side items s id of (is_a forms.Continue) some)
+      by false none (inl so) = cc
+      by told_some is_so (inr so) =
+          let (aborts, asks_none) = and_parts (is_user_abort d) (not (is_request_of first)) so in
+          inr (aborts, no_request_there (not-true (is_request_of first) asks_none))
+
+  accepted_shows : (h : HalfOf) → h.how ≡ Accepted → h.begin ≡ first → (m : Message)
+      → is_wrong_dialogue side items id m h ≡ true → MisfitsAccepted s m
+  accepted_shows h how begin (Unidirectional dialogue components) is = accepted_going dialogue (rw (how, begin) at is)
+  accepted_shows h how begin (Begin otid dialogue components) is = accepted_going dialogue (rw (how, begin) at is)
+  accepted_shows h how begin (Continue otid dtid dialogue components) is = accepted_going dialogue (rw (how, begin) at is)
+  accepted_shows h how begin (EndMessage dtid dialogue components) is = accepted_going dialogue (rw (how, begin) at is)
+  accepted_shows h how begin (Abort dtid reason) is =
+      accepted_aborting (dialogue_in (Abort dtid reason)) (rw (how, begin) at is)
+
+  -- Of a half that the end began.
+  module _ (own : List ℕ) (own_is : own_id s ≡ Some own) (begun : began side own items ≡ true) where
+    fewer_requests : is_request_of (begin_from side own items) ≡ false → many s whats.OwnRequests < many s whats.Begun
+    fewer_requests none = by (begin_from side own items) refl begun none
+      where
+        begins : Message → Bool
+        begins x = is_a forms.Begin x && is_that (own_id s) (otid_in x)
+
+        asks : Message → Bool
+        asks x = is_begin_with_request x && is_that (own_id s) (otid_in x)
+
+        weaker : (x : Message) → asks x ≡ true → begins x ≡ true
+        weaker x so =
+            let (requests, from) = and_parts (is_begin_with_request x) (is_that (own_id s) (otid_in x)) so in
+            and_from (is_a forms.Begin x) (is_that (own_id s) (otid_in x)) (request_begins x requests) from
+
+        found_so : (b : Message) → begin_from side own items ≡ Some b → find begins (sent_by side items) ≡ Some b
+        found_so b found =
+            ap (λ (o : Option (List ℕ)). find (λ (x : Message). is_a forms.Begin x && is_that o (otid_in x)) (sent_by side items)) own_is
+            ∙ found
+
+        by : (o : Option Message) → begin_from side own items ≡ o → is_some o ≡ true → is_request_of o ≡ false
+            → many s whats.OwnRequests < many s whats.Begun
+        by None found some asks_none = cc
+        by (Some b) found some asks_none =
+            let apart : asks b ≡ false = rw asks_none refl in
+            let less = count_fewer begins asks (sent_by side items) b weaker (found_so b found) apart in
+            let own_asks : many s whats.OwnRequests ≡ count asks (sent_by side items) =
+            where_counted asks s.own ∙ ap (count asks) of.own in
+            let own_begins : many s whats.Begun ≡ count begins (sent_by side items) =
+            where_counted begins s.own ∙ ap (count begins) of.own in omega (arith, less, own_asks, own_begins)
+
+    begun_aborting : (d : Option Dialogue) → is_wrong_aborting false (is_request_of (begin_from side own items)) d ≡ true
+        → (is_response d ≡ true) ⊎ ((is_user_abort d ≡ true) × (many s whats.OwnRequests < many s whats.Begun))
+    begun_aborting d is = by (or_cases (is_response d) (is_user_abort d && not (is_request_of (begin_from side own items))) is)
+      where
+        by : (is_response d ≡ true) ⊎ ((is_user_abort d && not (is_request_of (begin_from side own items))) ≡ true)
+            → (is_response d ≡ true) ⊎ ((is_user_abort d ≡ true) × (many s whats.OwnRequests < many s whats.Begun))
+        by (inl so) = inl so
+        by (inr so) =
+            let (aborts, none) = and_parts (is_user_abort d) _ so in
+            inr (aborts, fewer_requests (not-true (is_request_of (begin_from side own items)) none))
+
+    begun_going : (has : Bool) (d : Option Dialogue) → is_wrong_going_on false has d ≡ true → is_some d ≡ true
+    begun_going has d is = by (is_some d) is
+      where
+        by : (b : Bool) → (b || false) ≡ true → b ≡ true
+        by true so = refl
+        by false so = so
+
+    begun_shows : (h : HalfOf) → h.how ≡ Begun → h.begin ≡ begin_from side own items → (m : Message)
+        → is_wrong_dialogue side items id m h ≡ true → MisfitsBegun s m
+    begun_shows h how begin (Unidirectional dialogue components) is =
+        begun_going (is_request_of h.begin) dialogue (rw how at is)
+    begun_shows h how begin (Begin otid dialogue components) is =
+        begun_going (is_request_of h.begin) dialogue (rw how at is)
+    begun_shows h how begin (Continue otid dtid dialogue components) is =
+        begun_going (is_request_of h.begin) dialogue (rw how at is)
+    begun_shows h how begin (EndMessage dtid dialogue components) is =
+        begun_going (is_request_of h.begin) dialogue (rw how at is)
+    begun_shows h how begin (Abort dtid reason) is =
+        begun_aborting (dialogue_in (Abort dtid reason)) (rw (how, begin) at is)
+
+-- ---- F9
+
+-- What is left open to a half that nothing answered has no kind.
+unanswered_fits : (side : Side) (items : List Item) (id : List ℕ) (m : Message) (h : HalfOf) → h.how ≡ Unanswered
+    → may_not_speak Unanswered m ≡ false → is_wrong_dialogue side items id m h ≡ false
+unanswered_fits side items id (Unidirectional dialogue components) h how speaks = cc
+unanswered_fits side items id (Begin otid dialogue components) h how speaks = cc
+unanswered_fits side items id (Continue otid dtid dialogue components) h how speaks = cc
+unanswered_fits side items id (EndMessage dtid dialogue components) h how speaks = cc
+unanswered_fits side items id (Abort dtid reason) h how speaks =
+    by (dialogue_in (Abort dtid reason)) refl speaks
+  where
+    by : (d : Option Dialogue) → dialogue_in (Abort dtid reason) ≡ d → not (is_provider_abort d) ≡ false
+        → is_wrong_dialogue side items id (Abort dtid reason) h ≡ false
+    by None is so = cc
+    by (Some (dialogues.Request context info)) is so = cc
+    by (Some (dialogues.Response context result diagnostic info)) is so = cc
+    by (Some (dialogues.Uni context info)) is so = cc
+    by (Some (dialogues.Abort source info)) is so =
+        let one : source ≡ 1 = eqb-true source 1 (not-false (source == 1) so) in rw (is, how, one) refl
+
+module _ (side : Side) (items : List Item) (s : Scene) (id : List ℕ) (of : IsTo side items id s) (over : IsOver side items id s)
+    (m : Message) (few : count (is_a forms.Begin) (asked side id items) < 2) where
+  -- Of a half that may speak.
+  accepted_misfits : has_a forms.Begin (asked side id items) ≡ true → (refused : Bool) → (h : HalfOf)
+      → h.how ≡ cond refused Refused Accepted → h.begin ≡ find (is_a forms.Begin) (asked side id items)
+      → may_not_speak h.how m ≡ false → is_wrong_dialogue side items id m h ≡ true
+      → ShowsWrongDialogue s (cond refused Refused Accepted) m
+  accepted_misfits begun true h how begin speaks is = let bad : true ≡ false = rw how at speaks in cc
+  accepted_misfits begun false h how begin speaks is = (
+    one_there side items s id of (is_a forms.Begin) begun,
+    accepted_shows side items s id of few h how begin m is,
+  )
+
+  begun_misfits : (own : List ℕ) → begun_from side items id ≡ Some own → s.half ≡ Some own → (nothing : Bool)
+      → (h : HalfOf) → h.how ≡ cond nothing Unanswered Begun → h.begin ≡ begin_from side own items
+      → may_not_speak h.how m ≡ false → is_wrong_dialogue side items id m h ≡ true
+      → ShowsWrongDialogue s (cond nothing Unanswered Begun) m
+  begun_misfits own from half true h how begin speaks is =
+      let so : may_not_speak Unanswered m ≡ false = rw how at speaks in
+      let bad : true ≡ false = sym is ∙ unanswered_fits side items id m h how so in cc
+  begun_misfits own from half false h how begin speaks is =
+      let (x, has, on, goes, begun) = goes_on side items s id of own from in
+      let own_is : own_id s ≡ Some own = ap (λ (o : Option (List ℕ)). or_else o s.from) half in
+      (begun_one side items s id of own own_is begun, begun_shows side items s id of few own own_is begun h how begin m is)
+
+  wrong_dialogue : may_not_speak (half_of side items id).how m ≡ false
+      → is_wrong_dialogue side items id m (half_of side items id) ≡ true → ShowsWrongDialogue s s.how m
+  wrong_dialogue = by (has_a forms.Begin (asked side id items)) (begun_from side items id) refl refl over.how over.half
+    where
+      by : (b : Bool) (o : Option (List ℕ)) → has_a forms.Begin (asked side id items) ≡ b → begun_from side items id ≡ o
+          → s.how ≡ (half_by side items id b o).how → s.half ≡ (half_by side items id b o).own
+          → may_not_speak (half_by side items id b o).how m ≡ false
+          → is_wrong_dialogue side items id m (half_by side items id b o) ≡ true → ShowsWrongDialogue s s.how m
+      by true o begun from how half speaks is =
+          subst (λ (h : How). ShowsWrongDialogue s h m) (sym how)
+          (accepted_misfits begun (was_refused side id items) (half_by side items id true o) refl refl speaks is)
+      by false None none from how half speaks is = let bad : true ≡ false = speaks in cc
+      by false (Some own) none from how half speaks is =
+          subst (λ (h : How). ShowsWrongDialogue s h m) (sym how)
+          (begun_misfits own from half
+          (is_nothing (heard_of (begin_from side own items) (continued_to side items id (Some own))))
+          (half_by side items id false (Some own)) refl refl speaks is)
+
+pub dialogue_shows : (of_one : Bool) (table : Table) (side : Side) (entries : List Entry) (number : ℕ) (m : Message)
+    → HasKind table side (items_before entries number) m kinds.WrongDialogue
+    → ShowsWrongDialogue (scene_at of_one table side entries number m kinds.WrongDialogue)
+    (scene_at of_one table side entries number m kinds.WrongDialogue).how m
+dialogue_shows of_one table side entries number m has =
+    let items : List Item = items_before entries number in
+    let (id, to) = goes_so table side items m kinds.WrongDialogue refl has in
+    let untangled = (further_so table side items m kinds.WrongDialogue refl has).0 in
+    let so = half_so table side items m id to kinds.WrongDialogue refl has in
+    let (right, wrong) = and_parts (not (is_wrong_half side items m (half_of side items id))) _ so in
+    let (one_way, unclosed) =
+    or_parts (may_not_speak (half_of side items id).how m
+    || goes_from_other side items (half_of side items id).how (half_of side items id).own m) _
+    (not-true (is_wrong_half side items m (half_of side items id)) right) in
+    let (speaks, own) = or_parts (may_not_speak (half_of side items id).how m) _ one_way in
+    wrong_dialogue side items (scene_at of_one table side entries number m kinds.WrongDialogue) id
+    (scene_to table side entries number m kinds.WrongDialogue (subject of_one table side items m kinds.WrongDialogue) id to)
+    (scene_over of_one table side entries number m kinds.WrongDialogue id to) m
+    (plain_to side items m id to untangled).few speaks wrong

@@ -1,0 +1,136 @@
+-- Each entry that is listed is one of the record, before the message at fault, that is so.
+use Rattle.std.proofs.Common.{◌≡◌, ◌⊎◌, inl, inr, ℕ, Bool, true, ◌&&◌, List, ◌++◌, Option, Some, subst}
+use Rattle.std.specs.Prelude.{Contains}
+use Rattle.std.proofs.lemmas.Bool.{and_parts}
+use Rattle.std.proofs.lemmas.List.Elements.{Contains-append_cases}
+use Rattle.tcap_parts.specs.declared.component.Component.{Component}
+use Rattle.tcap_msg.specs.declared.kind.Kind.TheVariants as forms
+use Rattle.tcap_msg.specs.declared.message.Message.{Message}
+use Rattle.tcap_msg.specs.Parts.{cause_in, dtid_in, kind_in, otid_in}
+use Rattle.tcap_record.specs.declared.entry.Entry.{Entry}
+use Rattle.tcap_record.specs.Ends.{other}
+use Rattle.tcap_model.specs.Since.{ended_by}
+use Rattle.tcap_refute.specs.Before.{is_a}
+use Rattle.tcap_refute.specs.Kind.{is_begin_with_request}
+use Rattle.tcap_faults.specs.Told.{is_cause}
+use Rattle.tcap_faults.specs.declared.sort.Sort.{Sort}
+use Rattle.tcap_evidence.specs.declared.what.What.{What}
+use Rattle.tcap_evidence.specs.declared.what.What.TheVariants as whats
+use Rattle.tcap_evidence.specs.Numbered.{Numbered, entries_where, sent_before}
+use Rattle.tcap_evidence.specs.Scene.{Scene, heard_by, invoked_by, is_open_continue, is_that, own_id, shown, there, told_there, went_elsewhere, with_sort, with_sort_in}
+use Rattle.tcap_grounds.specs.Shown.{AreSame, IsEntryOf, IsItself, IsSentBefore, IsShown}
+use Rattle.tcap_grounds.proofs.NumberedLists.{where_is}
+use Rattle.tcap_grounds.proofs.MessageTests.{cause_is, end_is, form_is, one_is}
+use Rattle.tcap_grounds.proofs.SentBefore.{was_sent}
+use Rattle.tcap_grounds.proofs.SuchLaws.{heard_is, invoked_is, itself_is, open_is, sorted_is, there_is, told_is, went_is}
+
+-- A scene whose lists are what the ends sent before its entry.
+module _ (entries : List Entry) (s : Scene) (own : s.own ≡ sent_before s.side entries s.number)
+    (peer : s.peer ≡ sent_before (other s.side) entries s.number) where
+  own_at : (n : ℕ) (m : Message) → Contains s.own (n, m) → IsSentBefore entries s.number s.side n m
+  own_at n m has =
+      was_sent s.side entries s.number n m (subst (λ (ns : List Numbered). Contains ns (n, m)) own has)
+
+  peer_at : (n : ℕ) (m : Message) → Contains s.peer (n, m) → IsSentBefore entries s.number (other s.side) n m
+  peer_at n m has =
+      was_sent (other s.side) entries s.number n m (subst (λ (ns : List Numbered). Contains ns (n, m)) peer has)
+
+  -- ---- messages
+
+  -- one of the peer from there
+  from_there : (p : Message → Bool) (n : ℕ) → Contains (entries_where p (there s)) n
+      → (m : Message) × IsSentBefore entries s.number (other s.side) n m × (p m ≡ true) × AreSame s.to (otid_in m)
+  from_there p n has =
+      let (m, among, passes) = where_is p (there s) n has in
+      let (sent, from) = there_is s n m among in (m, peer_at n m sent, passes, from)
+
+  -- one of the end
+  of_own : (p : Message → Bool) (n : ℕ) → Contains (entries_where p s.own) n
+      → (m : Message) × IsSentBefore entries s.number s.side n m × (p m ≡ true)
+  of_own p n has = let (m, among, passes) = where_is p s.own n has in (m, own_at n m among, passes)
+
+  -- one of the end with that own ID
+  of_own_id : (p : Message → Bool) (id : Option (List ℕ)) (n : ℕ)
+      → Contains (entries_where (λ m. p m && is_that id (otid_in m)) s.own) n
+      → (m : Message) × IsSentBefore entries s.number s.side n m × (p m ≡ true) × AreSame id (otid_in m)
+  of_own_id p id n has =
+      let (m, sent, both) = of_own (λ (m : Message). p m && is_that id (otid_in m)) n has in
+      let (passes, that) = and_parts (p m) (is_that id (otid_in m)) both in
+      (m, sent, passes, one_is id (otid_in m) that)
+
+  -- an Abort of its provider with that cause
+  aborted : (cause : ℕ) (n : ℕ)
+      → Contains (entries_where (λ m. is_that s.to (dtid_in m) && is_cause cause (cause_in m)) s.own) n
+      → (m : Message) × IsSentBefore entries s.number s.side n m × AreSame s.to (dtid_in m) × (cause_in m ≡ Some cause)
+  aborted cause n has =
+      let (m, sent, both) = of_own (λ (m : Message). is_that s.to (dtid_in m) && is_cause cause (cause_in m)) n has in
+      let (that, caused) = and_parts (is_that s.to (dtid_in m)) (is_cause cause (cause_in m)) both in
+      (m, sent, one_is s.to (dtid_in m) that, cause_is cause (cause_in m) caused)
+
+  -- ---- components
+
+  -- one in the end's messages to there
+  sorted_told : (sort : Sort) (n : ℕ) → Contains (with_sort s sort (told_there s)) n
+      → IsEntryOf entries s (whats.Before sort) n
+  sorted_told sort n has =
+      let (m, among, sorted) = sorted_is s sort (told_there s) n has in
+      let (sent, told) = told_is s n m among in (m, own_at n m sent, (told, sorted))
+
+  -- one there, or among these of the message itself: those before the one at fault, or all
+  told_or_itself : (sort : Sort) (cs : List Component) (n : ℕ)
+      → Contains (with_sort s sort (told_there s) ++ with_sort_in s sort cs) n
+      → IsEntryOf entries s (whats.Before sort) n ⊎ IsItself s sort cs n
+  told_or_itself sort cs n has =
+      by (Contains-append_cases (with_sort s sort (told_there s)) (with_sort_in s sort cs) n has)
+    where
+      by : Contains (with_sort s sort (told_there s)) n ⊎ Contains (with_sort_in s sort cs) n
+          → IsEntryOf entries s (whats.Before sort) n ⊎ IsItself s sort cs n
+      by (inl told) = inl (sorted_told sort n told)
+      by (inr here) = inr (itself_is s sort cs n here)
+
+  -- ---- all
+
+  pub is_shown : (what : What) (n : ℕ) → Contains (shown s what) n → IsShown entries s what n
+  is_shown whats.BeginsThere n has =
+      let (m, sent, begins, from) = from_there (is_a forms.Begin) n has in
+      (m, sent, (form_is forms.Begin (kind_in m) begins, from))
+  is_shown whats.RequestsThere n has =
+      let (m, sent, asks, from) = from_there is_begin_with_request n has in (m, sent, (asks, from))
+  is_shown whats.ContinuesThere n has =
+      let (m, sent, goes, from) = from_there (is_a forms.Continue) n has in
+      (m, sent, (form_is forms.Continue (kind_in m) goes, from))
+  is_shown whats.Used n has =
+      let (m, sent, that) = of_own (λ (m : Message). is_that s.from (otid_in m)) n has in
+      (m, sent, one_is s.from (otid_in m) that)
+  is_shown whats.WentElsewhere n has =
+      let (m, sent, went) = of_own (went_elsewhere s) n has in (m, sent, went_is s m went)
+  is_shown whats.Begun n has =
+      let (m, sent, begins, from) = of_own_id (is_a forms.Begin) (own_id s) n has in
+      (m, sent, (form_is forms.Begin (kind_in m) begins, from))
+  is_shown whats.OwnRequests n has =
+      let (m, sent, asks, from) = of_own_id is_begin_with_request (own_id s) n has in (m, sent, (asks, from))
+  is_shown whats.Told n has =
+      let (m, among, any) = where_is (λ (m : Message). true) (told_there s) n has in
+      let (sent, told) = told_is s n m among in (m, own_at n m sent, told)
+  is_shown whats.ContinuesTold n has =
+      let (m, among, goes) = where_is (is_a forms.Continue) (told_there s) n has in
+      let (sent, told) = told_is s n m among in
+      (m, own_at n m sent, (form_is forms.Continue (kind_in m) goes, told.0))
+  is_shown whats.Ended n has =
+      let (m, sent, ends) = of_own (λ (m : Message). is_that s.to (ended_by m)) n has in (m, sent, end_is s.to m ends)
+  is_shown whats.Unknown n has = let (m, sent, that, caused) = aborted 1 n has in (m, sent, (that, caused))
+  is_shown whats.Refused n has = let (m, sent, that, caused) = aborted 4 n has in (m, sent, (that, caused))
+  is_shown (whats.There sort) n has =
+      let (m, among, sorted) = sorted_is s sort (there s) n has in
+      let (sent, from) = there_is s n m among in (m, peer_at n m sent, (from, sorted))
+  is_shown (whats.Heard sort) n has =
+      let (m, among, sorted) = sorted_is s sort (heard_by s s.how) n has in
+      let (inside, heard) = heard_is s s.how n m among in
+      let (sent, from) = there_is s n m inside in (m, peer_at n m sent, (from, heard, sorted))
+  is_shown (whats.Before sort) n has = told_or_itself sort s.earlier n has
+  is_shown (whats.Whole sort) n has = told_or_itself sort s.all n has
+  is_shown (whats.Invoked sort) n has =
+      let (m, among, sorted) = sorted_is s sort (invoked_by s s.how) n has in
+      let (sent, invoked) = invoked_is s s.how n m among in (m, own_at n m sent, (invoked, sorted))
+  is_shown whats.Open n has =
+      let (m, sent, still) = of_own (is_open_continue s) n has in (m, sent, open_is s m still)

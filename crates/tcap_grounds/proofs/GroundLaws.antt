@@ -1,0 +1,91 @@
+-- What is told of an entry at fault is what is listed of it; and a component at fault is one of a message over a half.
+use Rattle.std.proofs.Common.{◌≡◌, ◌≢◌, inr, ℕ, Bool, true, false, not, ◌&&◌, List, ◌∷◌, [], map, Option, Some, None, Result, Ok, refl, sym, ap, ◌∙◌}
+use Rattle.std.specs.Prelude.{Contains, slice_get}
+use Rattle.std.proofs.lemmas.Bool.{and_parts, not-true}
+use Rattle.tcap_msg.specs.declared.message.Message.{Message}
+use Rattle.tcap_msg.specs.Parts.{components_in, dtid_in}
+use Rattle.tcap_record.specs.declared.entry.End.{End as Side}
+use Rattle.tcap_record.specs.declared.entry.Entry.{Entry}
+use Rattle.tcap_end.specs.Table.{Table}
+use Rattle.tcap_model.specs.declared.reason.Reason.{Reason}
+use Rattle.tcap_model.specs.World.{Item, Sent}
+use Rattle.tcap_model.specs.Entries.{item_of}
+use Rattle.tcap_refute.specs.declared.kind.Kind.{Kind}
+use Rattle.tcap_refute.specs.declared.kind.Kind.TheVariants as kinds
+use Rattle.tcap_refute.specs.declared.kind.Refutation.{Refutation}
+use Rattle.tcap_faults.specs.declared.how.How.TheVariants.{Nowhere}
+use Rattle.tcap_faults.specs.declared.subject.Subject.{Subject}
+use Rattle.tcap_faults.specs.Fault.{is_fault, is_of_half_kind}
+use Rattle.tcap_faults.specs.HalfKinds.{is_wrong_half}
+use Rattle.tcap_faults.specs.HalfOf.{HalfOf, half_of}
+use Rattle.tcap_faults.specs.Subject.{subject, subject_by, subject_of}
+use Rattle.tcap_evidence.specs.declared.what.What.{What}
+use Rattle.tcap_evidence.specs.declared.what.What.TheVariants as whats
+use Rattle.tcap_evidence.specs.Evidence.{component_at, grounds_in, grounds_of, mark_scene, scene_of, shows}
+use Rattle.tcap_evidence.specs.Scene.{Scene, shown}
+use Rattle.tcap_grounds.specs.Shown.{is_of_component, items_before, scene_at}
+use Rattle.tcap_grounds.proofs.HasKindLaws.{half_so, is_of_a_half}
+use Rattle.tcap_grounds.proofs.NumberedLists.{map_is}
+
+-- ---- what is told
+
+told_so : (s : Scene) (ws : List What) (what : What) (numbers : List ℕ) → Contains (grounds_in s ws) (what, numbers)
+    → numbers ≡ shown s what
+told_so s ws what numbers has =
+    let (w, among, same) = map_is (λ (w : What). (w, shown s w)) ws (what, numbers) has in
+    let it : w ≡ what = ap (λ (p : What × List ℕ). p.0) same in
+    let list : shown s w ≡ numbers = ap (λ (p : What × List ℕ). p.1) same in sym list ∙ ap (shown s) it
+
+module _ (of_one : Bool) (table : Table) (side : Side) (entries : List Entry) (r : Refutation) (what : What)
+    (numbers : List ℕ) where
+  pub of_message : (sender : Side) (m : Message) → slice_get (map item_of entries) r.entry ≡ Some (Ok (Sent sender m))
+      → Contains (grounds_of of_one table side entries r) (what, numbers)
+      → numbers ≡ shown (scene_at of_one table side entries r.entry m r.kind) what
+  of_message sender m is has =
+      told_so (scene_of table side entries r.entry m r.kind about)
+      (shows (dtid_in m) about.how (component_at about.component (components_in m)) r.kind) what numbers (rw is at has)
+      ∙ ap (λ (a : Subject). shown (scene_of table side entries r.entry m r.kind a) what) about_is
+    where
+      about : Subject
+      about = subject_of of_one table side entries r
+
+      about_is : about ≡ subject of_one table side (items_before entries r.entry) m r.kind
+      about_is =
+          ap (λ (o : Option (Result Item Reason)). subject_by of_one table side (items_before entries r.entry) o r.kind) is
+
+  pub of_mark : slice_get (map item_of entries) r.entry ≡ Some (Ok Item.Quiet)
+      → Contains (grounds_of of_one table side entries r) (what, numbers)
+      → numbers ≡ shown (mark_scene table side entries r.entry) what
+  of_mark is has =
+      told_so (mark_scene table side entries r.entry) (whats.Open ∷ []) what numbers (rw is at has)
+
+-- ---- a component at fault
+
+module _ (table : Table) (side : Side) (items : List Item) (m : Message) (id : List ℕ) where
+  first : (h : HalfOf) (more : Bool) → (not (is_wrong_half side items m h) && more) ≡ true
+      → is_wrong_half side items m h ≡ false
+  first h more both =
+      not-true (is_wrong_half side items m h) (and_parts (not (is_wrong_half side items m h)) more both).0
+
+  -- None of these kinds rests on a wrong half.
+  speaks : (h : HalfOf) (kind : Kind) → is_of_component kind ≡ true
+      → is_of_half_kind table side id items m h kind ≡ true → is_wrong_half side items m h ≡ false
+  speaks h kinds.InvokeIdBusy is so = first h _ so
+  speaks h kinds.BadLink is so = first h _ so
+  speaks h kinds.AnsweredAlready is so = first h _ so
+  speaks h kinds.RejectNotAllowed is so = first h _ so
+  speaks h kind is so = cc
+
+  of_a_half : (kind : Kind) → is_of_component kind ≡ true → is_of_a_half kind ≡ true
+  of_a_half kinds.InvokeIdBusy is = refl
+  of_a_half kinds.BadLink is = refl
+  of_a_half kinds.AnsweredAlready is = refl
+  of_a_half kinds.RejectNotAllowed is = refl
+  of_a_half kind is = cc
+
+  pub has_half : (kind : Kind) → dtid_in m ≡ Some id → is_of_component kind ≡ true
+      → is_fault table side items m kind ≡ true → (half_of side items id).how ≢ Nowhere
+  has_half kind to is so nowhere =
+      let of_it = half_so table side items m id to kind (of_a_half kind is) (inr so) in
+      let fits : is_wrong_half side items m (half_of side items id) ≡ false = speaks (half_of side items id) kind is of_it in
+      let bad : true ≡ false = rw nowhere at fits in cc

@@ -1,0 +1,195 @@
+-- Where no half may send a message, what is listed shows that.
+use Rattle.std.proofs.Common.{◌≡◌, ◌≢◌, ◌⊎◌, inl, inr, ℕ, Bool, true, false, cond, ◌||◌, List, [], Option, Some, None, refl, sym, ap, subst, ◌∙◌}
+use Rattle.std.specs.Prelude.{Contains}
+use Rattle.std.specs.List.{list_any}
+use Rattle.std.proofs.lemmas.Bool.{not-true, or_cases, or_parts}
+use Rattle.std.proofs.lemmas.List.Elements.{Contains-append_left}
+use Rattle.tcap_msg.specs.declared.message.Message.{Message}
+use Rattle.tcap_msg.specs.declared.message.Message.TheVariants.{Unidirectional, Begin, Continue, End as EndMessage, Abort}
+use Rattle.tcap_msg.specs.Parts.{dtid_in, otid_in}
+use Rattle.tcap_record.specs.declared.entry.End.{End as Side}
+use Rattle.tcap_record.specs.declared.entry.Entry.{Entry}
+use Rattle.tcap_end.specs.End.{is_id}
+use Rattle.tcap_end.specs.Table.{Table}
+use Rattle.tcap_model.specs.World.{Item}
+use Rattle.tcap_model.proofs.TurnLaws.{id_is}
+use Rattle.tcap_refute.specs.Before.{asked, has_a, is_a}
+use Rattle.tcap_refute.specs.Kind.{or_else}
+use Rattle.tcap_faults.specs.declared.how.How.{How}
+use Rattle.tcap_faults.specs.declared.how.How.TheVariants.{Accepted, Refused, Begun, Unanswered}
+use Rattle.tcap_faults.specs.Closed.{was_closed}
+use Rattle.tcap_faults.specs.Counts.{is_nothing}
+use Rattle.tcap_faults.specs.HalfKinds.{goes_from_other, is_another, is_wrong_half, may_not_speak}
+use Rattle.tcap_faults.specs.HalfOf.{answered_from, begun_from, continued_to, half_by, half_of, heard_of}
+use Rattle.tcap_faults.specs.Tangled.{are_tangled, goes_over_tangled, goes_to_begun, is_own_tangled, near, own_of_continue, owns_of}
+use Rattle.tcap_faults.specs.Told.{began, begin_from, was_refused}
+use Rattle.tcap_faults.proofs.LedLawsCounts.{one}
+use Rattle.tcap_faults.proofs.TwoTests.{passes_not}
+use Rattle.tcap_grounds.specs.HalvesShown.{ShowsWrongHalf}
+use Rattle.tcap_evidence.specs.Numbered.{entries_where}
+use Rattle.tcap_evidence.specs.Scene.{Scene, there}
+use Rattle.tcap_grounds.specs.Shown.{AreDifferent, HasKind, ListsOne, items_before, scene_at}
+use Rattle.tcap_grounds.proofs.CountedLaws.{scene_over, scene_to}
+use Rattle.tcap_grounds.proofs.HasKindLaws.{further_so, goes_so, half_so}
+use Rattle.tcap_grounds.proofs.ListsLaws.{none_aborts, none_there, one_aborts, one_there}
+use Rattle.tcap_grounds.proofs.SceneLists.{IsOver, IsTo}
+use Rattle.tcap_refute.proofs.BeforeLaws.{is_that_id}
+use Rattle.tcap_record.specs.Ends.{other}
+use Rattle.tcap_faults.specs.Subject.{subject}
+use Rattle.tcap_grounds.proofs.HalfScene.{begun_one, none_begun, starts, unanswered, told_one, begun_closed, accepted_closed, ArePlain}
+use Rattle.tcap_msg.specs.declared.kind.Kind.TheVariants as forms
+use Rattle.tcap_refute.specs.declared.kind.Kind.TheVariants as kinds
+use Rattle.tcap_evidence.specs.declared.what.What.TheVariants as whats
+
+-- A scene is of a message that end sends behind these items.
+pub record IsFrom (side : Side) (items : List Item) (m : Message) (s : Scene) : Type 0 where
+  pub at_side : s.side ≡ side
+  pub at_items : s.items ≡ items
+  pub from : s.from ≡ otid_in m
+
+differ : (id other : List ℕ) → is_id id (Some other) ≡ false → other ≢ id
+differ id other apart same = let bad : true ≡ false = sym (is_that_id id (Some other) (ap Some same)) ∙ apart in cc
+
+module _ (side : Side) (items : List Item) (s : Scene) (id : List ℕ) (of : IsTo side items id s) (over : IsOver side items id s)
+    (m : Message) (sends : IsFrom side items m s) (plain : ArePlain side items s id of) where
+  -- A Continue from an ID that an accepted half does not have.
+  other_accepted : (o : Option (List ℕ)) → answered_from side items id ≡ o → s.half ≡ o → (x : Message) → s.from ≡ otid_in x
+      → goes_from_other side items Accepted o x ≡ true
+      → ListsOne s whats.Begun ⊎ (ListsOne s whats.ContinuesTold × AreDifferent s.half s.from)
+  other_accepted o answered half (Continue otid dtid dialogue components) from is =
+      by o answered half (or_cases (began side otid items) (is_another otid o) is)
+    where
+      by : (p : Option (List ℕ)) → answered_from side items id ≡ p → s.half ≡ p
+          → (began side otid items ≡ true) ⊎ (is_another otid p ≡ true)
+          → ListsOne s whats.Begun ⊎ (ListsOne s whats.ContinuesTold × AreDifferent s.half s.from)
+      by None answered half (inl begun) =
+          inl (begun_one side items s id of otid (ap (λ (q : Option (List ℕ)). or_else q s.from) half ∙ from) begun)
+      by None answered half (inr another) = cc
+      by (Some own) answered half (inr another) =
+          inr (told_one side items s id of own answered, (own, otid, half, from, differ otid own (not-true (is_id otid (Some own)) another)))
+      by (Some own) answered half (inl begun) = same (is_id otid (Some own)) refl
+        where
+          same : (b : Bool) → is_id otid (Some own) ≡ b
+              → ListsOne s whats.Begun ⊎ (ListsOne s whats.ContinuesTold × AreDifferent s.half s.from)
+          same true one =
+              inl (begun_one side items s id of otid (ap (λ (q : Option (List ℕ)). or_else q s.from) half ∙ id_is otid (Some own) one) begun)
+          same false two = inr (told_one side items s id of own answered, (own, otid, half, from, differ otid own two))
+  other_accepted o answered half (Unidirectional dialogue components) from is = cc
+  other_accepted o answered half (Begin otid dialogue components) from is = cc
+  other_accepted o answered half (EndMessage dtid dialogue components) from is = cc
+  other_accepted o answered half (Abort dtid reason) from is = cc
+
+  other_begun : (own : List ℕ) → s.half ≡ Some own → (x : Message) → s.from ≡ otid_in x
+      → goes_from_other side items Begun (Some own) x ≡ true → AreDifferent s.half s.from
+  other_begun own half (Continue otid dtid dialogue components) from is =
+      (own, otid, half, from, differ otid own (not-true (is_id otid (Some own)) is))
+  other_begun own half (Unidirectional dialogue components) from is = cc
+  other_begun own half (Begin otid dialogue components) from is = cc
+  other_begun own half (EndMessage dtid dialogue components) from is = cc
+  other_begun own half (Abort dtid reason) from is = cc
+
+  closed_accepted : (o : Option (List ℕ)) → answered_from side items id ≡ o → was_closed side items o ≡ true
+      → ListsOne s whats.Unknown
+  closed_accepted None answered closed = cc
+  closed_accepted (Some own) answered closed = accepted_closed side items s id of own answered plain closed
+
+  -- the three ways in which a half is wrong
+  ways : (how : How) (own : Option (List ℕ)) → (may_not_speak how m ≡ true → ShowsWrongHalf s how)
+      → (goes_from_other side items how own m ≡ true → ShowsWrongHalf s how)
+      → (was_closed side items own ≡ true → ListsOne s whats.Unknown)
+      → (may_not_speak how m || goes_from_other side items how own m || was_closed side items own) ≡ true
+      → ShowsWrongHalf s how
+  ways how own silent apart closed is =
+      by (or_cases (may_not_speak how m || goes_from_other side items how own m) (was_closed side items own) is)
+    where
+      first : (may_not_speak how m ≡ true) ⊎ (goes_from_other side items how own m ≡ true) → ShowsWrongHalf s how
+      first (inl so) = silent so
+      first (inr so) = apart so
+
+      by : ((may_not_speak how m || goes_from_other side items how own m) ≡ true) ⊎ (was_closed side items own ≡ true)
+          → ShowsWrongHalf s how
+      by (inl so) = first (or_cases (may_not_speak how m) (goes_from_other side items how own m) so)
+      by (inr so) = inr (inr (closed so))
+
+  begin_there : has_a forms.Begin (asked side id items) ≡ true → ListsOne s whats.BeginsThere
+  begin_there begun = one_there side items s id of (is_a forms.Begin) begun
+
+  accepted_wrong : has_a forms.Begin (asked side id items) ≡ true → s.half ≡ answered_from side items id
+      → (refused : Bool) → was_refused side id items ≡ refused
+      → (may_not_speak (cond refused Refused Accepted) m
+      || goes_from_other side items (cond refused Refused Accepted) (answered_from side items id) m
+      || was_closed side items (answered_from side items id)) ≡ true
+      → ShowsWrongHalf s (cond refused Refused Accepted)
+  accepted_wrong begun half true refused is = inl (begin_there begun, one_aborts side items s id of 4 refused)
+  accepted_wrong begun half false refused is =
+      ways Accepted (answered_from side items id) (λ so. cc)
+      (λ so. inr (inl (
+        (begin_there begun, none_aborts side items s id of 4 refused),
+        other_accepted (answered_from side items id) refl half m sends.from so,
+      ))) (closed_accepted (answered_from side items id) refl) is
+
+  begun_wrong : (own : List ℕ) → has_a forms.Begin (asked side id items) ≡ false → begun_from side items id ≡ Some own
+      → s.half ≡ Some own → (nothing : Bool)
+      → is_nothing (heard_of (begin_from side own items) (continued_to side items id (Some own))) ≡ nothing
+      → (may_not_speak (cond nothing Unanswered Begun) m
+      || goes_from_other side items (cond nothing Unanswered Begun) (Some own) m
+      || was_closed side items (Some own)) ≡ true
+      → ShowsWrongHalf s (cond nothing Unanswered Begun)
+  begun_wrong own none from half true nothing is =
+      let (asks, left) = unanswered side items s id of own none from half nothing in
+      ways Unanswered (Some own)
+      (λ so. inl (starts side items s id of own none from half, asks, left)) (λ so. cc)
+      (begun_closed side items s id of own none from half plain) is
+  begun_wrong own none from half false some is =
+      ways Begun (Some own) (λ so. cc)
+      (λ so. inr (inl (starts side items s id of own none from half, other_begun own half m sends.from so))) (begun_closed side items s id of own none from half plain) is
+
+  none_to_begun : begun_from side items id ≡ None → entries_where (goes_to_begun s.side s.items) (there s) ≡ []
+  none_to_begun none =
+      rw (sends.at_side, sends.at_items)
+      (none_there side items s id of (goes_to_begun side items) (none_begun side items s id of none))
+
+  pub wrong_half : is_wrong_half side items m (half_of side items id) ≡ true → ShowsWrongHalf s s.how
+  wrong_half = by (has_a forms.Begin (asked side id items)) (begun_from side items id) refl refl over.how over.half
+    where
+      by : (b : Bool) (o : Option (List ℕ)) → has_a forms.Begin (asked side id items) ≡ b → begun_from side items id ≡ o
+          → s.how ≡ (half_by side items id b o).how → s.half ≡ (half_by side items id b o).own
+          → is_wrong_half side items m (half_by side items id b o) ≡ true → ShowsWrongHalf s s.how
+      by true o begun from how half is =
+          subst (ShowsWrongHalf s) (sym how) (accepted_wrong begun half (was_refused side id items) refl is)
+      by false None none from how half is =
+          subst (ShowsWrongHalf s) (sym how)
+          (inl (
+            none_there side items s id of (is_a forms.Begin) none,
+            none_to_begun from,
+          ))
+      by false (Some own) none from how half is =
+          subst (ShowsWrongHalf s) (sym how)
+          (begun_wrong own none from half
+          (is_nothing (heard_of (begin_from side own items) (continued_to side items id (Some own)))) refl is)
+
+-- ---- a message that goes over no tangled IDs
+
+-- The own IDs that are joined with its destination ID are not tangled.
+near_plain : (side : Side) (items : List Item) (m : Message) (id : List ℕ) → dtid_in m ≡ Some id
+    → goes_over_tangled side items m ≡ false → (own : List ℕ) → Contains (owns_of side items id) own
+    → is_own_tangled side items own ≡ false
+near_plain side items m id to untangled own joined =
+    let so : are_tangled side items (own_of_continue m) id ≡ false = rw to at untangled in
+    passes_not (is_own_tangled side items) (near side items (own_of_continue m) id) own
+    (Contains-append_left (owns_of side items id) (own_of_continue m) own joined)
+    (or_parts (list_any (is_own_tangled side items) (near side items (own_of_continue m) id)) _ so).0
+
+pub half_shows : (of_one : Bool) (table : Table) (side : Side) (entries : List Entry) (number : ℕ) (m : Message)
+    → HasKind table side (items_before entries number) m kinds.WrongHalf
+    → ShowsWrongHalf (scene_at of_one table side entries number m kinds.WrongHalf)
+    (scene_at of_one table side entries number m kinds.WrongHalf).how
+half_shows of_one table side entries number m has =
+    let items : List Item = items_before entries number in
+    let (id, to) = goes_so table side items m kinds.WrongHalf refl has in
+    let untangled = (further_so table side items m kinds.WrongHalf refl has).0 in
+    wrong_half side items (scene_at of_one table side entries number m kinds.WrongHalf) id
+    (scene_to table side entries number m kinds.WrongHalf (subject of_one table side items m kinds.WrongHalf) id to)
+    (scene_over of_one table side entries number m kinds.WrongHalf id to) m
+    (record { at_side = refl; at_items = refl; from = refl }) (near_plain side items m id to untangled)
+    (half_so table side items m id to kinds.WrongHalf refl has)

@@ -1,0 +1,230 @@
+-- What it means that a message has a kind: which test of it is so.
+use Rattle.std.proofs.Common.{◌≡◌, inl, inr, ℕ, Bool, true, false, not, ◌||◌, List, Option, Some, None, refl, sym, ◌∙◌}
+use Rattle.std.proofs.lemmas.Bool.{and_parts, not-true}
+use Rattle.tcap_msg.specs.declared.message.Message.{Message}
+use Rattle.tcap_msg.specs.Parts.{cause_in, dtid_in}
+use Rattle.tcap_record.specs.declared.entry.End.{End as Side}
+use Rattle.tcap_end.specs.Table.{Table}
+use Rattle.tcap_model.specs.World.{Item}
+use Rattle.tcap_refute.specs.declared.kind.Kind.{Kind}
+use Rattle.tcap_refute.specs.FirstKinds.{is_of_first_kind}
+use Rattle.tcap_refute.specs.Kind.{is_of_kind}
+use Rattle.tcap_faults.specs.Fault.{is_fault, is_of_alone_kind, is_of_further_kind, is_of_half_kind, is_of_kind_to, is_of_reply_kind}
+use Rattle.tcap_faults.specs.HalfOf.{HalfOf, half_of}
+use Rattle.tcap_faults.specs.Tangled.{goes_over_tangled}
+use Rattle.tcap_grounds.specs.Shown.{HasKind}
+use Rattle.tcap_refute.specs.declared.kind.Kind.TheVariants as kinds
+
+-- F2 to F4, F6 and F7, which are asked of one end as of both
+abbrev is_early : Kind → Bool
+is_early kinds.UnknownTransaction = true
+is_early kinds.ReusedId = true
+is_early kinds.AfterEnd = true
+is_early kinds.WrongOperation = true
+is_early kinds.MisplacedDialogue = true
+is_early kind = false
+
+-- F8 to F13, of a message over a half
+abbrev pub is_of_a_half : Kind → Bool
+is_of_a_half kinds.WrongHalf = true
+is_of_a_half kinds.WrongDialogue = true
+is_of_a_half kinds.InvokeIdBusy = true
+is_of_a_half kinds.BadLink = true
+is_of_a_half kinds.AnsweredAlready = true
+is_of_a_half kinds.RejectNotAllowed = true
+is_of_a_half kind = false
+
+-- F8 to F14
+abbrev is_further : Kind → Bool
+is_further kinds.WrongReply = true
+is_further kind = is_of_a_half kind
+
+-- those of F8 to F14 that a message without destination ID never has
+abbrev is_never_alone : Kind → Bool
+is_never_alone kinds.WrongHalf = true
+is_never_alone kinds.WrongDialogue = true
+is_never_alone kinds.AnsweredAlready = true
+is_never_alone kinds.RejectNotAllowed = true
+is_never_alone kinds.WrongReply = true
+is_never_alone kind = false
+
+-- ---- F2 to F7
+
+module _ (table : Table) (side : Side) (items : List Item) (m : Message) where
+  -- None of these kinds, nor F5, is a further one,
+  abbrev is_first : Kind → Bool
+  is_first kinds.AnswersNothing = true
+  is_first kind = is_early kind
+
+  not_to : (id : List ℕ) (cause : Option ℕ) (kind : Kind) → is_first kind ≡ true
+      → is_of_kind_to table side id items m cause kind ≡ false
+  not_to id None kinds.UnknownTransaction early = refl
+  not_to id None kinds.ReusedId early = refl
+  not_to id None kinds.AfterEnd early = refl
+  not_to id None kinds.AnswersNothing early = refl
+  not_to id None kinds.WrongOperation early = refl
+  not_to id None kinds.MisplacedDialogue early = refl
+  not_to id (Some cause) kinds.UnknownTransaction early = refl
+  not_to id (Some cause) kinds.ReusedId early = refl
+  not_to id (Some cause) kinds.AfterEnd early = refl
+  not_to id (Some cause) kinds.AnswersNothing early = refl
+  not_to id (Some cause) kinds.WrongOperation early = refl
+  not_to id (Some cause) kinds.MisplacedDialogue early = refl
+  not_to id cause kind early = cc
+
+  not_further : (o : Option (List ℕ)) (kind : Kind) → is_first kind ≡ true
+      → is_of_further_kind table side items m o kind ≡ false
+  not_further None kinds.UnknownTransaction early = refl
+  not_further None kinds.ReusedId early = refl
+  not_further None kinds.AfterEnd early = refl
+  not_further None kinds.AnswersNothing early = refl
+  not_further None kinds.WrongOperation early = refl
+  not_further None kinds.MisplacedDialogue early = refl
+  not_further None kind early = cc
+  not_further (Some id) kind early = not_to id (cause_in m) kind early
+
+  -- so where one of them is blamed it is asked of that end,
+  pub first_so : (kind : Kind) → is_first kind ≡ true → is_fault table side items m kind ≡ true
+      → is_of_first_kind table side items m kind ≡ true
+  first_so kind early is =
+      let (untangled, either) =
+      and_parts (not (goes_over_tangled side items m))
+      (is_of_first_kind table side items m kind || is_of_further_kind table side items m (dtid_in m) kind) is in
+      by (is_of_first_kind table side items m kind) (rw (not_further (dtid_in m) kind early) at either)
+    where
+      by : (b : Bool) → (b || false) ≡ true → b ≡ true
+      by true so = refl
+      by false so = so
+
+  -- and each of F2 to F4, F6 and F7 is asked of one end as of both.
+  asked_alike : (kind : Kind) → is_early kind ≡ true
+      → is_of_first_kind table side items m kind ≡ is_of_kind table side items m kind
+  asked_alike kinds.UnknownTransaction early = refl
+  asked_alike kinds.ReusedId early = refl
+  asked_alike kinds.AfterEnd early = refl
+  asked_alike kinds.WrongOperation early = refl
+  asked_alike kinds.MisplacedDialogue early = refl
+  asked_alike kind early = cc
+
+  early_first : (kind : Kind) → is_early kind ≡ true → is_first kind ≡ true
+  early_first kinds.AnswersNothing early = refl
+  early_first kinds.UnknownTransaction early = refl
+  early_first kinds.ReusedId early = refl
+  early_first kinds.AfterEnd early = refl
+  early_first kinds.WrongOperation early = refl
+  early_first kinds.MisplacedDialogue early = refl
+  early_first kind early = cc
+
+  pub kind_so : (kind : Kind) → is_early kind ≡ true → HasKind table side items m kind
+      → is_of_kind table side items m kind ≡ true
+  kind_so kind early (inl is) = is
+  kind_so kind early (inr is) = sym (asked_alike kind early) ∙ first_so kind (early_first kind early) is
+
+-- ---- F8 to F14
+
+module _ (table : Table) (side : Side) (items : List Item) (m : Message) where
+  -- None of these kinds is a first one.
+  not_refuting : (kind : Kind) → is_further kind ≡ true → is_of_kind table side items m kind ≡ false
+  not_refuting kinds.WrongHalf late = refl
+  not_refuting kinds.WrongDialogue late = refl
+  not_refuting kinds.InvokeIdBusy late = refl
+  not_refuting kinds.BadLink late = refl
+  not_refuting kinds.AnsweredAlready late = refl
+  not_refuting kinds.RejectNotAllowed late = refl
+  not_refuting kinds.WrongReply late = refl
+  not_refuting kind late = cc
+
+  not_first : (kind : Kind) → is_further kind ≡ true → is_of_first_kind table side items m kind ≡ false
+  not_first kinds.WrongHalf late = refl
+  not_first kinds.WrongDialogue late = refl
+  not_first kinds.InvokeIdBusy late = refl
+  not_first kinds.BadLink late = refl
+  not_first kinds.AnsweredAlready late = refl
+  not_first kinds.RejectNotAllowed late = refl
+  not_first kinds.WrongReply late = refl
+  not_first kind late = cc
+
+  pub further_so : (kind : Kind) → is_further kind ≡ true → HasKind table side items m kind
+      → (goes_over_tangled side items m ≡ false) × (is_of_further_kind table side items m (dtid_in m) kind ≡ true)
+  further_so kind late (inl is) = let bad : false ≡ true = sym (not_refuting kind late) ∙ is in cc
+  further_so kind late (inr is) =
+      let (untangled, either) =
+      and_parts (not (goes_over_tangled side items m))
+      (is_of_first_kind table side items m kind || is_of_further_kind table side items m (dtid_in m) kind) is in
+      (not-true (goes_over_tangled side items m) untangled, rw (not_first kind late) at either)
+
+  -- A message that has one has a destination ID, but for F10 and F11.
+  not_alone : (kind : Kind) → is_never_alone kind ≡ true → is_of_alone_kind m kind ≡ false
+  not_alone kinds.WrongHalf never = refl
+  not_alone kinds.WrongDialogue never = refl
+  not_alone kinds.AnsweredAlready never = refl
+  not_alone kinds.RejectNotAllowed never = refl
+  not_alone kinds.WrongReply never = refl
+  not_alone kind never = cc
+
+  never_further : (kind : Kind) → is_never_alone kind ≡ true → is_further kind ≡ true
+  never_further kinds.WrongHalf never = refl
+  never_further kinds.WrongDialogue never = refl
+  never_further kinds.AnsweredAlready never = refl
+  never_further kinds.RejectNotAllowed never = refl
+  never_further kinds.WrongReply never = refl
+  never_further kind never = cc
+
+  pub goes_so : (kind : Kind) → is_never_alone kind ≡ true → HasKind table side items m kind
+      → (id : List ℕ) × (dtid_in m ≡ Some id)
+  goes_so kind never has = by (dtid_in m) refl
+    where
+      by : (o : Option (List ℕ)) → dtid_in m ≡ o → (id : List ℕ) × (dtid_in m ≡ Some id)
+      by None to =
+          let so : is_of_alone_kind m kind ≡ true = rw to at ((further_so kind (never_further kind never) has).1) in
+          let bad : false ≡ true = sym (not_alone kind never) ∙ so in cc
+      by (Some id) to = (id, to)
+
+  -- Of a message to that ID.
+  module _ (id : List ℕ) (to : dtid_in m ≡ Some id) where
+    to_so : (kind : Kind) → is_further kind ≡ true → HasKind table side items m kind
+        → is_of_kind_to table side id items m (cause_in m) kind ≡ true
+    to_so kind late has = rw to at ((further_so kind late has).1)
+
+    -- F14 is one of an Abort with a cause,
+    pub reply_so : HasKind table side items m kinds.WrongReply
+        → (cause : ℕ) × (cause_in m ≡ Some cause)
+        × (is_of_reply_kind table side id items (half_of side items id) cause kinds.WrongReply ≡ true)
+    reply_so has = by (cause_in m) refl (to_so kinds.WrongReply refl has)
+      where
+        by : (o : Option ℕ) → cause_in m ≡ o → is_of_kind_to table side id items m o kinds.WrongReply ≡ true
+            → (cause : ℕ) × (cause_in m ≡ Some cause)
+            × (is_of_reply_kind table side id items (half_of side items id) cause kinds.WrongReply ≡ true)
+        by None is so = cc
+        by (Some cause) is so = (cause, is, so)
+
+    -- and the others of its half.
+    not_reply : (h : HalfOf) (cause : ℕ) (kind : Kind) → is_of_a_half kind ≡ true
+        → is_of_reply_kind table side id items h cause kind ≡ false
+    not_reply h cause kinds.WrongHalf late = refl
+    not_reply h cause kinds.WrongDialogue late = refl
+    not_reply h cause kinds.InvokeIdBusy late = refl
+    not_reply h cause kinds.BadLink late = refl
+    not_reply h cause kinds.AnsweredAlready late = refl
+    not_reply h cause kinds.RejectNotAllowed late = refl
+    not_reply h cause kind late = cc
+
+    half_further : (kind : Kind) → is_of_a_half kind ≡ true → is_further kind ≡ true
+    half_further kinds.WrongReply late = refl
+    half_further kinds.WrongHalf late = refl
+    half_further kinds.WrongDialogue late = refl
+    half_further kinds.InvokeIdBusy late = refl
+    half_further kinds.BadLink late = refl
+    half_further kinds.AnsweredAlready late = refl
+    half_further kinds.RejectNotAllowed late = refl
+    half_further kind late = cc
+
+    pub half_so : (kind : Kind) → is_of_a_half kind ≡ true → HasKind table side items m kind
+        → is_of_half_kind table side id items m (half_of side items id) kind ≡ true
+    half_so kind late has = by (cause_in m) (to_so kind (half_further kind late) has)
+      where
+        by : (o : Option ℕ) → is_of_kind_to table side id items m o kind ≡ true
+            → is_of_half_kind table side id items m (half_of side items id) kind ≡ true
+        by None so = so
+        by (Some cause) so =
+            let bad : false ≡ true = sym (not_reply (half_of side items id) cause kind late) ∙ so in cc

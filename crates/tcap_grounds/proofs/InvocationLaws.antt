@@ -1,0 +1,263 @@
+-- The invocations that are given are the Invokes of their entries, one for each entry that a list of these has.
+use Rattle.std.proofs.Common.{◌≡◌, ◌⊎◌, inl, inr, ℕ, ℤ, Bool, true, false, cond, ◌&&◌, List, [], ◌∷◌, ◌++◌, map, Option, Some, None, Result, Ok, refl, sym, ap, subst, ◌∙◌}
+use Rattle.std.specs.Prelude.{Contains, filter, slice_get}
+use Rattle.std.specs.List.{flat_map}
+use Rattle.std.proofs.lemmas.List.{map-append}
+use Rattle.tcap_parts.specs.declared.component.Component.{Component}
+use Rattle.tcap_parts.specs.declared.component.Component.TheVariants.{Invoke, ReturnResult, ReturnError, Reject}
+use Rattle.tcap_msg.specs.declared.message.Message.{Message}
+use Rattle.tcap_msg.specs.Parts.{components_in}
+use Rattle.tcap_record.specs.declared.entry.End.{End as Side}
+use Rattle.tcap_record.specs.declared.entry.Entry.{Entry}
+use Rattle.tcap_record.specs.Ends.{other}
+use Rattle.tcap_end.specs.Table.{Table}
+use Rattle.tcap_model.specs.declared.reason.Reason.{Reason}
+use Rattle.tcap_model.specs.World.{Item, Sent}
+use Rattle.tcap_model.specs.Entries.{item_of}
+use Rattle.tcap_model.proofs.ListLaws.{contains_first}
+use Rattle.tcap_refute.specs.Before.{is_invoke_id}
+use Rattle.tcap_refute.specs.declared.kind.Kind.{Kind}
+use Rattle.tcap_refute.specs.declared.kind.Kind.TheVariants as kinds
+use Rattle.tcap_refute.specs.declared.kind.Refutation.{Refutation}
+use Rattle.tcap_refute.proofs.Members.{has_not}
+use Rattle.tcap_faults.specs.Subject.{subject, subject_by, subject_of}
+use Rattle.tcap_faults.specs.Tallied.{is_sort}
+use Rattle.tcap_faults.specs.declared.sort.Class.TheVariants.{Any}
+use Rattle.tcap_faults.specs.declared.sort.Sort.TheVariants as sorts
+use Rattle.tcap_faults.specs.declared.subject.Subject.{Subject}
+use Rattle.tcap_faults.proofs.LedLawsLists.{id_same}
+use Rattle.tcap_faults.proofs.TwoTests.{flat_map_is}
+use Rattle.tcap_evidence.specs.declared.operations.Invocation.{Invocation}
+use Rattle.tcap_evidence.specs.declared.what.What.{What}
+use Rattle.tcap_evidence.specs.declared.what.What.TheVariants as whats
+use Rattle.tcap_evidence.specs.Evidence.{component_at, scene_of}
+use Rattle.tcap_grounds.specs.Given.{IsInvoke, invokes_listed}
+use Rattle.tcap_evidence.specs.Numbered.{Numbered, entries_with, sent_before}
+use Rattle.tcap_evidence.specs.Operations.{answers, compared, invocation_in, invocations_at, invocations_in, invocations_of, rejects_answer}
+use Rattle.tcap_evidence.specs.Scene.{Scene, heard_by, invoked_by, shown, there, with_sort}
+use Rattle.tcap_grounds.specs.Shown.{component_with, items_before, scene_at}
+use Rattle.tcap_evidence.specs.Words.{sender_of}
+use Rattle.tcap_grounds.proofs.SentBefore.{was_sent}
+use Rattle.tcap_grounds.proofs.SuchLaws.{heard_is, invoked_is, there_is}
+
+abbrev entries_of : List Invocation → List ℕ
+entries_of is = map (λ (i : Invocation). i.entry) is
+
+-- ---- of messages
+
+module _ (table : Table) (id : ℤ) where
+  -- one for each Invoke of the ID in a message,
+  in_components : (number : ℕ) (cs : List Component) → entries_of (flat_map (invocation_in id number) cs)
+      ≡ map (λ (c : Component). number) (filter (is_sort table id (sorts.Invokes Any)) cs)
+  in_components number [] = refl
+  in_components number (Invoke other linked code parameter ∷ cs) = by (is_invoke_id id other) (in_components number cs)
+    where
+      it : Invocation
+      it = record { entry = number; code = code; linked = linked }
+
+      rest : List Invocation
+      rest = flat_map (invocation_in id number) cs
+
+      kept : List Component
+      kept = filter (is_sort table id (sorts.Invokes Any)) cs
+
+      by : (b : Bool) → entries_of rest ≡ map (λ (c : Component). number) kept
+          → entries_of (cond b (it ∷ []) [] ++ rest)
+          ≡ map (λ (c : Component). number) (cond (b && true) (Invoke other linked code parameter ∷ kept) kept)
+      by true same = ap (λ (ns : List ℕ). number ∷ ns) same
+      by false same = same
+  in_components number (ReturnResult last other body ∷ cs) = in_components number cs
+  in_components number (ReturnError other code parameter ∷ cs) = in_components number cs
+  in_components number (Reject other problem ∷ cs) = in_components number cs
+
+  -- and in all of them.
+  in_messages : (sent : List Numbered)
+      → entries_of (flat_map (λ (n : Numbered). flat_map (invocation_in id n.0) (components_in n.1)) sent)
+      ≡ entries_with (is_sort table id (sorts.Invokes Any)) sent
+  in_messages [] = refl
+  in_messages (n ∷ sent) =
+      let first = flat_map (invocation_in id n.0) (components_in n.1) in
+      let others = flat_map (λ (k : Numbered). flat_map (invocation_in id k.0) (components_in k.1)) sent in
+      map-append (λ (i : Invocation). i.entry) first others
+      ∙ ap (λ (ns : List ℕ). ns ++ entries_of others) (in_components n.0 (components_in n.1))
+      ∙ ap (λ (ns : List ℕ). map (λ (c : Component). n.0) (filter (is_sort table id (sorts.Invokes Any)) (components_in n.1)) ++ ns)
+      (in_messages sent)
+
+-- An invocation of an ID that is found in messages: the message of its entry, and the Invoke.
+record IsFound (sent : List Numbered) (asked : Option ℤ) (i : Invocation) : Type 0 where
+  message : Message
+  id : ℤ
+  parameter : Option (List ℕ)
+  among : Contains sent (i.entry, message)
+  of : asked ≡ Some id
+  has : Contains (components_in message) (Invoke id i.linked i.code parameter)
+
+one_found : (id : ℤ) (number : ℕ) (m : Message) (sent : List Numbered) (i : Invocation) → Contains sent (number, m)
+    → (c : Component) → Contains (components_in m) c → Contains (invocation_in id number c) i → IsFound sent (Some id) i
+one_found id number m sent i among (Invoke other linked code parameter) has inside = by (is_invoke_id id other) refl inside
+  where
+    it : Invocation
+    it = record { entry = number; code = code; linked = linked }
+
+    same : it ≡ i → id ≡ other → IsFound sent (Some id) i
+    same is ids =
+        let number_is : number ≡ i.entry = ap (λ (j : Invocation). j.entry) is in
+        record {
+          message = m;
+          id = id;
+          parameter = parameter;
+          among = subst (λ (n : ℕ). Contains sent (n, m)) number_is among;
+          of = refl;
+          has = subst (λ (j : Invocation). Contains (components_in m) (Invoke id j.linked j.code parameter)) is
+              (subst (λ (x : ℤ). Contains (components_in m) (Invoke x linked code parameter)) (sym ids) has);
+        }
+
+    by : (b : Bool) → is_invoke_id id other ≡ b → Contains (cond b (it ∷ []) []) i → IsFound sent (Some id) i
+    by true of there = here (contains_first it [] i there)
+      where
+        here : (it ≡ i) ⊎ Contains [] i → IsFound sent (Some id) i
+        here (inl is) = same is (id_same id other of)
+        here (inr none) = has_not i none
+    by false of there = has_not i there
+one_found id number m sent i among (ReturnResult last other body) has inside = has_not i inside
+one_found id number m sent i among (ReturnError other code parameter) has inside = has_not i inside
+one_found id number m sent i among (Reject other problem) has inside = has_not i inside
+
+found : (asked : Option ℤ) (sent : List Numbered) (i : Invocation) → Contains (invocations_in asked sent) i → IsFound sent asked i
+found None sent i has = has_not i has
+found (Some id) sent i has =
+    let ((number, m), among, inside) =
+    flat_map_is (λ (n : Numbered). flat_map (invocation_in id n.0) (components_in n.1)) sent i has in
+    let (c, in_it, it) = flat_map_is (invocation_in id number) (components_in m) i inside in
+    one_found id number m sent i among c in_it it
+
+-- ---- of a kind
+
+module _ (s : Scene) where
+  listed_in : (sent : List Numbered) → entries_of (invocations_in s.id sent) ≡ with_sort s (sorts.Invokes Any) sent
+  listed_in sent = by s.id refl
+    where
+      by : (o : Option ℤ) → s.id ≡ o → entries_of (invocations_in s.id sent) ≡ with_sort s (sorts.Invokes Any) sent
+      by None is = rw is refl
+      by (Some id) is = rw is (in_messages s.table id sent)
+
+  none_in : (o : Option ℤ) → invocations_in o [] ≡ []
+  none_in None = refl
+  none_in (Some id) = refl
+
+  -- The list is of the messages whose invocations are given.
+  abbrev IsOf : What → List Numbered → Type 0
+  IsOf what sent =
+      (whats.There (sorts.Invokes Any) ≡ what) × (sent ≡ there s)
+      ⊎ (whats.Heard (sorts.Invokes Any) ≡ what) × (sent ≡ heard_by s s.how)
+      ⊎ (whats.Invoked (sorts.Invokes Any) ≡ what) × (sent ≡ invoked_by s s.how)
+
+  is_of : (kind : Kind) (c : Option Component) (what : What) → invokes_listed kind c ≡ Some what
+      → IsOf what (compared s kind c)
+  is_of kinds.WrongOperation c what is = by (answers c) is
+    where
+      by : (b : Bool) → cond b (Some (whats.There (sorts.Invokes Any))) None ≡ Some what → IsOf what (cond b (there s) [])
+      by true is = inl (let it : whats.There (sorts.Invokes Any) ≡ what = cc in it, refl)
+      by false is = cc
+  is_of kinds.InvokeIdBusy c what is = inr (inr (let it : whats.Invoked (sorts.Invokes Any) ≡ what = cc in it, refl))
+  is_of kinds.BadLink c what is = inr (inl (let it : whats.Heard (sorts.Invokes Any) ≡ what = cc in it, refl))
+  is_of kinds.AnsweredAlready c what is = inr (inl (let it : whats.Heard (sorts.Invokes Any) ≡ what = cc in it, refl))
+  is_of kinds.RejectNotAllowed c what is = by (rejects_answer c) is
+    where
+      by : (b : Bool) → Some (cond b (whats.Invoked (sorts.Invokes Any)) (whats.Heard (sorts.Invokes Any))) ≡ Some what
+          → IsOf what (cond b (invoked_by s s.how) (heard_by s s.how))
+      by true is = inr (inr (let it : whats.Invoked (sorts.Invokes Any) ≡ what = cc in it, refl))
+      by false is = inr (inl (let it : whats.Heard (sorts.Invokes Any) ≡ what = cc in it, refl))
+  is_of kind c what is = cc
+
+  given_are : (what : What) (sent : List Numbered) → IsOf what sent → entries_of (invocations_in s.id sent) ≡ shown s what
+  given_are what sent (inl (is, of)) = rw (of, ← is) (listed_in (there s))
+  given_are what sent (inr (inl (is, of))) = rw (of, ← is) (listed_in (heard_by s s.how))
+  given_are what sent (inr (inr (is, of))) = rw (of, ← is) (listed_in (invoked_by s s.how))
+
+  no_list : (kind : Kind) (c : Option Component) → invokes_listed kind c ≡ None → invocations_of s kind c ≡ []
+  no_list kinds.WrongOperation c is = by (answers c) is
+    where
+      by : (b : Bool) → cond b (Some (whats.There (sorts.Invokes Any))) None ≡ None
+          → invocations_in s.id (cond b (there s) []) ≡ []
+      by true is = cc
+      by false is = none_in s.id
+  no_list kinds.InvokeIdBusy c is = cc
+  no_list kinds.BadLink c is = cc
+  no_list kinds.AnsweredAlready c is = cc
+  no_list kinds.RejectNotAllowed c is = cc
+  no_list kind c is = none_in s.id
+
+  -- ---- which end sent them
+
+  module _ (entries : List Entry) (own : s.own ≡ sent_before s.side entries s.number)
+      (peer : s.peer ≡ sent_before (other s.side) entries s.number) where
+    invoke_of : (sender : Side) (sent : List Numbered) (i : Invocation) (f : IsFound sent s.id i)
+        → Contains (sent_before sender entries s.number) (i.entry, f.message) → IsInvoke entries s.number sender s.id i
+    invoke_of sender sent i f there = record {
+      message = f.message;
+      id = f.id;
+      parameter = f.parameter;
+      sent = was_sent sender entries s.number i.entry f.message there;
+      of = f.of;
+      has = f.has;
+    }
+
+    each_is : (what : What) (sent : List Numbered) → IsOf what sent → (i : Invocation) → Contains (invocations_in s.id sent) i
+        → IsInvoke entries s.number (sender_of s.side what) s.id i
+    each_is what sent (inl (is, of)) i has =
+        let f : IsFound (there s) s.id i = found s.id (there s) i (rw of at has) in
+        rw (← is) (invoke_of (other s.side) (there s) i f
+        (subst (λ (ns : List Numbered). Contains ns (i.entry, f.message)) peer (there_is s i.entry f.message f.among).0))
+    each_is what sent (inr (inl (is, of))) i has =
+        let f : IsFound (heard_by s s.how) s.id i = found s.id (heard_by s s.how) i (rw of at has) in
+        let inside = (heard_is s s.how i.entry f.message f.among).0 in
+        rw (← is) (invoke_of (other s.side) (heard_by s s.how) i f
+        (subst (λ (ns : List Numbered). Contains ns (i.entry, f.message)) peer (there_is s i.entry f.message inside).0))
+    each_is what sent (inr (inr (is, of))) i has =
+        let f : IsFound (invoked_by s s.how) s.id i = found s.id (invoked_by s s.how) i (rw of at has) in
+        rw (← is) (invoke_of s.side (invoked_by s s.how) i f
+        (subst (λ (ns : List Numbered). Contains ns (i.entry, f.message)) own (invoked_is s s.how i.entry f.message f.among).0))
+
+-- ---- of an entry
+
+module _ (of_one : Bool) (table : Table) (side : Side) (entries : List Entry) (r : Refutation) (sender : Side) (m : Message)
+    (is : slice_get (map item_of entries) r.entry ≡ Some (Ok (Sent sender m))) where
+  abbrev about : Subject
+  about = subject of_one table side (items_before entries r.entry) m r.kind
+
+  abbrev scene : Scene
+  scene = scene_at of_one table side entries r.entry m r.kind
+
+  abbrev component : Option Component
+  component = component_with of_one table side entries r.entry m r.kind
+
+  -- what is given is that of the message
+  given : invocations_at of_one table side entries r ≡ invocations_of scene r.kind component
+  given =
+      sym (from (invocations_at of_one table side entries r) refl)
+      ∙ ap (λ (a : Subject). invocations_of (scene_of table side entries r.entry m r.kind a) r.kind
+      (component_at a.component (components_in m))) about_is
+    where
+      from : (g : List Invocation) → invocations_at of_one table side entries r ≡ g
+          → invocations_of (scene_of table side entries r.entry m r.kind (subject_of of_one table side entries r)) r.kind
+          (component_at (subject_of of_one table side entries r).component (components_in m)) ≡ g
+      from g of = rw is at of
+
+      about_is : subject_of of_one table side entries r ≡ about
+      about_is =
+          ap (λ (o : Option (Result Item Reason)). subject_by of_one table side (items_before entries r.entry) o r.kind) is
+
+  pub are_listed : (what : What) → invokes_listed r.kind component ≡ Some what
+      → map (λ i. i.entry) (invocations_at of_one table side entries r) ≡ shown scene what
+  are_listed what listed =
+      ap entries_of given ∙ given_are scene what (compared scene r.kind component) (is_of scene r.kind component what listed)
+
+  pub is_invoke : (what : What) (i : Invocation) → invokes_listed r.kind component ≡ Some what
+      → Contains (invocations_at of_one table side entries r) i → IsInvoke entries r.entry (sender_of side what) scene.id i
+  is_invoke what i listed has =
+      each_is scene entries refl refl what (compared scene r.kind component) (is_of scene r.kind component what listed) i
+      (subst (λ (l : List Invocation). Contains l i) given has)
+
+  pub none_given : invokes_listed r.kind component ≡ None → invocations_at of_one table side entries r ≡ []
+  none_given listed = given ∙ no_list scene r.kind component listed

@@ -1,0 +1,143 @@
+-- Each entry of the record, before the message at fault, that is so is listed.
+use Rattle.std.proofs.Common.{◌≡◌, ◌⊎◌, inl, inr, ℕ, Bool, true, false, ◌&&◌, List, ◌++◌, Option, Some, None, is_none, refl, sym, subst}
+use Rattle.std.specs.Prelude.{Contains, filter}
+use Rattle.std.proofs.lemmas.Bool.{and_from}
+use Rattle.std.proofs.lemmas.List.Elements.{Contains-append_left, Contains-append_right}
+use Rattle.tcap_parts.specs.declared.component.Component.{Component}
+use Rattle.tcap_msg.specs.declared.kind.Kind.TheVariants as forms
+use Rattle.tcap_msg.specs.declared.message.Message.{Message}
+use Rattle.tcap_msg.specs.declared.message.Message.TheVariants.{Unidirectional, Begin, Continue, End as EndMessage, Abort}
+use Rattle.tcap_msg.specs.Parts.{cause_in, components_in, dtid_in, kind_in, otid_in}
+use Rattle.tcap_record.specs.declared.entry.Entry.{Entry}
+use Rattle.tcap_record.specs.Ends.{other}
+use Rattle.tcap_model.specs.Since.{ended_by}
+use Rattle.tcap_refute.specs.Before.{is_a}
+use Rattle.tcap_refute.specs.Kind.{is_begin_with_request}
+use Rattle.tcap_faults.specs.Told.{is_cause}
+use Rattle.tcap_faults.specs.Closed.{is_surely_open}
+use Rattle.tcap_refute.proofs.Members.{filter_has}
+use Rattle.tcap_faults.specs.declared.sort.Sort.{Sort}
+use Rattle.tcap_faults.specs.Tallied.{is_sort}
+use Rattle.tcap_evidence.specs.declared.what.What.{What}
+use Rattle.tcap_evidence.specs.declared.what.What.TheVariants as whats
+use Rattle.tcap_evidence.specs.Numbered.{Numbered, entries_where, sent_before}
+use Rattle.tcap_evidence.specs.Scene.{Scene, is_open_continue, is_that, own_id, shown, there, told_there, went_elsewhere, with_sort, with_sort_in}
+use Rattle.tcap_grounds.specs.Shown.{AreSame, AreDifferent, HasSort, IsEntryOf, IsItself, IsOpen, IsSentBefore, IsShown, IsToldTo, is_heard_or_invoked}
+use Rattle.tcap_grounds.proofs.NumberedLists.{map_has, where_has, with_has}
+use Rattle.tcap_grounds.proofs.MessageTests.{cause_so, elsewhere_so, end_so, form_so, one_so}
+use Rattle.tcap_grounds.proofs.SentBefore.{is_sent}
+
+module _ (s : Scene) where
+  there_has : (n : ℕ) (m : Message) → Contains s.peer (n, m) → AreSame s.to (otid_in m) → Contains (there s) (n, m)
+  there_has n m sent from =
+      filter_has (λ (k : Numbered). is_that s.to (otid_in k.1)) s.peer (n, m) sent (one_so s.to (otid_in m) from)
+
+  told_has : (n : ℕ) (m : Message) → Contains s.own (n, m) → IsToldTo s.to m → Contains (told_there s) (n, m)
+  told_has n m sent (to, none) =
+      filter_has (λ (k : Numbered). is_that s.to (dtid_in k.1) && is_none (cause_in k.1)) s.own (n, m) sent
+      (and_from (is_that s.to (dtid_in m)) (is_none (cause_in m)) (one_so s.to (dtid_in m) to) (rw none refl))
+
+  sorted_has : (sort : Sort) (sent : List Numbered) (n : ℕ) (m : Message) → Contains sent (n, m)
+      → HasSort s sort (components_in m) → Contains (with_sort s sort sent) n
+  sorted_has sort sent n m has (id, c, is, among, so) =
+      rw is (with_has (is_sort s.table id sort) sent n m c has among so)
+
+  pub itself_has : (sort : Sort) (cs : List Component) → HasSort s sort cs → Contains (with_sort_in s sort cs) s.number
+  itself_has sort cs (id, c, is, among, so) =
+      rw is
+      (map_has (λ (c : Component). s.number) (filter (is_sort s.table id sort) cs) c
+      (filter_has (is_sort s.table id sort) cs c among so))
+
+  went_so : (m : Message) → kind_in m ≡ forms.Continue → AreSame s.from (otid_in m) → AreDifferent s.to (dtid_in m)
+      → went_elsewhere s m ≡ true
+  went_so m goes (otid, from, of) (dtid, other, to, there, apart) =
+      rw (from, to) (elsewhere_so otid dtid m goes of (dtid, other, refl, there, apart))
+
+  open_so : (m : Message) → kind_in m ≡ forms.Continue → IsOpen s m → is_open_continue s m ≡ true
+  open_so m goes (own, of, still) =
+      rw of (and_from (is_a forms.Continue m) (is_surely_open s.table s.side s.items own) (form_so forms.Continue m goes) still)
+
+-- A Continue has no cause.
+no_cause : (m : Message) → kind_in m ≡ forms.Continue → cause_in m ≡ None
+no_cause (Unidirectional dialogue components) is = cc
+no_cause (Begin otid dialogue components) is = cc
+no_cause (Continue otid dtid dialogue components) is = refl
+no_cause (EndMessage dtid dialogue components) is = cc
+no_cause (Abort dtid reason) is = cc
+
+module _ (entries : List Entry) (s : Scene) (own : s.own ≡ sent_before s.side entries s.number)
+    (peer : s.peer ≡ sent_before (other s.side) entries s.number) where
+  own_in : (n : ℕ) (m : Message) → IsSentBefore entries s.number s.side n m → Contains s.own (n, m)
+  own_in n m sent =
+      subst (λ (ns : List Numbered). Contains ns (n, m)) (sym own) (is_sent s.side entries s.number n m sent)
+
+  peer_in : (n : ℕ) (m : Message) → IsSentBefore entries s.number (other s.side) n m → Contains s.peer (n, m)
+  peer_in n m sent =
+      subst (λ (ns : List Numbered). Contains ns (n, m)) (sym peer) (is_sent (other s.side) entries s.number n m sent)
+
+  from_there : (p : Message → Bool) (n : ℕ) (m : Message) → IsSentBefore entries s.number (other s.side) n m
+      → p m ≡ true → AreSame s.to (otid_in m) → Contains (entries_where p (there s)) n
+  from_there p n m sent passes from = where_has p (there s) n m (there_has s n m (peer_in n m sent) from) passes
+
+  to_there : (p : Message → Bool) (n : ℕ) (m : Message) → IsSentBefore entries s.number s.side n m
+      → p m ≡ true → IsToldTo s.to m → Contains (entries_where p (told_there s)) n
+  to_there p n m sent passes told = where_has p (told_there s) n m (told_has s n m (own_in n m sent) told) passes
+
+  of_own : (p : Message → Bool) (n : ℕ) (m : Message) → IsSentBefore entries s.number s.side n m → p m ≡ true
+      → Contains (entries_where p s.own) n
+  of_own p n m sent passes = where_has p s.own n m (own_in n m sent) passes
+
+  of_own_id : (p : Message → Bool) (id : Option (List ℕ)) (n : ℕ) (m : Message)
+      → IsSentBefore entries s.number s.side n m → p m ≡ true → AreSame id (otid_in m)
+      → Contains (entries_where (λ m. p m && is_that id (otid_in m)) s.own) n
+  of_own_id p id n m sent passes from =
+      of_own (λ (k : Message). p k && is_that id (otid_in k)) n m sent
+      (and_from (p m) (is_that id (otid_in m)) passes (one_so id (otid_in m) from))
+
+  aborted : (cause : ℕ) (n : ℕ) (m : Message) → IsSentBefore entries s.number s.side n m → AreSame s.to (dtid_in m)
+      → cause_in m ≡ Some cause
+      → Contains (entries_where (λ m. is_that s.to (dtid_in m) && is_cause cause (cause_in m)) s.own) n
+  aborted cause n m sent to is =
+      of_own (λ (k : Message). is_that s.to (dtid_in k) && is_cause cause (cause_in k)) n m sent
+      (and_from (is_that s.to (dtid_in m)) (is_cause cause (cause_in m)) (one_so s.to (dtid_in m) to)
+      (cause_so cause (cause_in m) is))
+
+  -- a component in the end's messages to there, or among these of the message itself: those before the one at fault, or all
+  told_or_itself : (sort : Sort) (cs : List Component) (n : ℕ)
+      → IsEntryOf entries s (whats.Before sort) n ⊎ IsItself s sort cs n
+      → Contains (with_sort s sort (told_there s) ++ with_sort_in s sort cs) n
+  told_or_itself sort cs n (inl (m, sent, (told, sorted))) =
+      Contains-append_left (with_sort s sort (told_there s)) (with_sort_in s sort cs) n
+      (sorted_has s sort (told_there s) n m (told_has s n m (own_in n m sent) told) sorted)
+  told_or_itself sort cs n (inr (it, sorted)) =
+      Contains-append_right (with_sort s sort (told_there s)) (with_sort_in s sort cs) n
+      (rw it (itself_has s sort cs sorted))
+
+  pub is_listed : (what : What) (n : ℕ) → is_heard_or_invoked what ≡ false → IsShown entries s what n → Contains (shown s what) n
+  is_listed whats.BeginsThere n of (m, sent, (begins, from)) =
+      from_there (is_a forms.Begin) n m sent (form_so forms.Begin m begins) from
+  is_listed whats.RequestsThere n of (m, sent, (asks, from)) = from_there is_begin_with_request n m sent asks from
+  is_listed whats.ContinuesThere n of (m, sent, (goes, from)) =
+      from_there (is_a forms.Continue) n m sent (form_so forms.Continue m goes) from
+  is_listed whats.Used n of (m, sent, from) =
+      of_own (λ (k : Message). is_that s.from (otid_in k)) n m sent (one_so s.from (otid_in m) from)
+  is_listed whats.WentElsewhere n of (m, sent, (goes, from, two)) =
+      of_own (went_elsewhere s) n m sent (went_so s m goes from two)
+  is_listed whats.Begun n of (m, sent, (begins, from)) =
+      of_own_id (is_a forms.Begin) (own_id s) n m sent (form_so forms.Begin m begins) from
+  is_listed whats.OwnRequests n of (m, sent, (asks, from)) =
+      of_own_id is_begin_with_request (own_id s) n m sent asks from
+  is_listed whats.Told n of (m, sent, told) = to_there (λ (k : Message). true) n m sent refl told
+  is_listed whats.ContinuesTold n of (m, sent, (goes, to)) =
+      to_there (is_a forms.Continue) n m sent (form_so forms.Continue m goes) (to, no_cause m goes)
+  is_listed whats.Ended n of (m, sent, ends) =
+      of_own (λ (k : Message). is_that s.to (ended_by k)) n m sent (end_so s.to m ends)
+  is_listed whats.Unknown n of (m, sent, (to, caused)) = aborted 1 n m sent to caused
+  is_listed whats.Refused n of (m, sent, (to, caused)) = aborted 4 n m sent to caused
+  is_listed (whats.There sort) n of (m, sent, (from, sorted)) =
+      sorted_has s sort (there s) n m (there_has s n m (peer_in n m sent) from) sorted
+  is_listed (whats.Heard sort) n of is = cc
+  is_listed (whats.Before sort) n of either = told_or_itself sort s.earlier n either
+  is_listed (whats.Whole sort) n of either = told_or_itself sort s.all n either
+  is_listed (whats.Invoked sort) n of is = cc
+  is_listed whats.Open n of (m, sent, (goes, still)) = of_own (is_open_continue s) n m sent (open_so s m goes still)

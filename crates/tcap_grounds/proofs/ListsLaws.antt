@@ -1,0 +1,109 @@
+-- When a list of the entries of messages has none, and when it has one.
+use Rattle.std.proofs.Common.{◌≡◌, ℕ, Bool, true, false, cond, ◌&&◌, ◌||◌, List, [], ◌∷◌, length, map, Option, None, refl, ap, ◌∙◌}
+use Rattle.std.specs.Prelude.{Contains, filter}
+use Rattle.std.specs.List.{list_any}
+use Rattle.tcap_msg.specs.declared.message.Message.{Message}
+use Rattle.tcap_msg.specs.Parts.{cause_in, dtid_in, otid_in}
+use Rattle.tcap_record.specs.declared.entry.End.{End as Side}
+use Rattle.tcap_record.specs.declared.entry.Entry.{Entry}
+use Rattle.tcap_model.specs.World.{Item}
+use Rattle.tcap_refute.specs.Before.{asked, sent_by}
+use Rattle.tcap_faults.specs.Counts.{is_nothing}
+use Rattle.tcap_faults.specs.Told.{is_abort_with, is_cause, told}
+use Rattle.tcap_faults.proofs.HalfLawsFinds.{any_is}
+use Rattle.tcap_evidence.specs.Numbered.{Numbered, entries_where, sent_before}
+use Rattle.tcap_evidence.specs.Scene.{Scene, is_that, there, told_there}
+use Rattle.tcap_grounds.specs.Shown.{ListsOne, items_before}
+use Rattle.tcap_grounds.proofs.NumberedLists.{map_is, where_has}
+use Rattle.tcap_evidence.proofs.SceneLaws.{none_kept}
+use Rattle.tcap_grounds.proofs.SceneLists.{IsTo, there_are, told_are}
+use Rattle.tcap_grounds.proofs.SentBefore.{messages, sent_are}
+use Rattle.tcap_record.specs.Ends.{other}
+use Rattle.tcap_evidence.specs.declared.what.What.TheVariants as whats
+
+-- What has no items is empty.
+pub empty_is : {A : Type 0} (xs : List A) → length xs ≡ 0 → xs ≡ []
+empty_is [] none = refl
+empty_is (x ∷ xs) none = cc
+
+-- A list has nothing where none passes,
+pub none_pass : (p : Message → Bool) (sent : List Numbered) → list_any p (messages sent) ≡ false → entries_where p sent ≡ []
+none_pass p [] none = refl
+none_pass p (n ∷ sent) none = by (p n.1) none (none_pass p sent)
+  where
+    kept : List Numbered
+    kept = filter (λ (k : Numbered). p k.1) sent
+
+    by : (b : Bool) → (b || list_any p (messages sent)) ≡ false
+        → (list_any p (messages sent) ≡ false → entries_where p sent ≡ [])
+        → map (λ (k : Numbered). k.0) (cond b (n ∷ kept) kept) ≡ []
+    by true none rest = cc
+    by false none rest = rest none
+
+-- and something where one passes.
+pub one_passes : (p : Message → Bool) (sent : List Numbered) → list_any p (messages sent) ≡ true
+    → (n : ℕ) × Contains (entries_where p sent) n
+one_passes p sent some =
+    let (m, has, passes) = any_is p (messages sent) some in
+    let ((n, other), there, same) = map_is (λ (k : Numbered). k.1) sent m has in
+    (n, where_has p sent n other there (ap p same ∙ passes))
+
+-- An end sent one that passes.
+pub sent_one : (side : Side) (entries : List Entry) (number : ℕ) (s : Scene) (p : Message → Bool)
+    → s.own ≡ sent_before side entries number → list_any p (sent_by side (items_before entries number)) ≡ true
+    → (n : ℕ) × Contains (entries_where p s.own) n
+sent_one side entries number s p own some =
+    one_passes p s.own
+    (ap (λ (ns : List Numbered). list_any p (messages ns)) own ∙ ap (list_any p) (sent_are side entries number) ∙ some)
+
+-- Where a message has no destination ID nothing is there.
+pub nothing_there : (s : Scene) → s.to ≡ None → there s ≡ []
+nothing_there s to =
+    ap (λ (o : Option (List ℕ)). filter (λ (n : Numbered). is_that o (otid_in n.1)) s.peer) to
+    ∙ none_kept (λ (n : Numbered). is_that None (otid_in n.1)) (λ n. refl) s.peer
+
+-- A scene of a message to that ID.
+module _ (side : Side) (items : List Item) (s : Scene) (id : List ℕ) (of : IsTo side items id s) (p : Message → Bool) where
+  pub none_there : list_any p (asked side id items) ≡ false → entries_where p (there s) ≡ []
+  none_there none = none_pass p (there s) (ap (list_any p) (there_are side items id s of) ∙ none)
+
+  pub one_there : list_any p (asked side id items) ≡ true → (n : ℕ) × Contains (entries_where p (there s)) n
+  one_there some = one_passes p (there s) (ap (list_any p) (there_are side items id s of) ∙ some)
+
+  pub none_told : list_any p (told side id items) ≡ false → entries_where p (told_there s) ≡ []
+  none_told none = none_pass p (told_there s) (ap (list_any p) (told_are side items id s of) ∙ none)
+
+  pub one_told : list_any p (told side id items) ≡ true → (n : ℕ) × Contains (entries_where p (told_there s)) n
+  one_told some = one_passes p (told_there s) (ap (list_any p) (told_are side items id s of) ∙ some)
+
+  pub one_sent : list_any p (sent_by side items) ≡ true → (n : ℕ) × Contains (entries_where p s.own) n
+  one_sent some = one_passes p s.own (ap (list_any p) of.own ∙ some)
+
+module _ (side : Side) (items : List Item) (s : Scene) (id : List ℕ) (of : IsTo side items id s) where
+  -- Aborts of the provider with a cause.
+  abbrev aborts : ℕ → Message → Bool
+  aborts cause m = is_that s.to (dtid_in m) && is_cause cause (cause_in m)
+
+  aborts_are : (cause : ℕ)
+      → list_any (aborts cause) (sent_by side items) ≡ list_any (is_abort_with cause id) (sent_by side items)
+  aborts_are cause =
+      ap (λ (o : Option (List ℕ)). list_any (λ (m : Message). is_that o (dtid_in m) && is_cause cause (cause_in m))
+      (sent_by side items)) of.to
+
+  pub none_aborts : (cause : ℕ) → list_any (is_abort_with cause id) (sent_by side items) ≡ false
+      → entries_where (λ m. is_that s.to (dtid_in m) && is_cause cause (cause_in m)) s.own ≡ []
+  none_aborts cause none =
+      none_pass (aborts cause) s.own (ap (list_any (aborts cause)) of.own ∙ aborts_are cause ∙ none)
+
+  pub one_aborts : (cause : ℕ) → list_any (is_abort_with cause id) (sent_by side items) ≡ true
+      → (n : ℕ) × Contains (entries_where (λ m. is_that s.to (dtid_in m) && is_cause cause (cause_in m)) s.own) n
+  one_aborts cause some =
+      one_passes (aborts cause) s.own (ap (list_any (aborts cause)) of.own ∙ aborts_are cause ∙ some)
+
+  -- Something was told there.
+  pub something_told : is_nothing (told side id items) ≡ false → ListsOne s whats.Told
+  something_told some = one_told side items s id of (λ m. true) (by (told side id items) some)
+    where
+      by : (ms : List Message) → is_nothing ms ≡ false → list_any (λ (m : Message). true) ms ≡ true
+      by [] some = cc
+      by (m ∷ ms) some = refl

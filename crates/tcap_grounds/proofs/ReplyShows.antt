@@ -1,0 +1,217 @@
+-- Where a dialogue portion is misplaced, or an Abort of the provider answers nothing that is left, what is listed shows that.
+use Rattle.std.proofs.Common.{◌≡◌, ◌⊎◌, inl, inr, ℕ, ◌+◌, ◌<◌, arith, Bool, true, false, cond, not, ◌&&◌, ◌||◌, List, Option, Some, None, is_some, refl, ap}
+use Rattle.std.specs.Prelude.{Contains, ◌==◌, nat_lt}
+use Rattle.std.specs.List.{list_any}
+use Rattle.std.proofs.lemmas.Bool.{and_parts, eqb-true, ltb-true, not-true, or_cases}
+use Rattle.tcap_parts.specs.declared.dialogue.Dialogue.{Dialogue}
+use Rattle.tcap_msg.specs.declared.message.Message.{Message}
+use Rattle.tcap_msg.specs.declared.message.Message.TheVariants.{Unidirectional, Begin, Continue, End as EndMessage, Abort}
+use Rattle.tcap_msg.specs.Parts.{cause_in, dialogue_in, dtid_in}
+use Rattle.tcap_record.specs.declared.entry.End.{End as Side}
+use Rattle.tcap_record.specs.declared.entry.Entry.{Entry}
+use Rattle.tcap_end.specs.Dialogue.{accepts_dialogue, refuses_dialogue}
+use Rattle.tcap_end.specs.Table.{Table}
+use Rattle.tcap_model.specs.World.{Item}
+use Rattle.tcap_refute.specs.Before.{asked, has_a, is_a, sent_by}
+use Rattle.tcap_refute.specs.Kind.{is_begin_with_request, is_misplaced_aborting, is_misplaced_dialogue, is_misplaced_going_on}
+use Rattle.tcap_faults.specs.declared.how.How.TheVariants.{Accepted, Refused}
+use Rattle.tcap_faults.specs.declared.subject.Subject.{Subject}
+use Rattle.tcap_faults.specs.Closed.{all_go_to_open, is_surely_open}
+use Rattle.tcap_faults.specs.Counts.{count, is_nothing}
+use Rattle.tcap_faults.specs.Fault.{count_received, is_wrong_reply}
+use Rattle.tcap_faults.specs.HalfKinds.{is_accepted}
+use Rattle.tcap_faults.specs.HalfOf.{HalfOf, begun_from, half_by, half_of}
+use Rattle.tcap_faults.specs.Told.{is_abort_with, told, was_refused}
+use Rattle.tcap_faults.proofs.TwoTests.{none_passes, passes_not}
+use Rattle.tcap_evidence.specs.Evidence.{scene_of}
+use Rattle.tcap_grounds.specs.HalvesShown.{AcceptsNone, NoBeginLeft, NoContinueLeft, ShowsMisplaced, ShowsWrongReply, goes_to_open}
+use Rattle.tcap_evidence.specs.Numbered.{entries_where}
+use Rattle.tcap_evidence.specs.Scene.{Scene}
+use Rattle.tcap_grounds.specs.Shown.{AreAllThere, HasKind, ListsNone, items_before}
+use Rattle.tcap_grounds.proofs.CountedLaws.{messages_counted, scene_to}
+use Rattle.tcap_grounds.proofs.HasKindLaws.{goes_so, kind_so, reply_so}
+use Rattle.tcap_grounds.proofs.ListsLaws.{none_there, nothing_there, one_aborts, one_there, something_told}
+use Rattle.tcap_grounds.proofs.SceneLists.{IsTo}
+use Rattle.tcap_parts.specs.declared.dialogue.Dialogue.TheVariants as dialogues
+use Rattle.tcap_msg.specs.declared.kind.Kind.TheVariants as forms
+use Rattle.tcap_refute.specs.declared.kind.Kind.TheVariants as kinds
+use Rattle.tcap_evidence.specs.declared.what.What.TheVariants as whats
+
+-- ---- F7
+
+-- Not both: so where one is so, the other is not.
+not_both : (has so : Bool) → not (has && so) ≡ true → so ≡ true → has ≡ false
+not_both true true apart is = cc
+not_both false true apart is = refl
+not_both has false apart is = cc
+
+-- In a Continue or an End,
+going_on : (has : Bool) (d : Option Dialogue) → is_misplaced_going_on has d ≡ true
+    → (is_some d ≡ true) × (accepts_dialogue d ≡ true → has ≡ false)
+going_on has None is = cc
+going_on has (Some d) is = (refl, not_both has (accepts_dialogue (Some d)) is)
+
+-- and in an Abort.
+aborting : (has : Bool) (d : Option Dialogue) → is_misplaced_aborting has d ≡ true
+    → (is_some d ≡ true) × (refuses_dialogue d ≡ true → has ≡ false)
+aborting has None is = cc
+aborting has (Some (dialogues.Abort source info)) is = (refl, λ so. cc)
+aborting has (Some (dialogues.Request context info)) is = (refl, λ so. cc)
+aborting has (Some (dialogues.Uni context info)) is = (refl, λ so. cc)
+aborting has (Some (dialogues.Response context result diagnostic info)) is =
+    (refl, not_both has (refuses_dialogue (Some (dialogues.Response context result diagnostic info))) is)
+
+module _ (table : Table) (side : Side) (entries : List Entry) (number : ℕ) (about : Subject) where
+  abbrev misplaced_in : Message → Scene
+  misplaced_in m = scene_of table side entries number m kinds.MisplacedDialogue about
+
+  -- The peer sent no Begin with a request from there.
+  no_request : (m : Message) (id : List ℕ) → dtid_in m ≡ Some id
+      → list_any is_begin_with_request (asked side id (items_before entries number)) ≡ false
+      → ListsNone (misplaced_in m) whats.RequestsThere
+  no_request m id to none =
+      none_there side (items_before entries number) (misplaced_in m) id
+      (scene_to table side entries number m kinds.MisplacedDialogue about id to) is_begin_with_request none
+
+  alone_none : (m : Message) → dtid_in m ≡ None → ListsNone (misplaced_in m) whats.RequestsThere
+  alone_none m to = ap (entries_where is_begin_with_request) (nothing_there (misplaced_in m) to)
+
+  misplaced_by : (m : Message) → is_misplaced_dialogue side (items_before entries number) m ≡ true
+      → ShowsMisplaced (misplaced_in m) m
+  misplaced_by (Unidirectional dialogue components) is =
+      ((and_parts (is_some dialogue) _ is).0, λ so. alone_none (Unidirectional dialogue components) refl)
+  misplaced_by (Begin otid dialogue components) is =
+      ((and_parts (is_some dialogue) _ is).0, λ so. alone_none (Begin otid dialogue components) refl)
+  misplaced_by (Continue otid dtid dialogue components) is =
+      let (some, none) = going_on (list_any is_begin_with_request (asked side dtid (items_before entries number))) dialogue is in
+      (some, λ so. no_request (Continue otid dtid dialogue components) dtid refl (none so))
+  misplaced_by (EndMessage dtid dialogue components) is =
+      let (some, none) = going_on (list_any is_begin_with_request (asked side dtid (items_before entries number))) dialogue is in
+      (some, λ so. no_request (EndMessage dtid dialogue components) dtid refl (none so))
+  misplaced_by (Abort dtid reason) is =
+      let (some, none) =
+      aborting (list_any is_begin_with_request (asked side dtid (items_before entries number)))
+      (dialogue_in (Abort dtid reason)) is in (some, λ so. no_request (Abort dtid reason) dtid refl (none so))
+
+pub misplaced_shows : (table : Table) (side : Side) (entries : List Entry) (number : ℕ) (m : Message) (about : Subject)
+    → HasKind table side (items_before entries number) m kinds.MisplacedDialogue
+    → ShowsMisplaced (scene_of table side entries number m kinds.MisplacedDialogue about) m
+misplaced_shows table side entries number m about has =
+    misplaced_by table side entries number about m
+    (kind_so table side (items_before entries number) m kinds.MisplacedDialogue refl has)
+
+-- ---- what was accepted
+
+refused_so : (refused : Bool) → is_accepted (cond refused Refused Accepted) ≡ false → refused ≡ true
+refused_so true not_so = refl
+refused_so false not_so = cc
+
+module _ (side : Side) (items : List Item) (s : Scene) (id : List ℕ) (of : IsTo side items id s) where
+  -- Where the half is no accepted one, no Begin was accepted.
+  pub none_accepted : is_accepted (half_of side items id).how ≡ false → AcceptsNone s
+  none_accepted = by (has_a forms.Begin (asked side id items)) (begun_from side items id) refl
+    where
+      by : (b : Bool) (o : Option (List ℕ)) → has_a forms.Begin (asked side id items) ≡ b
+          → is_accepted (half_by side items id b o).how ≡ false → AcceptsNone s
+      by true o begun not_so = inr (one_aborts side items s id of 4 (refused_so (was_refused side id items) not_so))
+      by false o none not_so = inl (none_there side items s id of (is_a forms.Begin) none)
+
+-- ---- F14
+
+module _ (table : Table) (side : Side) (entries : List Entry) (number : ℕ) (m : Message) (about : Subject) (id : List ℕ)
+    (to : dtid_in m ≡ Some id) where
+  abbrev items : List Item
+  items = items_before entries number
+
+  abbrev s : Scene
+  s = scene_of table side entries number m kinds.WrongReply about
+
+  abbrev h : HalfOf
+  h = half_of side items id
+
+  of : IsTo side items id s
+  of = scene_to table side entries number m kinds.WrongReply about id to
+
+  all : AreAllThere side items id s
+  all = messages_counted table side entries number m kinds.WrongReply about id to
+
+  -- Fewer Continues were sent than would be answered or received,
+  fewer : count (is_a forms.Continue) (asked side id items)
+      < count (is_abort_with 1 id) (sent_by side items) + 1 + count_received side id items h → NoContinueLeft s
+  fewer = by (is_nothing (told side id items)) (is_accepted h.how) refl refl
+    where
+      by : (nothing accepted : Bool) → is_nothing (told side id items) ≡ nothing → is_accepted h.how ≡ accepted
+          → count (is_a forms.Continue) (asked side id items)
+          < count (is_abort_with 1 id) (sent_by side items) + 1 + cond (nothing || accepted) 0 1 → NoContinueLeft s
+      by true accepted no_told is less = inl (omega (arith, all.continues, all.unknown, less))
+      by false true some is less = inl (omega (arith, all.continues, all.unknown, less))
+      by false false some none less =
+          inr (inl (
+            omega (arith, all.continues, all.unknown, less),
+            something_told side items s id of some,
+            none_accepted side items s id of none,
+          ))
+
+  -- or all go to halves that are open.
+  all_open : all_go_to_open table side items (asked side id items) ≡ true → NoContinueLeft s
+  all_open is =
+      inr (inr (
+        one_there side items s id of (is_a forms.Continue) (and_parts (has_a forms.Continue (asked side id items)) _ is).0,
+        none_there side items s id of elsewhere (none_passes elsewhere (asked side id items) open_still),
+      ))
+    where
+      elsewhere : Message → Bool
+      elsewhere x = is_a forms.Continue x && not (goes_to_open s x)
+
+      open_still : (x : Message) → Contains (asked side id items) x → elsewhere x ≡ false
+      open_still x has = by (dtid_in x) refl
+        where
+          by : (o : Option (List ℕ)) → dtid_in x ≡ o → elsewhere x ≡ false
+          by None goes =
+              let none = not-true _ (and_parts (has_a forms.Continue (asked side id items)) _ is).1 in
+              let so : (is_a forms.Continue x && true) ≡ false = rw goes at (passes_not _ (asked side id items) x has none) in
+              rw goes so
+          by (Some own) goes =
+              let none = not-true _ (and_parts (has_a forms.Continue (asked side id items)) _ is).1 in
+              let so : (is_a forms.Continue x && not (is_surely_open table side items own)) ≡ false =
+              rw goes at (passes_not _ (asked side id items) x has none) in rw goes so
+
+  begins_left : (not (is_accepted h.how) || not (is_nothing (told side id items))) ≡ true → NoBeginLeft s
+  begins_left is = by (or_cases (not (is_accepted h.how)) (not (is_nothing (told side id items))) is)
+    where
+      by : (not (is_accepted h.how) ≡ true) ⊎ (not (is_nothing (told side id items)) ≡ true) → NoBeginLeft s
+      by (inl none) = inl (none_accepted side items s id of (not-true (is_accepted h.how) none))
+      by (inr some) = inr (something_told side items s id of (not-true (is_nothing (told side id items)) some))
+
+  reply_by : (cause : ℕ) → is_wrong_reply table side id items h cause ≡ true → ShowsWrongReply s (Some cause)
+  reply_by cause is = by (or_cases _ _ is)
+    where
+      continues : Bool
+      continues =
+          nat_lt (count (is_a forms.Continue) (asked side id items))
+          (count (is_abort_with 1 id) (sent_by side items) + 1 + count_received side id items h)
+
+      opens : Bool
+      opens = all_go_to_open table side items (asked side id items)
+
+      begins : Bool
+      begins = not (is_accepted h.how) || not (is_nothing (told side id items))
+
+      by_one : (continues ≡ true) ⊎ (opens ≡ true) → NoContinueLeft s
+      by_one (inl less) = fewer (ltb-true _ _ less)
+      by_one (inr all) = all_open all
+
+      by : (((cause == 1) && (continues || opens)) ≡ true) ⊎ (((cause == 4) && begins) ≡ true) → ShowsWrongReply s (Some cause)
+      by (inl one) =
+          let (is_one, none) = and_parts (cause == 1) (continues || opens) one in
+          inl (eqb-true cause 1 is_one, by_one (or_cases continues opens none))
+      by (inr four) =
+          let (is_four, none) = and_parts (cause == 4) begins four in inr (eqb-true cause 4 is_four, begins_left none)
+
+pub reply_shows : (table : Table) (side : Side) (entries : List Entry) (number : ℕ) (m : Message) (about : Subject)
+    → HasKind table side (items_before entries number) m kinds.WrongReply
+    → ShowsWrongReply (scene_of table side entries number m kinds.WrongReply about) (cause_in m)
+reply_shows table side entries number m about has =
+    let (id, to) = goes_so table side (items_before entries number) m kinds.WrongReply refl has in
+    let (cause, caused, is) = reply_so table side (items_before entries number) m id to has in
+    rw caused (reply_by table side entries number m about id to cause is)

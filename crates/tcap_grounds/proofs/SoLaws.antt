@@ -1,0 +1,254 @@
+-- The component of a message that has a kind: where it stands, and what a scene of it says.
+use Rattle.std.proofs.Common.{◌≡◌, ◌≢◌, ℕ, ℤ, zero, suc, ◌+◌, ◌≤◌, arith, Bool, true, false, cond, not, ◌||◌, List, [], ◌∷◌, ◌++◌, length, take, Option, Some, None, append_assoc, append-nil, refl, sym, ap, ◌∙◌}
+use Rattle.std.specs.Prelude.{Contains, filter, slice_get}
+use Rattle.std.specs.List.{list_any}
+use Rattle.std.proofs.lemmas.Bool.{not-true}
+use Rattle.std.proofs.lemmas.List.{length-append, length-map}
+use Rattle.tcap_parts.specs.declared.component.Component.{Component}
+use Rattle.tcap_msg.specs.declared.message.Message.{Message}
+use Rattle.tcap_msg.specs.Parts.{components_in, dtid_in}
+use Rattle.tcap_record.specs.declared.entry.End.{End as Side}
+use Rattle.tcap_record.specs.declared.entry.Entry.{Entry}
+use Rattle.tcap_end.specs.Table.{Table}
+use Rattle.tcap_model.specs.World.{Item}
+use Rattle.tcap_refute.specs.declared.kind.Kind.{Kind}
+use Rattle.tcap_refute.specs.Before.{components_of}
+use Rattle.tcap_refute.specs.FirstComponent.{first_so}
+use Rattle.tcap_refute.specs.Kind.{or_else}
+use Rattle.tcap_refute.proofs.Members.{any_has, has_first, has_later}
+use Rattle.tcap_grounds.specs.Shown.{AreCounted, component_with, items_before, many, scene_at}
+use Rattle.tcap_grounds.proofs.SceneLists.{IsOver, IsTo, heard_are, invoked_are, told_are, told_of}
+use Rattle.tcap_faults.specs.Components.{has_component}
+use Rattle.tcap_faults.specs.Counts.{count}
+use Rattle.tcap_faults.specs.Subject.{component_of, component_so, subject}
+use Rattle.tcap_faults.specs.HalfKinds.{is_wrong_half}
+use Rattle.tcap_faults.specs.HalfOf.{HalfOf, half_of}
+use Rattle.tcap_faults.specs.Tallied.{is_sort}
+use Rattle.tcap_faults.specs.declared.how.How.TheVariants.{Nowhere}
+use Rattle.tcap_faults.specs.declared.sort.Sort.{Sort}
+use Rattle.tcap_faults.proofs.LedLawsCounts.{any_counts, count_both, count_more, one}
+use Rattle.tcap_grounds.specs.ComponentsShown.{before_so, entries_so, heard_so, invoked_components, itself_so}
+use Rattle.tcap_evidence.specs.Evidence.{component_at, components_before, invoke_id_in, invoke_id_of}
+use Rattle.tcap_evidence.specs.Numbered.{Numbered}
+use Rattle.tcap_evidence.specs.Scene.{Scene, heard_by, told_there}
+use Rattle.tcap_grounds.proofs.CountedLaws.{components_counted, scene_over, scene_to}
+use Rattle.tcap_grounds.proofs.ListsLaws.{empty_is}
+use Rattle.tcap_grounds.proofs.NumberedLists.{with_counted}
+use Rattle.tcap_grounds.proofs.SentBefore.{messages}
+use Rattle.tcap_evidence.specs.declared.what.What.TheVariants as whats
+
+-- ---- which component
+
+-- The first that passes.
+pub first_is : {A : Type 0} (p : A → Bool) (number : ℕ) (xs : List A) → list_any p xs ≡ true
+    → (k : ℕ) × (x : A) × (first_so p number xs ≡ Some (number + k)) × (slice_get xs k ≡ Some x) × (p x ≡ true)
+first_is p number [] some = cc
+first_is {A} p number (x ∷ xs) some = by (p x) refl some (first_is p (number + 1) xs)
+  where
+    by : (b : Bool) → p x ≡ b → (b || list_any p xs) ≡ true
+        → (list_any p xs ≡ true → (k : ℕ) × (y : A) × (first_so p (number + 1) xs ≡ Some (number + 1 + k))
+        × (slice_get xs k ≡ Some y) × (p y ≡ true))
+        → (k : ℕ) × (y : A) × (cond b (Some number) (first_so p (number + 1) xs) ≡ Some (number + k))
+        × (slice_get (x ∷ xs) k ≡ Some y) × (p y ≡ true)
+    by true so some rest = (0, x, ap (λ (n : ℕ). Some n) (omega arith), refl, so)
+    by false so some rest =
+        let (k, y, is, here, passes) = rest some in
+        (suc k, y, is ∙ ap (λ (n : ℕ). Some n) (omega arith), here, passes)
+
+-- The first that is so behind those of its message and those that were told before.
+pub component_is : (is_so : List Component → List Component → Component → Bool) (number : ℕ) (own before cs : List Component)
+    → has_component is_so own before cs ≡ true
+    → (k : ℕ) × (c : Component) × (component_so is_so number own before cs ≡ Some (number + k))
+    × (slice_get cs k ≡ Some c) × (is_so (own ++ take k cs) (before ++ take k cs) c ≡ true)
+component_is is_so number own before [] some = cc
+component_is is_so number own before (c ∷ cs) some =
+    by (is_so own before c) refl some (component_is is_so (number + 1) (own ++ c ∷ []) (before ++ c ∷ []) cs)
+  where
+    by : (b : Bool) → is_so own before c ≡ b → (b || has_component is_so (own ++ c ∷ []) (before ++ c ∷ []) cs) ≡ true
+        → (has_component is_so (own ++ c ∷ []) (before ++ c ∷ []) cs ≡ true
+        → (k : ℕ) × (d : Component)
+        × (component_so is_so (number + 1) (own ++ c ∷ []) (before ++ c ∷ []) cs ≡ Some (number + 1 + k))
+        × (slice_get cs k ≡ Some d)
+        × (is_so ((own ++ c ∷ []) ++ take k cs) ((before ++ c ∷ []) ++ take k cs) d ≡ true))
+        → (k : ℕ) × (d : Component)
+        × (cond b (Some number) (component_so is_so (number + 1) (own ++ c ∷ []) (before ++ c ∷ []) cs) ≡ Some (number + k))
+        × (slice_get (c ∷ cs) k ≡ Some d)
+        × (is_so (own ++ take k (c ∷ cs)) (before ++ take k (c ∷ cs)) d ≡ true)
+    by true so some rest = (
+      0,
+      c,
+      ap (λ (n : ℕ). Some n) (omega arith),
+      refl,
+      ap (λ (xs : List Component). is_so xs (before ++ []) c) (append-nil own)
+          ∙ ap (λ (xs : List Component). is_so own xs c) (append-nil before) ∙ so,
+    )
+    by false so some rest =
+        let (k, d, is, here, passes) = rest some in (
+          suc k,
+          d,
+          is ∙ ap (λ (n : ℕ). Some n) (omega arith),
+          here,
+          ap (λ (xs : List Component). is_so xs (before ++ c ∷ take k cs) d) (sym (append_assoc own (c ∷ []) (take k cs)))
+              ∙ ap (λ (xs : List Component). is_so ((own ++ c ∷ []) ++ take k cs) xs d) (sym (append_assoc before (c ∷ []) (take k cs)))
+              ∙ passes,
+        )
+
+-- ---- what a scene of it says
+
+-- A scene is of the component at that place.
+pub record IsOf (s : Scene) (kind : Kind) (cs : List Component) (k : ℕ) (c : Component) (o : Option Component) : Type 0 where
+  pub it : o ≡ Some c
+  pub earlier : s.earlier ≡ take k cs
+  pub id : s.id ≡ invoke_id_of kind c
+
+about_component : (of_one : Bool) (table : Table) (side : Side) (items : List Item) (m : Message) (kind : Kind)
+    → (subject of_one table side items m kind).component ≡ component_of of_one table side items m kind
+about_component of_one table side items m kind = by (dtid_in m) refl
+  where
+    by : (o : Option (List ℕ)) → dtid_in m ≡ o
+        → (subject of_one table side items m kind).component ≡ component_of of_one table side items m kind
+    by None to = rw to (rw to refl)
+    by (Some id) to = rw to (rw to refl)
+
+pub zero_more : {o : Option ℕ} {k : ℕ} → o ≡ Some (0 + k) → o ≡ Some k
+zero_more is = is ∙ ap (λ (n : ℕ). Some n) (omega arith)
+
+-- Where one of the first kinds has a component, it is that.
+pub first_wins : (a b : Option ℕ) (k : ℕ) → a ≡ Some (0 + k) → or_else a b ≡ Some k
+first_wins a b k is = ap (λ (o : Option ℕ). or_else o b) is ∙ ap (λ (n : ℕ). Some n) (omega arith)
+
+pub scene_of_it : (of_one : Bool) (table : Table) (side : Side) (entries : List Entry) (number : ℕ) (m : Message)
+    (kind : Kind) (k : ℕ) (c : Component)
+    → component_of of_one table side (items_before entries number) m kind ≡ Some k
+    → slice_get (components_in m) k ≡ Some c
+    → IsOf (scene_at of_one table side entries number m kind) kind (components_in m) k c
+    (component_with of_one table side entries number m kind)
+scene_of_it of_one table side entries number m kind k c is here = record { it = it; earlier = earlier; id = id }
+  where
+    place : (subject of_one table side (items_before entries number) m kind).component ≡ Some k
+    place = about_component of_one table side (items_before entries number) m kind ∙ is
+
+    it : component_with of_one table side entries number m kind ≡ Some c
+    it = ap (λ (o : Option ℕ). component_at o (components_in m)) place ∙ here
+
+    earlier : (scene_at of_one table side entries number m kind).earlier ≡ take k (components_in m)
+    earlier = ap (λ (o : Option ℕ). components_before o (components_in m)) place
+
+    id : (scene_at of_one table side entries number m kind).id ≡ invoke_id_of kind c
+    id = ap (invoke_id_in kind) it
+
+-- What is so of it is so of what a scene of it has before it.
+pub so_earlier : (s : Scene) (is_so : List Component → List Component → Component → Bool) (told cs : List Component) (k : ℕ)
+    (c : Component) → s.earlier ≡ take k cs → is_so ([] ++ take k cs) (told ++ take k cs) c ≡ true
+    → is_so s.earlier (told ++ s.earlier) c ≡ true
+so_earlier s is_so told cs k c earlier is =
+    ap (λ (xs : List Component). is_so xs (told ++ xs) c) earlier ∙ is
+
+-- A half that may send is one.
+pub speaks_half : (side : Side) (items : List Item) (m : Message) (h : HalfOf) → not (is_wrong_half side items m h) ≡ true
+    → h.how ≢ Nowhere
+speaks_half side items m h right nowhere =
+    let fits : is_wrong_half side items m h ≡ false = not-true (is_wrong_half side items m h) right in
+    let bad : true ≡ false = rw nowhere at fits in cc
+
+-- ---- how many are listed
+
+-- What is counted of a half, of an invoke ID, is what is listed.
+pub record IsCounted (s : Scene) (h : HalfOf) (cs : List Component) (id : ℤ) : Type 0 where
+  pub heard : (sort : Sort) → many s (whats.Heard sort) ≡ count (is_sort s.table id sort) h.heard
+  pub before : (sort : Sort) → many s (whats.Before sort) ≡ count (is_sort s.table id sort) (h.told ++ s.earlier)
+  pub whole : (sort : Sort) → many s (whats.Whole sort) ≡ count (is_sort s.table id sort) (h.told ++ cs)
+  pub invoked : (sort : Sort) → many s (whats.Invoked sort) ≡ count (is_sort s.table id sort) h.invoked
+  pub heard_so : (passes : ℤ → Component → Bool) → length (heard_so s passes) ≡ count (passes id) h.heard
+  pub before_so : (passes : ℤ → Component → Bool) → length (before_so s passes) ≡ count (passes id) (h.told ++ s.earlier)
+  pub invoked_are : invoked_components s ≡ h.invoked
+
+module _ (s : Scene) (id : ℤ) (is : s.id ≡ Some id) (passes : ℤ → Component → Bool) where
+  pub so_counted : (sent : List Numbered) → length (entries_so s passes sent) ≡ count (passes id) (components_of (messages sent))
+  so_counted sent = rw is (with_counted (passes id) sent)
+
+  itself_counted : (cs : List Component) → length (itself_so s passes cs) ≡ count (passes id) cs
+  itself_counted cs = rw is (length-map (filter (passes id) cs) (λ (c : Component). s.number))
+
+pub are_counted : (of_one : Bool) (table : Table) (side : Side) (entries : List Entry) (number : ℕ) (m : Message) (kind : Kind)
+    (to : List ℕ) (id : ℤ) → dtid_in m ≡ Some to → (scene_at of_one table side entries number m kind).id ≡ Some id
+    → (half_of side (items_before entries number) to).how ≢ Nowhere
+    → IsCounted (scene_at of_one table side entries number m kind) (half_of side (items_before entries number) to)
+    (components_in m) id
+are_counted of_one table side entries number m kind to id goes is some =
+    record {
+      heard = λ sort. (counts sort).heard;
+      before = λ sort. (counts sort).half_before some;
+      whole = λ sort. (counts sort).half_whole some;
+      invoked = λ sort. (counts sort).invoked some;
+      heard_so = λ passes.
+          so_counted s id is passes (heard_by s s.how) ∙ ap (count (passes id)) (heard_are side items to s of over);
+      before_so = told_and_earlier;
+      invoked_are = invoked_are side items to s of over some;
+    }
+  where
+    items : List Item
+    items = items_before entries number
+
+    s : Scene
+    s = scene_at of_one table side entries number m kind
+
+    of : IsTo side items to s
+    of = scene_to table side entries number m kind (subject of_one table side items m kind) to goes
+
+    over : IsOver side items to s
+    over = scene_over of_one table side entries number m kind to goes
+
+    counts : (sort : Sort) → AreCounted side items to m s sort (is_sort table id sort)
+    counts sort = components_counted of_one table side entries number m kind to id sort goes is
+
+    told_and_earlier : (passes : ℤ → Component → Bool)
+        → length (before_so s passes) ≡ count (passes id) ((half_of side items to).told ++ s.earlier)
+    told_and_earlier passes =
+        let both = length-append (entries_so s passes (told_there s)) (itself_so s passes s.earlier) in
+        let told_so : length (entries_so s passes (told_there s)) ≡ count (passes id) (half_of side items to).told =
+        so_counted s id is passes (told_there s)
+        ∙ ap (λ (ms : List Message). count (passes id) (components_of ms)) (told_are side items to s of)
+        ∙ ap (count (passes id)) (told_of side items to s of some) in
+        let last = itself_counted s id is passes s.earlier in
+        let all = count_both (passes id) (half_of side items to).told s.earlier in
+        omega (arith, both, told_so, last, all)
+
+-- ---- lists of components
+
+-- None is counted where none passes,
+pub none_counted : {A : Type 0} (p : A → Bool) (xs : List A) → list_any p xs ≡ false → count p xs ≡ 0
+none_counted p [] none = refl
+none_counted {A} p (x ∷ xs) none = by (p x) none (none_counted p xs)
+  where
+    by : (b : Bool) → (b || list_any p xs) ≡ false → (list_any p xs ≡ false → count p xs ≡ 0)
+        → length (cond b (x ∷ filter p xs) (filter p xs)) ≡ 0
+    by true none rest = cc
+    by false none rest = rest none
+
+pub none_so : {A B : Type 0} (ns : List A) (p : B → Bool) (xs : List B) → length ns ≡ count p xs → list_any p xs ≡ false
+    → ns ≡ []
+none_so ns p xs many none = empty_is ns (many ∙ none_counted p xs none)
+
+at_has : {A : Type 0} (xs : List A) (k : ℕ) (x : A) → slice_get xs k ≡ Some x → Contains xs x
+at_has [] k x here = cc
+at_has (y ∷ ys) zero x here = let same : y ≡ x = cc in rw (← same) (has_first y ys)
+at_has (y ∷ ys) (suc k) x here = has_later y ys x (at_has ys k x here)
+
+-- and two are where one passes, and one before it.
+pub two_counted : {A : Type 0} (p : A → Bool) (xs : List A) (k : ℕ) (x : A) → slice_get xs k ≡ Some x → p x ≡ true
+    → list_any p (take k xs) ≡ true → 2 ≤ count p xs
+two_counted p [] k x here passes some = cc
+two_counted p (y ∷ ys) zero x here passes some = cc
+two_counted {A} p (y ∷ ys) (suc k) x here passes some = by (p y) refl some (two_counted p ys k x here passes)
+  where
+    has : Contains ys x
+    has = at_has ys k x here
+
+    by : (b : Bool) → p y ≡ b → (b || list_any p (take k ys)) ≡ true → (list_any p (take k ys) ≡ true → 2 ≤ count p ys)
+        → 2 ≤ count p (y ∷ ys)
+    by true so some rest =
+        let here : one (p y) ≡ 1 = ap one so in
+        omega (arith, here, count_more p y ys, any_counts p ys (any_has p ys x has passes))
+    by false so some rest =
+        let here : one (p y) ≡ 0 = ap one so in omega (arith, here, count_more p y ys, rest some)

@@ -1,0 +1,187 @@
+-- What a message is that stands in a list of a scene, or passes a test by which entries are listed.
+use Rattle.std.proofs.Common.{◌≡◌, ◌⊎◌, inl, inr, ℕ, ℤ, Bool, true, false, cond, ◌&&◌, List, [], ◌∷◌, ◌++◌, map, Option, Some, None, is_none, refl, sym}
+use Rattle.std.specs.Prelude.{Contains, filter}
+use Rattle.std.specs.List.{find}
+use Rattle.std.specs.Option.{option_to_list}
+use Rattle.std.proofs.lemmas.Bool.{and_parts}
+use Rattle.std.proofs.lemmas.List.Elements.{Contains-append_cases}
+use Rattle.tcap_parts.specs.declared.component.Component.{Component}
+use Rattle.tcap_msg.specs.declared.kind.Kind.TheVariants as forms
+use Rattle.tcap_msg.specs.declared.message.Message.{Message}
+use Rattle.tcap_msg.specs.Parts.{cause_in, components_in, dialogue_in, dtid_in, kind_in, otid_in}
+use Rattle.tcap_end.specs.Dialogue.{is_response}
+use Rattle.tcap_end.proofs.StepLaws.{none_is}
+use Rattle.tcap_model.proofs.ListLaws.{contains_first}
+use Rattle.tcap_refute.specs.Before.{is_a}
+use Rattle.tcap_faults.specs.Told.{goes_on_to}
+use Rattle.tcap_faults.specs.Closed.{is_surely_open}
+use Rattle.tcap_faults.proofs.HalfLawsFinds.{filter_is, find_has}
+use Rattle.tcap_refute.proofs.Members.{has_later, has_not}
+use Rattle.tcap_faults.specs.declared.how.How.{How}
+use Rattle.tcap_faults.specs.declared.how.How.TheVariants.{Accepted, Begun, Nowhere, Refused, Unanswered}
+use Rattle.tcap_faults.specs.declared.sort.Sort.{Sort}
+use Rattle.tcap_faults.specs.Tallied.{is_sort}
+use Rattle.tcap_evidence.specs.Numbered.{Numbered}
+use Rattle.tcap_evidence.specs.Scene.{Scene, has_request, heard_by, invoked_by, is_open_continue, is_that, own_begin, since_first, there, to_half, told_there, went_elsewhere, with_sort, with_sort_in}
+use Rattle.tcap_grounds.specs.Shown.{AreSame, AreDifferent, HasSort, IsHeardBy, IsInvokedIn, IsItself, IsOpen, IsToldTo}
+use Rattle.tcap_grounds.proofs.NumberedLists.{map_is, with_is}
+use Rattle.tcap_grounds.proofs.MessageTests.{elsewhere_is, form_is, one_is}
+
+-- ---- lists
+
+optional_is : {A : Type 0} (o : Option A) (x : A) → Contains (option_to_list o) x → o ≡ Some x
+optional_is None x has = has_not x has
+optional_is (Some y) x has = by (contains_first y [] x has)
+  where
+    by : (y ≡ x) ⊎ Contains [] x → Some y ≡ Some x
+    by (inl same) = cc
+    by (inr none) = has_not x none
+
+since_had : {A : Type 0} (p : A → Bool) (xs : List A) (x : A) → Contains (since_first p xs) x → Contains xs x
+since_had p [] x has = has
+since_had {A} p (y ∷ ys) x has = by (p y) has (since_had p ys x)
+  where
+    by : (b : Bool) → Contains (cond b (y ∷ ys) (since_first p ys)) x → (Contains (since_first p ys) x → Contains ys x)
+        → Contains (y ∷ ys) x
+    by true all rest = all
+    by false some rest = has_later y ys x (rest some)
+
+module _ (s : Scene) where
+  -- ---- what a message is that is there
+
+  pub there_is : (n : ℕ) (m : Message) → Contains (there s) (n, m) → Contains s.peer (n, m) × AreSame s.to (otid_in m)
+  there_is n m has =
+      let (sent, that) = filter_is (λ (k : Numbered). is_that s.to (otid_in k.1)) s.peer (n, m) has in
+      (sent, one_is s.to (otid_in m) that)
+
+  pub told_is : (n : ℕ) (m : Message) → Contains (told_there s) (n, m) → Contains s.own (n, m) × IsToldTo s.to m
+  told_is n m has =
+      let (sent, both) =
+      filter_is (λ (k : Numbered). is_that s.to (dtid_in k.1) && is_none (cause_in k.1)) s.own (n, m) has in
+      let (that, none) = and_parts (is_that s.to (dtid_in m)) (is_none (cause_in m)) both in
+      (sent, (one_is s.to (dtid_in m) that, none_is (cause_in m) none))
+
+  -- a Continue to the half
+  half_is : (n : ℕ) (m : Message) → Contains (to_half s) (n, m) → Contains (there s) (n, m) × IsHeardBy s.half m
+  half_is n m has = by s.half refl
+    where
+      by : (o : Option (List ℕ)) → s.half ≡ o → Contains (there s) (n, m) × IsHeardBy s.half m
+      by None is = let none : Contains [] (n, m) = rw is at has in has_not (n, m) none
+      by (Some own) is =
+          let some : Contains (filter (λ k. goes_on_to own k.1) (there s)) (n, m) = rw is at has in
+          let (from, goes) = filter_is (λ (k : Numbered). goes_on_to own k.1) (there s) (n, m) some in
+          let (on, to) = and_parts (is_a forms.Continue m) (is_that (Some own) (dtid_in m)) goes in
+          let one : AreSame s.half (dtid_in m) = rw is (one_is (Some own) (dtid_in m) to) in
+          (from, inr (form_is forms.Continue (kind_in m) on, one))
+
+  first_is : (n : ℕ) (m : Message) → Contains (option_to_list (find (λ k. is_a forms.Begin k.1) (there s))) (n, m)
+      → Contains (there s) (n, m) × IsHeardBy s.half m
+  first_is n m has =
+      let (from, begins) =
+      find_has (λ (k : Numbered). is_a forms.Begin k.1) (there s) (n, m)
+      (optional_is (find (λ (k : Numbered). is_a forms.Begin k.1) (there s)) (n, m) has) in
+      (from, inl (form_is forms.Begin (kind_in m) begins))
+
+  accepted_is : (n : ℕ) (m : Message)
+      → Contains (option_to_list (find (λ k. is_a forms.Begin k.1) (there s)) ++ to_half s) (n, m)
+      → Contains (there s) (n, m) × IsHeardBy s.half m
+  accepted_is n m has =
+      by (Contains-append_cases (option_to_list (find (λ (k : Numbered). is_a forms.Begin k.1) (there s))) (to_half s)
+      (n, m) has)
+    where
+      by : Contains (option_to_list (find (λ k. is_a forms.Begin k.1) (there s))) (n, m) ⊎ Contains (to_half s) (n, m)
+          → Contains (there s) (n, m) × IsHeardBy s.half m
+      by (inl first) = first_is n m first
+      by (inr later) = half_is n m later
+
+  -- what the half heard
+  pub heard_is : (how : How) (n : ℕ) (m : Message) → Contains (heard_by s how) (n, m)
+      → Contains (there s) (n, m) × IsHeardBy s.half m
+  heard_is Accepted n m has = accepted_is n m has
+  heard_is Refused n m has = accepted_is n m has
+  heard_is Begun n m has = half_is n m (by (has_request (own_begin s)) has)
+    where
+      by : (b : Bool)
+          → Contains (cond b (since_first (λ k. is_response (dialogue_in k.1)) (to_half s)) (to_half s)) (n, m)
+          → Contains (to_half s) (n, m)
+      by true some = since_had (λ (k : Numbered). is_response (dialogue_in k.1)) (to_half s) (n, m) some
+      by false all = all
+  heard_is Unanswered n m has = has_not (n, m) has
+  heard_is Nowhere n m has = has_not (n, m) has
+
+  -- what has its own invocations
+  begin_is : (n : ℕ) (m : Message) → Contains (option_to_list (own_begin s)) (n, m)
+      → Contains s.own (n, m) × IsInvokedIn s.half s.to m
+  begin_is n m has =
+      let (sent, both) =
+      find_has (λ (k : Numbered). is_a forms.Begin k.1 && is_that s.half (otid_in k.1)) s.own (n, m)
+      (optional_is (own_begin s) (n, m) has) in
+      let (begins, that) = and_parts (is_a forms.Begin m) (is_that s.half (otid_in m)) both in
+      (sent, inr (form_is forms.Begin (kind_in m) begins, one_is s.half (otid_in m) that))
+
+  invoked_told : (n : ℕ) (m : Message) → Contains (told_there s) (n, m)
+      → Contains s.own (n, m) × IsInvokedIn s.half s.to m
+  invoked_told n m has = let (sent, told) = told_is n m has in (sent, inl told)
+
+  begun_is : (n : ℕ) (m : Message) → Contains (option_to_list (own_begin s) ++ told_there s) (n, m)
+      → Contains s.own (n, m) × IsInvokedIn s.half s.to m
+  begun_is n m has = by (Contains-append_cases (option_to_list (own_begin s)) (told_there s) (n, m) has)
+    where
+      by : Contains (option_to_list (own_begin s)) (n, m) ⊎ Contains (told_there s) (n, m)
+          → Contains s.own (n, m) × IsInvokedIn s.half s.to m
+      by (inl first) = begin_is n m first
+      by (inr later) = invoked_told n m later
+
+  pub invoked_is : (how : How) (n : ℕ) (m : Message) → Contains (invoked_by s how) (n, m)
+      → Contains s.own (n, m) × IsInvokedIn s.half s.to m
+  invoked_is Begun n m has = begun_is n m has
+  invoked_is Unanswered n m has = begun_is n m has
+  invoked_is how n m has = invoked_told n m has
+
+  -- ---- components
+
+  pub sorted_is : (sort : Sort) (sent : List Numbered) (n : ℕ) → Contains (with_sort s sort sent) n
+      → (m : Message) × Contains sent (n, m) × HasSort s sort (components_in m)
+  sorted_is sort sent n has = by s.id refl
+    where
+      by : (o : Option ℤ) → s.id ≡ o → (m : Message) × Contains sent (n, m) × HasSort s sort (components_in m)
+      by None is = let none : Contains [] n = rw is at has in has_not n none
+      by (Some id) is =
+          let (m, c, there, among, so) = with_is (is_sort s.table id sort) sent n (rw is at has) in
+          (m, there, (id, c, is, among, so))
+
+  pub itself_is : (sort : Sort) (cs : List Component) (n : ℕ) → Contains (with_sort_in s sort cs) n → IsItself s sort cs n
+  itself_is sort cs n has = by s.id refl
+    where
+      by : (o : Option ℤ) → s.id ≡ o → IsItself s sort cs n
+      by None is = let none : Contains [] n = rw is at has in has_not n none
+      by (Some id) is =
+          let some : Contains (map (λ c. s.number) (filter (is_sort s.table id sort) cs)) n = rw is at has in
+          let (c, kept, same) = map_is (λ (c : Component). s.number) (filter (is_sort s.table id sort) cs) n some in
+          let (among, so) = filter_is (is_sort s.table id sort) cs c kept in (sym same, (id, c, is, among, so))
+
+  -- ---- tests of a message
+
+  pub went_is : (m : Message) → went_elsewhere s m ≡ true
+      → (kind_in m ≡ forms.Continue) × AreSame s.from (otid_in m) × AreDifferent s.to (dtid_in m)
+  went_is m is = by s.from s.to refl refl
+    where
+      by : (from to : Option (List ℕ)) → s.from ≡ from → s.to ≡ to
+          → (kind_in m ≡ forms.Continue) × AreSame s.from (otid_in m) × AreDifferent s.to (dtid_in m)
+      by None to of there = let bad : false ≡ true = rw of at is in cc
+      by (Some otid) None of there = let bad : false ≡ true = rw (of, there) at is in cc
+      by (Some otid) (Some dtid) of there =
+          let (goes, from, two) = elsewhere_is otid dtid m (rw (of, there) at is) in
+          rw (of, there) (goes, (otid, refl, from), two)
+
+  pub open_is : (m : Message) → is_open_continue s m ≡ true → (kind_in m ≡ forms.Continue) × IsOpen s m
+  open_is m is = by (otid_in m) refl
+    where
+      by : (o : Option (List ℕ)) → otid_in m ≡ o → (kind_in m ≡ forms.Continue) × IsOpen s m
+      by None of =
+          let both : (is_a forms.Continue m && false) ≡ true = rw of at is in
+          let (goes, bad) = and_parts (is_a forms.Continue m) false both in cc
+      by (Some own) of =
+          let both : (is_a forms.Continue m && is_surely_open s.table s.side s.items own) ≡ true = rw of at is in
+          let (goes, still) = and_parts (is_a forms.Continue m) (is_surely_open s.table s.side s.items own) both in
+          (form_is forms.Continue (kind_in m) goes, (own, of, still))

@@ -1,0 +1,4 @@
+pub mod Shown
+pub mod HalvesShown
+pub mod ComponentsShown
+pub mod Given

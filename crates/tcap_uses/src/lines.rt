@@ -1,0 +1,22 @@
+ghost use Rattle.std.specs.Prelude.{◌≡◌, ◌++◌, ℕ, List, Result, IfOk};
+ghost use Rattle.tcap_record.specs.declared.entry.Entry.{Entry};
+ghost use Rattle.tcap_record.specs.declared.fault.FeedFault.{FeedFault};
+ghost use Rattle.tcap_record.specs.Reading.{IsReadAs};
+ghost use Rattle.tcap_lines.specs.Shown.{Prints};
+
+use std::alloc::Global;
+use tcap_ber::Counted;
+use tcap_lines::{Status, WriteFailed, run_show};
+
+/// What `tcapjudge show` prints of a record whose octets are in memory, and how the run ends.
+pub fn shown(alloc: Global, octets: &[u8]) -> Result<(Vec<u8>, Status), WriteFailed>
+    // What was read is entries and the end behind them, and what is printed is their lines and the line of that end.
+    ensures prints { IfOk result (λ x. (told rest : List ℕ) × (octets.now ≡ told ++ rest)
+        × ((entries : List Entry) × (end : Result (Unit {0}) FeedFault) × IsReadAs entries end told
+        × Prints entries end x.0.items x.1)) }
+{
+    let mut reader = Counted::new(octets);
+    let mut writer = Counted::new(Vec::new(alloc));
+    let status = run_show(alloc, &mut reader, &mut writer)?;
+    Ok((writer.into_inner(), status))
+}
