@@ -1,5 +1,6 @@
 """What `make edits` runs: tries all edits of the crates that are named, or of all crates. An edit is a wrong body of a function,
-in crates/NAME/edits, and the prover has to refuse it. With --gate it tries those of tools/gate_edits.txt.
+in crates/NAME/edits, and the prover has to refuse it. With --gate it tries those of tools/gate_edits.txt; so it does with --beside-ci,
+while `rt ci` still proves other crates.
 
 A function is proved by what those that it calls promise, and not by their bodies. So edits of several functions are tried in one
 check, of these functions and of what they call; each is refused where the check does not prove its own function, and not only for
@@ -254,15 +255,15 @@ def of_gate():
     return {name: edits.split() for name, edits in lines}
 
 
-def try_for_gate():
-    """Tries those of the gate over the libraries that `rt ci` has just built here. Closes with the line of their counts."""
+def try_for_gate(are_there):
+    """Tries those of the gate over the libraries that `rt ci` has built here: `are_there` says of a crate whether those below it are
+    there. Closes with the line of their counts."""
     rt, tree, failed, chosen = kit.load_rt(), os.path.abspath("."), 0, of_gate()
     crates = {it.name: it for it in rt.rtlib.crates_below(tree)}
     for name, edits in [*chosen.items()]:
         chosen[name] = [f"{tree}/crates/{name}/edits/{edit}.edit" for edit in edits]
         lost = [path for path in chosen[name] if not os.path.isfile(path)]
-        # In a folder that the user has checked in, `rt ci` leaves the libraries of these checks.
-        if lost or not (kit.take_libraries(crates[name]) or subprocess.run(["rt", "check"], cwd=crates[name].folder).returncode == 0):
+        if lost or not are_there(crates[name]):
             print(f"{name}: its edits were not tried: {' '.join(lost) or 'the libraries below it are not there'}")
             failed += len(chosen.pop(name))
     total = sum(map(len, of_gate().values()))
@@ -272,11 +273,19 @@ def try_for_gate():
     return int(failed != 0)
 
 
+def made_there(crate):
+    """Whether the libraries below a crate are there once `rt ci` has ended. In a folder that the user has checked in, it leaves those of
+    these checks."""
+    return kit.take_libraries(crate) or subprocess.run(["rt", "check"], cwd=crate.folder, stdout=subprocess.DEVNULL).returncode == 0
+
+
 def main(names):
     # Python would wait for the checks that run. They end with this process.
     signal.signal(signal.SIGINT, signal.SIG_DFL)
     if names == ["--gate"]:
-        return try_for_gate()
+        return try_for_gate(made_there)
+    if names == ["--beside-ci"]:
+        return try_for_gate(kit.has_libraries)
     lost = [name for name in names if not os.path.isdir(f"crates/{name}/src")]
     if lost:
         sys.exit(f"no such crate: {' '.join(lost)}")

@@ -1,9 +1,9 @@
 """The gate, which `make test` runs: `rt ci`, as many tasks side by side as RT_JOBS says or as this machine has room for, then the
 tests of TESTS on the program that `rt ci` built, tests/borrows.py, tools/clib.py over the libraries that `rt ci` built,
 tests/titan.py over the library that this made, and bench/memory.py, which lets each allocation of a run of that program fail
-in turn; beside them wrong bodies (tools/edits.py). What they print is passed on. Then it prints how many seconds each crate's
-proof and its tests' proof took, with their processor time, and closes with the line `N passed, M failed`, in which all are
-counted. The exit status is 0 where none failed.
+in turn; beside them wrong bodies (tools/edits.py), as soon as their crates are proved. What they print is passed on. Then it prints how
+many seconds each crate's proof and its tests' proof took, with their processor time, and closes with the line `N passed, M failed`, in
+which all are counted. The exit status is 0 where none failed.
 
 `rt ci` does not say when a part begins and ends. So twice a second this looks in /proc for the runs of `rattle` that
 `rt ci` started, which a word in their environment marks, and takes a part to last from the first to the last time that
@@ -11,6 +11,7 @@ it is seen: a run names its crate, and that of tests has the word --test. The
 processor time of a part is what its runs had when they were last seen, so it lacks up to half a second of each. That of
 `rt ci` is whole: it is what the system counts of the processes that have ended."""
 
+import atexit
 import collections
 import contextlib
 import glob
@@ -24,6 +25,7 @@ import sys
 import threading
 import time
 
+import edits
 import machine
 
 PROGRAM = "crates/tcapjudge/out/tcapjudge"
@@ -46,6 +48,8 @@ TESTS = {
 LARGEST = 5
 MARK = "GATE_RUN"
 COUNTS = re.compile(rb"(\d+) passed, (\d+) failed\n?")
+# What `rt ci` says of a crate that it has proved, now or earlier.
+PROVED = re.compile(rb"(?:rt: )?(\w+) (?:proved|is kept: .*)\n?")
 # Of each part that failed so many lines are printed once more at the end, cut at so many octets.
 LAST, WIDTH = 20, 400
 # What `rt ci` says of what failed has one of these words.
@@ -105,9 +109,9 @@ class Counts:
         return self.passed + self.failed
 
 
-def counts_of(run, speaks=lambda line: True):
-    """Passes on what a command that runs prints, but for its line of counts. Returns these, with the last of the other lines
-    that `speaks` holds of."""
+def counts_of(run, speaks=lambda line: True, look=lambda line: None):
+    """Passes on what a command that runs prints, but for its line of counts, and has `look` look at it. Returns the counts, with the last
+    of the other lines that `speaks` holds of."""
     # What ends without its counts has failed.
     passed, failed, told = 0, 1, collections.deque(maxlen=LAST)
     try:
@@ -118,6 +122,7 @@ def counts_of(run, speaks=lambda line: True):
             else:
                 sys.stdout.buffer.write(line)
                 sys.stdout.buffer.flush()
+                look(line)
                 if speaks(line):
                     told.append(line[:WIDTH].rstrip() + b"\n")
     except BaseException:
@@ -145,12 +150,44 @@ def used_by_ended():
     return used.ru_utime + used.ru_stime
 
 
-def watched(command):
+class Edits:
+    """The run of tools/edits.py for the gate. Towards its end `rt ci` leaves processors idle, so this begins as soon as the crates whose
+    edits it tries are proved, with less right to a processor. It begins when `rt ci` has ended where memory is short, and where
+    earlier checks left libraries, which `rt ci` puts back then."""
+
+    def __init__(self):
+        self.run, self.left = None, set(edits.of_gate())
+
+    def look(self, line):
+        """Looks at what `rt ci` prints, and begins."""
+        proved = PROVED.fullmatch(line)
+        if self.run or not proved:
+            return
+        self.left.discard(proved[1].decode())
+        wanted = os.environ["RT_JOBS"]
+        most = int(wanted) if wanted.isdigit() else 1
+        lanes = min(max(min(most, 2), most // 2), int(machine.free_memory() // LARGEST))
+        if not self.left and lanes and os.path.isdir(".git") and not glob.glob(".git/rt-aside/*/rlib"):
+            words = ["nice", "env", "-u", MARK, f"RT_JOBS={lanes}"]
+            self.run = started(*words, sys.executable, "tools/edits.py", "--beside-ci")
+
+    def begun(self):
+        """The run."""
+        self.run = self.run or started(sys.executable, "tools/edits.py", "--gate")
+        return self.run
+
+    def end(self):
+        """Stops the run, where it goes on."""
+        if self.run and self.run.poll() is None:
+            self.run.terminate()
+
+
+def watched(command, look):
     """Runs a command as `counts_of` does. Returns its counts, its parts, its seconds and its processor seconds."""
     parts, is_over, start, before = {}, threading.Event(), time.monotonic(), used_by_ended()
     watching = threading.Thread(target=watch, args=(start, parts, is_over), daemon=True)
     watching.start()
-    counts = counts_of(started(*command), FAILS.search)
+    counts = counts_of(started(*command), FAILS.search, look)
     seconds = time.monotonic() - start
     is_over.set()
     watching.join()
@@ -205,9 +242,11 @@ def main():
     os.environ.pop("TCAPJUDGE", None)
     if os.path.exists(PROGRAM):
         os.remove(PROGRAM)
-    ci, parts, seconds, used = watched(["rt", "ci"])
+    wrong = Edits()
+    atexit.register(wrong.end)
+    ci, parts, seconds, used = watched(["rt", "ci"], wrong.look)
     # What that prints is little, so it waits for no reader.
-    edits, others = started(sys.executable, "tools/edits.py", "--gate"), []
+    tried, others = wrong.begun(), []
     for name, what in TESTS.items():
         others.append(counts_of_script(f"tests/{name}.py"))
         print(f"{others[-1].all()} {what}, {others[-1].failed} wrong")
@@ -217,7 +256,7 @@ def main():
     print(f"{clib.all()} comparisons of the library for C with the program, {clib.failed} that differ")
     titan = counts_of_script("tests/titan.py") if clib.all() else Counts()
     print(f"{titan.all()} verdicts of a test case in TTCN-3, {titan.failed} wrong")
-    others += [lent, clib, titan, refused_memory(), counts_of(edits)]
+    others += [lent, clib, titan, refused_memory(), counts_of(tried)]
     print(f"{others[-1].all()} wrong bodies, {others[-1].failed} not refused")
     show_parts(parts, seconds, used)
     names = ["rt ci", *TESTS, "borrows", "the library for C", "TTCN-3", "allocations that fail", "wrong bodies"]

@@ -28,3 +28,8 @@ def take_libraries(crate):
             with open(path, "w", encoding="utf-8") as file:
                 file.write(library.stamp())
     return all(library.is_built() for library in stamps)
+
+
+def has_libraries(crate):
+    """Whether the libraries below a crate are there."""
+    return all(os.path.isdir(it.rlib) for it in crate.below())
