@@ -120,12 +120,6 @@ fn fails(rt: HostRuntime) -> Result<(), Fail> {
             Said::Doubtful(fault, Doubt::CameAgain)
         )
     );
-    let unread = Circumstances {
-        unread_from: Some(1),
-        ..ALONE
-    };
-    let found = said(alloc, TO_NINE, TABLE, unread);
-    assert!(rt; says(found, Said::Pass(0), Said::Doubtful(fault, Doubt::Unread)));
     let under_way = Circumstances {
         under_way: true,
         ..again
@@ -138,6 +132,20 @@ fn fails(rt: HostRuntime) -> Result<(), Fail> {
             Said::Doubtful(fault, Doubt::UnderWay)
         )
     );
+    Ok(())
+}
+
+/// F2, with an entry before it that could not be read, and with one behind it.
+#[test]
+fn fails_beside_what_is_unread(rt: HostRuntime) -> Result<(), Fail> {
+    let alloc = rt.alloc();
+    let fault = at(1, Kind::UnknownTransaction);
+    let unread = Circumstances {
+        unread_from: Some(1),
+        ..ALONE
+    };
+    let found = said(alloc, TO_NINE, TABLE, unread);
+    assert!(rt; says(found, Said::Pass(0), Said::Doubtful(fault, Doubt::Unread)));
     let behind = Circumstances {
         unread_from: Some(2),
         ..ALONE
