@@ -1,5 +1,5 @@
-# make demo      judges the traces of examples/ by `tcapjudge test`: compiled unproved, which takes two minutes on four
-#                processors, once for the same sources (tools/unproved.py)
+# make demo      judges the traces of examples/ by `tcapjudge test`, compiled without a proof: four minutes on four processors,
+#                once for the same sources (tools/unproved.py)
 # make quick     runs all tests that need the program and no proof, side by side, over the same unproved program: five minutes
 #                from a fresh clone. At its end it says what that does not show
 # make program   proves and builds the program, and prints where it lies
