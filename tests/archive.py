@@ -1,7 +1,7 @@
 """Runs tools/judge_archive.py over an archive of 200 traces, on loopback, by two workers: what it prints and writes is what
 one run of `tcapjudge test` over all prints and writes, octet by octet, and so is the exit status. So it is where a worker
-dies, where the run is stopped and goes on, where a run of the program gives no verdict and is tried again, and where a
-trace changes between. Where distributed is not installed, or no worker of it can run a program, it says so, and counts nothing."""
+dies, where the run is stopped and goes on, where a run of the program gives no verdict and is tried again, where a trace
+changes between, and where a table has a hint. Where distributed is not installed, or no worker of it can run a program, it says so, and counts nothing."""
 
 import concurrent.futures
 import contextlib
@@ -48,20 +48,42 @@ if __name__ == "__main__":
         sys.exit(client.submit(subprocess.call, ["setpriv", "--pdeathsig", "KILL", sys.argv[1]]).result(60))
 """
 # The program, which notes each trace; and, the first time of a trace of which that is asked, kills the worker that runs it,
-# or itself, or waits.
+# or itself, or waits; or ends in another way than the program does (ENDS).
 NOTING = """#!/bin/sh
-for name; do :; done
+for name; do case $name in /dev/fd/*) json=$name;; esac; done
 name=${{name##*/}}
 echo "$name" >> {folder}/noted
+cut_json() {{ head -n -1 "$json" > {folder}/cut-$$; cat {folder}/cut-$$ > "$json"; }}
 if [ -e "{folder}/once/$name" ] && read -r how < "{folder}/once/$name" && rm "{folder}/once/$name"; then
     case $how in
         worker) kill -9 $PPID; sleep 9;;
         itself) kill -9 $$;;
         wait) exec sleep 60;;
+        killed-between) {program} "$@"; cut_json; kill -9 $$;;
+        killed-at-its-end) {program} "$@"; kill -9 $$;;
+        cut) {program} "$@"; status=$?; cut_json; exit $status;;
+        cut-text) {program} "$@" | head -n -1; exit 1;;
+        other-status) {program} "$@"; exit 0;;
+        no-status) {program} "$@"; exit 9;;
+        error) echo "error: table.json: it is gone" >&2;;
     esac
 fi
 exec {program} "$@"
 """
+# How a run of the program ends that gives no verdict, and what is said of the trace.
+MISSING = "no verdict, status {}, and a part of what the judge writes is missing"
+ENDS = {
+    "itself": "the judge was killed by signal 9",
+    "killed-between": "the judge was killed by signal 9",
+    "killed-at-its-end": "the judge was killed by signal 9",
+    "cut": MISSING.format(1),
+    "cut-text": MISSING.format(1),
+    "other-status": MISSING.format(0),
+    "no-status": "no verdict, status 9",
+    "error": "no verdict, status 1: error: table.json: it is gone",
+}
+# A row at whose code standard error has a hint.
+HINTED = {"class": 1, "code": "45"}
 ODD = ["a b.hex", "it's \"so\" $(x).hex", "\u00e9\u2028.hex", "two\nlines.hex", "-x.rec", "DIGITS.HEX"]
 
 
@@ -73,7 +95,9 @@ class Archive:
 
     def __init__(self, folder):
         self.folder, maker = folder, random_traces.Maker(random.Random(1))
-        self.table = put(folder, "table.json", runs.table_text(maker.table))
+        table = json.loads(runs.table_text(maker.table))
+        table["operations"].append(HINTED)
+        put(folder, "table.json", json.dumps(table).encode())
         for room in "archive/one/two", "once":
             os.makedirs(f"{folder}/{room}")
         for number in range(TRACES - 1 - len(ODD)):
@@ -128,6 +152,8 @@ class Archive:
         checks.holds(f"{what}: the lines of JSON", written == one and len(written) > 1000)
         # Of a worker that is lost distributed may say more.
         checks.holds(f"{what}: no error: {found[2]}", TOOL not in found[2] and not re.search("^error: ", found[2], re.MULTILINE))
+        checks.same(f"{what}: the hint at the table, once: {found[2]}", found[2].count(wanted.stderr.decode()), 1)
+        checks.holds(f"{what}: there is a hint", b"hint: table.json: row " in wanted.stderr)
 
     def results(self):
         """The paths of the results that are kept, by the names of their traces."""
@@ -250,7 +276,7 @@ def goes_on(archive, address):
     archive.ask(anew[0], "itself")
     os.remove(f"{archive.folder}/noted")
     status, out, error = archive.run(*words, "--resume")
-    said = status, out, f"error: {anew[0]}: no verdict" in error, os.path.exists(f"{archive.folder}/out.json")
+    said = status, out, f"error: {anew[0]}: {ENDS['itself']}" in error, os.path.exists(f"{archive.folder}/out.json")
     checks.same(f"no verdict of one: {error}", said, (3, b"", True, False))
     # A name may have two lines, as it is noted.
     wanted = {part for name in anew for part in os.path.basename(name).split("\n")}
@@ -264,6 +290,42 @@ def goes_on(archive, address):
     said = status, "can't be written" in error, os.path.exists(f"{archive.folder}/out.json")
     checks.same(f"standard output is full: {error}", said, (3, True, False))
     return checks
+
+
+def no_verdicts(archive, address):
+    """Runs of the program that give no verdict, each on a trace of its own: the trace is named, what came of it is not kept, and
+    it is judged again."""
+    checks = Checks("no verdict")
+    names = [*(f"ends/{how}.hex" for how in ENDS), "ends/whole.hex"]
+    os.mkdir(f"{archive.folder}/ends")
+    for name in names:
+        put(archive.folder, name, lines(SHORT[0], WRONG_END).encode())
+    for how in ENDS:
+        archive.ask(f"ends/{how}.hex", how)
+    words = archive.words("--scheduler", address, *names)
+    status, out, error = archive.run(*words)
+    said = status, out, os.path.exists(f"{archive.folder}/out.json")
+    checks.same(f"status, text, and whether there are lines of JSON: {error}", said, (3, b"", False))
+    for how, why in ENDS.items():
+        checks.holds(f"what is said of {how}: {error}", f"error: ends/{how}.hex: {why}" in error)
+    checks.holds(f"how many: {error}", f"for want of {len(ENDS)} results" in error and "Traceback" not in error)
+    checks.same("what is kept", [*archive.results()], names[-1:])
+    os.remove(f"{archive.folder}/noted")
+    archive.look(checks, "judged again", archive.run(*words, "--resume"), names)
+    checks.same("what is judged then", {*archive.noted()}, {"null", "", *map(os.path.basename, names[:-1])})
+    of_an_older_tool(checks, archive, words, names)
+    return checks
+
+
+def of_an_older_tool(checks, archive, words, names):
+    """A result with no exit status, as an older tool kept, is judged again."""
+    path = archive.results()[names[0]]
+    head, rest = content(path).split(b"\n", 1)
+    head = {key: value for key, value in json.loads(head).items() if key != "status"}
+    put(os.path.dirname(path), os.path.basename(path), json.dumps(head).encode() + b"\n" + rest)
+    os.remove(f"{archive.folder}/noted")
+    archive.look(checks, "an older result", archive.run(*words, "--resume"), names)
+    checks.same("what is judged of older results", archive.noted(), ["null", os.path.basename(names[0]), ""])
 
 
 def faulty_capture(archive, address):
@@ -305,6 +367,8 @@ def fault_rows(archive):
     yield [*test, "--a", "name=1", good], 4, "name=1"
     yield [*test, no_text], 4, "is not text"
     yield [*test, "--table", "none.json", good], 3, "none.json: No such file"
+    yield [*test, "--table", good, good], 3, f"{good}: the text is no JSON"
+    yield [*test, "--table", "table.json", "--table", "table.json", good], 3, "more than one table is without contexts"
     yield [*test, "--list", "none", good], 3, "none: No such file"
     yield [*test, "empty"], 3, "empty: no file below it"
     yield [*test, "--scheduler", "here", good], 3, "no scheduler with a worker at here"
@@ -354,6 +418,8 @@ def on_a_cluster():
         yield goes_on(archive, address)
         if shutil.which("tshark"):
             yield faulty_capture(archive, address)
+        with archive_of_traces() as other:
+            yield no_verdicts(other, address)
     with archive_of_traces() as archive:
         yield faults(archive)
 

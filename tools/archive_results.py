@@ -1,5 +1,6 @@
-"""What tools/judge_archive.py keeps of a run: a folder with a file for each trace that is judged and each capture of
-which lines are made. Each file is written whole or not at all, so a run that was stopped goes on from there.
+"""What tools/judge_archive.py takes for a verdict on a trace, and what it keeps of a run: a folder with a file for each trace
+that is judged and each capture of which lines are made. Each file is written whole or not at all, so a run that was stopped
+goes on from there.
 
 Such a file has a line of JSON, with the name of what it is about, its stamp and how many octets each part has, and behind
 it the parts: of a trace the text and the lines of JSON that `tcapjudge test` gives of it, of a capture what
@@ -11,10 +12,13 @@ import fcntl
 import hashlib
 import json
 import os
+import re
 import shutil
 
 VERDICTS = ["pass", "inconc", "fail", "error"]
 STATUS = {"pass": 0, "inconc": 2, "fail": 1, "error": 3}
+# What the line of a trace has, and that of a dialogue has not.
+SUMS = {"verdict", "messages", "dialogues", "unheard"}
 
 
 def stamp_of(path):
@@ -41,6 +45,42 @@ def write(path, octets):
     with open(f"{path}.part", "wb") as file:
         file.write(octets)
     os.replace(f"{path}.part", path)
+
+
+# ---- what the program gives of a trace
+
+
+def last_line(octets):
+    return octets[octets[:-1].rfind(b"\n") + 1 :]
+
+
+def trace_of(lines):
+    """The object of the trace, which is the last of its lines of JSON. None if that line is not there as a whole."""
+    with contextlib.suppress(ValueError):
+        found = json.loads(last_line(lines)) if lines.endswith(b"\n") else None
+        return found if isinstance(found, dict) and SUMS <= found.keys() else None
+    return None
+
+
+def has_error(said):
+    """Whether standard error has an error: of a table, or of a file that can't be written. A hint is none."""
+    return re.search(rb"^error: ", said, re.MULTILINE) is not None
+
+
+def fault_of(status, text, said, lines):
+    """Why the program gave no verdict on a trace. None if it did: it ended by itself, with the status of that verdict, and all that it
+    prints and writes of one trace is there."""
+    if status < 0:
+        return f"the judge was killed by signal {-status}"
+    trace, why = trace_of(lines), said.decode(errors="replace").strip()
+    if status not in STATUS.values() or has_error(said):
+        return f"no verdict, status {status}: {why}"
+    if not trace or STATUS.get(trace["verdict"]) != status or not re.match(rb"1 trace: .*\n$", last_line(text)):
+        return f"no verdict, status {status}, and a part of what the judge writes is missing: {why}".removesuffix(": ")
+    return None
+
+
+# ---- what is kept
 
 
 class Unfit(Exception):
@@ -84,9 +124,11 @@ class Results:
         return None
 
     def holds(self, name):
-        """Whether there is a result of that file as it is now."""
+        """Whether there is a result of that file as it is now. One with no exit status is of an older tool, which looked at none."""
         head = self.head(name)
-        return head is not None and head["stamp"] == stamp_of(name) and all(map(os.path.exists, head.get("files", [])))
+        if head is None or "status" not in head:
+            return False
+        return head["stamp"] == stamp_of(name) and all(map(os.path.exists, head.get("files", [])))
 
     def parts(self, name):
         """The parts of a result."""

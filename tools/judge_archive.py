@@ -12,7 +12,6 @@ import contextlib
 import functools
 import importlib.util
 import itertools
-import json
 import logging
 import os
 import re
@@ -54,10 +53,14 @@ def program_of(words):
     if not program:
         raise Fault(f"no program {words.program}: --program says where it is")
     command = [os.path.abspath(program), "test", *words.test]
-    # A trace without a message.
-    status, _, why, lines = judged(command, os.getcwd(), os.devnull)
-    if not lines:
+    # A trace without a message, of which the program says what is wrong with its options and its tables.
+    status, _, why, _ = found = judged(command, os.getcwd(), os.devnull)
+    if status == WRONG_WORDS or archive_results.has_error(why):
         refused(status, why)
+    if fault := archive_results.fault_of(*found):
+        raise Fault(f"{words.program}: {fault}")
+    # The hints at the tables, which each run gives: they are passed on once.
+    say(why.decode(errors="replace"), "")
     return command
 
 
@@ -102,25 +105,13 @@ def lines_made(command, folder, name):
 # ---- what is kept
 
 
-def last_line(octets):
-    return octets[octets[:-1].rfind(b"\n") + 1 :]
-
-
-def trace_of(lines):
-    """The object of the trace, which is the last of its lines of JSON. None where it is not there."""
-    with contextlib.suppress(ValueError):
-        trace = json.loads(last_line(lines))
-        return trace if "messages" in trace else None
-    return None
-
-
 def keep_verdict(results, name, stamp, found):
-    """Keeps what the program said of a trace. Returns what is wrong, where it gave no verdict."""
-    status, text, why, lines = found
-    if why or not trace_of(lines):
-        return f"no verdict, status {status}: {why.decode(errors='replace').strip()}"
+    """Keeps what the program said of a trace, if it gave a verdict. Returns what is wrong, if it gave none."""
+    if fault := archive_results.fault_of(*found):
+        return fault
+    status, text, _, lines = found
     # The last line is the sum of this trace alone.
-    results.keep(name, stamp, [text.removesuffix(last_line(text)), lines])
+    results.keep(name, stamp, [text.removesuffix(archive_results.last_line(text)), lines], status=status)
     return None
 
 
@@ -283,7 +274,7 @@ def put_out(names, results, path):
         with open(f"{path}.part", "wb") as file, open(1, "wb", closefd=False) as out:
             for name in traces_of(names, results):
                 text, lines = results.parts(name)
-                total.add(trace_of(lines))
+                total.add(archive_results.trace_of(lines))
                 out.write(text)
                 file.write(lines)
             out.write(total.line().encode())
