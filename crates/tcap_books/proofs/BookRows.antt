@@ -1,7 +1,7 @@
 -- Worked books, computed on the definitions: which table is that of a dialogue, and the names of operations.
 use Rattle.std.proofs.Common.{◌≡◌, ℕ, pos, false, List, [], ◌∷◌, Some, None, refl}
 use Rattle.tcap_parts.specs.declared.code.Code.TheVariants.{Local, Global}
-use Rattle.tcap_books.specs.Book.{NamedTable, name_of, table_of}
+use Rattle.tcap_books.specs.Book.{NamedTable, clash, name_of, table_of}
 
 -- a table that is told by its one octet of a name, with these contexts
 abbrev with_contexts : ℕ → List (List ℕ) → NamedTable
@@ -67,3 +67,19 @@ global_name = refl
 
 pub no_name : name_of named (Local (pos 42)) ≡ None
 no_name = refl
+
+-- ---- two tables with one context
+
+-- the first table that shares a context with a later one, and the first such; contexts that begin alike are two
+pub two_share : clash (short ∷ long ∷ any ∷ again ∷ again ∷ []) ≡ Some (1, 3)
+two_share = refl
+
+pub first_shares : clash (again ∷ again ∷ long ∷ []) ≡ Some (0, 1)
+first_shares = refl
+
+pub none_share : clash (short ∷ long ∷ any ∷ any ∷ []) ≡ None
+none_share = refl
+
+-- one table that has a context twice
+pub twice_in_one : clash (with_contexts 1 ((4 ∷ []) ∷ (4 ∷ []) ∷ []) ∷ any ∷ []) ≡ None
+twice_in_one = refl

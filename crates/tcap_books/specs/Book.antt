@@ -1,7 +1,9 @@
 -- A book of operation tables: which of them a dialogue is judged by, and the names of operations.
-use Rattle.std.specs.Prelude.{ℕ, suc, Bool, true, false, List, [], ◌∷◌, length, Option, Some, None, cond, nat_lt, ◌==◌}
+use Rattle.std.specs.Prelude.{ℕ, suc, Bool, true, false, List, [], ◌∷◌, ◌++◌, length, Option, Some, None, option_map, cond, nat_lt, ◌==◌, ◌&&◌, slice_get, codes}
 use Rattle.std.specs.Option.{option_or}
-use Rattle.std.specs.List.{starts_with}
+use Rattle.std.specs.Fmt.{decimal}
+use Rattle.std.specs.List.{list_any, starts_with}
+use Rattle.std.specs.Str.{bytes_eq}
 use Rattle.std.specs.Map.{lookup}
 use Rattle.std.specs.BTreeMap.{is_at}
 use Rattle.tcap_parts.specs.declared.code.Code.{Code}
@@ -68,6 +70,45 @@ count_without (table ∷ more) = cond (has_none table.contexts) (suc (count_with
 abbrev pub is_ambiguous : List NamedTable → Bool
 is_ambiguous tables = nat_lt 1 (count_without tables)
 
+-- whether two tables have one context
+abbrev pub share_context : NamedTable → NamedTable → Bool
+share_context a b = list_any (λ context. list_any (bytes_eq context) b.contexts) a.contexts
+
+-- of these tables, which have the numbers from that one on, the first behind the number `first` that shares a context with a table
+abbrev pub sharer : NamedTable → ℕ → ℕ → List NamedTable → Option ℕ
+sharer table first number [] = None
+sharer table first number (other ∷ more) =
+    cond (nat_lt first number && share_context table other) (Some number) (sharer table first (suc number) more)
+
+-- the first of these that shares a context with a later table of the book, and the first such
+abbrev pub clash_from : List NamedTable → ℕ → List NamedTable → Option (ℕ × ℕ)
+clash_from tables number [] = None
+clash_from tables number (table ∷ more) =
+    option_or (option_map (λ second. (number, second)) (sharer table number 0 tables)) (clash_from tables (suc number) more)
+
+-- the numbers of the first two tables that have one context: then it is not told which is for a dialogue with it
+abbrev pub clash : List NamedTable → Option (ℕ × ℕ)
+clash tables = clash_from tables 0 tables
+
+-- a table by its number, and its name if it has one
+abbrev pub table_words : ℕ → NamedTable → List ℕ
+table_words number table = codes "table " ++ decimal number ++ by table.name
+  where
+    by : Option (List ℕ) → List ℕ
+    by None = []
+    by (Some name) = codes " (" ++ name ++ codes ")"
+
+abbrev pub words_at : List NamedTable → ℕ → List ℕ
+words_at tables number = by (slice_get tables number)
+  where
+    by : Option NamedTable → List ℕ
+    by None = []
+    by (Some table) = table_words number table
+
+-- the two tables of these numbers
+abbrev pub pair_words : List NamedTable → ℕ × ℕ → List ℕ
+pair_words tables (first, second) = words_at tables first ++ codes " and " ++ words_at tables second
+
 -- the one table of a book, where it has no contexts
 abbrev pub sole : List NamedTable → Option NamedTable
 sole (table ∷ []) = cond (has_none table.contexts) (Some table) None
@@ -79,6 +120,6 @@ by_context tables (Some asked) = best asked None None tables
 
 -- The table of a dialogue whose Begin asks for that application context, or for none. One table alone without contexts
 -- is that of all dialogues. Else, of one without a context it is the first table that has none; of one with a context, the
--- table that has the longest beginning of it, the first of these where there are several.
+-- table that has the longest beginning of it: the first of these, if tables have one context.
 abbrev pub table_of : List NamedTable → Option (List ℕ) → Option NamedTable
 table_of tables context = option_or (sole tables) (by_context tables context)

@@ -1,8 +1,11 @@
 //! A book: operation tables, the dialogues that each is for, and the names of operations.
 
 ghost use Rattle.std.specs.Prelude.{◌≡◌, ◌∷◌, [], ◌++◌, None, OnOk, OnErr, option_copied, option_map};
+ghost use Rattle.std.specs.List.{list_any};
+ghost use Rattle.std.specs.Str.{bytes_eq};
+ghost use Rattle.std.specs.String.{string_bytes};
 ghost use Rattle.tcap_parts.specs.Meaning.{code_of};
-ghost use Rattle.tcap_books.specs.Book.{best, first_without, fit, is_ambiguous, is_better, name_of, sole, table_fit, table_of};
+ghost use Rattle.tcap_books.specs.Book.{best, clash, first_without, fit, is_ambiguous, is_better, name_of, pair_words, share_context, sharer, sole, table_fit, table_of, table_words, words_at};
 
 use crate::names::Names;
 use std::alloc::{AllocError, Global};
@@ -79,6 +82,17 @@ impl NamedTable {
         match &self.name {
             Some(name) => Some(name.as_str()),
             None => None,
+        }
+    }
+
+    /// Appends the words for the table of that number: the number, and its name if it has one. `AllocError` where memory ran out.
+    pub fn push_words(&self, text: &mut String, number: usize) -> Result<(), AllocError>
+        ensures { OnOk result (string_bytes text.new ≡ string_bytes text.old ++ table_words number self.now) }
+    {
+        write!(text, "table {number}")?;
+        match &self.name {
+            Some(name) => write!(text, " ({name})"),
+            None => Ok(()),
         }
     }
 
@@ -178,6 +192,46 @@ fn sole(tables: &[NamedTable]) -> Option<&NamedTable>
     }
 }
 
+/// Whether a context is one of these.
+fn is_among(context: &Context, others: &[Context]) -> bool
+    ensures { result ≡ list_any (bytes_eq context.now) others.now }
+{
+    for other in others {
+        if context.octets() == other.octets() {
+            return true;
+        }
+    }
+    false
+}
+
+/// Whether two tables have one context.
+fn share_context(a: &NamedTable, b: &NamedTable) -> bool
+    ensures { result ≡ share_context a.now b.now }
+{
+    for context in &a.contexts {
+        if is_among(context, &b.contexts) {
+            return true;
+        }
+    }
+    false
+}
+
+/// The first table behind that number that shares a context with a table.
+fn sharer(table: &NamedTable, first: usize, tables: &[NamedTable]) -> Option<usize>
+    ensures { result ≡ sharer table.now first 0 tables.now }
+{
+    for (place, other) in tables.iter().enumerate() {
+        if first < place && share_context(table, other) {
+            return Some(place);
+        }
+    }
+    None
+}
+
+/// What is wrong with a book of which two tables have one context, in words.
+pub const CLASH: &str =
+    "two tables have the same context, so which is for its dialogues is not told";
+
 /// What is wrong with a book that is ambiguous, in words.
 pub const AMBIGUOUS: &str =
     "more than one table is without contexts, so which is for which dialogue is not told";
@@ -230,6 +284,40 @@ impl Book {
             }
         }
         false
+    }
+
+    /// The numbers of the first two tables that have one context, the same octets, so that it is not told which is for a dialogue with
+    /// it: of the first table that shares one with a later table, and of the first such. `None` where no two have one. Each context is
+    /// compared with each of the other tables.
+    pub fn clash(&self) -> Option<(usize, usize)>
+        ensures { result ≡ clash self.now }
+    {
+        let tables = self.tables.as_slice();
+        for (first, table) in tables.iter().enumerate() {
+            if let Some(second) = sharer(table, first, tables) {
+                return Some((first, second));
+            }
+        }
+        None
+    }
+
+    /// Appends the words for the table of that number, if there is one.
+    fn push_at(&self, text: &mut String, number: usize) -> Result<(), AllocError>
+        ensures { OnOk result (string_bytes text.new ≡ string_bytes text.old ++ words_at self.now number) }
+    {
+        match self.tables.get(number) {
+            Some(table) => table.push_words(text, number),
+            None => Ok(()),
+        }
+    }
+
+    /// Appends the words for the two tables of these numbers. `AllocError` where memory ran out.
+    pub fn push_pair(&self, text: &mut String, pair: (usize, usize)) -> Result<(), AllocError>
+        ensures { OnOk result (string_bytes text.new ≡ string_bytes text.old ++ pair_words self.now pair) }
+    {
+        self.push_at(text, pair.0)?;
+        text.push_str(" and ")?;
+        self.push_at(text, pair.1)
     }
 
     /// The table by which a dialogue is judged whose Begin asks for that application context name, given as the octets of

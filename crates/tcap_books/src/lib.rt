@@ -8,6 +8,6 @@ mod carried;
 mod fault;
 mod names;
 
-pub use book::{AMBIGUOUS, Book, Context, NamedTable};
+pub use book::{AMBIGUOUS, Book, CLASH, Context, NamedTable};
 pub use carried::CARRIED_BOOK;
 pub use fault::BookFault;

@@ -3,6 +3,8 @@
 
 mod compact_reading;
 pub mod laws;
+mod methods;
 mod text;
 
+pub use methods::CertificateText;
 pub use text::{from_json, to_json};

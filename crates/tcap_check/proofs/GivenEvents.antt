@@ -93,7 +93,7 @@ unseen c items gap =
     ++ map (expiry_event items) (filter (λ (x : Expiry). x.gap == gap) c.expire)
 
 -- What happens in a gap fits the fates.
-gap_fated : (c : Certificate) (items : List Item) (gap : ℕ) (here : List Event) → map Some here ≡ gap_events c items gap
+pub gap_fated : (c : Certificate) (items : List Item) (gap : ℕ) (here : List Event) → map Some here ≡ gap_events c items gap
     → AllByRecursion (IsFated c.fates) here
 gap_fated c items gap here is =
     let parts = some_parts here (unseen c items gap) (deliveries gap 0 c.fates items) is in
@@ -161,7 +161,7 @@ sender_is c number Item.Quiet [] event is = by (slice_get c.fates number) is
     by (Some Lost) e = cc
 
 -- It fits the fates where those that it takes are not lost by them,
-sender_fated : (fates : List Fate) (taken : List ℕ) (event : Event)
+pub sender_fated : (fates : List Fate) (taken : List ℕ) (event : Event)
     → AllByRecursion (λ k. is_lost fates k ≡ false) taken
     → IsSender taken event → IsFated fates event
 sender_fated fates taken event all (by_send side m none) = tt
@@ -186,7 +186,7 @@ sender_takes side taken event n is (by_mark none) = absurd (subst (IsAmong n) no
 -- ---- all that follows the certificate
 
 -- Expiries that an item implies fit the fates.
-implied_fated : (fates : List Fate) (item : Item) (events : List Event) → AllByRecursion (IsImplied item) events
+pub implied_fated : (fates : List Fate) (item : Item) (events : List Event) → AllByRecursion (IsImplied item) events
     → AllByRecursion (IsFated fates) events
 implied_fated fates item [] all = tt
 implied_fated fates item (event ∷ events) all = (by item event all.0, implied_fated fates item events all.1)

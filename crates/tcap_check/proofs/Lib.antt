@@ -65,6 +65,7 @@ pub mod EntryLaws
 pub mod CheckerLaws
 pub mod RecordLaws
 pub mod RefusalLaws
+pub mod SoFarLaws
 pub mod AloneWeights
 pub mod AloneLoad
 pub mod AloneCounts

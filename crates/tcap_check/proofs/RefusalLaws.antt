@@ -1,5 +1,5 @@
 -- What a checker refuses is refused whatever comes behind it; what it passes is lawful.
-use Rattle.std.proofs.Common.{◌≡◌, List, [], ◌∷◌, ◌++◌, map, length, Option, Some, None, Result, Ok, Err, refl, sym, ap, ap₂, subst, ◌∙◌, false}
+use Rattle.std.proofs.Common.{◌≡◌, ◌≤◌, ◌+◌, ◌*◌, arith, List, [], ◌∷◌, ◌++◌, map, length, Option, Some, None, Result, Ok, Err, refl, sym, ap, ap₂, subst, ◌∙◌, false}
 use Rattle.std.specs.Prelude.{◌≢◌}
 use Rattle.std.proofs.lemmas.List.{map-append}
 use Rattle.tcap_record.specs.declared.entry.End.{End as Side}
@@ -9,21 +9,25 @@ use Rattle.tcap_end.specs.Table.{Table}
 use Rattle.tcap_end.proofs.AnsweringLaws.{then_ok}
 use Rattle.tcap_model.specs.declared.reason.Reason.{Reason}
 use Rattle.tcap_model.specs.declared.reason.Reason.TheVariants.{Memory}
-use Rattle.tcap_model.specs.Entries.{AreItems, IsItem, entry_of, item_of}
+use Rattle.tcap_model.specs.Entries.{AreItems, IsItem, count_components, entry_of, item_of}
 use Rattle.tcap_model.specs.Run.{Event, IsRunOf}
 use Rattle.tcap_model.specs.World.{Item, Sent}
 use Rattle.tcap_check.specs.declared.checker.Report.{Report}
 use Rattle.tcap_certificate.specs.declared.fault.CheckFault.{CheckFault}
 use Rattle.tcap_certificate.specs.Certificate.{Certificate}
 use Rattle.tcap_check.specs.Checking.{Checking, Kept, Took, answer_of, ended, map_ok, reported, taken}
-use Rattle.tcap_check.specs.Given.{IsRefused, RefusesForGood, SaysLawful, ShowsReason}
+use Rattle.tcap_check.specs.Given.{IsBounded, IsRefused, RefusesForGood, SaysLawful, ShowsReason}
 use Rattle.tcap_certificate.specs.Named.{IsDescribedBy}
 use Rattle.tcap_certificate.specs.Replayed.{Replay, certificate_fits, entries_by, fault_at, nothing_replayed, replayed_by, run_by}
+use Rattle.tcap_certificate.specs.Unheard.{steps_of, unheard_of}
 use Rattle.tcap_check.proofs.AloneReplays.{entries_lead}
+use Rattle.tcap_check.proofs.AloneRuns.{gives_for}
 use Rattle.tcap_check.proofs.CheckerLaws.{ends_so, given, refusing}
+use Rattle.tcap_check.proofs.DescribedRuns.{items_of, items_same}
 use Rattle.tcap_check.proofs.EntryLaws.{replayed_is}
-use Rattle.tcap_check.proofs.GivenRuns.{are_fit, both_ok}
+use Rattle.tcap_check.proofs.GivenRuns.{are_fit, both_ok, gives}
 use Rattle.tcap_check.proofs.NamedLaws.{described_is_given}
+use Rattle.tcap_check.proofs.ReasonGaps.{as_many}
 use Rattle.tcap_check.proofs.ReasonLaws.{refusal_says}
 use Rattle.tcap_check.proofs.RecordLaws.{is_report, lawful_is, refused_is, taken_short}
 use Rattle.tcap_check.proofs.ReplayEntries.{entries_replay, ok_item}
@@ -107,19 +111,9 @@ items_of_entries [] = refl
 items_of_entries (item ∷ items) =
     ap₂ (λ (x : Result Item Reason) (xs : List (Result Item Reason)). x ∷ xs) (read_is item) (items_of_entries items)
 
--- The items that entries are, are no others.
-same_item : (item other : Item) → IsItem (entry_of item) other → item ≡ other
-same_item (Sent side message) (Sent sender told) (of, at) = cc
-same_item (Sent side message) Item.Quiet (of, at) = cc
-same_item Item.Quiet (Sent sender told) (of, at) = cc
-same_item Item.Quiet Item.Quiet is = refl
-
-pub same_items : (items others : List Item) → AreItems (map entry_of items) others → items ≡ others
-same_items [] [] is = refl
-same_items [] (other ∷ others) is = absurd is
-same_items (item ∷ items) [] is = absurd is
-same_items (item ∷ items) (other ∷ others) (one, more) =
-    ap₂ (λ (x : Item) (xs : List Item). x ∷ xs) (same_item item other one) (same_items items others more)
+-- Entries are one list of items, and no other.
+pub same_items : (entries : List Entry) (items others : List Item) → AreItems entries items → AreItems entries others → items ≡ others
+same_items entries items others are also = items_same items others (sym (items_of entries items are) ∙ items_of entries others also)
 
 -- ---- a run
 
@@ -148,17 +142,47 @@ lawful_of judged table c entries report is = by (run_by judged table c entries) 
         let found = items_by judged table c entries events at in
         let whole : map item_of (map entry_of found.0) ≡ entries = items_of_entries found.0 ∙ found.1 in
         let law = lawful_is judged table c (map entry_of found.0) report (ap (given judged table c) whole ∙ is) in
-        let same = same_items found.0 law.0 law.1 in
+        let same = same_items (map entry_of found.0) found.0 law.0 (entries_are found.0) law.1 in
         (found.0, found.1, subst (λ (x : List Item). SaysLawful judged x table report) (sym same) law.2)
 
 -- Where the certificate describes a run of the items, that is what it gives.
+described_here : (table : Table) (c : Certificate) (entries : List Entry) (items : List Item) (events : List Event) → AreItems entries items
+    → IsRunOf items table events → IsDescribedBy table c items events
+    → map_ok (reported None) (replayed_by None table c entries) ≡ Ok (reported None events)
+described_here table c entries items events are run described =
+    let run_is = described_is_given table c entries items events are run described in
+    ap (map_ok (reported None)) run_is.1
+    ∙ ap (λ n. let report : Result Report CheckFault = Ok (record { moves = n; unheard = 0 }) in report) run_is.2
+
 described_of : (table : Table) (c : Certificate) (items : List Item) (events : List Event) → IsRunOf items table events
     → IsDescribedBy table c items events → given None table c (map ok_item items) ≡ Ok (reported None events)
 described_of table c items events run described =
-    let run_is = described_is_given table c (map entry_of items) items events (entries_are items) run described in
     ap (given None table c) (sym (items_of_entries items))
-    ∙ (ap (map_ok (reported None)) run_is.1
-    ∙ ap (λ n. let report : Result Report CheckFault = Ok (record { moves = n; unheard = 0 }) in report) run_is.2)
+    ∙ described_here table c (map entry_of items) items events (entries_are items) run described
+
+-- A report has no larger numbers than the certificate and the items allow.
+is_bounded : (judged : Option Side) (table : Table) (c : Certificate) (entries : List Entry) (items : List Item) (report : Report)
+    → AreItems entries items → map_ok (reported judged) (replayed_by judged table c entries) ≡ Ok report → IsBounded judged c items report
+is_bounded judged table c entries items report are is = by judged (replayed_by judged table c entries) refl is
+  where
+    by : (judged : Option Side) (o : Result (List Event) CheckFault) → replayed_by judged table c entries ≡ o
+        → map_ok (reported judged) o ≡ Ok report → IsBounded judged c items report
+    by judged (Err fault) at e = cc
+    by None (Ok events) at e =
+        let run = gives table c entries events at in
+        let same : reported None events ≡ report = cc in
+        let many = as_many entries items are in
+        let most : length events ≤ 2 * length items + count_components items + length c.expire + length c.close =
+        omega (arith, run.bound, many, ap count_components (same_items entries run.items items run.are are)) in
+        subst (IsBounded None c items) same most
+    by (Some side) (Ok events) at e =
+        let run = gives_for side table c entries events at in
+        let same : reported (Some side) events ≡ report = cc in
+        let many = as_many entries items are in
+        let most : steps_of side events ≤ 3 * length items + count_components items =
+        omega (arith, run.bound, many, ap count_components (same_items entries run.items items run.are are)) in
+        let unheard : unheard_of side events ≤ length items = omega (arith, run.unheard, many) in
+        subst (IsBounded (Some side) c items) same (most, unheard)
 
 -- ---- what a checker says at its end, where that is what the certificate gives
 
@@ -185,3 +209,34 @@ module _ (s : Checking) (result : Result Report CheckFault)
       let said = finished (map item_of entries) took (λ memory. other (same_fault fault (fault_at Memory 0) (sym is ∙ memory))) in
       refusal_says s.judged s.table s.certificate entries fault
       (end_is_refused s.judged s.table s.certificate entries fault (sym is ∙ said))
+
+  pub ends_bounded : (items : List Item) (report : Report) → Took s (map ok_item items) → result ≡ Ok report
+      → IsBounded s.judged s.certificate items report
+  ends_bounded items report took is =
+      is_bounded s.judged s.table s.certificate (map entry_of items) items report (entries_are items)
+      (ap (given s.judged s.table s.certificate) (items_of_entries items)
+      ∙ sym (finished (map ok_item items) took (is_report result report (fault_at Memory 0) is)) ∙ is)
+
+-- ---- what is said of the entries of a record, where that is what the certificate gives
+
+module _ (judged : Option Side) (table : Table) (c : Certificate) (entries : List Entry) (result : Result Report CheckFault)
+    (exact : result ≢ Err (fault_at Memory 0) → result ≡ map_ok (reported judged) (replayed_by judged table c entries)) where
+  reports : (report : Report) → result ≡ Ok report → map_ok (reported judged) (replayed_by judged table c entries) ≡ Ok report
+  reports report is = sym (exact (is_report result report (fault_at Memory 0) is)) ∙ is
+
+  pub says_lawful : (report : Report) → result ≡ Ok report → (items : List Item) × AreItems entries items × SaysLawful judged items table report
+  says_lawful report is = lawful_is judged table c entries report (reports report is)
+
+  pub says_as_described : (items : List Item) (events : List Event) → AreItems entries items → IsRunOf items table events
+      → IsDescribedBy table c items events → judged ≡ None → result ≢ Err (fault_at Memory 0) → result ≡ Ok (reported None events)
+  says_as_described items events are run described both other =
+      exact other ∙ ap (λ (x : Option Side). map_ok (reported x) (replayed_by x table c entries)) both
+      ∙ described_here table c entries items events are run described
+
+  pub says_with_reason : (fault : CheckFault) → result ≡ Err fault → fault ≢ fault_at Memory 0 → ShowsReason judged table c entries fault
+  says_with_reason fault is other =
+      refusal_says judged table c entries fault (end_is_refused judged table c entries fault
+      (sym is ∙ exact (λ memory. other (same_fault fault (fault_at Memory 0) (sym is ∙ memory)))))
+
+  pub says_bounded : (items : List Item) (report : Report) → AreItems entries items → result ≡ Ok report → IsBounded judged c items report
+  says_bounded items report are is = is_bounded judged table c entries items report are (reports report is)

@@ -21,7 +21,7 @@ use Rattle.tcap_certificate.specs.declared.fault.CheckFault.{CheckFault}
 use Rattle.tcap_model.specs.declared.reason.Reason.{Reason}
 use Rattle.tcap_model.specs.declared.reason.Reason.TheVariants as reasons
 use Rattle.tcap_model.specs.World.{Item, Sent, World, end_at}
-use Rattle.tcap_model.specs.Run.{BothKeepRules, Event, IsLawful, IsRunOf, Runs, Sends, Replies, Loses, Expires, Closes, Quiet, Tells}
+use Rattle.tcap_model.specs.Run.{BothKeepRules, Event, IsLawful, IsLawfulFor, IsRunOf, Runs, Sends, Replies, Loses, Expires, Closes, Quiet, Tells}
 use Rattle.tcap_certificate.specs.Certificate.{Certificate}
 use Rattle.tcap_model.specs.Entries.{AreItems, IsItem, count_components, item_of}
 use Rattle.tcap_certificate.specs.Follows.{Follows, FollowsFrom, closing_event, expiry_event, without_losses}
@@ -177,6 +177,13 @@ RefusesForGood s next answer = (entries : List Entry) (entry : Entry) (fault : C
     → item_of entry ≡ next → answer ≡ Err fault → fault ≢ fault_at reasons.Memory 0
     → IsRefused s.judged s.table s.certificate (entries ++ entry ∷ []) fault
 
+-- ---- who may have sent items
+
+-- Two lawful ends may have sent these items, in this order; or that end alone may have sent its part of them.
+abbrev pub MayBeSent : Option Side → List Item → Table → Type 0
+MayBeSent None items table = (moves : ℕ) × IsLawful items table moves
+MayBeSent (Some side) items table = IsLawfulFor side items table
+
 -- ---- reports
 
 -- What a report says of items: two lawful ends may have sent them, by so many steps; or the end that is judged its part of them, by a run that
@@ -184,3 +191,11 @@ RefusesForGood s next answer = (entries : List Entry) (entry : Entry) (fault : C
 abbrev pub SaysLawful : Option Side → List Item → Table → Report → Type 0
 SaysLawful None items table report = IsLawful items table report.moves
 SaysLawful (Some judged) items table report = IsLawfulUnheard judged items table report.unheard
+
+-- How large the numbers are in a report of a run that a certificate gives for these items. Of both ends it has at most two steps for each item,
+-- one for each component and one for each listed event. Of one end it has at most three steps for each item and one for each component,
+-- and no more unheard messages than items.
+abbrev pub IsBounded : Option Side → Certificate → List Item → Report → Type 0
+IsBounded None c items report = report.moves ≤ 2 * length items + count_components items + length c.expire + length c.close
+IsBounded (Some judged) c items report =
+    (report.moves ≤ 3 * length items + count_components items) × (report.unheard ≤ length items)

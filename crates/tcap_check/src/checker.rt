@@ -9,7 +9,7 @@ ghost use Rattle.tcap_model.specs.World.{Item};
 ghost use Rattle.tcap_model.specs.Run.{Event, IsRunOf};
 ghost use Rattle.tcap_model.specs.Entries.{item_of};
 ghost use Rattle.tcap_record.specs.declared.entry.Entry.{Entry as Recorded};
-ghost use Rattle.tcap_check.specs.Given.{RefusesForGood, SaysLawful, ShowsReason};
+ghost use Rattle.tcap_check.specs.Given.{IsBounded, RefusesForGood, SaysLawful, ShowsReason};
 ghost use Rattle.tcap_certificate.specs.Named.{IsDescribedBy};
 ghost use Rattle.tcap_check.specs.declared.checker.Report.{Report as Reported};
 ghost use Rattle.tcap_certificate.specs.Replayed.{certificate_fits, fault_at, run_by};
@@ -206,6 +206,8 @@ impl<'a> Checker<'a> {
             → self.entry.judged ≡ None → result ≢ Err (fault_at reasons.Memory 0) → result ≡ Ok (reported None events) }
         ensures refuses { (entries : List Recorded) (f : Refusal) → Took self.entry (map item_of entries) → result ≡ Err f
             → f ≢ fault_at reasons.Memory 0 → ShowsReason self.entry.judged self.entry.table self.entry.certificate entries f }
+        ensures bound { (items : List Item) (report : Reported) → Took self.entry (map (λ item. Ok item) items) → result ≡ Ok report
+            → IsBounded self.entry.judged self.entry.certificate items report }
     {
         match self.fault {
             Some(fault) => Err(fault),

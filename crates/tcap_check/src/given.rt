@@ -1,7 +1,7 @@
 //! What a certificate gives: a run of two ends that sends the items of a record, or the reason why it gives none. Each
 //! function says by its contract alone what holds of the definitions.
 
-ghost use Rattle.std.specs.Prelude.{◌≡◌, ℕ, ℤ, List, [], length, filter_map, Contains, Option, Some, Ok, Err, None};
+ghost use Rattle.std.specs.Prelude.{◌≡◌, ℕ, ℤ, List, [], length, map, filter_map, Contains, IsTrue, is_ok, Option, Some, Result, Ok, Err, None};
 ghost use Rattle.std.specs.List.{AllByRecursion};
 ghost use Rattle.tcap_msg.specs.declared.message.Message.{Message};
 ghost use Rattle.tcap_msg.specs.Parts.{components_in};
@@ -20,7 +20,9 @@ ghost use Rattle.tcap_certificate.specs.Certificate.{Certificate, IsPrompt, prom
 ghost use Rattle.tcap_model.specs.Entries.{AreItems};
 ghost use Rattle.tcap_certificate.specs.Follows.{Follows, IsImplied, IsPlain, invoke_id, invoking_half};
 ghost use Rattle.tcap_certificate.specs.Named.{AreSameEvents, IsDescribedBy};
-ghost use Rattle.tcap_check.specs.Given.{DeliversAtOnce, IsGiven, IsInUse, IsReason, IsSeen};
+ghost use Rattle.tcap_check.specs.Given.{DeliversAtOnce, IsGiven, IsInUse, IsReason, IsSeen, MayBeSent};
+ghost use Rattle.tcap_check.specs.Checking.{Checking, Took};
+ghost use Rattle.tcap_model.specs.declared.reason.Reason.{Reason};
 ghost use Rattle.tcap_certificate.specs.Replayed.{replayed_by};
 
 /// A run from any certificate: what it gives is a run of two ends, from the empty world, which sends the items that the
@@ -107,6 +109,13 @@ pub fn refusals_have_reasons()
     ensures { (judged : Option Side) (table : Table) (c : Certificate) (entries : List Entry) (fault : CheckFault)
         → replayed_by judged table c entries ≡ Err fault
         → IsReason judged table c entries fault.entry fault.reason }
+{}
+
+/// What a checker took, and did not refuse, are items that two lawful ends may have sent, in this order; or the end that alone is judged its
+/// part of them. The messages that were sent last may still be on their way.
+pub fn what_was_taken_may_be_sent()
+    ensures { (checker : Checking) (entries : List (Result Item Reason)) → Took checker entries → IsTrue (is_ok checker.so_far)
+        → (items : List Item) × (map (λ item. Ok item) items ≡ entries) × MayBeSent checker.judged items checker.table }
 {}
 
 /// The events of a run, and what is discarded in it, are told by one list of steps alone.

@@ -1,8 +1,10 @@
 //! A certificate, replayed over a record.
 
-ghost use Rattle.std.specs.Prelude.{◌≡◌, ◌≢◌, ◌++◌, ◌∷◌, [], Bool, true, List, length, map, Result, Ok, Err, OnOk};
+ghost use Rattle.std.specs.Prelude.{◌≡◌, ◌≢◌, ◌++◌, ◌∷◌, [], Bool, true, List, length, map, None, Result, Ok, Err, OnOk};
 ghost use Rattle.tcap_record.specs.Viewed.{entry_read};
-ghost use Rattle.tcap_check.specs.Given.{RefusesForGood, SaysLawful};
+ghost use Rattle.tcap_check.specs.Given.{IsBounded, RefusesForGood, SaysLawful, ShowsReason};
+ghost use Rattle.tcap_certificate.specs.Named.{IsDescribedBy};
+ghost use Rattle.tcap_model.specs.Run.{Event, IsRunOf};
 ghost use Rattle.tcap_certificate.specs.declared.fault.CheckFault.{CheckFault as Refusal};
 ghost use Rattle.tcap_model.specs.declared.reason.Reason.{Reason as Why};
 ghost use Rattle.tcap_model.specs.declared.reason.Reason.TheVariants as reasons;
@@ -92,6 +94,22 @@ impl<'r> Replaying<'_, 'r> {
     }
 }
 
+/// Replays a certificate over a record, for both ends or for the one that is judged.
+fn replay(
+    alloc: Global,
+    record: &Record,
+    table: &Table,
+    certificate: &Certificate,
+    judged: Option<End>,
+) -> Result<Report, CheckFault>
+    ensures { result ≢ Err (fault_at reasons.Memory 0)
+        → result ≡ map_ok (reported judged) (replayed_by judged table.now certificate.now «record».now.entries.items) }
+{
+    let mut replaying = Replaying::new(alloc, table, certificate, judged, false)?;
+    replaying.take_all(record)?;
+    replaying.finish()
+}
+
 /// Whether a certificate gives a run for a record (Q.774 3.2 and 3.3). Where no end is named both are judged. On Ok the entries of the
 /// record are items, messages and quiet marks, and two lawful ends, over two channels in order that may lose messages, with hidden
 /// expiries and closings, may have sent exactly these, in this order, by so many steps. Where one end is named it alone is judged,
@@ -111,8 +129,13 @@ pub fn check(
         × SaysLawful judged items table.now report }
     ensures exact { result ≢ Err (fault_at reasons.Memory 0)
         → result ≡ map_ok (reported judged) (replayed_by judged table.now certificate.now «record».now.entries.items) }
+    ensures described { (items : List Item) (events : List Event) → AreItems «record».now.entries.items items → IsRunOf items table.now events
+        → IsDescribedBy table.now certificate.now items events → judged ≡ None → result ≢ Err (fault_at reasons.Memory 0)
+        → result ≡ Ok (reported None events) }
+    ensures refuses { (f : Refusal) → result ≡ Err f → f ≢ fault_at reasons.Memory 0
+        → ShowsReason judged table.now certificate.now «record».now.entries.items f }
+    ensures bound { (items : List Item) (report : Reported) → AreItems «record».now.entries.items items → result ≡ Ok report
+        → IsBounded judged certificate.now items report }
 {
-    let mut replaying = Replaying::new(alloc, table, certificate, judged, false)?;
-    replaying.take_all(record)?;
-    replaying.finish()
+    replay(alloc, record, table, certificate, judged)
 }

@@ -86,6 +86,7 @@ pub mod FewLaws
 pub mod KeptLaws
 pub mod SearchLaws
 pub mod ReplayLaws
+pub mod UnblamedLaws
 pub mod SubjectLaws
 pub mod MatterLaws
 pub mod MatterNotes

@@ -44,3 +44,4 @@ pub mod Subject
 pub mod Replay
 pub mod Matters
 pub mod Unblamed
+pub mod WorkedUnblamed

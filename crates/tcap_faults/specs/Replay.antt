@@ -1,5 +1,5 @@
 -- What is kept of the entries of a record before one of them, and in which of them an end used an own ID again.
-use Rattle.std.specs.Prelude.{◌≡◌, ℕ, List, [], map, take, None}
+use Rattle.std.specs.Prelude.{◌≡◌, ℕ, List, map, take}
 use Rattle.tcap_record.specs.declared.entry.End.{End as Side}
 use Rattle.tcap_record.specs.declared.entry.Entry.{Entry}
 use Rattle.tcap_end.specs.Table.{Table}
@@ -8,7 +8,7 @@ use Rattle.tcap_model.specs.Entries.{item_of}
 use Rattle.tcap_faults.specs.declared.replay.Replay.{Replay}
 use Rattle.tcap_faults.specs.Searching.{AreCounted, IsKept}
 use Rattle.tcap_faults.specs.Subject.{items_among}
-use Rattle.tcap_faults.specs.Unblamed.{again_behind}
+use Rattle.tcap_faults.specs.Unblamed.{again_among}
 
 -- the items among so many entries
 abbrev pub items_up_to : List Entry → ℕ → List Item
@@ -18,4 +18,4 @@ items_up_to entries number = items_among (map item_of (take number entries))
 pub record IsReplayed (table : Table) (side : Side) (entries : List Entry) (number : ℕ) (replay : Replay) : Type 0 where
   pub are : IsKept table (items_up_to entries number) replay.kept
   pub counted : AreCounted (items_up_to entries number) number
-  pub again : replay.again ≡ again_behind table side 0 (map item_of (take number entries)) [] None
+  pub again : replay.again ≡ again_among table side entries number

@@ -1,6 +1,6 @@
 -- Why nothing is blamed on an end at an entry: it used an own ID again, so that it can't be told which transaction is meant; or its
 -- message goes over tangled IDs, of which the first is named.
-use Rattle.std.specs.Prelude.{ℕ, ◌+◌, List, [], ◌∷◌, ◌++◌, map, slice_get, take, Option, Some, None, Result, Ok, Err, cond}
+use Rattle.std.specs.Prelude.{ℕ, ◌+◌, Bool, true, false, List, [], ◌∷◌, ◌++◌, map, slice_get, take, Option, Some, None, Result, Ok, Err, cond}
 use Rattle.tcap_record.specs.declared.entry.End.{End as Side}
 use Rattle.tcap_record.specs.declared.entry.Entry.{Entry}
 use Rattle.tcap_end.specs.Table.{Table}
@@ -26,9 +26,19 @@ again_behind table side number (Ok (Sent sender m) ∷ more) seen first =
     again_behind table side (number + 1) more (seen ++ Sent sender m ∷ [])
     (or_else first (cond (is_used_again table side seen (Sent sender m)) (Some number) None))
 
--- among the entries up to that number, this one too
+-- that number, among so many entries
+abbrev pub again_among : Table → Side → List Entry → ℕ → Option ℕ
+again_among table side entries count = again_behind table side 0 (map item_of (take count entries)) [] None
+
+-- whether an entry is a quiet mark
+abbrev pub is_mark : Option (Result Item Reason) → Bool
+is_mark (Some (Ok Item.Quiet)) = true
+is_mark entry = false
+
+-- That number, for an entry: a message is judged by the entries up to it, it too; a quiet mark by those before it.
 abbrev pub used_again_at : Table → Side → List Entry → ℕ → Option ℕ
-used_again_at table side entries number = again_behind table side 0 (map item_of (take (number + 1) entries)) [] None
+used_again_at table side entries number =
+    again_among table side entries (cond (is_mark (slice_get (map item_of entries) number)) number (number + 1))
 
 -- the first tangled ID that the message of that entry goes over, where that end sent it
 abbrev pub tangled_at : Side → List Entry → ℕ → Option TangledId

@@ -20,18 +20,20 @@ use Rattle.tcap_check.specs.declared.checker.Report.{Report}
 use Rattle.tcap_certificate.specs.Unheard.{unheard_of}
 use Rattle.tcap_check.proofs.AloneRuns.{gives_for}
 use Rattle.tcap_check.proofs.GivenRuns.{gives}
+use Rattle.tcap_check.proofs.NamedLaws.{described_is_given}
 use Rattle.tcap_check.proofs.ReasonGaps.{as_many}
+use Rattle.tcap_check.proofs.ReasonLaws.{refusal_says}
 use Rattle.tcap_judge.specs.declared.text_reading.TextFault.{TextFault}
 use Rattle.tcap_judge.specs.declared.text_reading.TextFault.TheVariants as faults
 use Rattle.tcap_judge.specs.declared.outcome.Outcome.{Outcome}
-use Rattle.tcap_judge.specs.declared.outcome.Outcome.TheVariants.{Faulty}
+use Rattle.tcap_judge.specs.declared.outcome.Outcome.TheVariants.{Faulty, Lawful}
 use Rattle.tcap_lines.specs.declared.status.Status.{Status}
 use Rattle.tcap_lines.specs.declared.status.Status.TheVariants as statuses
 use Rattle.tcap_lines.specs.declared.status.WriteFailed.{WriteFailed}
 use Rattle.tcap_judge.specs.Outcome.{Says, SaysWith, outcome_line, outcome_status}
 use Rattle.tcap_judge.specs.Text.{ReadsText}
 use Rattle.tcap_judge.specs.Judged.{AreLawfulUnheard, IsShown, MayBeSentUnheard, lawful_by, replayed_by, said_lawful}
-use Rattle.tcap_judge.specs.Checked.{Checks, Device, IsCertificateGiven, IsTableGiven, Judges, JudgesBy, JudgesRecord, JudgesWith, ReadsCertificate, ReadsRecord, ReadsTable, out_of_memory, record_says, replay_says, said_of_text, text_limit}
+use Rattle.tcap_judge.specs.Checked.{Checks, Device, IsCertificateGiven, IsReasoned, IsTableGiven, Judges, JudgesBy, JudgesRecord, JudgesWith, ReadsCertificate, ReadsRecord, ReadsTable, SaysOfDescribed, out_of_memory, record_says, replay_says, said_of_text, text_limit}
 use Rattle.tcap_judge.specs.LawfulRecord.{FindsLawfulBy, SpellsRecord, TellsAll}
 
 -- ---- what the octets spell
@@ -133,6 +135,26 @@ shown_by_replay judged table c entries outcome says = by judged (replayed_by jud
         subst (IsShown (Some side) table entries) (sym said)
         (given.items, given.are, (events, given.run.0, given.run.1, given.run.2, given.keeps, given.left, refl))
     by judged (Err fault) is said = subst (IsShown judged table entries) (sym said) tt
+
+-- a refusal has its reason
+pub reasoned_by_replay : (judged : Option Side) (table : Table) (c : Certificate) (entries : List Entry) (outcome : Outcome)
+    → outcome ≡ replay_says judged (length entries) (replayed_by judged table c entries) → IsReasoned judged table c entries outcome
+reasoned_by_replay judged table c entries outcome says = by judged (replayed_by judged table c entries) refl says
+  where
+    by : (judged : Option Side) (replay : Result (List Event) CheckFault) → replayed_by judged table c entries ≡ replay
+        → outcome ≡ replay_says judged (length entries) replay → IsReasoned judged table c entries outcome
+    by None (Ok events) is said = subst (IsReasoned None table c entries) (sym said) tt
+    by (Some side) (Ok events) is said = subst (IsReasoned (Some side) table c entries) (sym said) tt
+    by judged (Err fault) is said = subst (IsReasoned judged table c entries) (sym said) (refusal_says judged table c entries fault is)
+
+-- what is described is given
+pub described_by_replay : (judged : Option Side) (table : Table) (c : Certificate) (entries : List Entry) (end : Result (Unit {0}) FeedFault)
+    (outcome : Outcome) → outcome ≡ replay_says judged (length entries) (replayed_by judged table c entries) → judged ≡ None
+    → SaysOfDescribed table c entries end outcome
+described_by_replay judged table c entries end outcome says both items events ended are run described =
+    let given = described_is_given table c entries items events are run described in
+    says ∙ ap (λ (x : Option Side). replay_says x (length entries) (replayed_by x table c entries)) both
+    ∙ ap (replay_says None (length entries)) given.1 ∙ ap Lawful (as_many entries items are)
 
 -- what a report says is what is said of it
 pub shown_report : (judged : Option Side) (table : Table) (entries : List Entry) (count : ℕ) (report : Report)

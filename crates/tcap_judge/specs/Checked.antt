@@ -1,5 +1,5 @@
 -- What a run says of a certificate, replayed over a record, for both ends or for one alone.
-use Rattle.std.specs.Prelude.{◌≡◌, ℕ, ◌⊎◌, List, length, Option, Result, Ok, Err}
+use Rattle.std.specs.Prelude.{◌≡◌, ℕ, ◌⊎◌, List, length, Option, None, Result, Ok, Err}
 use Rattle.std.specs.Io.KnownBytes.{Appends, Consumes}
 use Rattle.tcap_record.specs.declared.entry.End.{End as Side}
 use Rattle.tcap_record.specs.declared.entry.Entry.{Entry}
@@ -12,13 +12,17 @@ use Rattle.tcap_end.specs.Fault.{table_number_of}
 use Rattle.tcap_end.specs.Table.{Table}
 use Rattle.tcap_end.specs.TableText.{IsTableOf}
 use Rattle.tcap_certificate.specs.declared.fault.CheckFault.{CheckFault}
-use Rattle.tcap_model.specs.Run.{Event}
+use Rattle.tcap_model.specs.Entries.{AreItems}
+use Rattle.tcap_model.specs.Run.{Event, IsRunOf}
+use Rattle.tcap_model.specs.World.{Item}
 use Rattle.tcap_certificate.specs.Certificate.{Certificate}
+use Rattle.tcap_certificate.specs.Named.{IsDescribedBy}
+use Rattle.tcap_check.specs.Given.{ShowsReason}
 use Rattle.tcap_certificate_text.specs.CertificateText.{IsCertificateText}
 use Rattle.tcap_judge.specs.declared.text_reading.TextFault.{TextFault}
 use Rattle.tcap_judge.specs.declared.text_reading.TextFault.TheVariants as faults
 use Rattle.tcap_judge.specs.declared.outcome.Outcome.{Outcome}
-use Rattle.tcap_judge.specs.declared.outcome.Outcome.TheVariants.{NotShown, Faulty}
+use Rattle.tcap_judge.specs.declared.outcome.Outcome.TheVariants.{Lawful, NotShown, Faulty}
 use Rattle.tcap_lines.specs.declared.status.Status.{Status}
 use Rattle.tcap_judge.specs.Judged.{IsShown, lawful_by, replayed_by}
 use Rattle.tcap_judge.specs.Outcome.{Says}
@@ -100,6 +104,16 @@ pub record ReadsRecord (d : Device) (entries : List Entry) (end : Result (Unit {
   pub ended : EndsOnlyAtEnd d.after end
   pub failed : FailsOnlyByReader d.failed_before d.failed_after end
 
+-- If it is said that the certificate gives no run, the certificate and the entries show the reason.
+abbrev pub IsReasoned : Option Side → Table → Certificate → List Entry → Outcome → Type 0
+IsReasoned judged table c entries (NotShown fault) = ShowsReason judged table c entries fault
+IsReasoned judged table c entries outcome = Unit {0}
+
+-- If the certificate describes a run of two ends that sends the items which all entries of the record are, it is said that they are lawful.
+abbrev pub SaysOfDescribed : Table → Certificate → List Entry → Result (Unit {0}) FeedFault → Outcome → Type 0
+SaysOfDescribed table c entries end outcome = (items : List Item) (events : List Event) → end ≡ Ok tt → AreItems entries items
+    → IsRunOf items table events → IsDescribedBy table c items events → outcome ≡ Lawful (length items)
+
 -- What the reader told is entries and the end behind them, and what is said is what is said of them, and is so.
 pub record SaysOfRecord (judged : Option Side) (table : Table) (c : Certificate) (d : Device) (outcome : Outcome)
     : Type 0 where
@@ -108,6 +122,8 @@ pub record SaysOfRecord (judged : Option Side) (table : Table) (c : Certificate)
   pub reads : ReadsRecord d entries end
   pub says : outcome ≡ record_says judged table c entries end
   pub shown : IsShown judged table entries outcome
+  pub reasoned : IsReasoned judged table c entries outcome
+  pub described : judged ≡ None → SaysOfDescribed table c entries end outcome
 
 -- That is so, or memory ran out.
 abbrev pub JudgesRecord : Option Side → Table → Certificate → Device → Outcome → Type 0

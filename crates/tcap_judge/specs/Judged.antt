@@ -4,9 +4,10 @@ use Rattle.tcap_record.specs.declared.entry.End.{End as Side}
 use Rattle.tcap_record.specs.declared.entry.Entry.{Entry}
 use Rattle.tcap_end.specs.Table.{Table}
 use Rattle.tcap_model.specs.World.{Item}
-use Rattle.tcap_model.specs.Run.{Event, IsLawful, IsLawfulFor}
+use Rattle.tcap_model.specs.Run.{Event}
 use Rattle.tcap_model.specs.Entries.{AreItems}
 pub use Rattle.tcap_certificate.specs.Replayed.{replayed_by}
+pub use Rattle.tcap_check.specs.Given.{MayBeSent}
 use Rattle.tcap_certificate.specs.Unheard.{unheard_of}
 use Rattle.tcap_certificate.specs.Unheard.{IsLawfulUnheard}
 use Rattle.tcap_judge.specs.declared.outcome.Outcome.{Outcome}
@@ -21,11 +22,6 @@ lawful_by (Some side) count events = LawfulFor count (unheard_of side events)
 abbrev pub said_lawful : Option Side → ℕ → ℕ → Outcome
 said_lawful None count unheard = Lawful count
 said_lawful (Some side) count unheard = LawfulFor count unheard
-
--- Two lawful ends may have sent these items, in this order; or that end alone may have sent its part of them.
-abbrev pub MayBeSent : Option Side → List Item → Table → Type 0
-MayBeSent None items table = (moves : ℕ) × IsLawful items table moves
-MayBeSent (Some side) items table = IsLawfulFor side items table
 
 -- The entries are such items.
 abbrev pub AreLawful : Option Side → Table → List Entry → Type 0

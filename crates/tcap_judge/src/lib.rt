@@ -18,4 +18,7 @@ pub use finding::{Ends, Finding, blame_status, push_finding, stands_behind};
 pub use given::{read_certificate, read_table};
 pub use judging::{judge_outcome, run_judge, run_judge_end};
 pub use outcome::{OUT_OF_MEMORY, Outcome, inner_number, push_outcome, write_outcome};
+pub use tcap_certificate_text::CertificateText;
+pub use tcap_lines::{Status, WriteFailed, run_pack, run_show};
+pub use tcap_words::{Request, WordsFault, request};
 pub use verdicts::{Said, judge_record, named, propose, replay};

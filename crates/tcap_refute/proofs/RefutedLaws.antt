@@ -1,6 +1,7 @@
 -- What a refutation says of all runs.
 use Rattle.std.proofs.Common.{◌≡◌, inl, inr, Bool, true, false, cond, ℕ, zero, suc, ◌+◌, List, [], ◌∷◌, ◌++◌, map, length, slice_get, Option, Some, None, Result, Ok, Err, refl, sym, ap, subst, ◌∙◌}
 use Rattle.std.specs.List.{find}
+use Rattle.std.specs.Prelude.{IfOk, IfSome}
 use Rattle.std.proofs.lemmas.List.{length-append}
 use Rattle.tcap_ber.specs.declared.fault.Fault.{Fault}
 use Rattle.tcap_record.specs.declared.entry.End.{End as Side}
@@ -17,7 +18,7 @@ use Rattle.tcap_refute.specs.declared.kind.Kind.TheVariants as kinds
 use Rattle.tcap_refute.specs.declared.kind.Refutation.{Refutation}
 use Rattle.tcap_refute.specs.Before.{since_quiet}
 use Rattle.tcap_refute.specs.Kind.{is_limit, is_of_kind, kind_of_reason, or_else, refutation_at, refuted, refuted_behind, refuting_kinds}
-use Rattle.tcap_refute.specs.Unsendable.{IsAtFault}
+use Rattle.tcap_refute.specs.Unsendable.{IsAtFault, IsBadByKind}
 use Rattle.tcap_refute.proofs.KindLaws.{none_of_kind}
 
 -- What is found passes the test.
@@ -115,6 +116,8 @@ at_fault_behind table before (Ok (Sent side message) ∷ more) r is =
           more = more;
           are = refl;
           counted = ap (λ (x : Refutation). x.entry) made;
+          has_kind = subst (λ (k : Kind). is_of_kind table side (since_quiet before) message k ≡ true)
+              (ap (λ (x : Refutation). x.kind) made) (found_so (is_of_kind table side (since_quiet before) message) refuting_kinds kind named);
           unsendable = λ events w behind runs keeps sent.
               none_of_kind table events w before behind side message kind runs keeps sent
               (found_so (is_of_kind table side (since_quiet before) message) refuting_kinds kind named);
@@ -123,6 +126,27 @@ at_fault_behind table before (Ok (Sent side message) ∷ more) r is =
 pub at_fault : (table : Table) (entries : List (Result Item Reason)) (r : Refutation) → refuted table entries ≡ Some r
     → IsAtFault table entries r
 at_fault table entries r is = at_fault_behind table [] entries r is
+
+-- Of its kind is F1 exactly where its octets are no message,
+pub bad_by_kind : (table : Table) (entries : List (Result Item Reason)) (r : Refutation) → IsAtFault table entries r
+    → IsBadByKind entries r
+bad_by_kind table entries r (inl (is, entry)) = ((λ same. entry), (λ bad. is))
+bad_by_kind table entries r (inr it) = (
+  (λ is.
+      let no : false ≡ true = subst (λ (k : Kind). is_of_kind table it.side (since_quiet it.before) it.message k ≡ true) is it.has_kind in cc),
+  (λ bad.
+      let there : slice_get entries r.entry ≡ Some (Ok (Sent it.side it.message)) =
+      ap (slice_get entries) (sym it.counted) ∙ ap (λ (xs : List (Result Item Reason)). slice_get xs (length it.before)) it.are
+      ∙ get_there it.before (Ok (Sent it.side it.message)) it.more in
+      let wrong = sym bad.there ∙ there in cc),
+)
+
+-- as of an entry that is named, if one is.
+pub named_by_kind : {F : Type 0} (table : Table) (entries : List (Result Item Reason)) (found : Result (Option Refutation) F)
+    → IfOk found (λ r. r ≡ refuted table entries) → IfOk found (λ r. IfSome r (IsBadByKind entries))
+named_by_kind table entries (Err fault) is = tt
+named_by_kind table entries (Ok None) is = tt
+named_by_kind table entries (Ok (Some r)) is = bad_by_kind table entries r (at_fault table entries r (sym is))
 
 -- ---- and so it is lawful by no certificate
 

@@ -1,5 +1,5 @@
 -- What a refutation says of all runs.
-use Rattle.std.specs.Prelude.{◌≡◌, ◌⊎◌, ℕ, false, List, ◌∷◌, ◌++◌, map, length, slice_get, Some, Result, Ok, Err}
+use Rattle.std.specs.Prelude.{◌≡◌, ◌⊎◌, ℕ, true, false, List, ◌∷◌, ◌++◌, map, length, slice_get, Some, Result, Ok, Err}
 use Rattle.tcap_ber.specs.declared.fault.Fault.{Fault}
 use Rattle.tcap_msg.specs.declared.message.Message.{Message}
 use Rattle.tcap_record.specs.declared.entry.End.{End as Side}
@@ -10,7 +10,8 @@ use Rattle.tcap_model.specs.World.{Item, Sent, World}
 use Rattle.tcap_model.specs.Run.{Event, KeepsRules, Runs}
 use Rattle.tcap_refute.specs.declared.kind.Kind.TheVariants as kinds
 use Rattle.tcap_refute.specs.declared.kind.Refutation.{Refutation}
-use Rattle.tcap_refute.specs.Kind.{is_limit}
+use Rattle.tcap_refute.specs.Before.{since_quiet}
+use Rattle.tcap_refute.specs.Kind.{is_limit, is_of_kind}
 
 -- An end that keeps the rules sends the message in no run behind these items, whatever the other end does, and whatever
 -- follows.
@@ -25,18 +26,23 @@ pub record IsBadEntry (entries : List (Result Item Reason)) (entry : ℕ) : Type
   pub there : slice_get entries entry ≡ Some (Err (BadMessage fault))
   pub no_limit : is_limit fault.reason ≡ false
 
--- an entry that its end sends in no such run
-pub record IsUnsendableEntry (table : Table) (entries : List (Result Item Reason)) (entry : ℕ) : Type 0 where
+-- an entry that its end sends in no such run: it has the kind that is named
+pub record IsUnsendableEntry (table : Table) (entries : List (Result Item Reason)) (r : Refutation) : Type 0 where
   pub before : List Item
   pub side : Side
   pub message : Message
   pub more : List (Result Item Reason)
   pub are : entries ≡ map (λ item. Ok item) before ++ Ok (Sent side message) ∷ more
-  pub counted : length before ≡ entry
+  pub counted : length before ≡ r.entry
+  pub has_kind : is_of_kind table side (since_quiet before) message r.kind ≡ true
   pub unsendable : IsUnsendable table before side message
 
 -- The octets of the entry are no message; or it is a message that its end sends in no run in which it keeps the rules, behind
--- the items before it.
+-- the items before it. It has the kind that is named.
 abbrev pub IsAtFault : Table → List (Result Item Reason) → Refutation → Type 0
 IsAtFault table entries r =
-    ((r.kind ≡ kinds.BadMessage) × IsBadEntry entries r.entry) ⊎ IsUnsendableEntry table entries r.entry
+    ((r.kind ≡ kinds.BadMessage) × IsBadEntry entries r.entry) ⊎ IsUnsendableEntry table entries r
+
+-- F1 is named exactly of an entry whose octets are no message.
+abbrev pub IsBadByKind : List (Result Item Reason) → Refutation → Type 0
+IsBadByKind entries r = (r.kind ≡ kinds.BadMessage → IsBadEntry entries r.entry) × (IsBadEntry entries r.entry → r.kind ≡ kinds.BadMessage)

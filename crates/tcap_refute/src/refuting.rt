@@ -1,8 +1,9 @@
 //! The search for the first entry of a record that no end sends which keeps the rules.
 
-ghost use Rattle.std.specs.Prelude.{◌≡◌, map, IfOk};
+ghost use Rattle.std.specs.Prelude.{◌≡◌, map, IfOk, IfSome};
 ghost use Rattle.tcap_model.specs.Entries.{item_of};
 ghost use Rattle.tcap_refute.specs.Kind.{refuted};
+ghost use Rattle.tcap_refute.specs.Unsendable.{IsBadByKind};
 
 use crate::judging::Judged;
 use crate::kind::Refutation;
@@ -28,11 +29,8 @@ impl From<AllocError> for SearchFault {
     }
 }
 
-/// The lowest entry of a record that has a kind, with its lowest kind: no end sends it that keeps the rules (Q.771,
-/// Q.773, Q.774). `None` where no entry has one. What stands behind octets that are no message by a limit of this
-/// profile, or behind an entry that is no item, is not looked at. Each message and each component takes a few look-ups
-/// in maps. `Memory` where memory ran out.
-pub fn refute(
+/// The lowest entry of a record that has a kind, with its lowest kind.
+fn first_refuted(
     alloc: Global,
     record: &Record,
     table: &Table,
@@ -53,4 +51,19 @@ pub fn refute(
         }
     }
     Ok(None)
+}
+
+/// The lowest entry of a record that has a kind, with its lowest kind: no end sends it that keeps the rules (Q.771,
+/// Q.773, Q.774). `None` where no entry has one. What stands behind octets that are no message by a limit of this
+/// profile, or behind an entry that is no item, is not looked at. Each message and each component takes a few look-ups
+/// in maps. `Memory` where memory ran out.
+pub fn refute(
+    alloc: Global,
+    record: &Record,
+    table: &Table,
+) -> Result<Option<Refutation>, SearchFault>
+    ensures lowest { IfOk result (λ r. r ≡ refuted table.now (map item_of «record».now.entries.items)) }
+    ensures bad { IfOk result (λ r. IfSome r (IsBadByKind (map item_of «record».now.entries.items))) }
+{
+    first_refuted(alloc, record, table)
 }

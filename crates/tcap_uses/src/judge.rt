@@ -7,8 +7,7 @@ ghost use Rattle.tcap_judge.specs.LawfulRecord.{SpellsRecord};
 
 use std::alloc::Global;
 use tcap_ber::Counted;
-use tcap_judge::run_check;
-use tcap_lines::{Status, WriteFailed};
+use tcap_judge::{Status, WriteFailed, run_check};
 
 /// Whether `tcapjudge check` calls a record lawful, whose octets are in memory, as the texts of the table and of the
 /// certificate are.

@@ -1,6 +1,6 @@
 use Rattle.std.proofs.Common.{ℕ, Ok, Err, ap, inl, inr, ◌∙◌}
 use Rattle.tcap_judge.specs.declared.outcome.Outcome.TheVariants.{Faulty}
-use Rattle.tcap_judge.proofs.LawfulLaws.{shown_by_replay}
+use Rattle.tcap_judge.proofs.LawfulLaws.{described_by_replay, reasoned_by_replay, shown_by_replay}
 use Rattle.tcap_judge.proofs.checking.judge_record.Goals as goal
 
 pub returns-in-Ok : goal.returns-in-Ok
@@ -16,6 +16,8 @@ returns-in-Ok g c =
         reads = all.reads;
         says = said;
         shown = shown_by_replay c.args.judged table certificate all.entries c.finish.result said;
+        reasoned = reasoned_by_replay c.args.judged table certificate all.entries c.finish.result said;
+        described = described_by_replay c.args.judged table certificate all.entries (Ok c.in-Ok.field-0) c.finish.result said;
       })
     ]
 
@@ -29,4 +31,6 @@ returns g c =
       reads = all.reads;
       says = ap (λ (n : ℕ). Faulty n fault.place) c.number.ensures;
       shown = tt;
+      reasoned = tt;
+      described = λ both items events ended. cc;
     })

@@ -4,7 +4,7 @@ use Rattle.tcap_certificate.specs.declared.fault.CheckFault.{CheckFault}
 use Rattle.tcap_check.specs.Checking.{Checking, so_far_of}
 use Rattle.tcap_check.specs.Ready.{kept_in}
 use Rattle.tcap_check.proofs.CheckerLaws.{finishes_so, finishes_still, kept_fault, no_fault}
-use Rattle.tcap_check.proofs.RefusalLaws.{ends_as_described, ends_lawful, ends_with_reason}
+use Rattle.tcap_check.proofs.RefusalLaws.{ends_as_described, ends_bounded, ends_lawful, ends_with_reason}
 use Rattle.tcap_check.proofs.checker.Checker.finish.Goals as goal
 
 abbrev refusal : CheckFault → Result Report CheckFault
@@ -46,3 +46,6 @@ returns-in-Some-clause-refuses c = ends_with_reason c.args.self (refusal c.in-So
 
 pub returns-in-None-clause-refuses : goal.returns-in-None-clause-refuses
 returns-in-None-clause-refuses c = ends_with_reason c.args.self c.finish.result (returns-in-None-clause-finished c)
+
+pub returns-in-None-clause-bound : goal.returns-in-None-clause-bound
+returns-in-None-clause-bound c = ends_bounded c.args.self c.finish.result (returns-in-None-clause-finished c)
