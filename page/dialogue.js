@@ -136,7 +136,8 @@ function idsFact(end, ids) {
 /** The facts of a dialogue. */
 function factsOf(head) {
   const {entries, lines, ids, table, context} = head;
-  const told = [["open", "open at the end of its trace"], ["marked", "ended by a quiet mark"],
+  const open = head.marked ? "open at the quiet mark after it" : "open at the end of its trace";
+  const told = [["open", open], ["marked", "ended by a quiet mark"],
     ["again", "with an ID of an earlier dialogue"]].filter(([flag]) => head[flag]).map(([, words]) => words);
   const [word, span] = lines[0] > 0 ? ["lines", lines] : ["entries", entries];
   const words = `${entries.length.toLocaleString("en")}: ${word} ${span[0]} to ${span.at(-1)} of the trace`;
@@ -192,7 +193,7 @@ function traceSums(head) {
 
 /** What became of the messages of a trace that is an error by itself. */
 function unjudgedWords({dialogues, messages}) {
-  if (VERDICTS.some((it) => dialogues[it] > 0)) return "What was under way at the fault is not judged.";
+  if (VERDICTS.some((it) => dialogues[it] > 0)) return "Dialogues that were open there may not be told.";
   if (messages === 0) return "";
   return messages === 1 ? "Its message was not judged." : `None of its ${messages.toLocaleString("en")} messages was judged.`;
 }

@@ -88,7 +88,7 @@ def routes():
     away = Wire(((103, 8), (202, 6)), tag=60)
     more, parts = frames_of((home, BEGIN), (away, RESULT), (home, RESULT)), [DIALOGUE, ["A" + RESULT[1:]]]
     wanted = ["FAULT answer, frame 2 of capture", "(pair 1", "(pair 2"]
-    yield Row("an answer to another point code", more, [], [[BEGIN]], 3, wanted)
+    yield Row("an answer to another point code", more, [], [[BEGIN]], 3, wanted, [""])
     yield Row("an answer under way", more, ["--under-way"], parts, 0, ["NOTE pair 2"])
     called = Wire(((101, 8), (902, 6)), titles, tag=65)
     named, direct = Wire(((101, 8), (902, 6)), ("4917012", None), tag=66), Wire(((101, 8), (202, 6)), ("4917012", None), tag=68)

@@ -1,5 +1,6 @@
 """Captures, with the options of tools/lines_of_capture.py, and the lines, the exit status and the words on standard
-error that are wanted of it, of layers and of faults: tests/captures.py runs them."""
+error that are wanted of it, of layers and of faults: tests/captures.py runs them. Of some rows it is said how each file ends:
+what stands in it after `#: broken off`, and None where it is not broken off."""
 
 import collections
 import shutil
@@ -8,7 +9,7 @@ import tempfile
 
 import made_captures as made
 
-Row = collections.namedtuple("Row", "name capture options files status said", defaults=([], [], 0, []))
+Row = collections.namedtuple("Row", "name capture options files status said broken", defaults=([], [], 0, [], None))
 
 BEGIN, RESULT = "A 620d4801016c08a10602010102012d", "B 640a4901016c05a203020101"
 SECOND, OTHER_RESULT = "A 620d4801026c08a10602010102012e", "B 640a4901026c05a203020101"
@@ -155,8 +156,8 @@ def transport():
     yield Row("chunks in disorder", over(order), [], [[f"A 62034801{number:02x}" for number in range(5)]])
     frames = [frame for number in (0, 1, 3, 4) for frame in frames[number]]
     lines = [f"A 62034801{number:02x}" for number in (0, 1, 3, 4)]
-    yield Row("a chunk that is missing", over(frames), [], [lines], 0, ["NOTE frame 3: before it chunks"])
-    yield Row("and nothing was filtered", over(frames), ["--whole"], [lines[:2]], 3, ["FAULT gap, frame 3 of capture"])
+    yield Row("a chunk that is missing", over(frames), [], [lines], 0, ["NOTE frame 3: before it chunks"], [None])
+    yield Row("and nothing was filtered", over(frames), ["--whole"], [lines[:2]], 3, ["FAULT gap, frame 3 of capture"], [""])
     wire = Wire()
     parts = zip(payloads_over(wire.m3ua(LONG), 3), (2, 0, 1))
     chunks = [wire.chunk(LONG, piece, flags=flags) for piece, flags in parts]
@@ -165,7 +166,7 @@ def transport():
     yield Row("pieces of SCTP", over(pieces + rest), [], [[LONG, RESULT]])
     yield Row("pieces of SCTP in disorder", over([pieces[2], pieces[0], *rest, pieces[1]]), [], [[LONG, RESULT]])
     wanted = ["FAULT pieces, frame 2 of capture", "NOTE pair 1"]
-    yield Row("a piece is missing", over(rest + pieces[:2]), [], [["A" + RESULT[1:]]], 3, wanted)
+    yield Row("a piece is missing", over(rest + pieces[:2]), [], [["A" + RESULT[1:]]], 3, wanted, [""])
     wire = Wire()
     yield Row("fragments of IP", over(wire.frames(LONG, cut=96) + wire.all([RESULT])), [], [[LONG, RESULT]])
     wire = Wire()
@@ -199,7 +200,7 @@ def of_sccp():
     begin = [wire.mtp3(BEGIN)]
     wanted = ["FAULT segment, frame 2 of capture"]
     yield Row("no first segment", over(begin + frames[1:], made.MTP3), [], [[BEGIN]], 3, wanted)
-    yield Row("no last segment", over(begin + frames[:2], made.MTP3), [], [[BEGIN]], 3, wanted)
+    yield Row("no last segment", over(begin + frames[:2], made.MTP3), [], [[BEGIN]], 3, wanted, [""])
     yield Row("no middle segment", over(begin + frames[::2], made.MTP3), [], [[BEGIN]], 3, wanted)
     back = [wire.mtp3(BEGIN), wire.mtp3(RESULT, wire.sccp(RESULT, made.udts)), wire.mtp3(RESULT)]
     yield Row("a message came back", over(back, made.MTP3), [], [DIALOGUE], 0, ["came back"])
@@ -222,9 +223,14 @@ def contents():
     def then(line):
         return over(Wire().all([BEGIN, line, RESULT]))
 
-    yield Row("ANSI", then("A e20bc70400000001e8030a0100"), [], [[BEGIN]], 3, ["FAULT ansi, frame 2 of capture"])
+    two = [", 2 messages missing"]
+    yield Row("ANSI", then("A e20bc70400000001e8030a0100"), [], [[BEGIN]], 3, ["FAULT ansi, frame 2 of capture"], two)
     wanted = ["FAULT element, frame 2 of capture: the message is not whole"]
-    yield Row("a cut message", then(SECOND[:-2]), [], [[BEGIN]], 3, wanted)
+    yield Row("a cut message", then(SECOND[:-2]), [], [[BEGIN]], 3, wanted, two)
+    last, one = over(Wire().all([BEGIN, RESULT, SECOND[:-2]])), [", 1 message missing"]
+    yield Row("a cut message, the last one", last, [], [DIALOGUE], 3, ["FAULT element, frame 3 of capture"], one)
+    both = over(Wire().all([BEGIN, SECOND[:-2]]) + Wire().all([BEGIN, RESULT])[1:])[:-1]
+    yield Row("a cut message in a cut capture", both, [], [[BEGIN]], 3, ["FAULT element, frame 2", "FAULT capture, frame 3"], [""])
     yield Row("octets behind", then(SECOND + "00"), [], [[BEGIN]], 3, ["FAULT element, frame 2 of capture: 1 octets"])
     yield Row("no ending", then("A 62804801016c80"), [], [[BEGIN]], 3, ["FAULT element, frame 2 of capture"])
     endless = "A 62804801026c80a18002010102012d000000000000"
@@ -244,7 +250,7 @@ def contents():
 def captures():
     frames = Wire().all(DIALOGUE)
     yield Row("cut frames", over(frames, limit=100), status=3, said=["FAULT cut, frame 1 of capture: 100 octets of"])
-    yield Row("a cut capture", over(frames)[:-1], [], [[BEGIN]], 3, ["FAULT capture, frame 2 of capture", "cut short"])
+    yield Row("a cut capture", over(frames)[:-1], [], [[BEGIN]], 3, ["FAULT capture, frame 2 of capture", "cut short"], [""])
     yield Row("an empty file", b"", status=3, said=["FAULT none"])
     yield Row("no frames", over([]), status=3, said=["FAULT none"])
     yield Row("another file", b"hello\n" * 30, status=3, said=["FAULT"])
@@ -255,6 +261,11 @@ def captures():
     yield Row("other frames", between, [], [DIALOGUE], 0, ["protocols eth:ethertype:ip:udp"])
     long = made.ip(b"\x30\x39\x30\x39\x01\0\0\0" + bytes(248), protocol=17)
     yield Row("other frames, cut", over(frames + long, limit=200), [], [DIALOGUE], 0, ["ip:udp"])
+
+
+def broken_of(parts):
+    """How files end, each with a dialogue, or with its first message alone: how many are missing there is not known."""
+    return [None if part == DIALOGUE else "" for part in parts]
 
 
 def others():
@@ -275,15 +286,15 @@ def others():
             return over(frames + other.frames(RESULT) + wire.frames(RESULT))
 
         parts = [DIALOGUE, DIALOGUE] if name == "pc" else [DIALOGUE, [BEGIN]]
-        yield Row(f"another association, {name}", between(other), [], parts, 3, wanted)
+        yield Row(f"another association, {name}", between(other), [], parts, 3, wanted, broken_of(parts))
         parts = {"pc": [DIALOGUE, DIALOGUE], "sccp": [DIALOGUE, [BEGIN]]}.get(name, [[BEGIN], DIALOGUE])
-        yield Row(f"the same association, {name}", between(wire), [], parts, 3, wanted)
+        yield Row(f"the same association, {name}", between(wire), [], parts, 3, wanted, broken_of(parts))
     near, third = Wire(), Wire(((303, 8), (404, 6)), tag=9, hosts=(3, 4))
     for name, opc, dpc, parts in ("of them", 101, 202, [[BEGIN]]), ("of others", 303, 404, [DIALOGUE]):
         wire, carried = Wire(), made.m2pa(made.mtp3(near.sccp(BEGIN), opc, dpc))
         frames = wire.frames(BEGIN) + third.frames(BEGIN, third.chunk(BEGIN, carried, ppid=5)) + wire.frames(RESULT)
         wanted = ["FAULT adaptation, frame 2 of capture: a chunk of M2PA", f"may be: {2 - len(parts[0])}"]
-        yield Row(f"M2PA {name}", over(frames), [], parts, 3, wanted)
+        yield Row(f"M2PA {name}", over(frames), [], parts, 3, wanted, broken_of(parts))
     units = [made.mtp3(near.sccp(BEGIN), 303, 404), made.mtp3(b"\x09", 303, 404), made.mtp3(near.sccp(RESULT), 404, 303)]
     frames = [near.mtp3(BEGIN), *units, near.mtp3(RESULT)]
     wanted = ["FAULT sccp, frame 3 of capture", "pairs of which it may be: 1"]

@@ -58,15 +58,45 @@ def entries_of(lines):
     return [line for line in lines if not line.startswith("#")]
 
 
-def are_commented(lines, options):
-    """Whether each line of digits has its entry in the comment above it, though what was sent earlier stands earlier; and
-    whether the head says that dialogues were under way where that was said, and else not."""
+def are_commented(lines):
+    """Whether each line of digits has its entry in the comment above it, though what was sent earlier stands earlier."""
     at = [number for number, line in enumerate(lines) if not line.startswith("#")]
     entries = [re.fullmatch(r"# frames? .*, entry (\d+)(, sent before frame \d+)?", lines[one - 1]) for one in at]
-    head = lines[: at[0]] if at else []
-    is_said = "# dialogues may have been under way" in head
     counted = [int(found[1]) if found else None for found in entries]
-    return counted == list(range(len(at))) and is_said == ("--under-way" in options)
+    return counted == list(range(len(at)))
+
+
+def are_directed(path, lines, options, printed):
+    """Whether a file has these directives and no others: at its head what both ends are, as standard output says it, and that
+    dialogues were under way if that was asked; at its end perhaps that it is broken off, behind a comment."""
+    first = next((number for number, line in enumerate(lines) if not line.startswith("#")), len(lines))
+    head = [line for line in lines[:first] if line.startswith("#:")]
+    a, b = ([line[5:] for line in head if line.startswith(f"#: {letter} ")] for letter in "AB")
+    wanted = [*(f"#: A {it}" for it in a), *(f"#: B {it}" for it in b), *["#: under way"] * ("--under-way" in options)]
+    foot = [line for line in lines[first:] if line.startswith("#:")]
+    is_said = len(a) == len(b) == 1 and f"{path}: A is {a[0]}, B is {b[0]}, messages: " in printed
+    is_last = not foot or foot == lines[-1:] and re.match(r"# \w+, frame \d+ of capture: ", lines[-2]) is not None
+    return head == wanted and is_said and is_last
+
+
+def broken_of(lines):
+    """What stands after `#: broken off` at the end of a file; None if it is not broken off."""
+    found = re.fullmatch(r"#: broken off((?:, (?:1 message|\d+ messages) missing)?)", lines[-1])
+    return found and found[1]
+
+
+def are_broken(row, files):
+    """Whether the files of a row are broken off as it wants, and the program judges what was read of such a file."""
+    found = [broken_of(lines) for _, lines in files]
+    if row.broken is not None and found != row.broken or row.status == 0 and any(it is not None for it in found):
+        return False
+    for path, lines in files:
+        judged = run(PROGRAM, "test", path).stdout.decode() if broken_of(lines) is not None else ""
+        error = f"{path}: error: line {len(lines)}: the trace was broken off{broken_of(lines)}\n"
+        if judged and (error not in judged or f", {len(entries_of(lines))} message" not in judged.splitlines()[-1]):
+            print(f"{row.name}: {judged}")
+            return False
+    return True
 
 
 def record_of(lines):
@@ -91,7 +121,8 @@ def is_so(row, said, files):
     errors = said.stderr.decode()
     wanted = [list(lines) for lines in row.files]
     holds = [entries_of(lines) for _, lines in files] == wanted and said.returncode == row.status
-    holds = holds and all(are_commented(lines, row.options) for _, lines in files)
+    holds = holds and all(are_commented(lines) for _, lines in files) and are_broken(row, files)
+    holds = holds and all(are_directed(*file, row.options, said.stdout.decode()) for file in files)
     holds = holds and all(word in errors for word in row.said) and "Traceback" not in errors
     # What is not foreseen is said by no run.
     holds = holds and (row.said or not errors)

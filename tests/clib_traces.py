@@ -12,6 +12,9 @@ import re
 import subprocess
 import tempfile
 
+import trace_again
+import trace_broken
+import trace_doubts
 import trace_files
 import trace_rows
 import traces
@@ -93,7 +96,7 @@ def cases():
         for words in "", "--of A", "--of B --complete", "--ids once":
             yield f"{path} {words}", octets_in(path), operations, words
         yield f"{path} by the carried book", octets_in(path), b"", ""
-    for row in trace_rows.ROWS:
+    for row in trace_rows.ROWS + trace_again.ROWS + trace_broken.ROWS + trace_doubts.ROWS:
         yield row.name, row.lines.encode(), row.table.encode(), row.words
     for number, (text, _, rule) in enumerate(trace_files.bad_lines()):
         yield f"bad line {number}, {rule}", text.encode(), operations, ""

@@ -159,6 +159,17 @@ def of_tangled(rows, files):
         compared(rows, files, f"{record.hex()}, tangled", record, table, read)
 
 
+def at_a_mark(rows):
+    """A half of A is open at the mark, and A is not blamed: it used 01 again in entry 2. `explain` says of no mark why; the worked
+    rows of crates/tcap_faults/specs/WorkedUnblamed.antt say it of this record, too."""
+    record = judged.octets_of(
+        "A 6203480101 B 6403490101 A 6203480101 A 6203480103 B 6506480109490103 A 6506480103490109 Q A 6203480104"
+    )
+    entries, table = entries_in(record), Table(printed("table", judged.TABLE.encode()))
+    found = [unblamed.used_again(entries, table, "A", number) for number in range(len(entries))]
+    rows.row("at a mark", found, [None, None, 2, 2, 2, 2, 2, None])
+
+
 def main():
     rows = Rows()
     with tempfile.TemporaryDirectory() as folder:
@@ -167,6 +178,7 @@ def main():
         of_known(rows, files)
         of_random(rows, files)
         of_tangled(rows, files)
+    at_a_mark(rows)
     print(f"{rows.passed} passed, {rows.failed} failed")
     return int(rows.failed != 0)
 

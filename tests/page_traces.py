@@ -38,7 +38,7 @@ def traces_in_error(checks, shown):
     shown.open(shown.put("cut", made.page_with([*cut, made.total(cut)])))
     checks.same("of none", shown.texts("#shown .note"), ["None of its 12 messages was judged."])
     shown.click("#dialogues .row", 1)
-    checks.same("of some", shown.texts("#shown .note"), ["What was under way at the fault is not judged."])
+    checks.same("of some", shown.texts("#shown .note"), ["Dialogues that were open there may not be told."])
 
 
 def counts_list(checks, shown):

@@ -177,6 +177,8 @@ FULL = [
     (["check", "DIALOGUE", "TABLE", "LATE"], b"", 3),
     (["judge", "DIALOGUE", "TABLE", "--cert"], b"", 3),
     (["blame", "DIALOGUE", "TABLE"], b"", 3),
+    (["explain", "DIALOGUE", "TABLE"], b"", 3),
+    (["table", "TABLE"], b"", 3),
     (["check", "--end", "A", "DIALOGUE", "TABLE", "CERT"], b"", 3),
     (["judge", "--end", "A", "DIALOGUE", "TABLE", "--cert"], b"", 3),
     (["--help"], b"", 3),

@@ -118,8 +118,8 @@ class Maker:
         entries = [sent(end, message, self.writer) for end, message in messages]
         return planted(rng, entries) if rng.random() < 0.25 else entries
 
-    def stretch(self):
-        """The entries of a stretch: dialogues side by side, or one after the other, or both."""
+    def segment(self):
+        """The entries of a segment: dialogues side by side, or one after the other, or both."""
         rng, how = self.rng, self.rng.choice(["own", "again", "again", "tangled"])
         dialogues = [self.dialogue(how) for _ in range(rng.choice([1, 2, 3, 4, 6, 8]))]
         side_by_side = {"own": 6, "again": 2, "tangled": 4}[how]
@@ -134,6 +134,16 @@ class Maker:
                 under_way.remove(one)
         return made
 
+    def segments(self):
+        """What was to be a segment; or the parts of it, where a quiet mark comes too early."""
+        made = self.segment()
+        while len(made) > 1 and self.rng.random() < 0.3:
+            at = self.rng.randrange(1, len(made))
+            yield made[:at]
+            made = made[at:]
+        yield made
+
     def trace(self):
-        """The stretches of a trace; a quiet mark stands between two, and behind the last one where that is so."""
-        return [self.stretch() for _ in range(self.rng.choice([1, 1, 2, 3]))], self.rng.random() < 0.3
+        """The segments of a trace, with a quiet mark between two; and whether one comes after the last."""
+        segments = [part for _ in range(self.rng.choice([1, 1, 2, 3])) for part in self.segments()]
+        return segments, self.rng.random() < 0.3

@@ -179,7 +179,7 @@ def files_of(folder, way, tap):
     files = {}
     for path in glob.glob(f"{made}/*.hex"):
         lines = read(path).splitlines()
-        ends = tuple(next(line[5:] for line in lines if line.startswith(f"# {end}: ")) for end in "AB")
+        ends = tuple(next(line[5:] for line in lines if line.startswith(f"#: {end} ")) for end in "AB")
         files[ends] = path, [line for line in lines if not line.startswith("#")]
     return said, files
 

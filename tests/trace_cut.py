@@ -1,16 +1,21 @@
-"""How a trace is cut into dialogues, an own reading in Python for tests/traces.py: within a stretch between quiet
-marks, messages that share an ID of one end, directly or over others, are one dialogue. It shares nothing with the code
-that is tested."""
+"""How a trace is cut into dialogues, and what is noted of each: an own reading in Python for tests/traces.py. Within
+a segment between quiet marks, messages that share an ID of one end, directly or over others, are one dialogue. It
+shares nothing with the code that is tested."""
 
+import bisect
 from collections import namedtuple
 
-# What is read of an entry: who sent it, its kind, and its transaction IDs; where nothing can be read all but the first
+# What is read of an entry: who sent it, its kind, and its transaction IDs; if nothing can be read all but the first
 # are None.
 Heading = namedtuple("Heading", "end kind otid dtid")
-# A dialogue: the numbers of its entries in the stretch, its IDs as pairs of end and octets, whether an ID came again,
-# whether an End or an Abort stands in it, the number of an entry that can't be read and may have been of it, and
-# whether it is judged before the stretch ends.
-Cut = namedtuple("Cut", "numbers ids again is_over unread is_past")
+# The entries between two quiet marks; and the number of the first one after the directive `#: under way`, if there is
+# one.
+Segment = namedtuple("Segment", "headings under_way")
+# A dialogue. numbers: of its entries in the segment. ids: pairs of an end and octets. again: an ID of it came again.
+# unsettled: its owner may have had no part in the earlier use. is_over: an End or an Abort is in it. unread: the
+# number of the entry that can't be read and may have been of it. late: it begins after the directive. in_use: the IDs
+# by which it may have been under way at the mark before it.
+Cut = namedtuple("Cut", "numbers ids again unsettled is_over unread late in_use")
 OTHER = {"A": "B", "B": "A"}
 
 
@@ -18,13 +23,22 @@ def own(heading):
     return {(heading.end, heading.otid)} if heading.otid is not None else set()
 
 
+def peers(heading):
+    return {(OTHER[heading.end], heading.dtid)} if heading.dtid is not None else set()
+
+
 def ids_in(heading):
     """The IDs of a message: its OTID is one of its sender's, its DTID one of its receiver's."""
-    return own(heading) | ({(OTHER[heading.end], heading.dtid)} if heading.dtid is not None else set())
+    return own(heading) | peers(heading)
 
 
 def is_last(heading):
     return heading.kind in ("End", "Abort")
+
+
+def sent_from(headings):
+    """The IDs from which their owners sent one of these."""
+    return set().union(*map(own, headings))
 
 
 # ---- IDs that are used once
@@ -57,7 +71,7 @@ class Course:
 
     def __init__(self):
         self.numbers, self.ids, self.used, self.begun, self.senders = [], set(), set(), set(), set()
-        self.over, self.again = None, False
+        self.over, self.again, self.unsettled = None, False, False
 
     def add(self, number, heading):
         self.numbers.append(number)
@@ -75,45 +89,119 @@ class Course:
             getattr(self, name).update(getattr(other, name))
         self.over = min((over for over in (self.over, other.over) if over is not None), default=None)
         self.again |= other.again
+        self.unsettled |= other.unsettled
 
 
-def ends_for(course, heading, courses):
-    """Whether a message is the first of another dialogue, so that the IDs of this one, which is over, are free: a Begin
-    from an own ID of it; or a Continue from one, to the Begin of another dialogue in which its sender sent nothing."""
-    if course.over is None or not own(heading) & course.used:
-        return False
-    if heading.kind == "Begin":
-        return True
-    begun = [it for it in courses if (OTHER[heading.end], heading.dtid) in it.begun and heading.end not in it.senders]
-    return heading.kind == "Continue" and any(not own(heading) & it.ids for it in begun)
+class Coming:
+    """The dialogues of a segment as its entries come: those whose IDs are free, and the others. `known` are the IDs
+    from which their owners sent in an earlier segment; dialogues may have been under way from the entry of that
+    number on."""
 
+    def __init__(self, known, under_way, linger):
+        self.known, self.under_way, self.linger = known, under_way, linger
+        self.done, self.live, self.named = [], [], set()
 
-def coming(headings, linger):
-    """The dialogues as they come."""
-    done, live, freed = [], [], set()
-    for number, heading in enumerate(headings):
-        past = [it for it in live if it.over is not None and number > it.over + linger or ends_for(it, heading, live)]
-        live = [it for it in live if it not in past]
-        done += past
-        freed |= {id for it in past for id in it.ids}
+    def is_late(self, number):
+        return self.under_way is not None and number >= self.under_way
+
+    def accepts(self, heading, course):
+        """Whether a message accepts the Begin of another dialogue, in which its sender sent nothing."""
+        begun = peers(heading) & course.begun and heading.end not in course.senders
+        return begun and not own(heading) & course.ids
+
+    def is_free(self, course, number, heading):
+        """Whether a message is the first of another dialogue that uses an ID of this one, which is over."""
+        if course.over is None or not own(heading) & course.ids:
+            return False
+        if heading.kind == "Begin":
+            return True
+        if heading.kind != "Continue":
+            return False
+        # It may be of a dialogue that began before the segment: nobody named its destination ID in it.
+        may_go_on = self.is_late(number) or peers(heading) & self.known
+        is_new = bool(course.begun) and not peers(heading) & self.named
+        return any(self.accepts(heading, it) for it in self.live) or may_go_on and is_new
+
+    def take(self, number, heading):
+        past = [it for it in self.live if it.over is not None and number > it.over + self.linger]
+        past += [it for it in self.live if it not in past and self.is_free(it, number, heading)]
+        self.live = [it for it in self.live if it not in past]
+        self.done += past
         here = Course()
-        for it in [it for it in live if it.ids & ids_in(heading)]:
+        for it in [it for it in self.live if it.ids & ids_in(heading)]:
             here.join(it)
-            live.remove(it)
-        here.again |= bool((ids_in(heading) - here.ids) & freed)
+            self.live.remove(it)
+        self.note(here, ids_in(heading) - here.ids)
         here.add(number, heading)
-        live.append(here)
-    return [(sorted(it.numbers), it.again, it in done) for it in done + live]
+        self.live.append(here)
+        self.named |= ids_in(heading)
+
+    def note(self, here, new):
+        """Notes which of these IDs came again, and whether their owners had sent from them. Of a dialogue that may
+        have been under way, what was sent from them may be missing."""
+        earlier = [(it, it.ids & new) for it in self.done]
+        came = set().union(*(ids for _, ids in earlier))
+        firm = set().union(*(ids if self.is_late(min(it.numbers)) else ids & it.used for it, ids in earlier))
+        here.again |= bool(came)
+        here.unsettled |= bool(came - firm)
 
 
-def cut(headings, is_once, linger=10_000):
-    """The dialogues of a stretch, by their entries."""
-    found = []
-    unread = next((number for number, heading in enumerate(headings) if heading.kind is None), None)
-    for numbers, again, is_past in connected(headings) if is_once else coming(headings, linger):
-        ids = set().union(*(ids_in(headings[number]) for number in numbers))
-        over = any(is_last(headings[number]) for number in numbers)
-        # One that was begun behind it has its Begin.
-        may = unread is not None and ids and (numbers[0] < unread or headings[numbers[0]].kind != "Begin")
-        found.append(Cut(numbers, ids, again, over, unread if may else None, is_past))
-    return sorted(found)
+def coming(segment, known, linger):
+    """The dialogues as they come."""
+    courses = Coming(known, segment.under_way, linger)
+    for number, heading in enumerate(segment.headings):
+        courses.take(number, heading)
+    return [(sorted(it.numbers), it.again, it.unsettled) for it in courses.done + courses.live]
+
+
+# ---- what is noted of a dialogue
+
+
+def unread_of(headings, unread, first):
+    """The entry that can't be read and may have been of a dialogue with that first entry."""
+    at = bisect.bisect(unread, first) if headings[first].kind == "Begin" else 0
+    return unread[at] if at < len(unread) else None
+
+
+class Before:
+    """What is known of the earlier segments: the IDs from which their owners sent, and those that may be in use over
+    a mark."""
+
+    def __init__(self):
+        self.sent, self.in_use = set(), set()
+
+    def in_use_of(self, headings, ids):
+        """The IDs by which a dialogue may be one that was under way at the mark before it."""
+        return peers(headings[0]) & self.sent | ids & self.in_use
+
+    def add(self, segment, cuts):
+        """A segment more, with its dialogues."""
+        self.sent |= sent_from(segment.headings)
+        self.in_use -= set().union(*(it.ids for it in cuts))
+        for it in cuts:
+            both = {segment.headings[number].end for number in it.numbers} == {"A", "B"}
+            if it.in_use or both and not it.is_over:
+                self.in_use |= it.ids
+
+
+def cut_segment(segment, before, is_once, linger):
+    """The dialogues of a segment, by their entries."""
+    headings, found = segment.headings, []
+    unread = [number for number, heading in enumerate(headings) if heading.kind is None]
+    for numbers, again, unsettled in connected(headings) if is_once else coming(segment, before.sent, linger):
+        mine = [headings[number] for number in numbers]
+        ids = set().union(*map(ids_in, mine))
+        late = segment.under_way is not None and numbers[0] >= segment.under_way
+        in_use = set() if again else before.in_use_of(mine, ids)
+        may_be = unread_of(headings, unread, numbers[0]) if ids else None
+        found.append(Cut(numbers, ids, again, unsettled, any(map(is_last, mine)), may_be, late, in_use))
+    return sorted(found, key=lambda it: it.numbers)
+
+
+def cut(segments, is_once, linger=10_000):
+    """The dialogues of each segment of a trace."""
+    before = Before()
+    for segment in segments:
+        cuts = cut_segment(segment, before, is_once, linger)
+        before.add(segment, cuts)
+        yield cuts

@@ -7,6 +7,7 @@ import json
 import re
 import xml.etree.ElementTree
 
+import trace_directives
 import trace_rows
 import words
 from looks import LOOKS, SHOWN_LOOKS
@@ -245,7 +246,10 @@ def tables(_, folder):
         for more in [], ["--table", table]:
             ran = run(["test", *more, "--table", path, good])
             says(checks, ran, path, why)
-            checks.same("nothing is judged", ran.stdout, b"")
+            checks.same("no message is read", ran.stdout.count(b"; 0 messages, 0 dialogues: "), 2)
+        refused(checks, folder, ["--table", path], path, why)
+    several = ["--table", table, "--table", table]
+    refused(checks, folder, several, "", "more than one table is without contexts")
     books = {name: json.dumps({"tables": [json.loads(it)]}) for name, it in trace_rows.TABLES.items()}
     books = {name: put(folder, f"{name}.json", text.encode()) for name, text in books.items()}
     asks = f"A {trace_rows.begin('01', trace_rows.INVOKE, asks=trace_rows.request('2A0404'))}"
@@ -259,6 +263,23 @@ def tables(_, folder):
     ran = run(["test", good])
     checks.same("no table, and no context", (ran.returncode, b"no table is for" in ran.stdout), (3, True))
     return checks
+
+
+def refused(checks, folder, flags, path, why):
+    """A table is refused: each trace that is named is an error by that, and standard error says it once."""
+    traces = [put(folder, "good.hex", lines(*SHORT).encode()), f"{folder}/none.hex", put(folder, "bad.hex", b"A 62"), "-"]
+    report = Report(folder, flags, traces, lines(*SHORT).encode())
+    agree(checks, report)
+    (text,) = {found["text"] for found in report.traces.values()}
+    verdicts = [(name, found["verdict"], found["messages"]) for name, found in report.traces.items()]
+    checks.same(f"{path}: verdicts", (verdicts, report.status), ([(name, "error", 0) for name in traces], 3))
+    checks.holds(f"{path}: what is wrong: {text}", text.startswith(path) and why in text)
+    checks.same(f"{path}: standard error", report.ran.stderr.decode().splitlines()[0], f"error: {text}")
+    checks.same(f"{path}: once", report.ran.stderr.count(b"error: "), 1)
+    errors = [(it.get("message"), it.text) for it in xml.etree.ElementTree.fromstring(report.junit).iter("error")]
+    checks.same(f"{path}: JUnit", errors, [(text, text)] * len(traces))
+    counts = "0 messages, 0 dialogues: 0 pass, 0 inconc, 0 fail, 0 error; 0 pass unheard or unanswered"
+    checks.same(f"{path}: the text", report.text.splitlines()[:-1], [f"{name}: error: {text}; {counts}" for name in traces])
 
 
 def codes(_, folder):
@@ -335,5 +356,6 @@ def jobs():
     yield from ((bad_line, case) for case in bad_lines())
     yield from ((odd, comment) for comment in ODD)
     yield from ((longest, case) for case in LONGEST)
+    yield from trace_directives.jobs()
     for case in hints, judged_before, bad_records, many, several, standard_input, unread_traces, tables, codes, unwritten, command:
         yield case, None

@@ -121,7 +121,7 @@ def hard_links(_, folder):
 
 
 def anew(_, folder):
-    """Of what was in a file nothing stays, also where no trace is read: since a table is missing, or another file can't be written."""
+    """Of what was in a file nothing stays, also if no trace is read, since a table is missing or another file can't be written."""
     checks, (good, table) = Checks("files of a run before"), given(folder)
     first, names = Report(folder, [], [good]), ["report.json", "report.xml", "report.html"]
     for name in names:
@@ -132,7 +132,7 @@ def anew(_, folder):
     for flag in FLAGS:
         path = put(folder, "old", b"old")
         says(checks, run(["test", "--table", f"{folder}/none.json", flag, path, good]), "none.json", NO_FILE)
-        checks.same(f"{flag}, no table", (os.path.isfile(path), content(path)), (True, b""))
+        checks.holds(f"{flag}, no table", NO_FILE.encode() in content(path) and not content(path).startswith(b"old"))
         for other in FLAGS:
             path = put(folder, "old", b"old")
             if other != flag:
@@ -156,12 +156,19 @@ def closed_pipe():
 def unprinted(_, folder):
     """Standard output that can't be written, and standard input that is a directory."""
     checks, (good, table) = Checks("standard streams"), given(folder)
-    for device, why in (lambda: open("/dev/full", "wb"), NO_SPACE), (closed_pipe, "Broken pipe"):
-        with device() as full:
-            ran = run(["test", "--table", table, good], stdout=full)
-        said = ran.stderr.decode()
-        told = said.startswith(f"{UNPRINTED}{why}") and said.count("\n") == 1
-        checks.same(f"standard output, {why}: {said}", (ran.returncode, told), (3, True))
+    with open("/dev/full", "wb") as full:
+        ran = run(["test", "--table", table, good], stdout=full)
+    said = ran.stderr.decode()
+    told = said.startswith(f"{UNPRINTED}{NO_SPACE}") and said.count("\n") == 1
+    checks.same(f"standard output is full: {said}", (ran.returncode, told), (3, True))
+    with closed_pipe() as pipe:
+        ran = run(["test", "--table", table, good], stdout=pipe)
+        checks.same("standard output is closed early", (ran.returncode, ran.stderr), (3, b""))
+        path = f"/dev/fd/{pipe.fileno()}"
+        for flag in FLAGS:
+            ran = run(["test", "--table", table, flag, path, good], pass_fds=[pipe.fileno()])
+            told = f"error: {path}: Broken pipe" in ran.stderr.decode()
+            checks.same(f"{flag} is closed early: {ran.stderr}", (ran.returncode, told), (3, True))
     opened = os.open(folder, os.O_RDONLY)
     ran = subprocess.run([PROGRAM, "test", "--table", table, "-"], stdin=opened, capture_output=True, check=False)
     os.close(opened)

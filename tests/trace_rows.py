@@ -1,6 +1,7 @@
 """Traces for tests/traces.py, as lines of digits, with what `test` has to say of them. It was worked out by hand from
 what the standard asks of an end (docs/VERDICTS.md has the kinds) and from how a trace is cut into dialogues: messages
-that share an ID of one end are one dialogue, up to a quiet mark, and an ID whose dialogue is over may come again."""
+that share an ID of one end are one dialogue, up to a quiet mark, and an ID whose dialogue is over may come again.
+trace_again.py has rows of such IDs, and trace_doubts.py of what else makes a blame doubtful."""
 
 from dataclasses import dataclass, field
 
@@ -116,6 +117,8 @@ class Wanted:
     more: dict = field(default_factory=dict)
     # Words that the lines of the dialogue have.
     says: tuple = ()
+    # The end, the ID and the line at which an ID comes again, of IDs that are to come once.
+    comes_again: tuple = None
 
 
 @dataclass
@@ -128,8 +131,10 @@ class Row:
     dialogues: list
     table: str = OPERATIONS
     error: tuple = None
-    # Whether what is wanted rests on a comment, which a record lacks.
-    reads_comments: bool = False
+    # Whether what is wanted rests on a directive, which a record lacks.
+    has_directives: bool = False
+    # The numbers of the dialogues that are judged first, in that order.
+    first: tuple = ()
 
 
 def lines(*entries):
@@ -137,8 +142,9 @@ def lines(*entries):
 
 
 GIVEN_UP, MARK, CAME_AGAIN, LACKS = "given up", "quiet mark", "earlier", "table lacks"
-UNDER_WAY, MAY_BE_UNDER_WAY = "never sent in the trace", "# dialogues may have been under way"
+UNDER_WAY, MAY_BE_UNDER_WAY = "never sent in the trace", "#: under way"
 UNREAD, BEHIND, IS_OPEN, UNDECIDED = "can't be read", "no message", "inconc open", "no entry of it is blamed"
+NO_TAG = "no entry has the tag of a message"
 
 # A dialogue that A begins and B ends; one that goes to and fro.
 SHORT = [f"A {begin('01')}", f"B {end('01')}"]
@@ -287,26 +293,26 @@ ROWS = [
     Row(
         "behind a mark nothing was begun (F2)",
         "",
-        lines(SHORT[0], "Q", "Q", SHORT[1]),
-        [Wanted([0], "01", "", "pass", "pass 1"), Wanted([3], "01", "", "pass", "fail 0 F2")],
+        lines(SHORT[0], "Q", "Q", f"B {end('09')}"),
+        [Wanted([0], "01", "", "pass", "pass 1", open=True), Wanted([3], "09", "", "pass", "fail 0 F2")],
     ),
     Row(
         "what is open at a mark is inconclusive (F15); what is not, passes",
         "",
         lines(SHORT[0], f"B {begin('05')}", BACK, f"A {end('05')}", "Q"),
-        [Wanted([0, 2], "01", "07", "pass 1", f"inconc 2 F15 {MARK}"), Wanted([1, 3], "", "05")],
+        [Wanted([0, 2], "01", "07", "pass 1", f"inconc 2 F15 {MARK}", open=True), Wanted([1, 3], "", "05")],
     ),
     Row(
         "a fault before the mark counts, and not the mark",
         "",
         lines(SHORT[0], WRONG_CONTINUE, "Q"),
-        [Wanted([0, 1], "01", "07", "pass 1", "fail 1 F5")],
+        [Wanted([0, 1], "01", "07", "pass 1", "fail 1 F5", open=True)],
     ),
     Row(
         "a peer that is silent up to a mark did not hear",
         "",
         lines(SHORT[0], "Q"),
-        [Wanted([0], "01", "", "pass", "pass 1")],
+        [Wanted([0], "01", "", "pass", "pass 1", open=True)],
     ),
     Row(
         "a dialogue that was judged before the mark, since its ID came again, does not end with it",
@@ -315,152 +321,20 @@ ROWS = [
         [Wanted([0, 1, 2], "01", "07"), Wanted([3, 4], "01", "", again=True)],
     ),
     Row(
-        "one that was not does: what A did not show to have heard before the mark is unheard",
+        "nor does one that lingers: A may have heard all of it before the mark",
         "",
         lines(SHORT[0], BACK, *SHORT[1:], "Q"),
-        [Wanted([0, 1, 2], "01", "07", "pass 1")],
-    ),
-    # ---- IDs that come again
-    Row(
-        "a Begin behind an End begins a new dialogue",
-        "",
-        lines(*SHORT, *SHORT, *SHORT),
-        [Wanted([0, 1], "01", ""), Wanted([2, 3], "01", "", again=True), Wanted([4, 5], "01", "", again=True)],
-    ),
-    Row(
-        "so it does behind an Abort, of whichever end",
-        "",
-        lines(SHORT[0], f"B {abort('01', '04')}", *LONG[:2], f"A {abort('07')}", *SHORT),
-        [Wanted([0, 1], "01", ""), Wanted([2, 3, 4], "01", "07", again=True), Wanted([5, 6], "01", "", again=True)],
-    ),
-    Row(
-        "so it does where its end used the ID in a Continue alone",
-        "",
-        lines(*LONG, f"B {begin('07')}", f"A {end('07')}"),
-        [Wanted([0, 1, 2], "01", "07"), Wanted([3, 4], "", "07", again=True)],
+        [Wanted([0, 1, 2], "01", "07")],
     ),
     *(
         Row(
-            f"a fault where an ID came again, {words}",
-            words,
-            lines(*SHORT, SHORT[0], WRONG_END),
-            [
-                Wanted([0, 1], "01", ""),
-                Wanted([2, 3], "01", "", "pass", found, again=True, says=says),
-            ],
+            f"so B, whose ID has no End, has nothing open at the mark, {words or 'where it lingers'}",
+            f"--of B {words}",
+            lines(SHORT[0], f"B {go_on('06', '01')}", f"A {end('05')}", f"A {go_on('01', '05')}", f"A {begin('09')}", f"B {end('09')}", "Q"),
+            # Nothing is at 05 which B could hear.
+            [Wanted([0, 1, 2, 3], "01", "05 06", None, "pass 1"), Wanted([4, 5], "09", "", None)],
         )
-        for words, found, says in [
-            ("", f"inconc 1 F5 {CAME_AGAIN}", ("dialogue 0", "dialogue 1")),
-            ("--ids again", f"inconc 1 F5 {CAME_AGAIN}", ("dialogue 0", "dialogue 1")),
-            ("--ids settled", "fail 1 F5", ()),
-        ]
-    ),
-    *(
-        Row(
-            f"of several that had an ID the last is named, {name}",
-            "",
-            lines(*before, SHORT[0], WRONG_END),
-            [
-                *(Wanted(entries, "01", "", again=again) for entries, again in others),
-                Wanted(mine, "01", "", "pass", f"inconc 1 F5 {CAME_AGAIN}", again=True, says=(said,)),
-            ],
-        )
-        for name, before, others, mine, said in [
-            (
-                "the third",
-                [*SHORT, *SHORT],
-                [([0, 1], False), ([2, 3], True)],
-                [4, 5],
-                "this is dialogue 2, and that was dialogue 1",
-            ),
-            (
-                "behind a mark, which ends two others",
-                [*SHORT, *SHORT, "Q", *SHORT, *SHORT],
-                [([0, 1], False), ([2, 3], True), ([5, 6], False), ([7, 8], True)],
-                [9, 10],
-                "this is dialogue 4, and that was dialogue 3",
-            ),
-        ]
-    ),
-    Row(
-        "two IDs, each of another earlier dialogue: the last of these is named",
-        "",
-        lines(*SHORT, f"A {begin('02')}", f"B {end('02')}", SHORT[0], f"A {begin('02')}", BACK, f"B {go_on('07', '02')}"),
-        [
-            Wanted([0, 1], "01", ""),
-            Wanted([2, 3], "02", ""),
-            Wanted(
-                [4, 5, 6, 7],
-                "01 02",
-                "07",
-                "pass 1",
-                f"inconc 3 F3 {CAME_AGAIN}",
-                again=True,
-                open=True,
-                says=("this is dialogue 2, and that was dialogue 1",),
-            ),
-        ],
-    ),
-    Row(
-        "used once alone, the second Begin is of the same dialogue, and it can't be told whom its messages mean",
-        "--ids once",
-        lines(*SHORT, SHORT[0], WRONG_END),
-        [Wanted([0, 1, 2, 3], "01", "", f"inconc {UNDECIDED}", f"inconc {UNDECIDED}")],
-    ),
-    Row(
-        "a fault before the ID comes again is one",
-        "",
-        lines(SHORT[0], WRONG_END, *SHORT),
-        [Wanted([0, 1], "01", "", "pass", "fail 1 F5"), Wanted([2, 3], "01", "", again=True)],
-    ),
-    Row(
-        "a late message of an innocent end is taken for one of the new dialogue",
-        "",
-        lines(*LONG, SHORT[0], f"B {go_on('08', '01')}", BACK, f"A {end('08')}"),
-        [
-            Wanted([0, 1, 2], "01", "07"),
-            Wanted([3, 4, 5, 6], "01", "07 08", "pass 1", f"inconc 2 F8 {CAME_AGAIN}", again=True),
-        ],
-    ),
-    Row(
-        "all IDs are free then: what carries one that nobody took is of a new dialogue",
-        "",
-        lines(*LONG, SHORT[0], f"A {end('07')}", f"B {end('01')}"),
-        [
-            Wanted([0, 1, 2], "01", "07"),
-            Wanted([3, 5], "01", "", again=True),
-            Wanted([4], "", "07", f"inconc 0 F2 {CAME_AGAIN}", again=True),
-        ],
-    ),
-    Row(
-        "a mark ends that: behind it no ID came again",
-        "",
-        lines(*SHORT, "Q", SHORT[0], WRONG_END),
-        [Wanted([0, 1], "01", ""), Wanted([3, 4], "01", "", "pass", "fail 1 F5")],
-    ),
-    Row(
-        "a Continue takes an own ID of a dialogue that is over, for a Begin that its end sent nothing to",
-        "",
-        lines(*LONG, f"A {begin('02')}", f"B {go_on('07', '02')}", f"A {end('07')}"),
-        [Wanted([0, 1, 2], "01", "07"), Wanted([3, 4, 5], "02", "07", again=True)],
-    ),
-    Row(
-        "the same, used once alone: one dialogue, and nobody is blamed",
-        "--ids once",
-        lines(*LONG, f"A {begin('02')}", f"B {go_on('07', '02')}", f"A {end('07')}"),
-        [Wanted([0, 1, 2, 3, 4, 5], "01 02", "07", f"inconc {UNDECIDED}", f"inconc {UNDECIDED}")],
-    ),
-    Row(
-        "it does not take one where it sent something to that Begin before (F3)",
-        "",
-        lines(*LONG, f"A {begin('02')}", f"B {go_on('08', '02')}", f"B {go_on('07', '02')}"),
-        [Wanted([0, 1, 2, 3, 4, 5], "01 02", "07 08", "pass 1", "fail 5 F3")],
-    ),
-    Row(
-        "nor does it take one of a dialogue that is not over (F3)",
-        "",
-        lines(*LONG[:2], f"A {begin('02')}", f"B {go_on('07', '02')}"),
-        [Wanted([0, 1, 2, 3], "01 02", "07", "pass 1", "fail 3 F3", open=True)],
+        for words in ["", "--linger 1", "--ids once"]
     ),
     # ---- a Begin of an ID whose dialogue isn't over
     Row(
@@ -487,102 +361,6 @@ ROWS = [
         lines(SHORT[0], BACK, SHORT[0]),
         [Wanted([0, 1, 2], "01", "07", f"inconc {UNDECIDED}", "pass 1", open=True)],
         PREARRANGED,
-    ),
-    # ---- dialogues that may have been under way
-    *(
-        Row(
-            f"a message to an ID that was never sent, where dialogues may have been under way: {comment!r}",
-            "",
-            lines(comment, "", f"B {end('09')}"),
-            [Wanted([0], "09", "", *found)],
-            reads_comments=True,
-        )
-        for comment, *found in [
-            (MAY_BE_UNDER_WAY, f"inconc {UNDER_WAY}", f"inconc 0 F2 {UNDER_WAY}"),
-            ("#  \tdialogues may have been under way \t", f"inconc {UNDER_WAY}", f"inconc 0 F2 {UNDER_WAY}"),
-            ("#dialogues may have been under way\r", f"inconc {UNDER_WAY}", f"inconc 0 F2 {UNDER_WAY}"),
-            ("# dialogues may have been under way.", "pass", "fail 0 F2"),
-            ("# no dialogues may have been under way", "pass", "fail 0 F2"),
-            ("#", "pass", "fail 0 F2"),
-        ]
-    ),
-    Row(
-        "what would pass does not, and an answer to what was invoked before the trace is no failure",
-        "",
-        lines(MAY_BE_UNDER_WAY, "", BACK, f"B {go_on('08', '02')}", f"A {end('08', RESULT)}"),
-        [
-            Wanted([0], "01", "07", f"inconc {UNDER_WAY}", f"inconc 0 F2 {UNDER_WAY}", open=True),
-            Wanted([1, 2], "02", "08", f"inconc 1 F5 {UNDER_WAY}", f"inconc 0 F2 {UNDER_WAY}"),
-        ],
-        reads_comments=True,
-    ),
-    Row(
-        "it comes before what the table lacks, and before the doubt whose table it is",
-        "",
-        lines(MAY_BE_UNDER_WAY, "", BACK, f"A {go_on('01', '07', invoke('01', '63'))}", "Q", BACK),
-        [
-            Wanted([0, 1], "01", "07", f"inconc 1 F6 {UNDER_WAY}", f"inconc 0 F2 {UNDER_WAY}", more={"table": "wide"}),
-            Wanted([3], "01", "07", "inconc not sure", "fail 0 F2", open=True, more={"table": "wide"}),
-        ],
-        f'{{"tables":[{WIDE}]}}',
-        reads_comments=True,
-    ),
-    Row(
-        "it holds from that line on, also where the line comes again, up to the next mark",
-        "",
-        lines(
-            f"B {end('08')}",
-            MAY_BE_UNDER_WAY,
-            f"B {end('09')}",
-            MAY_BE_UNDER_WAY,
-            "",
-            f"B {end('0A')}",
-            "Q",
-            f"B {end('0B')}",
-        ),
-        [
-            Wanted([0], "08", "", "pass", "fail 0 F2"),
-            Wanted(
-                [1],
-                "09",
-                "",
-                f"inconc {UNDER_WAY}",
-                f"inconc 0 F2 {UNDER_WAY}",
-                more={"comment": MAY_BE_UNDER_WAY[2:]},
-            ),
-            Wanted([2], "0a", "", f"inconc {UNDER_WAY}", f"inconc 0 F2 {UNDER_WAY}"),
-            Wanted([4], "0b", "", "pass", "fail 0 F2"),
-        ],
-        reads_comments=True,
-    ),
-    Row(
-        "a dialogue with a Begin is judged as ever, and so is one without IDs",
-        "",
-        lines(MAY_BE_UNDER_WAY, "", SHORT[0], WRONG_END, f"A {uni(INVOKE)}", f"B {begin('05')}", f"A {end('05')}"),
-        [
-            Wanted([0, 1], "01", "", "pass", "fail 1 F5"),
-            Wanted([2], "", "", "fail 0 F6"),
-            Wanted([3, 4], "", "05"),
-        ],
-        reads_comments=True,
-    ),
-    Row(
-        "so is one whose first entry is no message",
-        "",
-        lines(MAY_BE_UNDER_WAY, "", f"A {BAD_CONTINUE}"),
-        [Wanted([0], "01", "07", "fail 0 F1", open=True)],
-        reads_comments=True,
-    ),
-    Row(
-        "an ID of an earlier dialogue was sent",
-        "--linger 1",
-        lines(MAY_BE_UNDER_WAY, "", *SHORT, f"B {begin('09')}", f"A {end('09')}", SHORT[1]),
-        [
-            Wanted([0, 1], "01", ""),
-            Wanted([2, 3], "", "09"),
-            Wanted([4], "01", "", "pass", f"inconc 0 F2 {CAME_AGAIN}", again=True),
-        ],
-        reads_comments=True,
     ),
     # ---- lingering
     Row(
@@ -611,6 +389,7 @@ ROWS = [
             Wanted([4, 5], "", "09", again=True),
             Wanted([6, 7], "", "09", again=True),
         ],
+        first=(2, 4),
     ),
     Row(
         "used once alone, none is judged before the end",
@@ -660,37 +439,6 @@ ROWS = [
         "",
         lines(f"A {LIMIT_BEGIN}"),
         [Wanted([0], "01", "", f"inconc {BEHIND}", open=True)],
-    ),
-    *(
-        Row(
-            f"IDs that can't be read, {digits}: a dialogue by itself, which may have been of those before",
-            "",
-            lines(SHORT[0], f"A {digits}", WRONG_END, f"B {begin('05')}", f"A {end('05', RESULT)}", f"A {end('0A')}"),
-            [
-                Wanted([0, 2], "01", "", "pass", f"inconc 1 F5 {UNREAD}"),
-                Wanted([1], "", "", found, open=None),
-                Wanted([3, 4], "", "05", "fail 1 F5"),
-                Wanted([5], "", "0a", f"inconc 0 F2 {UNREAD}"),
-            ],
-        )
-        for digits, found in [
-            (OTHER_TAG, "fail 0 F1"),
-            (NO_OCTETS, "fail 0 F1"),
-            (FIVE_OCTETS, "fail 0 F1"),
-            (BAD_LENGTH, f"inconc {BEHIND}"),
-        ]
-    ),
-    Row(
-        "a fault before it is one all the same, and behind a mark it is over",
-        "",
-        lines(SHORT[0], WRONG_END, f"A {end('0A')}", f"B {OTHER_TAG}", "Q", SHORT[0], WRONG_END, f"A {end('0A')}"),
-        [
-            Wanted([0, 1], "01", "", "pass", "fail 1 F5"),
-            Wanted([2], "", "0a", "fail 0 F2"),
-            Wanted([3], "", "", "pass", "fail 0 F1"),
-            Wanted([5, 6], "01", "", "pass", "fail 1 F5"),
-            Wanted([7], "", "0a", "fail 0 F2"),
-        ],
     ),
     # ---- messages without IDs
     Row(
@@ -748,7 +496,27 @@ ROWS = [
         "complete, and each is",
         "--complete",
         lines(*LONG, SHORT[0], f"B {abort('01')}", "Q", SHORT[0], "Q"),
-        [Wanted([0, 1, 2], "01", "07"), Wanted([3, 4], "01", "", again=True), Wanted([6], "01", "", "pass", "pass 1")],
+        [Wanted([0, 1, 2], "01", "07"), Wanted([3, 4], "01", "", again=True), Wanted([6], "01", "", IS_OPEN, IS_OPEN, open=True)],
+    ),
+    Row(
+        "a mark is no end: an invocation without an answer, by a peer that is silent",
+        "--complete",
+        lines(LONG[0], "Q"),
+        [Wanted([0], "01", "", IS_OPEN, IS_OPEN, open=True, says=("answer of B", "Begin", "invocation 1", "entry 0"))],
+    ),
+    Row(
+        "so it is of the end whose transaction is open at it (F15)",
+        "--complete",
+        lines(SHORT[0], BACK, "Q"),
+        [Wanted([0, 1], "01", "07", IS_OPEN, f"inconc 2 F15 {MARK}", open=True, says=("waits for an End or an Abort",))],
+    ),
+    Row(
+        "ends that are prearranged may end a dialogue in silence before a mark",
+        "--complete",
+        lines(LONG[0], "Q"),
+        # What B could have heard is mostly taken as unheard before a mark (docs/VERDICTS.md).
+        [Wanted([0], "01", "", "pass", "pass 1")],
+        PREARRANGED,
     ),
     Row(
         "a Begin without an answer",
@@ -824,9 +592,9 @@ ROWS = [
         '{"operations":[{"class":4,"code":45}]}',
     ),
     # ---- traces without a message
-    Row("an empty trace", "", "", [], error=(None, "no message")),
-    Row("comments alone", "", "# nothing\n\n#\n", [], error=(None, "no message")),
-    Row("marks alone", "", "Q\nQ\n", [], error=(None, "no message")),
+    Row("an empty trace", "", "", [], error=(None, NO_TAG)),
+    Row("comments alone", "", "# nothing\n\n#\n", [], error=(None, NO_TAG)),
+    Row("marks alone", "", "Q\nQ\n", [], error=(None, NO_TAG)),
     # ---- lines
     Row(
         "lines that end with CR LF",
@@ -840,18 +608,6 @@ ROWS = [
         "",
         lines(*SHORT)[:-1] + "\r",
         [], error=(2, "no digit; column 13"),
-    ),
-    Row(
-        "a fault of a line: the dialogue that is over is judged, the one that is under way is not",
-        "",
-        lines(SHORT[0], WRONG_END, f"A {begin('02', INVOKE)}", "A 62"),
-        [Wanted([0, 1], "01", "", "pass", "fail 1 F5")], error=(4, "cut"),
-    ),
-    Row(
-        "a fault of a line with no dialogue over: none is judged",
-        "",
-        lines(f"A {begin('01', INVOKE)}", f"B {go_on('07', '01', result('05'))}", "B 6"),
-        [], error=(3, "odd"),
     ),
     Row(
         "CR LF below a comment",

@@ -1,11 +1,11 @@
-"""Cases for tests/traces.py of dialogues that are to be complete and are open at the end of their trace: what is said that each waits
-for, worked out by hand from docs/TRACES.md. It is said once, of both ends, whichever end is asked."""
+"""Cases for tests/traces.py of dialogues that are to be complete and are open at the end of their trace or at a quiet mark: what is said
+that each waits for, worked out by hand from docs/TRACES.md. It is said once, of both ends, whichever end is asked."""
 
 import re
 import xml.etree.ElementTree
 from dataclasses import dataclass
 
-from traced import OPEN, Checks, Report, agree, put, run
+from traced import Checks, Report, agree, open_words, put, run
 from trace_rows import BACK, INVOKE, LONG, RESULT, SHORT, WRONG_CONTINUE, begin, element, error, go_on, invoke, lines, reject, result
 
 END = ["it waits for an End or an Abort"]
@@ -77,6 +77,9 @@ WAITS = [
         [*(invoked("B", id, 2) for id in range(8)), "and for 2 more answers"],
     ),
     Waits("an answer of B, which is at fault", [LONG[0], WRONG_CONTINUE], [invoked("B", 1, 0)], "F5"),
+    Waits("at a mark, the Begin of A and its invocation", [LONG[0], "Q"], [begun("B", 0), invoked("B", 1, 0)]),
+    Waits("at a mark, an invocation; the mark is held against B", [LONG[0], BACK, "Q"], [invoked("B", 1, 0)], "F15"),
+    Waits("at a mark, an End; the mark is held against B", [SHORT[0], BACK, "Q"], END, "F15"),
     Waits("an answer of A to B, which is at fault", [SHORT[0], f"B {go_on('07', '01', result('05'), INVOKE)}"], [invoked("A", 1, 1)], "F5"),
 ]
 
@@ -87,17 +90,18 @@ def look_at_waits(checks, report, path, case, of):
     (found,) = report.dialogues[path]
     (told,) = [it for it in xml.etree.ElementTree.fromstring(report.junit).iter() if it.tag in ("failure", "error")]
     is_open = [end for end in of if end == "A" or case.kind is None]
-    checks.same("the ends that are open", [end for end in of if found[end].get("text") == f"{OPEN}\n"], is_open)
+    words = open_words(found)
+    checks.same("the ends that are open", [end for end in of if found[end].get("text") == f"{words}\n"], is_open)
     waits = [f"  {line}" for line in case.lines] if is_open else []
     checks.same("JSON", found.get("text", "").splitlines(), waits)
     for name, text in ("the text", report.text), ("JUnit", told.text):
         block = text.splitlines()
         checks.same(f"once in {name}", [line for line in block if re.match("  (it waits|and) for ", line)], waits)
         if is_open:
-            at = block.index(f"  {is_open[-1]}: inconc: {OPEN}") + 1
+            at = block.index(f"  {is_open[-1]}: inconc: {words}") + 1
             checks.same(f"behind the ends in {name}", block[at : at + len(waits)], waits)
-    if found["verdict"] == "inconc":
-        checks.same("the message", told.get("message"), f"{is_open[0]}: {OPEN}; {case.lines[0]}")
+    if is_open and found["verdict"] == "inconc":
+        checks.same("the message", told.get("message"), f"{is_open[0]}: {words}; {case.lines[0]}")
 
 
 def waits(case, folder):

@@ -331,6 +331,9 @@ ONE = [
     ),
 ]
 
+# What `--ids once` says of SHORT's ID, which is begun again in line 3.
+ONCE = "; A uses its ID 01 again at line 3, and by --ids once no ID is free before the next quiet mark"
+
 SAID = [
     *ONE,
     # ---- both ends
@@ -409,11 +412,41 @@ SAID = [
         [*SHORT, SHORT[0], f"B {end('01', trace_rows.result('05'))}"],
         {},
         [
-            "  A: inconc: it is not found how it can have sent its part, and no entry of it is blamed",
-            "  B: inconc: it is not found how it can have sent its part, and no entry of it is blamed",
+            f"  A: inconc: it is not found how it can have sent its part, and no entry of it is blamed{ONCE}",
+            f"  B: inconc: it is not found how it can have sent its part, and no entry of it is blamed{ONCE}",
         ],
-        "A: it is not found how it can have sent its part, and no entry of it is blamed",
+        f"A: it is not found how it can have sent its part, and no entry of it is blamed{ONCE}",
         "--ids once",
+    ),
+    Said(
+        "open at a quiet mark",
+        [SHORT[0], "Q"],
+        {},
+        [
+            "  A: inconc: the dialogue is open at the quiet mark after it",
+            "  B: inconc: the dialogue is open at the quiet mark after it",
+        ],
+        "A: the dialogue is open at the quiet mark after it; it waits for an answer of B to the Begin in entry 0",
+        "--complete",
+    ),
+    Said(
+        "a quiet mark that came too early",
+        [SHORT[0], "Q", BACK],
+        {},
+        [
+            "  A: inconc: the quiet mark before this dialogue may have come too early: ID 01 of A was in use before it",
+            "  B: inconc at entry 0 of the dialogue, line 3, F2",
+        ],
+        "A: the quiet mark before this dialogue may have come too early: ID 01 of A was in use before it",
+    ),
+    Said(
+        "an ID that came again, where IDs have settled, and the dialogue begins without a Begin",
+        [*SHORT, f"B {end('01')}"],
+        {},
+        ["  B: inconc at entry 0 of the dialogue, line 3, F2"],
+        "B: line 3, F2: its peer sent nothing from the destination ID that it could answer; inconclusive: an ID of the dialogue was "
+        "one of an earlier one, of which a message may have been under way; this is dialogue 2, and that was dialogue 0",
+        "--ids settled --linger 0",
     ),
     Said(
         "no table for a dialogue without a context",
@@ -488,7 +521,7 @@ def sums(_, folder):
         root = xml.etree.ElementTree.fromstring(report.junit)
         checks.same(f"the sums of {of}", tuple(int(root.get(it)) for it in ("tests", "failures", "errors")), wanted)
     told = [it.get("message") for it in root.iter("error")]
-    checks.same("the message of a trace", told, ["there is no message in it"])
+    checks.same("the message of a trace", told, [trace_rows.NO_TAG])
     return checks
 
 

@@ -29,8 +29,8 @@ STATUS = {"pass": 0, "fail": 1, "inconc": 2, "error": 3}
 MOST_LOOKED_AT = 1000
 # No message of a testcase is longer.
 LONGEST = 400
-# What is said of an end of a dialogue that is to be complete.
-OPEN = "the dialogue is open at the end of its trace"
+# What is said of an end of a dialogue that is to be complete, at the end of its trace or at a quiet mark.
+OPEN, OPEN_AT_MARK = "the dialogue is open at the end of its trace", "the dialogue is open at the quiet mark after it"
 
 
 # ---- running
@@ -155,7 +155,8 @@ def entries_in(text):
     for number, line in enumerate(text.replace("\r\n", "\n").split("\n"), 1):
         if re.match("[ABQ]", line):
             found.append((line[:1], line[2:].lower(), number, comment))
-        comment = line.removeprefix("#").removeprefix(" ") if line.startswith("#") else ""
+        is_comment = line.startswith("#") and not line.startswith("#:")
+        comment = line.removeprefix("#").removeprefix(" ") if is_comment else ""
     return found
 
 
@@ -230,16 +231,20 @@ def headline(it):
         words += f"; inconclusive: {said['doubt']}" if "doubt" in said else ""
     elif behind:
         words = f"which {behind[2]}"
-    elif words == OPEN:
-        words = f"{OPEN}; {it.get('text', 'nothing').splitlines()[0].strip()}"
+    elif words in (OPEN, OPEN_AT_MARK):
+        words = f"{words}; {it.get('text', 'nothing').splitlines()[0].strip()}"
     return f"{end}: {words}" if at is None else f"{end}: {place}, {words}"
+
+
+def open_words(it):
+    return OPEN_AT_MARK if it["marked"] else OPEN
 
 
 def look_at_texts(checks, dialogues):
     """A dialogue has a text by itself where it is an error, and where an end is said to be open; and of two ends at fault that of the
     later entry names the other."""
     for it in dialogues:
-        is_open = any(it.get(end, {}).get("text") == f"{OPEN}\n" for end in "AB")
+        is_open = any(it.get(end, {}).get("text") == f"{open_words(it)}\n" for end in "AB")
         checks.same("a text of the dialogue", "text" in it, is_open or it["verdict"] == "error")
         blamed = [end for end in in_order(it) if "kind" in it.get(end, {})]
         is_later = len({it[end]["entry"] for end in blamed}) > 1
@@ -250,7 +255,7 @@ def look_at_texts(checks, dialogues):
 def look_at_trace(checks, trace, dialogues, suite):
     """The line of a trace, and its testsuite, have the counts of its dialogues."""
     found = counts(it["verdict"] for it in dialogues)
-    checks.same("the dialogues are numbered", [it["dialogue"] for it in dialogues], [*range(len(dialogues))])
+    checks.same("the dialogues are numbered", [it["dialogue"] for it in dialogues], [min(it["entries"]) for it in dialogues])
     checks.same("counts of a trace", trace["dialogues"], found)
     checks.same("unheard", trace["unheard"], sum(map(is_unheard, dialogues)))
     # An error of the trace by itself, and not of one of its dialogues, is said of the trace.
@@ -287,16 +292,17 @@ def look_by_junitparser(checks, junit):
 
 
 def look_at_names(checks, dialogues):
-    """Where a dialogue has an ID of an earlier one, and is inconclusive for that, both are named."""
-    ids = [{(end, id) for end in "AB" for id in it["ids"][end]} for it in dialogues]
+    """Where a dialogue has an ID of one that was judged before, and is inconclusive for that, both are named."""
+    ids, judged = {it["dialogue"]: {(end, id) for end in "AB" for id in it["ids"][end]} for it in dialogues}, set()
     for it in dialogues:
         for end in "AB":
             doubt = it.get(end, {}).get("doubt", "")
             if CAME_AGAIN in doubt:
                 named, own = {*map(int, re.findall(r"dialogue (\d+)", doubt))}, it["dialogue"]
                 others = named - {own}
-                is_earlier = all(ids[one] & ids[own] and one < own for one in others)
+                is_earlier = all(one in judged and ids[one] & ids[own] for one in others)
                 checks.holds(f"both are named, {own}: {doubt}", own in named and len(others) == 1 and is_earlier)
+        judged.add(it["dialogue"])
 
 
 def agree(checks, report):

@@ -1,9 +1,11 @@
-"""Runs the built program's word `test` over traces. The rows of trace_rows.py have what must be said of each, and
-trace_files.py has cases of files, lines, comments and words, trace_outputs.py of files that are written, trace_messages.py
-of the messages of dialogues, trace_words.py of what is said of a blame, trace_waits.py of what an open dialogue waits for.
-Then traces of random dialogues: of each dialogue, by the cut of trace_cut.py, `test` says what `blame` says of the record of
-that dialogue alone. All that is written as JSON is looked at by docs/report.schema.json, where python's jsonschema is
-installed, and all that is JUnit's XML by junitparser, where that is."""
+"""Runs the built program's word `test` over traces. The rows of trace_rows.py, trace_again.py, trace_broken.py and
+trace_doubts.py have what must be said of each, and trace_files.py has cases of files, lines, comments and words,
+trace_outputs.py of files that are written, trace_messages.py of the messages of dialogues, trace_words.py of what is
+said of a blame, trace_waits.py of what an open dialogue waits for. Then traces of random dialogues: of each dialogue,
+by the cut of trace_cut.py, `test` says what `blame` says of the record of that dialogue alone. And nobody fails in
+the traces of lawful_traces.py, whose ends keep the rules. All that is written as JSON is looked at by
+docs/report.schema.json, where python's jsonschema is installed, and all that is JUnit's XML by junitparser, where
+that is."""
 
 import collections
 import concurrent.futures
@@ -12,15 +14,20 @@ import re
 import sys
 import tempfile
 
+import lawful_traces
 import random_traces
 import runs
+import trace_again
+import trace_broken
 import trace_cut
+import trace_doubts
 import trace_files
 import trace_messages
 import trace_outputs
 import trace_rows
 import trace_waits
 import trace_words
+from trace_cut import Segment
 from trace_rows import BEHIND, UNDECIDED, lines
 from traced import Checks, Report, agree, in_order, look_at_end, look_at_messages, missing, put, run, worst
 
@@ -29,6 +36,12 @@ RANDOM_TRACES, SIDE_BY_SIDE = 30, 4
 # in one of two traces, have settled then.
 CUTS = [(["--ids", "once"], 0), (["--linger", "3"], 3), ([], 10_000)]
 SETTLED = ["--ids", "settled"]
+# The doubts whose dialogues are counted.
+COUNTED = {
+    "under way": trace_rows.UNDER_WAY,
+    "over a mark": trace_doubts.EARLY,
+    "used before": trace_doubts.USED_BEFORE,
+}
 
 
 # ---- rows
@@ -42,13 +55,14 @@ def places_in(text):
 
 
 def look_at_places(checks, name, it, want, text):
-    """Looks at the lines of a dialogue, and of each entry at fault, which may be the mark that ends the stretch."""
+    """Looks at the lines of a dialogue, and of each entry at fault, which may be the mark that ends the segment."""
     at, marks = places_in(text)
     checks.same(f"{name}, lines", it["lines"], [at[entry] for entry in want.entries])
     entries = [*want.entries, *[mark for mark in marks if mark > want.entries[-1]][:1]]
     for end in "AB":
         if "kind" in it.get(end, {}):
-            checks.same(f"{name}, line of {end}", it[end]["line"], at[entries[it[end]["entry"]]])
+            spots = dict(enumerate(at[entry] for entry in entries))
+            checks.same(f"{name}, line of {end}", it[end]["line"], spots.get(it[end]["entry"]))
             checks.same(f"{name}, comment", it[end].get("comment"), want.more.get("comment"))
 
 
@@ -57,9 +71,12 @@ def look_at_row(checks, row, report, path, has_lines):
     trace, found = report.traces[path], sorted(report.dialogues[path], key=lambda it: it["entries"])
     wanted = sorted(row.dialogues, key=lambda it: it.entries)
     checks.same("entries of the dialogues", [it["entries"] for it in found], [it.entries for it in wanted])
+    judged = [it["dialogue"] for it in report.dialogues[path]]
+    checks.same("the order in which they are judged", judged[: len(row.first)], [*row.first])
     for it, want in zip(found, wanted):
         name = f"dialogue {want.entries}"
         checks.same(f"{name}, IDs", it["ids"], {"A": want.a_ids.split(), "B": want.b_ids.split()})
+        checks.same(f"{name}, number", it["dialogue"], want.entries[0])
         look_at_end(checks, f"{name}, A", it.get("A"), want.a)
         look_at_end(checks, f"{name}, B", it.get("B"), want.b)
         said = [said.split()[0] for said in (want.a, want.b) if said]
@@ -107,16 +124,29 @@ def look_at_text(checks, row, report, path):
                 words = it[end]["verdict"], f"entry {it[end]['entry']} ", it[end]["kind"]
                 checks.holds(f"the text says {words} of {end}: {line}", all(word in line for word in words))
         look_at_order(checks, it, block)
+        look_at_repeat(checks, block, want.comes_again)
+    if "--ids settled" in row.words:
+        checks.holds("what is said is not asked for", "--ids settled" not in report.text)
 
 
 def look_at_order(checks, it, block):
-    """Looks at the order of the ends that are blamed: the lower entry stands first, and of the other it is said that it is later."""
+    """Looks at the order of the ends that are blamed: the lower entry stands first, and of the other it is said that
+    it is later."""
     blamed = [end for end in in_order(it) if "kind" in it.get(end, {})]
     found = re.findall("^  ([AB]): [a-z]+ at entry .*, (F[0-9]+)(.*)$", block, re.MULTILINE)
     is_later = len({it[end]["entry"] for end in blamed}) > 1
     clauses = ["", f"; it comes later, and may follow from that of {blamed[0]}" if is_later else ""]
     wanted = [(end, it[end]["kind"], clause) for end, clause in zip(blamed, clauses)]
     checks.same("the order of the ends", found, wanted)
+
+
+def look_at_repeat(checks, block, wanted):
+    """Looks at the end, the ID and the line that are named where an ID comes again which was to come once."""
+    if wanted is not None:
+        end, id, line = wanted
+        inconclusive = [it for it in block.splitlines() if re.match("  [AB]: inconc", it)]
+        named = [it for it in inconclusive if re.search(rf"\b{end} uses its ID {id} again at line {line}\b", it)]
+        checks.same(f"which lines name {wanted}", named, inconclusive)
 
 
 def look_at(row, folder):
@@ -131,7 +161,7 @@ def look_at(row, folder):
     for it in report.dialogues[path]:
         look_at_messages(checks, folder, it, row.lines)
     packed = run(["pack"], octets)
-    if packed.returncode == 0 and row.error is None and not row.reads_comments:
+    if packed.returncode == 0 and row.error is None and not row.has_directives:
         record = put(folder, "record", packed.stdout)
         report = Report(folder, row.words.split(), [record], table=row.table)
         agree(checks, report)
@@ -169,8 +199,8 @@ def is_heard(headings, end, id):
     return heard
 
 
-def octets_of(stretch):
-    return [heading.end.encode() + bytes.fromhex(digits) for heading, digits in stretch]
+def octets_of(headed):
+    return [heading.end.encode() + bytes.fromhex(digits) for heading, digits in headed]
 
 
 def begins(headings):
@@ -179,28 +209,35 @@ def begins(headings):
 
 
 class Alone:
-    """A dialogue of a random trace as a record of its own, with a quiet mark behind it where that is so. Dialogues may
-    have been under way from that entry of its stretch on, if there is such."""
+    """A dialogue of a random trace as a record of its own, with the quiet mark behind it if it is not over at it."""
 
-    def __init__(self, folder, table, stretch, cut, is_marked, is_settled, under_way):
+    def __init__(self, folder, table, headed, cut, is_marked, is_settled):
         self.table, self.cut, self.is_settled = table, cut, is_settled
-        mine = [stretch[number] for number in cut.numbers]
+        mine = [headed[number] for number in cut.numbers]
         self.headings, octets = [heading for heading, _ in mine], octets_of(mine)
-        self.said = blamed(folder, b"".join(octets) + b"Q" * is_marked)
+        is_live = bool(cut.ids) and not cut.is_over
+        # By a table with prearranged ends it may have ended in silence before the mark.
+        self.is_open = is_live and not (is_marked and table.prearranged)
+        self.said = blamed(folder, b"".join(octets) + b"Q" * (is_marked and is_live))
         # Behind an entry that is no message nothing is looked at.
         looked_at = [it[1] for it in self.said.values() if it[0] == "not blamed" and it[1] < len(octets)]
         self.before = blamed(folder, b"".join(octets[: looked_at[0]])) if looked_at else {}
-        may_be = under_way is not None and cut.numbers[0] >= under_way and not cut.again
-        self.is_under_way = may_be and self.headings[0].dtid is not None and self.begins_well()
+        self.was_open = self.why_open()
+
+    def why_open(self):
+        """Why the dialogue may have been under way before its first entry, if it may."""
+        if self.cut.late and not self.cut.again and self.headings[0].dtid is not None and self.begins_well():
+            return trace_rows.UNDER_WAY
+        return trace_doubts.EARLY if self.cut.in_use else None
 
     def begins_well(self):
         """Whether the first entry is a message."""
         return not {("blamed", 0, "F1"), ("not blamed", 0)} & set(self.said.values())
 
     def doubt(self, end, entry, kind):
-        """What makes it inconclusive that an end is blamed, where something does."""
-        if self.is_under_way:
-            return trace_rows.UNDER_WAY
+        """What makes it inconclusive that an end is blamed, if something does."""
+        if self.was_open:
+            return self.was_open
         if kind == "F15":
             return trace_rows.MARK
         here = self.headings[entry]
@@ -208,14 +245,17 @@ class Alone:
             if self.table.prearranged or not is_heard(self.headings[:entry], end, here.otid):
                 return trace_rows.GIVEN_UP
         # A dialogue without a Begin goes on with an earlier one: there no ID came again, and nothing has settled.
-        if self.cut.again and not (self.is_settled and begins(self.headings)):
+        has_settled = self.is_settled and begins(self.headings) and not self.cut.unsettled
+        if self.cut.again and not has_settled:
             return trace_rows.CAME_AGAIN
+        if self.cut.late and begins(self.headings) and self.headings[0].end != end and not self.is_settled:
+            return trace_doubts.USED_BEFORE
         if self.cut.unread is not None and self.cut.numbers[entry] > self.cut.unread:
             return trace_rows.UNREAD
         return None
 
     def passes(self, unheard):
-        return f"inconc {trace_rows.UNDER_WAY}" if self.is_under_way else f"pass {unheard}"
+        return f"inconc {self.was_open}" if self.was_open else f"pass {unheard}"
 
     def wanted(self, end):
         """What has to be said of an end."""
@@ -234,19 +274,20 @@ class Alone:
 
 
 class RandomTrace:
-    """A random trace: its stretches, which of them a quiet mark ends, the text, and the lines of entries and marks."""
+    """A random trace: its segments, which of them a quiet mark ends, the text, and the lines of entries and marks."""
 
     def __init__(self, rng):
         maker = random_traces.Maker(rng)
-        self.table, (self.stretches, is_marked) = maker.table, maker.trace()
-        self.marked = [True] * (len(self.stretches) - 1) + [is_marked]
-        self.first, self.at, self.text, self.under_way = [], [], [], []
-        for stretch, marked in zip(self.stretches, self.marked):
+        self.table, (self.headed, is_marked) = maker.table, maker.trace()
+        self.marked = [True] * (len(self.headed) - 1) + [is_marked]
+        self.first, self.at, self.text, self.segments = [], [], [], []
+        for headed, marked in zip(self.headed, self.marked):
             self.first.append(len(self.at))
-            # Before which entry of the stretch a line says that dialogues may have been under way.
-            self.under_way.append(rng.randrange(len(stretch)) if stretch and rng.random() < 0.3 else None)
-            for number, (heading, digits) in enumerate(stretch):
-                self.text += [trace_rows.MAY_BE_UNDER_WAY] * (number == self.under_way[-1])
+            # Before which entry of the segment a line says that dialogues may have been under way.
+            under_way = rng.randrange(len(headed)) if headed and rng.random() < 0.3 else None
+            self.segments.append(Segment([heading for heading, _ in headed], under_way))
+            for number, (heading, digits) in enumerate(headed):
+                self.text += [trace_rows.MAY_BE_UNDER_WAY] * (number == under_way)
                 self.text += [f"# entry {len(self.at)}"] * (rng.random() < 0.2)
                 self.add(f"{heading.end} {digits}")
             if marked:
@@ -257,19 +298,26 @@ class RandomTrace:
         self.at.append(len(self.text))
 
     def record(self):
-        parts = [b"".join(octets_of(stretch)) + b"Q" * marked for stretch, marked in zip(self.stretches, self.marked)]
+        parts = [b"".join(octets_of(headed)) + b"Q" * marked for headed, marked in zip(self.headed, self.marked)]
         return b"".join(parts)
 
     def wanted(self, folder, flags, linger):
-        """The dialogues that are wanted: the numbers of their entries, their IDs, whether one of these came again,
-        whether they are open, and what is said of each end."""
-        for first, stretch, marked, under_way in zip(self.first, self.stretches, self.marked, self.under_way):
-            for cut in trace_cut.cut([heading for heading, _ in stretch], "once" in flags, linger):
-                alone = Alone(folder, self.table, stretch, cut, marked and not cut.is_past, flags == SETTLED, under_way)
+        """The dialogues that are wanted: the numbers of their entries, their IDs, how they are cut, whether they are
+        open, and what is said of each end."""
+        cuts = trace_cut.cut(self.segments, "once" in flags, linger)
+        for first, headed, marked, dialogues in zip(self.first, self.headed, self.marked, cuts):
+            for cut in dialogues:
+                alone = Alone(folder, self.table, headed, cut, marked, flags == SETTLED)
                 ids = {end: sorted(id.hex() for of, id in cut.ids if of == end) for end in "AB"}
-                is_open = not marked and bool(cut.ids) and not cut.is_over
                 ends = {end: alone.wanted(end) for end in "AB"}
-                yield [first + number for number in cut.numbers], ids, cut.again, is_open, ends
+                yield [first + number for number in cut.numbers], ids, cut, alone.is_open, ends
+
+
+def look_at_in_use(checks, name, end, cut):
+    """The ID that is said to have been in use before a mark is one of those."""
+    named = re.search("ID ([0-9a-f]+) of ([AB]) was in use before it", end.get("doubt", end.get("text", "")))
+    if named:
+        checks.holds(f"{name}, {named[0]}", (named[2], bytes.fromhex(named[1])) in cut.in_use)
 
 
 def look_at_random(seed, folder):
@@ -285,18 +333,22 @@ def look_at_random(seed, folder):
         wanted = [*made.wanted(folder, flags, linger)]
         found = sorted(report.dialogues[path], key=lambda it: it["entries"])
         checks.same(f"{flags}, dialogues", [it["entries"] for it in found], [it[0] for it in wanted])
-        for it, (entries, ids, again, is_open, ends) in zip(found, wanted):
+        for it, (entries, ids, cut, is_open, ends) in zip(found, wanted):
             name = f"{flags}, {entries}"
             checks.same(f"{name}, IDs", {end: sorted(it["ids"][end]) for end in "AB"}, ids)
-            checks.same(f"{name}, again and open", (it["again"], it["open"]), (again, is_open))
+            checks.same(f"{name}, again and open", (it["again"], it["open"]), (cut.again, is_open))
             checks.same(f"{name}, lines", it["lines"], [made.at[entry] for entry in entries])
             for end, said in ends.items():
                 look_at_end(checks, f"{name}, {end}", it[end], said)
+                look_at_in_use(checks, f"{name}, {end}", it[end], cut)
             checks.same(f"{name}, verdict", it["verdict"], worst([said.split()[0] for said in ends.values()]))
             look_at_messages(checks, folder, it, lines(*made.text))
             seen[it["verdict"]] += 1
-            seen["again"] += again
-            seen["under way"] += any(trace_rows.UNDER_WAY in str(it[end]) for end in "AB")
+            seen["again"] += cut.again
+            for name, doubt in COUNTED.items():
+                seen[name] += any(doubt in said for said in ends.values())
+        if flags == SETTLED:
+            checks.holds(f"{flags}, what is said is not asked for", "--ids settled" not in report.text)
         whole = whole or blamed(folder, made.record())
         for end, said in whole.items():
             # That an ID has settled is the bench's word.
@@ -320,9 +372,9 @@ def main():
     for name in missing():
         print(f"what is written is not looked at by {name}, which is not installed")
     # The longest cases begin first.
-    jobs = [(look_at_random, seed * 1000 + number) for number in range(RANDOM_TRACES)]
+    jobs = [*lawful_traces.jobs(seed), *((look_at_random, seed * 1000 + number) for number in range(RANDOM_TRACES))]
     jobs += [*trace_files.jobs(), *trace_outputs.jobs(), *trace_messages.jobs(), *trace_words.jobs(), *trace_waits.jobs()]
-    jobs += [(look_at, row) for row in trace_rows.ROWS]
+    jobs += [(look_at, row) for row in trace_rows.ROWS + trace_again.ROWS + trace_broken.ROWS + trace_doubts.ROWS]
     passed, failed, seen = 0, 0, collections.Counter()
     with concurrent.futures.ThreadPoolExecutor(SIDE_BY_SIDE) as pool:
         for checks, more in pool.map(looked_at, jobs):

@@ -7,18 +7,25 @@ from capture_frames import Fault
 from signalling import Label
 
 
+# By this fault of a message it is not known how many messages are missing: each of its segments may have it.
+UNCOUNTED = "segment"
+
+
 class Pair:
     """What one pair of ends sent, in its order, up to the first fault; and that fault."""
 
     def __init__(self, ends):
         self.ends, self.messages, self.fault, self.behind, self.notes = ends, [], None, 0, []
+        # Whether each message that is missing for a fault is one of those that were found.
+        self.is_counted = True
 
     def both(self):
         """Its two ends, which may have one name."""
         return min(self.ends, key=text_of), max(self.ends, key=text_of)
 
-    def stop(self, fault):
-        """Notes a fault: the first one counts."""
+    def stop(self, fault, is_counted=False):
+        """Notes a fault, and whether it is of a message that was found: the first one counts."""
+        self.is_counted = self.is_counted and is_counted
         if self.fault is None or fault.place < self.fault.place:
             self.fault = fault
 
@@ -92,10 +99,10 @@ def pairs_of(messages, ends):
         own.messages.append(message)
         if message.fault:
             for pair in [own, *(pair_of(*two) for two in message.fault.pairs)]:
-                pair.stop(message.fault)
+                pair.stop(message.fault, pair is own and message.fault.name != UNCOUNTED)
         if len(own.ends) == 1:
             name = text_of(message.sender.name)
-            own.stop(Fault(message.place, "ends", f"both ends are {name}: they can't be told apart so"))
+            own.stop(Fault(message.place, "ends", f"both ends are {name}: they can't be told apart so"), True)
     return list(pairs.values())
 
 

@@ -25,8 +25,8 @@ NO_TSHARK, FAULTY, WRONG_WORDS = 2, 3, 4
 SHOWN = 10
 # The most addresses of one end that are printed.
 LISTED = 4
-# By this line `tcapjudge test` knows that the Begin of a dialogue may not be in the trace.
-UNDER_WAY = "# dialogues may have been under way"
+# Directives of `tcapjudge test`: the Begin of a dialogue may not be in the trace; the trace ends before its messages do.
+UNDER_WAY, BROKEN_OFF = "#: under way", "#: broken off"
 
 
 class Words(argparse.ArgumentParser):
@@ -163,7 +163,7 @@ def head_of(pair, both, ends, words, title):
     """The lines before the first message, of ends of which the first is A."""
     yield f"# {title}\n"
     for letter, end in zip("AB", both):
-        yield f"# {letter}: {addresses_of(end, ends)}\n"
+        yield f"#: {letter} {addresses_of(end, ends)}\n"
     if words.under_way:
         yield f"{UNDER_WAY}\n"
     yield from (f"# NOTE {note}\n" for note in pair.notes)
@@ -179,13 +179,27 @@ def lines_of(pair, first, ends, times):
         yield f"{head}\n{letter} {message.octets.hex()}\n"
 
 
+def foot_of(pair, capture):
+    """The lines after the last message of a pair that has a fault."""
+    count = pair.behind
+    missing = f", {count} message{'s' * (count != 1)} missing" if pair.is_counted else ""
+    yield f"# {place_text(pair.fault, capture)}; messages that were found from there on, and are not in this file: {count}\n"
+    yield f"{BROKEN_OFF}{missing}\n"
+
+
 def name_of(path):
     """The name of a file, as it can be printed."""
     return "".join(sign if sign.isprintable() else "?" for sign in os.path.basename(path))
 
 
+def place_text(fault, capture):
+    """What a fault is, and its frame."""
+    return f"{fault.name}, frame {fault.place[0]} of {name_of(capture)}: {fault.why}"
+
+
 def fault_text(fault, capture):
-    return f"FAULT {fault.name}, frame {fault.place[0]} of {name_of(capture)}: {fault.why}"
+    """What is printed of a fault."""
+    return f"FAULT {place_text(fault, capture)}"
 
 
 def write(pairs, ends, reader, words, progress):
@@ -209,8 +223,7 @@ def write(pairs, ends, reader, words, progress):
             file.writelines(head_of(pair, both, ends, words, title))
             file.writelines(progress.over("messages written", lines_of(pair, both[0], ends, reader.times)))
             if pair.fault:
-                fault = fault_text(pair.fault, words.capture)
-                file.write(f"# {fault}; messages from there on, which are not in this file: {pair.behind}\n")
+                file.writelines(foot_of(pair, words.capture))
         names = ", ".join(f"{letter} is {addresses_of(end, ends)}" for letter, end in zip("AB", both))
         print(f"{path}: {names}, messages: {len(pair.messages)}")
 

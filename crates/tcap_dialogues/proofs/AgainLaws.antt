@@ -136,8 +136,8 @@ shared_behind reuse headings [] n s same c a = a
 shared_behind reuse headings (h ∷ left) n s same c a =
     let here : slice_get headings n ≡ Some h = first_left headings left n h same in
     shared_behind reuse headings left (n + 1) (comes reuse n h s) (later_left headings left n h same) (one_more reuse headings n h s here c)
-    (shared_more headings n h here _ _ (courses_then headings n s.done s.live c (is_free reuse n s.live h)) _
-    (record { numbers_are = refl; ids_are = refl; again_is = refl }) (shared_then headings n s c (is_free reuse n s.live h) a))
+    (shared_more headings n h here _ _ (courses_then headings n s.done s.live c (is_free reuse n s h)) _
+    (record { numbers_are = refl; ids_are = refl; again_is = refl }) (shared_then headings n s c (is_free reuse n s h) a))
 
 -- A dialogue of which it is said that an ID came again shares one with another of the stretch, which has an entry that it has not.
 pub shared_again : (reuse : Reuse) (headings : List Heading) (d : Course) → Contains (courses_of reuse headings) d → d.again ≡ true

@@ -1,5 +1,5 @@
 -- The laws of the dialogues of a stretch in which IDs may come again, from what holds of those of each front of it.
-use Rattle.std.proofs.Common.{arith, ◌≡◌, ◌⊎◌, inl, inr, ℕ, ◌+◌, ◌<◌, ◌≤◌, ◌-◌, true, false, List, [], Some, None, length, sym, ap, take, ◌∙◌}
+use Rattle.std.proofs.Common.{arith, ◌≡◌, ◌⊎◌, inl, inr, ℕ, ◌+◌, ◌<◌, ◌≤◌, ◌-◌, true, false, List, [], Some, None, length, map, sym, ap, take, ◌∙◌}
 use Rattle.std.specs.Prelude.{Contains, slice_get}
 use Rattle.std.proofs.lemmas.Bool.{cases_lt}
 use Rattle.std.proofs.lemmas.List.Elements.{Contains-append_cases, Contains-append_left, Contains-append_right}
@@ -9,12 +9,12 @@ use Rattle.tcap_end.specs.Table.{Table}
 use Rattle.std.proofs.lemmas.Option.{slice_get_past}
 use Rattle.tcap_model.specs.World.{Item, Sent, has_quiet}
 use Rattle.tcap_model.specs.Run.{IsLawfulFor}
-use Rattle.tcap_dialogues.specs.Course.{Course, Courses, Heading, courses_behind, courses_of, has_entry, heading_of, headings_of, ids_in}
+use Rattle.tcap_dialogues.specs.Course.{Course, Courses, Heading, bare, courses_behind, courses_of, has_entry, heading_of, headings_of, ids_in}
 use Rattle.tcap_dialogues.specs.declared.reuse.Reuse.{Reuse}
 use Rattle.tcap_dialogues.specs.Cut.{IdOf, is_among}
 use Rattle.tcap_dialogues.specs.Part.{IsClosed, ShareId, part_of}
 use Rattle.tcap_dialogues.proofs.CourseLaws.{Among, AreCourses, InOrBehind, each_behind}
-use Rattle.tcap_dialogues.proofs.CourseLists.{heading_at, in_front, stands}
+use Rattle.tcap_dialogues.proofs.CourseLists.{bare_at, heading_at, in_front, stands}
 use Rattle.tcap_dialogues.proofs.CourseStretch.{well_so_far}
 use Rattle.tcap_dialogues.proofs.CutEnds.{closed_from}
 use Rattle.tcap_dialogues.proofs.CutIds.{among_is}
@@ -86,10 +86,10 @@ module _ (reuse : Reuse) (headings : List Heading) where
       (ap (λ x. is_among x.ids id) (sym same) ∙ o.all id its)
 
 -- A dialogue none of whose IDs came again shares none with the rest of the stretch up to each of its entries,
-pub course_shares_nothing : (reuse : Reuse) (items : List Item) (d : Course) (n : ℕ) → has_quiet items ≡ false
-    → Contains (courses_of reuse (headings_of items)) d → d.again ≡ false → has_entry d n ≡ true
+pub course_shares_nothing : (reuse : Reuse) (items : List Item) (headings : List Heading) (d : Course) (n : ℕ) → has_quiet items ≡ false
+    → map bare headings ≡ headings_of items → Contains (courses_of reuse headings) d → d.again ≡ false → has_entry d n ≡ true
     → IsClosed (has_entry d) (take (n + 1) items)
-course_shares_nothing reuse items d n unmarked has anew of_it = closed_from (has_entry d) (take (n + 1) items) follows
+course_shares_nothing reuse items headings d n unmarked bares has anew of_it = closed_from (has_entry d) (take (n + 1) items) follows
   where
     by : (j : ℕ) → j < n + 1 → InOrBehind d j → has_entry d j ≡ true
     by j less (inl so) = so
@@ -101,13 +101,17 @@ course_shares_nothing reuse items d n unmarked has anew of_it = closed_from (has
         let it : IdOf = record { end = end; octets = id } in
         let (lower, there) = in_front items (n + 1) i (Sent s m) is in
         let (less, here) = in_front items (n + 1) j (Sent t o) so in
+        let (g, at, one) = bare_at headings (headings_of items) i (heading_of s m) bares (heading_at items i s m unmarked there) in
+        let (h, also, two) = bare_at headings (headings_of items) j (heading_of t o) bares (heading_at items j t o unmarked here) in
         by j less
-        (shares_behind reuse (headings_of items) d i j (heading_of s m) (heading_of t o) it has anew (heading_at items i s m unmarked there)
-        (heading_at items j t o unmarked here) (among_is s m it ∙ hers) (among_is t o it ∙ his) first)
+        (shares_behind reuse headings d i j g h it has anew at also
+        (ap (λ x. is_among (ids_in x) it) one ∙ among_is s m it ∙ hers) (ap (λ x. is_among (ids_in x) it) two ∙ among_is t o it ∙ his) first)
 
 -- so what an end may have sent of the stretch up to there that keeps the rules, it may have sent of the dialogue.
-pub course_keeps : (side : Side) (reuse : Reuse) (items : List Item) (table : Table) (d : Course) (n : ℕ) → has_quiet items ≡ false
-    → Contains (courses_of reuse (headings_of items)) d → d.again ≡ false → has_entry d n ≡ true
-    → IsLawfulFor side (take (n + 1) items) table → IsLawfulFor side (part_of (has_entry d) 0 (take (n + 1) items)) table
-course_keeps side reuse items table d n unmarked has anew of_it lawful =
-    part_keeps side (take (n + 1) items) table (has_entry d) (course_shares_nothing reuse items d n unmarked has anew of_it) lawful
+pub course_keeps : (side : Side) (reuse : Reuse) (items : List Item) (headings : List Heading) (table : Table) (d : Course) (n : ℕ)
+    → has_quiet items ≡ false → map bare headings ≡ headings_of items → Contains (courses_of reuse headings) d → d.again ≡ false
+    → has_entry d n ≡ true → IsLawfulFor side (take (n + 1) items) table
+    → IsLawfulFor side (part_of (has_entry d) 0 (take (n + 1) items)) table
+course_keeps side reuse items headings table d n unmarked bares has anew of_it lawful =
+    part_keeps side (take (n + 1) items) table (has_entry d)
+    (course_shares_nothing reuse items headings d n unmarked bares has anew of_it) lawful

@@ -1,11 +1,13 @@
 -- The front of a list, and the headings of a list of items.
-use Rattle.std.proofs.Common.{arith, ◌≡◌, ℕ, zero, suc, ◌<◌, false, List, [], ◌∷◌, length, take, Some, refl}
+use Rattle.std.proofs.Common.{arith, ◌≡◌, ℕ, zero, suc, ◌<◌, false, List, [], ◌∷◌, length, map, take, Option, Some, None, refl, sym, ap, ◌∙◌}
 use Rattle.std.specs.Prelude.{slice_get}
+use Rattle.std.specs.Option.{option_map}
 use Rattle.std.proofs.lemmas.Bool.{true≢false}
+use Rattle.std.proofs.lemmas.Option.{slice_get-map}
 use Rattle.tcap_msg.specs.declared.message.Message.{Message}
 use Rattle.tcap_record.specs.declared.entry.End.{End as Side}
 use Rattle.tcap_model.specs.World.{Item, Sent, has_quiet}
-use Rattle.tcap_dialogues.specs.Course.{heading_of, headings_of}
+use Rattle.tcap_dialogues.specs.Course.{Heading, bare, heading_of, headings_of}
 
 -- What stands in the front of a list stands there in the whole, and its number is below the length of the front.
 pub in_front : {X : Type 0} (xs : List X) (k i : ℕ) (x : X) → slice_get (take k xs) i ≡ Some x → (i < k) × (slice_get xs i ≡ Some x)
@@ -30,3 +32,16 @@ heading_at (Sent sender first ∷ items) zero side m unmarked is =
     let same : first ≡ m = cc in
     rw (same_side, same) refl
 heading_at (Sent sender first ∷ items) (suc i) side m unmarked is = heading_at items i side m unmarked is
+
+-- So has, of headings that are these but for what is known of their trace, the one of that number.
+pub bare_at : (hs gs : List Heading) (i : ℕ) (g : Heading) → map bare hs ≡ gs → slice_get gs i ≡ Some g
+    → (h : Heading) × (slice_get hs i ≡ Some h) × (bare h ≡ g)
+bare_at hs gs i g same is = by (slice_get hs i) refl
+  where
+    by : (o : Option Heading) → slice_get hs i ≡ o → (h : Heading) × (slice_get hs i ≡ Some h) × (bare h ≡ g)
+    by None at =
+        let bad : None ≡ Some g = sym (sym (ap (λ xs. slice_get xs i) same) ∙ slice_get-map bare hs i ∙ ap (option_map bare) at) ∙ is in cc
+    by (Some h) at =
+        let one : Some (bare h) ≡ Some g =
+        sym (sym (ap (λ xs. slice_get xs i) same) ∙ slice_get-map bare hs i ∙ ap (option_map bare) at) ∙ is in
+        let found : bare h ≡ g = cc in (h, at, found)

@@ -4,7 +4,7 @@ use Rattle.std.specs.Prelude.{◌||◌, Contains, filter, not, slice_get}
 use Rattle.std.specs.List.{flat_map}
 use Rattle.std.proofs.lemmas.Bool.{ltb-false, or_left, or_parts}
 use Rattle.std.proofs.lemmas.List.Folds.{list_any-append}
-use Rattle.tcap_dialogues.specs.Course.{Course, Courses, Heading, begun_by, comes, courses_behind, courses_so_far, first_over, has_entry, have_one, ids_in, is_begin, is_free, over_by, own_ids, peer_ids, with_entry}
+use Rattle.tcap_dialogues.specs.Course.{Course, Courses, Earlier, Heading, begun_by, comes, courses_behind, courses_so_far, first_over, has_entry, have_one, ids_in, is_begin, is_free, over_by, own_ids, peer_ids, with_entry}
 use Rattle.tcap_dialogues.specs.Cut.{IdOf, is_among, is_same}
 use Rattle.tcap_dialogues.specs.Held.{AreApart, Lingers, is_given_up, is_past_by}
 use Rattle.tcap_dialogues.specs.declared.reuse.Reuse.{Reuse}
@@ -19,7 +19,7 @@ use Rattle.tcap_dialogues.proofs.HeldOvers.{lower_is, over_of}
 pub one_more : (reuse : Reuse) (headings : List Heading) (n : ℕ) (h : Heading) (s : Courses) → slice_get headings n ≡ Some h
     → AreCourses headings n s.done s.live → AreCourses headings (n + 1) (comes reuse n h s).done (comes reuse n h s).live
 one_more reuse headings n h s here c =
-    courses_more headings n h here _ _ (courses_then headings n s.done s.live c (is_free reuse n s.live h)) _
+    courses_more headings n h here _ _ (courses_then headings n s.done s.live c (is_free reuse n s h)) _
     (record { numbers_are = refl; ids_are = refl; again_is = refl })
 
 -- ---- each live dialogue
@@ -32,16 +32,16 @@ pub record IsSound (reuse : Reuse) (n : ℕ) (d : Course) : Type 0 where
   pub lingers : Lingers reuse n d.over
 
 -- Its IDs are free because it is past, or because one is used anew.
-pub free_is : (reuse : Reuse) (n : ℕ) (live : List Course) (h : Heading) (d : Course)
-    → is_free reuse n live h d ≡ (is_past_by reuse n d || is_given_up reuse live h d)
-free_is reuses.Once n live h d = refl
-free_is (reuses.Again linger) n live h d = refl
+pub free_is : (reuse : Reuse) (n : ℕ) (s : Courses) (h : Heading) (d : Course)
+    → is_free reuse n s h d ≡ (is_past_by reuse n d || is_given_up reuse s h d)
+free_is reuses.Once n s h d = refl
+free_is (reuses.Again linger) n s h d = refl
 
 -- One that is not past lingers for one entry more,
-lingers_on : (reuse : Reuse) (n : ℕ) (live : List Course) (h : Heading) (d : Course) → is_free reuse n live h d ≡ false
+lingers_on : (reuse : Reuse) (n : ℕ) (s : Courses) (h : Heading) (d : Course) → is_free reuse n s h d ≡ false
     → Lingers reuse (n + 1) d.over
-lingers_on reuses.Once n live h d kept = tt
-lingers_on (reuses.Again linger) n live h d kept = by d.over (or_parts _ _ kept).0
+lingers_on reuses.Once n s h d kept = tt
+lingers_on (reuses.Again linger) n s h d kept = by d.over (or_parts _ _ kept).0
   where
     by : (over : Option ℕ) → Rattle.tcap_dialogues.specs.Course.is_past linger n over ≡ false → Lingers (reuses.Again linger) (n + 1) over
     by None is = tt
@@ -72,26 +72,26 @@ begun_own h id is = by (is_begin h.kind) is
     by true so = list_any-append (is_same id) (own_ids h) (peer_ids h) ∙ or_left _ _ so
     by false so = cc
 
-module _ (reuse : Reuse) (n : ℕ) (h : Heading) (earlier : List IdOf) (left : List Course)
+module _ (reuse : Reuse) (n : ℕ) (h : Heading) (earlier : Earlier) (left : List Course)
     (sound : (d : Course) → Contains left d → IsSound reuse (n + 1) d) where
   -- the one that the entry joins
   new : Course
   new = with_entry earlier n h (hit_by h left)
 
-  made : IsNew earlier n h left new
+  made : IsNew earlier.ids n h left new
   unfolding new
   made = record { numbers_are = refl; ids_are = refl; again_is = refl }
 
   Hits : Course → Type 0
-  Hits = Hit earlier n h left new made
+  Hits = Hit earlier.ids n h left new made
 
   over_from : (number : ℕ) → new.over ≡ Some number → ((d : Course) × Hits d × (d.over ≡ Some number)) ⊎ (n ≡ number)
   unfolding new Hits
   over_from number is = by (lower_is (first_over (hit_by h left)) (over_by n h) number is)
     where
       by : (first_over (hit_by h left) ≡ Some number) ⊎ (over_by n h ≡ Some number)
-          → ((d : Course) × Hit earlier n h left new made d × (d.over ≡ Some number)) ⊎ (n ≡ number)
-      by (inl old) = let (d, has, so) = over_of (hit_by h left) number old in inl (d, in_hit earlier n h left new made d has, so)
+          → ((d : Course) × Hit earlier.ids n h left new made d × (d.over ≡ Some number)) ⊎ (n ≡ number)
+      by (inl old) = let (d, has, so) = over_of (hit_by h left) number old in inl (d, in_hit earlier.ids n h left new made d has, so)
       by (inr now) = inr (over_is n number h now)
 
   -- Those of its parts that are IDs are among its IDs.
@@ -103,9 +103,9 @@ module _ (reuse : Reuse) (n : ℕ) (h : Heading) (earlier : List IdOf) (left : L
     where
       by : ((d : Course) × Contains (hit_by h left) d × (is_among (part d) id ≡ true)) ⊎ (is_among more id ≡ true) → is_among new.ids id ≡ true
       by (inl (d, has, so)) =
-          let hit = in_hit earlier n h left new made d has in
-          id_stays earlier n h left new made d id hit (old d id hit.listed so)
-      by (inr its) = id_comes earlier n h left new made id (now id its)
+          let hit = in_hit earlier.ids n h left new made d has in
+          id_stays earlier.ids n h left new made d id hit (old d id hit.listed so)
+      by (inr its) = id_comes earlier.ids n h left new made id (now id its)
 
   new_sound : IsSound reuse (n + 1) new
   unfolding new Hits
@@ -117,18 +117,18 @@ module _ (reuse : Reuse) (n : ℕ) (h : Heading) (earlier : List IdOf) (left : L
     lingers = lingers_by new.over over_from;
   }
     where
-      over_by_cases : (number : ℕ) → ((d : Course) × Hit earlier n h left new made d × (d.over ≡ Some number)) ⊎ (n ≡ number) → has_entry new number ≡ true
+      over_by_cases : (number : ℕ) → ((d : Course) × Hit earlier.ids n h left new made d × (d.over ≡ Some number)) ⊎ (n ≡ number) → has_entry new number ≡ true
       over_by_cases number (inl (d, hit, so)) =
-          number_stays earlier n h left new made d number hit ((sound d hit.listed).over_in number so)
-      over_by_cases number (inr now) = ap (has_entry new) (sym now) ∙ number_comes earlier n h left new made
+          number_stays earlier.ids n h left new made d number hit ((sound d hit.listed).over_in number so)
+      over_by_cases number (inr now) = ap (has_entry new) (sym now) ∙ number_comes earlier.ids n h left new made
 
       lingers_by : (over : Option ℕ)
-          → ((number : ℕ) → over ≡ Some number → ((d : Course) × Hit earlier n h left new made d × (d.over ≡ Some number)) ⊎ (n ≡ number))
+          → ((number : ℕ) → over ≡ Some number → ((d : Course) × Hit earlier.ids n h left new made d × (d.over ≡ Some number)) ⊎ (n ≡ number))
           → Lingers reuse (n + 1) over
       lingers_by None from = lingers_none reuse (n + 1)
       lingers_by (Some number) from = at (from number refl)
         where
-          at : ((d : Course) × Hit earlier n h left new made d × (d.over ≡ Some number)) ⊎ (n ≡ number) → Lingers reuse (n + 1) (Some number)
+          at : ((d : Course) × Hit earlier.ids n h left new made d × (d.over ≡ Some number)) ⊎ (n ≡ number) → Lingers reuse (n + 1) (Some number)
           at (inl (d, hit, so)) = subst (Lingers reuse (n + 1)) so (sound d hit.listed).lingers
           at (inr now) = subst (λ k. Lingers reuse (n + 1) (Some k)) now (lingers_new reuse n)
 
@@ -136,7 +136,7 @@ module _ (reuse : Reuse) (n : ℕ) (h : Heading) (earlier : List IdOf) (left : L
   all_sound : (d : Course) → Contains (filter (λ e. not (have_one (ids_in h) e.ids)) left ++ with_entry earlier n h (hit_by h left) ∷ []) d
       → IsSound reuse (n + 1) d
   unfolding new
-  all_sound d has = by (which earlier n h left new made d has)
+  all_sound d has = by (which earlier.ids n h left new made d has)
     where
       by : (Contains left d × (have_one (ids_in h) d.ids ≡ false)) ⊎ (new ≡ d) → IsSound reuse (n + 1) d
       by (inl (there, misses)) = sound d there
@@ -145,14 +145,14 @@ module _ (reuse : Reuse) (n : ℕ) (h : Heading) (earlier : List IdOf) (left : L
 -- Each of those that are left lingers for one entry more.
 left_sound : (reuse : Reuse) (headings : List Heading) (n : ℕ) (h : Heading) (s : Courses) → AreCourses headings n s.done s.live
     → ((d : Course) → Contains s.live d → IsSound reuse n d) → (d : Course)
-    → Contains (filter (λ e. not (is_free reuse n s.live h e)) s.live) d → IsSound reuse (n + 1) d
+    → Contains (filter (λ e. not (is_free reuse n s h e)) s.live) d → IsSound reuse (n + 1) d
 left_sound reuse headings n h s c sound d has =
-    let (there, kept) = left_from headings n s.done s.live c (is_free reuse n s.live h) d has in
+    let (there, kept) = left_from headings n s.done s.live c (is_free reuse n s h) d has in
     let is = sound d there in record {
       over_in = is.over_in;
       used_in = is.used_in;
       begun_in = is.begun_in;
-      lingers = lingers_on reuse n s.live h d kept;
+      lingers = lingers_on reuse n s h d kept;
     }
 
 -- ---- the stretch so far

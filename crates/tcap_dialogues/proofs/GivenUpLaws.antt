@@ -1,19 +1,21 @@
 -- Which live dialogue has an ID that its sender uses anew.
 use Rattle.std.proofs.Common.{◌≡◌, ◌⊎◌, inl, inr, ℕ, Bool, true, false, List, Option, Some, None, is_some, refl, sym, ap, ◌∙◌}
 use Rattle.std.specs.Prelude.{◌==◌, ◌&&◌, ◌||◌, not, Contains}
-use Rattle.std.specs.List.{list_any}
-use Rattle.std.proofs.lemmas.Bool.{cases_Bool, eq-eqb, eqb-true, false_from_ne_true, true≢false}
+use Rattle.std.specs.List.{flat_map, list_any}
+use Rattle.std.proofs.lemmas.Bool.{cases_Bool, eq-eqb, eqb-true, false_from_ne_true, or_left, or_right, true≢false}
+use Rattle.std.proofs.lemmas.List.Folds.{list_any-append}
 use Rattle.tcap_record.specs.declared.entry.End.{End as Side}
 use Rattle.tcap_model.specs.World.{is_side}
-use Rattle.tcap_dialogues.specs.Course.{Course, Heading, accepts, begins_from, gives_to_another, have_one, is_begin, is_continue, own_ids, peer_ids}
-use Rattle.tcap_dialogues.specs.Cut.{IdOf, is_among}
-use Rattle.tcap_dialogues.specs.Held.{AreApart, AreLives}
+use Rattle.tcap_dialogues.specs.Course.{Course, Courses, Heading, accepts, begins_from, gives_to_another, goes_on_with_another, has_begin, have_one, is_begin, is_continue, names_peer, own_ids, peer_ids}
+use Rattle.tcap_dialogues.specs.Cut.{IdOf, is_among, is_same}
+use Rattle.tcap_dialogues.specs.Held.{AreApart, AreLives, is_used_anew}
 use Rattle.tcap_dialogues.specs.Joining.{ids_at}
 use Rattle.tcap_dialogues.specs.declared.known.Known.{Known}
 use Rattle.tcap_dialogues.specs.declared.live.Live.{Live}
+use Rattle.tcap_dialogues.proofs.CutLists.{finds, found}
 use Rattle.tcap_dialogues.proofs.HeldLaws.{one_name}
-use Rattle.tcap_dialogues.proofs.HeldLists.{any_none, any_only, both_so, or_none}
-use Rattle.tcap_dialogues.proofs.OwnerLaws.{IsNobodys, IsOwner, begun_only, nobody_begun, nobody_used, used_only}
+use Rattle.tcap_dialogues.proofs.HeldLists.{any_flat, any_none, any_only, both_so, or_none}
+use Rattle.tcap_dialogues.proofs.OwnerLaws.{IsNobodys, IsOf, IsOwner, begun_only, have_more, nobody_begun}
 
 -- ---- four tests
 
@@ -34,22 +36,22 @@ one_of_ids live apart end (Some octets) d e has hers is so =
     let id : IdOf = record { end = end; octets = octets } in
     apart.one_id d e id has hers (sym (or_none (is_among d.ids id)) ∙ is) (sym (or_none (is_among e.ids id)) ∙ so)
 
+-- whether it accepts one that has not its own ID
+abbrev pub accepts_one : Heading → Course → Bool
+accepts_one h other = accepts h other && not (have_one (own_ids h) other.ids)
+
+-- None other than a Continue accepts.
+pub accepts_none : (live : List Course) (h : Heading) → is_continue h.kind ≡ false → list_any (accepts_one h) live ≡ false
+accepts_none live h not_one =
+    any_none (accepts_one h) live
+    (λ x has. ap (λ b. (b && have_one (peer_ids h) x.begun && not (list_any (is_side h.sender) x.senders)) && not (have_one (own_ids h) x.ids)) not_one)
+
 module _ (live : List Course) (names : Course → ℕ) (lives : Rattle.std.specs.BTreeMap.BTreeMap ℕ Live) (apart : AreApart live)
     (are : AreLives live names lives) (h : Heading) where
-  -- whether it accepts one that has not its own ID
-  abbrev pub accepts_one : Course → Bool
-  accepts_one other = accepts h other && not (have_one (own_ids h) other.ids)
-
-  -- None other than a Continue accepts.
-  pub accepts_none : is_continue h.kind ≡ false → list_any accepts_one live ≡ false
-  accepts_none not_one =
-      any_none accepts_one live
-      (λ x has. ap (λ b. (b && have_one (peer_ids h) x.begun && not (list_any (is_side h.sender) x.senders)) && not (have_one (own_ids h) x.ids)) not_one)
-
   module _ (peer : Known) where
-    pub accepts_nobody : IsNobodys live (peer_ids h) peer → list_any accepts_one live ≡ false
+    pub accepts_nobody : IsNobodys live (peer_ids h) peer → list_any (accepts_one h) live ≡ false
     accepts_nobody nobody =
-        any_none accepts_one live
+        any_none (accepts_one h) live
         (λ e has. ap (λ b. (is_continue h.kind && b && not (list_any (is_side h.sender) e.senders)) && not (have_one (own_ids h) e.ids))
         (nobody_begun live names (peer_ids h) peer apart nobody e has)
         ∙ not_begun (is_continue h.kind) (not (list_any (is_side h.sender) e.senders)) (not (have_one (own_ids h) e.ids)))
@@ -71,9 +73,9 @@ module _ (live : List Course) (names : Course → ℕ) (lives : Rattle.std.specs
               ap (λ x. have_one (own_ids h) x.ids) (sym same) ∙ hits
 
       pub accepts_is : is_continue h.kind ≡ true
-          → list_any accepts_one live ≡ ((not (other == name) && peer.begun) && not (list_any (is_side h.sender) e.senders))
+          → list_any (accepts_one h) live ≡ ((not (other == name) && peer.begun) && not (list_any (is_side h.sender) e.senders))
       accepts_is continues =
-          any_only accepts_one live e owner.listed
+          any_only (accepts_one h) live e owner.listed
           (λ x listed so. begun_only live names (peer_ids h) peer apart other e owner x listed
           (begun_so (is_continue h.kind) (have_one (peer_ids h) x.begun) (not (list_any (is_side h.sender) x.senders)) (not (have_one (own_ids h) x.ids)) so))
           ∙ ap (λ b. (b && have_one (peer_ids h) e.begun && not (list_any (is_side h.sender) e.senders)) && not (have_one (own_ids h) e.ids)) continues
@@ -91,76 +93,159 @@ module _ (live : List Course) (names : Course → ℕ) (lives : Rattle.std.specs
           order false false true = refl
           order false false false = refl
 
-  -- ---- which is given up
+-- ---- which is given up
 
-  -- whether its sender uses an ID of it anew
-  abbrev pub uses_anew : Course → Bool
-  uses_anew d = is_some d.over && (begins_from h d.used || gives_to_another live h d)
+-- One of these dialogues has one of these IDs where one of these IDs is one of theirs.
+pub any_has : (ids : List IdOf) (ds : List Course) → list_any (λ d. have_one ids d.ids) ds ≡ have_one ids (flat_map (λ d. d.ids) ds)
+any_has ids ds = both_so _ _ there back
+  where
+    there : list_any (λ d. have_one ids d.ids) ds ≡ true → have_one ids (flat_map (λ d. d.ids) ds) ≡ true
+    there is =
+        let (d, has, so) = found (λ x. have_one ids x.ids) ds is in
+        have_more ids d.ids (flat_map (λ x. x.ids) ds) (λ id its. any_flat (is_same id) (λ x. x.ids) ds ∙ finds (λ x. is_among x.ids id) ds d has its) so
 
-  module _ (own : Known) where
-    unused : (over a b another : Bool) → b ≡ false → (over && ((a && b) || (b && another))) ≡ false
-    unused true true b another is = rw is refl
-    unused true false b another is = rw is refl
-    unused false a b another is = refl
+    back : have_one ids (flat_map (λ d. d.ids) ds) ≡ true → list_any (λ d. have_one ids d.ids) ds ≡ true
+    back is =
+        let (id, has, so) = found (is_among (flat_map (λ x. x.ids) ds)) ids is in
+        let (d, there, its) = found (λ x. is_among x.ids id) ds (sym (any_flat (is_same id) (λ x. x.ids) ds) ∙ so) in
+        finds (λ x. have_one ids x.ids) ds d there (finds (is_among d.ids) ids id has its)
 
-    pub gives_up_nobody : IsNobodys live (own_ids h) own → (d : Course) → Contains live d → uses_anew d ≡ false
-    gives_up_nobody nobody d has =
-        unused (is_some d.over) (is_begin h.kind) (have_one (own_ids h) d.used) (list_any accepts_one live)
-        (nobody_used live names (own_ids h) own apart nobody d has)
+module _ (s : Courses) (names : Course → ℕ) (h : Heading) where
+  -- Where a live dialogue has the peer's ID, an entry names it;
+  pub named_live : (d : Course) → Contains s.live d → have_one (peer_ids h) d.ids ≡ true → names_peer s h ≡ true
+  named_live d has is =
+      list_any-append (λ x. have_one (peer_ids h) x.ids) s.done s.live
+      ∙ or_right _ _ (finds (λ x. have_one (peer_ids h) x.ids) s.live d has is)
 
-    module _ (name : ℕ) (d : Course) (owner : IsOwner live names (own_ids h) name own d) where
-      -- It is the one of that name, if it is over, the ID was used, and it is used anew.
-      pub gives_up_is : (over : Bool) → over ≡ is_some d.over → (e : Course) → Contains live e
-          → uses_anew e ≡ (names e == name && (over && (own.used && (is_begin h.kind || list_any accepts_one live))))
-      gives_up_is over over_is e has = by (cases_Bool (names e == name))
-        where
-          order : (over a b another : Bool) → (over && ((a && b) || (b && another))) ≡ (over && (b && (a || another)))
-          order true true true another = refl
-          order true true false another = refl
-          order true false b another = refl
-          order false a b another = refl
+  -- where none has, one does where a dialogue that is done had it.
+  pub named_done : (peer : Known) → IsOf s names (peer_ids h) peer → IsNobodys s.live (peer_ids h) peer
+      → names_peer s h ≡ is_some peer.last
+  named_done peer of nobody =
+      list_any-append (λ x. have_one (peer_ids h) x.ids) s.done s.live
+      ∙ ap (λ b. list_any (λ x. have_one (peer_ids h) x.ids) s.done || b)
+      (any_none (λ x. have_one (peer_ids h) x.ids) s.live nobody.0)
+      ∙ or_none _ ∙ any_has (peer_ids h) s.done ∙ sym of.came
 
-          by : ((names e == name) ≡ true) ⊎ ((names e == name) ≡ false)
-              → uses_anew e ≡ (names e == name && (over && (own.used && (is_begin h.kind || list_any accepts_one live))))
-          by (inl is) =
-              let same = one_name live names lives are apart e d has owner.listed (eqb-true (names e) name is ∙ sym owner.named) in
-              ap uses_anew same
-              ∙ ap (λ b. is_some d.over && ((is_begin h.kind && b) || (b && list_any accepts_one live))) (sym owner.used)
-              ∙ order (is_some d.over) (is_begin h.kind) own.used (list_any accepts_one live)
-              ∙ ap (λ b. b && (own.used && (is_begin h.kind || list_any accepts_one live))) (sym over_is)
-              ∙ ap (λ b. b && (over && (own.used && (is_begin h.kind || list_any accepts_one live)))) (sym is)
-          by (inr is) =
-              unused (is_some e.over) (is_begin h.kind) (have_one (own_ids h) e.used) (list_any accepts_one live)
-              (false_from_ne_true _
-              (λ so. true≢false (sym (eq-eqb (names e) name
-              (ap names (used_only live names (own_ids h) own apart name d owner e has so) ∙ owner.named)) ∙ is)))
-              ∙ ap (λ b. b && (over && (own.used && (is_begin h.kind || list_any accepts_one live)))) (sym is)
+  module _ (d : Course) where
+    -- What has none of its own IDs is not used anew;
+    pub not_own : have_one (own_ids h) d.ids ≡ false → is_used_anew s h d ≡ false
+    not_own is =
+        ap (λ b. (is_begin h.kind && b) || (b && list_any (accepts_one h) s.live)
+        || (b && is_continue h.kind && has_begin d && (h.under_way || h.known) && not (names_peer s h))) is
+        ∙ by (is_begin h.kind)
+      where
+        by : (b : Bool) → ((b && false) || false || false) ≡ false
+        by true = refl
+        by false = refl
+
+    -- what has one is used anew by a Begin,
+    pub own_begin : have_one (own_ids h) d.ids ≡ true → is_begin h.kind ≡ true → is_used_anew s h d ≡ true
+    own_begin has begins =
+        or_left (begins_from h d.ids || gives_to_another s.live h d) (goes_on_with_another s h d)
+        (or_left (begins_from h d.ids) (gives_to_another s.live h d) (ap (λ b. b && have_one (own_ids h) d.ids) begins ∙ has))
+
+    -- or by a Continue,
+    pub own_other : is_begin h.kind ≡ false
+        → is_used_anew s h d ≡ (gives_to_another s.live h d || goes_on_with_another s h d)
+    own_other none =
+        ap (λ b. (b && have_one (own_ids h) d.ids) || gives_to_another s.live h d || goes_on_with_another s h d) none
+
+    -- and by no other.
+    pub own_neither : is_begin h.kind ≡ false → is_continue h.kind ≡ false → is_used_anew s h d ≡ false
+    own_neither none neither =
+        own_other none
+        ∙ ap (λ b. (have_one (own_ids h) d.ids && b) || goes_on_with_another s h d) (accepts_none s.live h neither)
+        ∙ ap (λ b. (have_one (own_ids h) d.ids && false)
+        || (have_one (own_ids h) d.ids && b && has_begin d && (h.under_way || h.known) && not (names_peer s h))) neither
+        ∙ by (have_one (own_ids h) d.ids) (has_begin d) (h.under_way || h.known) (not (names_peer s h))
+      where
+        by : (b x y z : Bool) → ((b && false) || (b && false && x && y && z)) ≡ false
+        by true x y z = refl
+        by false x y z = refl
+
+    -- A Continue is of one that it accepts, where a live dialogue has the peer's ID,
+    pub continues_live : (accepts : Bool) → have_one (own_ids h) d.ids ≡ true → names_peer s h ≡ true
+        → list_any (accepts_one h) s.live ≡ accepts → (gives_to_another s.live h d || goes_on_with_another s h d) ≡ accepts
+    continues_live accepts has named is =
+        ap (λ b. (b && list_any (accepts_one h) s.live)
+        || (b && is_continue h.kind && has_begin d && (h.under_way || h.known) && not (names_peer s h))) has
+        ∙ ap (λ b. list_any (accepts_one h) s.live || (is_continue h.kind && has_begin d && (h.under_way || h.known) && not b)) named
+        ∙ ap (λ b. b || (is_continue h.kind && has_begin d && (h.under_way || h.known) && false)) is
+        ∙ by accepts (is_continue h.kind) (has_begin d) (h.under_way || h.known)
+      where
+        by : (a b c e : Bool) → (a || (b && c && e && false)) ≡ a
+        by true b c e = refl
+        by false true true true = refl
+        by false true true false = refl
+        by false true false e = refl
+        by false false c e = refl
+
+    -- and else of one whose Begin the segment lacks, where no entry named that ID.
+    pub continues_done : (last begun : Bool) → have_one (own_ids h) d.ids ≡ true → is_continue h.kind ≡ true
+        → list_any (accepts_one h) s.live ≡ false → names_peer s h ≡ last → has_begin d ≡ begun
+        → (gives_to_another s.live h d || goes_on_with_another s h d) ≡ (begun && (h.under_way || h.known) && not last)
+    continues_done last begun has continues none named begins =
+        ap (λ b. (b && list_any (accepts_one h) s.live)
+        || (b && is_continue h.kind && has_begin d && (h.under_way || h.known) && not (names_peer s h))) has
+        ∙ ap (λ b. b || (is_continue h.kind && has_begin d && (h.under_way || h.known) && not (names_peer s h))) none
+        ∙ ap (λ b. b && has_begin d && (h.under_way || h.known) && not (names_peer s h)) continues
+        ∙ ap (λ b. has_begin d && (h.under_way || h.known) && not b) named
+        ∙ ap (λ b. b && (h.under_way || h.known) && not last) begins
+
+-- So the code asks.
+pub as_known : (last : Option ℕ) (begun word none : Bool) → is_some last ≡ not none
+    → ((none && word) && begun) ≡ (begun && word && not (is_some last))
+as_known last begun word none is = by none word begun ∙ ap (λ b. begun && word && not b) (sym is)
+  where
+    by : (a b c : Bool) → ((a && b) && c) ≡ (c && b && not (not a))
+    by true true true = refl
+    by true true false = refl
+    by true false true = refl
+    by true false false = refl
+    by false true true = refl
+    by false true false = refl
+    by false false true = refl
+    by false false false = refl
 
 -- ---- what the code answers
 
--- Where the one of that name is not over, none is given up;
-pub not_over_given : (uses named over rest : Bool) → uses ≡ (named && (over && rest)) → over ≡ false → uses ≡ false
-not_over_given uses true false rest is so = is
-not_over_given uses false false rest is so = is
-not_over_given uses named true rest is so = cc
+module _ (s : Courses) (names : Course → ℕ) (lives : Rattle.std.specs.BTreeMap.BTreeMap ℕ Live) (apart : AreApart s.live)
+    (are : AreLives s.live names lives) (h : Heading) (own : Known) where
+  -- Where no live dialogue has its own ID none is given up,
+  pub gives_up_nobody : IsNobodys s.live (own_ids h) own → (d : Course) → Contains s.live d → (is_some d.over && is_used_anew s h d) ≡ false
+  gives_up_nobody nobody d has = ap (λ b. is_some d.over && b) (not_own s names h d (nobody.0 d has)) ∙ none (is_some d.over)
+    where
+      none : (b : Bool) → (b && false) ≡ false
+      none true = refl
+      none false = refl
 
--- nor is one where nothing is used anew;
-pub not_anew_given : (uses named over used anew found : Bool) → uses ≡ (named && (over && (used && anew))) → found ≡ anew
-    → (used && found) ≡ false → uses ≡ false
-not_anew_given uses named over used anew found is same so = is ∙ ap (λ b. named && (over && (used && b))) (sym same) ∙ ap (λ b. named && (over && b)) so ∙ by named over
-  where
-    by : (a b : Bool) → (a && (b && false)) ≡ false
-    by true true = refl
-    by true false = refl
-    by false b = refl
+  -- and else the one that has it, if it is over and used anew.
+  pub gives_up_is : (name : ℕ) (e : Course) → IsOwner s.live names (own_ids h) name own e → (gives : Bool)
+      → (is_some e.over && is_used_anew s h e) ≡ gives → (d : Course) → Contains s.live d
+      → (is_some d.over && is_used_anew s h d) ≡ (names d == name && gives)
+  gives_up_is name e owner gives is d has = by (cases_Bool (names d == name))
+    where
+      by : ((names d == name) ≡ true) ⊎ ((names d == name) ≡ false)
+          → (is_some d.over && is_used_anew s h d) ≡ (names d == name && gives)
+      by (inl named) =
+          let same = one_name s.live names lives are apart d e has owner.listed (eqb-true (names d) name named ∙ sym owner.named) in
+          ap (λ x. is_some x.over && is_used_anew s h x) same ∙ is ∙ ap (λ b. b && gives) (sym named)
+      by (inr differs) =
+          ap (λ b. is_some d.over && b)
+          (not_own s names h d (false_from_ne_true _
+          (λ so. true≢false (sym (eq-eqb (names d) name (ap names (owner.only d has so) ∙ owner.named)) ∙ differs))))
+          ∙ none (is_some d.over) ∙ ap (λ b. b && gives) (sym differs)
+        where
+          none : (b : Bool) → (b && false) ≡ false
+          none true = refl
+          none false = refl
 
--- else it is.
-pub anew_given : (uses named over used anew found : Bool) → uses ≡ (named && (over && (used && anew))) → over ≡ true → found ≡ anew
-    → (used && found) ≡ true → uses ≡ named
-anew_given uses named false used anew found is not_so same so = cc
-anew_given uses named true used anew found is not_so same so =
-    is ∙ ap (λ b. named && (true && (used && b))) (sym same) ∙ ap (λ b. named && (true && b)) so ∙ by named
-  where
-    by : (a : Bool) → (a && (true && true)) ≡ a
-    by true = refl
-    by false = refl
+-- It is named where it is given up,
+pub all_given : (gives named : Bool) → gives ≡ (named && true) → gives ≡ named
+all_given gives true is = is
+all_given gives false is = is
+
+-- and else none is.
+pub none_given : (gives named : Bool) → gives ≡ (named && false) → gives ≡ false
+none_given gives true is = is
+none_given gives false is = is

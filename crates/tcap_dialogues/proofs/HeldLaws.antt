@@ -1,5 +1,5 @@
 -- Live dialogues by their names, and those that are over by their numbers, where one is looked up or taken out.
-use Rattle.std.proofs.Common.{arith, ◌≡◌, ◌⊎◌, inl, inr, ℕ, ◌+◌, ◌<◌, Bool, true, false, cond, List, [], ◌∷◌, Option, Some, None, refl, sym, ap, subst, ◌∙◌}
+use Rattle.std.proofs.Common.{arith, ◌≡◌, ◌⊎◌, inl, inr, ℕ, ◌+◌, ◌<◌, true, false, cond, List, [], ◌∷◌, Option, Some, None, refl, sym, ap, subst, ◌∙◌}
 use Rattle.std.specs.Prelude.{◌==◌, not, Contains}
 use Rattle.std.specs.BTreeMap as tree
 use Rattle.std.specs.BTreeMap.{BTreeMap, is_at}
@@ -10,7 +10,7 @@ use Rattle.std.specs.Ordering.{nat_cmp}
 use Rattle.std.proofs.lemmas.Bool.{cases_Bool, eq-eqb, eqb-true, false_from_ne_true, lt-ltb, ltb-true, true≢false}
 use Rattle.tcap_record.specs.declared.entry.End.{End as Side}
 use Rattle.tcap_model.specs.World.{is_side}
-use Rattle.tcap_dialogues.specs.Course.{Course, has_entry, is_past}
+use Rattle.tcap_dialogues.specs.Course.{Course, has_begin, has_entry, is_past}
 use Rattle.tcap_dialogues.specs.Cut.{IdOf}
 use Rattle.tcap_dialogues.specs.Held.{AreApart, AreKept, AreLives, AreOvers, AreTaken, IsHeld, IsKnown, IsOne, IsOut, Lingers, has_sent, is_named, known_at, nothing, others, those}
 use Rattle.tcap_dialogues.specs.Joining.{is_over_at}
@@ -36,8 +36,11 @@ same_kept ds es l same kept = record {
   numbers = λ n. kept.numbers n ∙ any_same (λ d. has_entry d n) ds es same;
   ids = λ id. kept.ids id ∙ any_same (λ d. Rattle.tcap_dialogues.specs.Cut.is_among d.ids id) ds es same;
   senders = λ side. kept.senders side ∙ any_same (λ d. list_any (is_side side) d.senders) ds es same;
+  begun = kept.begun ∙ any_same has_begin ds es same;
   over = kept.over ∙ over_same ds es same;
+  early = kept.early ∙ any_same (λ d. d.early) ds es same;
   again = kept.again ∙ any_same (λ d. d.again) ds es same;
+  unsettled = kept.unsettled ∙ any_same (λ d. d.unsettled) ds es same;
 }
 
 -- ---- one of that name
@@ -65,6 +68,9 @@ module _ (live : List Course) (names : Course → ℕ) (lives : BTreeMap ℕ Liv
 
 pub over_one : (d : Course) (l : Live) → AreKept (d ∷ []) l → l.over ≡ d.over
 over_one d l kept = kept.over ∙ lower_none d.over
+
+pub begun_one : (d : Course) (l : Live) → AreKept (d ∷ []) l → l.begun ≡ has_begin d
+begun_one d l kept = kept.begun ∙ or_none (has_begin d)
 
 pub senders_one : (d : Course) (l : Live) (side : Side) → AreKept (d ∷ []) l → has_sent l side ≡ list_any (is_side side) d.senders
 senders_one d l side kept = kept.senders side ∙ or_none (list_any (is_side side) d.senders)
@@ -283,9 +289,9 @@ overs_same ds names old new same are = record {
 }
 
 -- Nothing is of none.
-pub nothing_held : (names : Course → ℕ) (earlier : IdOf → Bool) (kept : Cut) → kept.live.entries ≡ [] → kept.overs.entries ≡ []
-    → ((id : IdOf) → known_at kept.ids id ≡ nothing) → ((id : IdOf) → earlier id ≡ false) → IsHeld [] names earlier kept
-nothing_held names earlier kept no_live no_overs no_ids none = record {
+pub nothing_held : (names : Course → ℕ) (kept : Cut) → kept.live.entries ≡ [] → kept.overs.entries ≡ []
+    → ((id : IdOf) → known_at kept.ids id ≡ nothing) → IsHeld (record { done = []; live = [] }) names (λ id. false) kept
+nothing_held names kept no_live no_overs no_ids = record {
   lives = record {
     there = λ d has. absurd (none_in d has);
     back = λ k l at. let bad : None ≡ Some l = sym (ap (lookup (is_at (nat_cmp k))) no_live) ∙ at in cc;
@@ -295,8 +301,8 @@ nothing_held names earlier kept no_live no_overs no_ids none = record {
     there = λ d k has over. absurd (none_in d has);
     back = λ k found at. let bad : None ≡ Some found = sym (ap (lookup (is_at (nat_cmp k))) no_overs) ∙ at in cc;
   };
-  ids = λ id. subst (IsKnown [] names earlier id) (sym (no_ids id))
-      (record { owned = (λ d has. absurd (none_in d has), refl, refl); came = sym (none id) });
+  ids = λ id. subst (IsKnown (record { done = []; live = [] }) names (λ x. false) id) (sym (no_ids id))
+      (record { owned = (λ d has. absurd (none_in d has), refl, refl); came = refl; firm_is = refl; sent_is = refl });
 }
 
 -- None in one is an empty one.

@@ -1,41 +1,95 @@
 -- An entry comes to what is left of the live dialogues: what is kept then.
-use Rattle.std.proofs.Common.{◌≡◌, ◌⊎◌, inl, inr, ℕ, ◌+◌, ◌<◌, Bool, true, List, [], ◌∷◌, ◌++◌, Option, Some, None, is_some, refl, sym, ap, subst, ◌∙◌}
-use Rattle.std.specs.Prelude.{not, Contains}
+use Rattle.std.proofs.Common.{◌≡◌, ◌⊎◌, inl, inr, ℕ, ◌+◌, ◌<◌, Bool, true, false, List, [], ◌∷◌, ◌++◌, Option, Some, None, is_some, refl, sym, ap, subst, ◌∙◌}
+use Rattle.std.specs.Prelude.{◌&&◌, ◌||◌, is_none, not, Contains}
 use Rattle.std.specs.List.{list_any}
+use Rattle.std.proofs.lemmas.Bool.{or_left, or_right}
 use Rattle.std.proofs.lemmas.List.Elements.{Contains-append_cases}
+use Rattle.std.proofs.lemmas.List.Folds.{list_any-append}
 use Rattle.tcap_record.specs.Ends.{other}
-use Rattle.tcap_dialogues.specs.Course.{Course, Heading, has_entry, have_one, ids_in, own_ids, peer_ids}
+use Rattle.tcap_dialogues.specs.Course.{Course, Courses, Earlier, Heading, earlier_in, has_entry, have_one, ids_in, is_alone, joined_by, own_ids, peer_ids}
 use Rattle.tcap_dialogues.specs.Cut.{IdOf, is_among}
-use Rattle.tcap_dialogues.specs.Held.{AreApart, IsCutOf, IsHeld, IsOne, earlier_of, higher, is_named, known_at, known_of, others, those, with_one}
+use Rattle.tcap_dialogues.specs.Held.{AreApart, IsCutOf, IsHeld, IsOne, earlier_of, higher, is_named, is_unsettled, known_at, known_of, others, those}
 use Rattle.tcap_dialogues.specs.Joining.{AreNoted, HasEntry, IsJoined, IsPut, TakesOne}
 use Rattle.tcap_dialogues.specs.declared.cut.Cut.{Cut}
 use Rattle.tcap_dialogues.specs.declared.known.Ids.{Ids}
 use Rattle.tcap_dialogues.specs.declared.known.Known.{Known}
 use Rattle.tcap_dialogues.specs.declared.live.Live.{Live}
-use Rattle.tcap_dialogues.proofs.CourseJoins.{hit_by}
+use Rattle.tcap_dialogues.proofs.CourseJoins.{hit_by, ids_more}
 use Rattle.tcap_dialogues.proofs.CourseStretch.{left_apart}
-use Rattle.tcap_dialogues.proofs.CutLists.{kept_in, left_in}
-use Rattle.tcap_dialogues.proofs.EntryLaws.{again_both, again_is, entry_kept, joined_hit, left_miss, owned_is}
+use Rattle.tcap_dialogues.proofs.CutLists.{finds, kept_in, left_in}
+use Rattle.tcap_dialogues.proofs.EntryLaws.{again_both, again_is, entry_kept, joined_hit, left_miss, owned_is, unsettled_at, unsettled_by}
+use Rattle.tcap_dialogues.proofs.HeldLists.{any_none}
 use Rattle.tcap_dialogues.proofs.JoinedLaws.{joined_same}
 use Rattle.tcap_dialogues.proofs.JoiningIds.{ids_then}
 use Rattle.tcap_dialogues.proofs.JoiningLaws.{lives_then, name_known, names_then, overs_then}
-use Rattle.tcap_dialogues.proofs.LiveLaws.{either, some_earlier, some_higher}
-use Rattle.tcap_dialogues.proofs.OwnerLaws.{IsOf, known_is}
+use Rattle.tcap_dialogues.proofs.LiveLaws.{either, some_earlier, some_higher, some_unsettled}
+use Rattle.tcap_dialogues.proofs.OwnerLaws.{IsOf, Owns, known_is}
 
-module _ (live : List Course) (names : Course → ℕ) (earlier : List IdOf) (h : Heading) (apart : AreApart live) (old : Cut)
-    (held : IsHeld live names (is_among earlier) old) (own peer : Known) (own_known : own ≡ known_of old.ids h.sender h.otid)
+module _ (s : Courses) (names : Course → ℕ) (sent : IdOf → Bool) (h : Heading) (apart : AreApart s.live) (old : Cut)
+    (held : IsHeld s names sent old) (own peer : Known) (own_known : own ≡ known_of old.ids h.sender h.otid)
     (peer_known : peer ≡ known_of old.ids (other h.sender) h.dtid) where
-  own_of : IsOf live names (is_among earlier) (own_ids h) own
-  own_of = known_is live names (is_among earlier) apart old.ids held.ids h.sender h.otid own own_known
+  abbrev live : List Course
+  live = s.live
 
-  peer_of : IsOf live names (is_among earlier) (peer_ids h) peer
-  peer_of = known_is live names (is_among earlier) apart old.ids held.ids (other h.sender) h.dtid peer peer_known
+  abbrev earlier : Earlier
+  earlier = earlier_in s.done
+
+  own_of : IsOf s names (own_ids h) own
+  own_of = known_is s names sent apart old.ids held.ids h.sender h.otid own own_known
+
+  peer_of : IsOf s names (peer_ids h) peer
+  peer_of = known_is s names sent apart old.ids held.ids (other h.sender) h.dtid peer peer_known
 
   own_is : (d : Course) → Contains live d → have_one (own_ids h) d.ids ≡ is_named names own.dialogue d
-  own_is = owned_is live names old.live apart held.lives (is_among earlier) (own_ids h) own own_of
+  own_is = owned_is live names old.live apart held.lives (own_ids h) own own_of.owns
 
   peer_is : (d : Course) → Contains live d → have_one (peer_ids h) d.ids ≡ is_named names peer.dialogue d
-  peer_is = owned_is live names old.live apart held.lives (is_among earlier) (peer_ids h) peer peer_of
+  peer_is = owned_is live names old.live apart held.lives (peer_ids h) peer peer_of.owns
+
+  -- The entry is the first of one more dialogue that has IDs where it has an ID and no live one has one of them.
+  pub begins_is : (has_ids own_none peer_none : Bool) → has_ids ≡ not (is_alone h) → is_some own.dialogue ≡ not own_none
+      → is_some peer.dialogue ≡ not peer_none
+      → ((has_ids && own_none) && peer_none) ≡ (not (is_alone h) && not (list_any (λ d. have_one (ids_in h) d.ids) live))
+  begins_is has_ids own_none peer_none ids_so own_so peer_so =
+      ap (λ b. (b && own_none) && peer_none) ids_so
+      ∙ ap (λ b. (not (is_alone h) && b) && peer_none) (flipped _ _ own_so ∙ ap not (some_has (own_ids h) own own_of.owns))
+      ∙ ap (λ b. (not (is_alone h) && not (list_any (λ d. have_one (own_ids h) d.ids) live)) && b)
+      (flipped _ _ peer_so ∙ ap not (some_has (peer_ids h) peer peer_of.owns))
+      ∙ neither (not (is_alone h)) (list_any (λ d. have_one (own_ids h) d.ids) live) (list_any (λ d. have_one (peer_ids h) d.ids) live)
+      ∙ ap (λ b. not (is_alone h) && not b) (sym (hit_either live))
+    where
+      flipped : (a b : Bool) → a ≡ not b → b ≡ not a
+      flipped a true is = sym (ap not is)
+      flipped a false is = sym (ap not is)
+
+      some_has : (ids : List IdOf) (known : Known) → Owns live names ids known known.dialogue
+          → is_some known.dialogue ≡ list_any (λ d. have_one ids d.ids) live
+      some_has ids known owns = by known.dialogue owns
+        where
+          by : (o : Option ℕ) → Owns live names ids known o → is_some o ≡ list_any (λ d. have_one ids d.ids) live
+          by None nobody = sym (any_none (λ d. have_one ids d.ids) live nobody.0)
+          by (Some name) (d, owner) = sym (finds (λ x. have_one ids x.ids) live d owner.listed owner.has)
+
+      neither : (x a b : Bool) → ((x && not a) && not b) ≡ (x && not (a || b))
+      neither true true b = refl
+      neither true false b = refl
+      neither false a b = refl
+
+      hit_either : (ds : List Course)
+          → list_any (λ d. have_one (ids_in h) d.ids) ds
+          ≡ (list_any (λ d. have_one (own_ids h) d.ids) ds || list_any (λ d. have_one (peer_ids h) d.ids) ds)
+      hit_either [] = refl
+      hit_either (d ∷ ds) =
+          ap (λ b. b || list_any (λ x. have_one (ids_in h) x.ids) ds) (list_any-append (is_among d.ids) (own_ids h) (peer_ids h))
+          ∙ ap (λ b. (have_one (own_ids h) d.ids || have_one (peer_ids h) d.ids) || b) (hit_either ds)
+          ∙ order (have_one (own_ids h) d.ids) (have_one (peer_ids h) d.ids) _ _
+        where
+          order : (a b c e : Bool) → ((a || b) || (c || e)) ≡ ((a || c) || (b || e))
+          order true b c e = refl
+          order false true true e = refl
+          order false true false e = refl
+          order false false true e = refl
+          order false false false e = refl
 
   -- those of the one name, and of the others those of the other name
   abbrev pub ones : List Course
@@ -66,7 +120,7 @@ module _ (live : List Course) (names : Course → ℕ) (earlier : List IdOf) (h 
         → (known_at second.ids id).dialogue ≡ Some (names d)
     owned d id has its =
         ap (λ ids. (known_at ids id).dialogue) same_ids
-        ∙ name_known live names (is_among earlier) old.ids apart held.ids d id (in_live (Contains-append_cases ones more d has)) its
+        ∙ name_known s names sent old.ids apart held.ids d id (in_live (Contains-append_cases ones more d has)) its
       where
         in_live : Contains ones d ⊎ Contains more d → Contains live d
         in_live (inl there) = (kept_in (is_named names own.dialogue) live d there).0
@@ -74,11 +128,10 @@ module _ (live : List Course) (names : Course → ℕ) (earlier : List IdOf) (h 
             (kept_in (λ e. not (is_named names own.dialogue e)) live d
             (kept_in (is_named names peer.dialogue) (others names own.dialogue live) d there).0).0
 
-    module _ (later : AreApart (with_one earlier old.count h live))
+    module _ (later : AreApart (joined_by old.count h s.done s.live).live)
         (below : (d : Course) (i : ℕ) → Contains live d → has_entry d i ≡ true → i < old.count) (third put : Cut) (l new : Live)
-        (came : Option ℕ) (ids : Ids) (joined : IsJoined second.count (ones ++ more) second third l)
-        (entry : HasEntry old.count h came l new)
-        (comes : came ≡ higher (earlier_of own) (earlier_of peer))
+        (ids : Ids) (joined : IsJoined second.count (ones ++ more) second third l)
+        (entry : HasEntry old.count h own peer l new)
         (noted : AreNoted h new.name own peer third.ids ids) (puts : IsPut new (record third { ids = ids }) put) where
       all : IsJoined second.count (hit_by h live) second third l
       all =
@@ -92,16 +145,30 @@ module _ (live : List Course) (names : Course → ℕ) (earlier : List IdOf) (h 
           → Contains live d → have_one ids d.ids ≡ true → Contains (hit_by h live) d
       hit_of some wider d has is = left_in (λ e. have_one (ids_in h) e.ids) live d has (wider d is)
 
-      comes_again : have_one (Rattle.tcap_dialogues.proofs.CourseJoins.ids_more h live) earlier ≡ is_some came
+      in_own : (d : Course) → Contains live d → have_one (own_ids h) d.ids ≡ true → Contains (hit_by h live) d
+      in_own = hit_of (own_ids h) (λ d is. list_any-append (is_among d.ids) (own_ids h) (peer_ids h) ∙ or_left _ _ is)
+
+      in_peer : (d : Course) → Contains live d → have_one (peer_ids h) d.ids ≡ true → Contains (hit_by h live) d
+      in_peer = hit_of (peer_ids h) (λ d is. list_any-append (is_among d.ids) (own_ids h) (peer_ids h) ∙ or_right _ _ is)
+
+      -- A test of its IDs that none of those has passes by what is known of them.
+      test_both : (test : IdOf → Bool) (a b : Bool) → a ≡ list_any test (own_ids h) → b ≡ list_any test (peer_ids h)
+          → list_any test (ids_more h live) ≡ ((is_none own.dialogue && a) || (is_none peer.dialogue && b))
+      test_both test a b own_so peer_so =
+          again_both h (hit_by h live) test _ _
+          (again_is live (hit_by h live) names h.sender h.otid own own_of.owns hit_live in_own test a own_so)
+          (again_is live (hit_by h live) names (other h.sender) h.dtid peer peer_of.owns hit_live in_peer test b peer_so)
+
+      comes_again : have_one (ids_more h live) earlier.ids ≡ is_some (higher (earlier_of own) (earlier_of peer))
       comes_again =
-          again_both h (hit_by h live) earlier _ _
-          (again_is live (hit_by h live) names earlier h.sender h.otid own own_of hit_live
-          (hit_of (own_ids h) (λ d is. Rattle.std.proofs.lemmas.List.Folds.list_any-append (is_among d.ids) (own_ids h) (peer_ids h)
-          ∙ Rattle.std.proofs.lemmas.Bool.or_left _ _ is)))
-          (again_is live (hit_by h live) names earlier (other h.sender) h.dtid peer peer_of hit_live
-          (hit_of (peer_ids h) (λ d is. Rattle.std.proofs.lemmas.List.Folds.list_any-append (is_among d.ids) (own_ids h) (peer_ids h)
-          ∙ Rattle.std.proofs.lemmas.Bool.or_right _ _ is)))
-          ∙ sym (ap is_some comes ∙ some_higher (earlier_of own) (earlier_of peer) ∙ either _ _ _ _ (some_earlier own) (some_earlier peer))
+          test_both (is_among earlier.ids) (is_some own.last) (is_some peer.last) own_of.came peer_of.came
+          ∙ sym (some_higher (earlier_of own) (earlier_of peer) ∙ either _ _ _ _ (some_earlier own) (some_earlier peer))
+
+      unsettled_too : list_any (unsettled_by earlier) (ids_more h live) ≡ (is_unsettled own || is_unsettled peer)
+      unsettled_too =
+          test_both (unsettled_by earlier) (is_some own.last && not own.firm) (is_some peer.last && not peer.firm)
+          (unsettled_at s names h.sender h.otid own own_of) (unsettled_at s names (other h.sender) h.dtid peer peer_of)
+          ∙ sym (either _ _ _ _ (some_unsettled own) (some_unsettled peer))
 
       entry_named : (new.name ≡ old.count) ⊎ (list_any (λ d. has_entry d new.name) (hit_by h live) ≡ true)
       entry_named = by all.entry
@@ -118,7 +185,7 @@ module _ (live : List Course) (names : Course → ℕ) (earlier : List IdOf) (h 
           (others names peer.dialogue (others names own.dialogue live)) (Rattle.std.specs.Prelude.filter (λ d. not (have_one (ids_in h) d.ids)) live)
       miss = left_miss live names old.live apart held.lives h own.dialogue peer.dialogue own_is peer_is
 
-      pub entry_comes : IsCutOf old.reuse (old.count + 1) (with_one earlier old.count h live) (is_among earlier)
+      pub entry_comes : IsCutOf old.reuse (old.count + 1) (joined_by old.count h s.done s.live) (λ id. sent id || is_among (own_ids h) id)
           (record put { count = old.count + 1 })
       entry_comes = record {
         reuse_is = ap (λ c. c.reuse) puts.rest ∙ ap (λ c. c.reuse) third_is ∙ ap (λ c. c.reuse) takes_more.rest ∙ ap (λ c. c.reuse) takes.rest;
@@ -128,16 +195,16 @@ module _ (live : List Course) (names : Course → ℕ) (earlier : List IdOf) (h 
           lives = lives_then live names earlier old.count h apart later below new.name entry_named second.live second.overs
               (others names peer.dialogue (others names own.dialogue live)) miss takes_more.lives takes_more.overs
               (record third { ids = ids }) put (ap (λ c. c.live) third_is) (ap (λ c. c.overs) third_is) new refl
-              (entry_kept earlier old.count h live came l new all.kept entry comes_again) puts;
+              (entry_kept earlier old.count h live own peer l new all.kept entry comes_again unsettled_too) puts;
           overs = overs_then live names earlier old.count h apart later below new.name entry_named second.live second.overs
               (others names peer.dialogue (others names own.dialogue live)) miss takes_more.lives takes_more.overs
               (record third { ids = ids }) put (ap (λ c. c.live) third_is) (ap (λ c. c.overs) third_is) new refl
-              (entry_kept earlier old.count h live came l new all.kept entry comes_again) puts;
+              (entry_kept earlier old.count h live own peer l new all.kept entry comes_again unsettled_too) puts;
           ids = λ id. subst
-              (λ s. Rattle.tcap_dialogues.specs.Held.IsKnown (with_one earlier old.count h live)
-              (names_then live names earlier old.count h apart later below new.name) (is_among earlier) id (known_at s id))
+              (λ x. Rattle.tcap_dialogues.specs.Held.IsKnown (joined_by old.count h s.done s.live)
+              (names_then live names earlier old.count h apart later below new.name) (λ y. sent y || is_among (own_ids h) y) id (known_at x id))
               (sym (ap (λ c. c.ids) puts.rest))
-              (ids_then live names earlier old.count h apart later below new.name old.ids third.ids ids held.ids own peer own_known peer_known
+              (ids_then s names sent old.count h apart later below new.name old.ids third.ids ids held.ids own peer own_known peer_known
               joined_then noted id);
         };
       }

@@ -5,7 +5,7 @@ use Rattle.std.specs.List.{list_any}
 use Rattle.std.proofs.lemmas.Bool.{cases_Bool, false_from_ne_true, or_left, or_right, true≢false}
 use Rattle.std.proofs.lemmas.List.Folds.{list_any-append}
 use Rattle.tcap_record.specs.Ends.{other}
-use Rattle.tcap_dialogues.specs.Course.{Course, Heading, begun_by, has_entry, have_one, ids_in, is_begin, own_ids, peer_ids}
+use Rattle.tcap_dialogues.specs.Course.{Course, Courses, Earlier, Heading, begun_by, earlier_in, has_entry, have_one, ids_in, is_begin, joined_by, own_ids, peer_ids}
 use Rattle.tcap_dialogues.specs.Cut.{IdOf, is_among, is_same}
 use Rattle.tcap_dialogues.specs.Held.{AreApart, IsKnown, IsOwned, changed, known_at, known_of, with_one}
 use Rattle.tcap_dialogues.specs.Joining.{AreNoted, own_known}
@@ -19,9 +19,16 @@ use Rattle.tcap_dialogues.proofs.EntryLaws.{any_part}
 use Rattle.tcap_dialogues.proofs.HeldLists.{any_none, any_only, or_none}
 use Rattle.tcap_dialogues.proofs.JoiningLaws.{Old, cases, ends_apart, known_here, made, name_new, name_old, names_then, new, new_later, old_later}
 
-module _ (live : List Course) (names : Course → ℕ) (earlier : List IdOf) (n : ℕ) (h : Heading) (apart : AreApart live)
-    (later : AreApart (with_one earlier n h live)) (below : (d : Course) (i : ℕ) → Contains live d → has_entry d i ≡ true → i < n)
-    (k : ℕ) (old mid now : Ids) (are : (id : IdOf) → IsKnown live names (is_among earlier) id (known_at old id)) where
+module _ (s : Courses) (names : Course → ℕ) (sent : IdOf → Bool) (n : ℕ) (h : Heading) (apart : AreApart s.live)
+    (later : AreApart (joined_by n h s.done s.live).live)
+    (below : (d : Course) (i : ℕ) → Contains s.live d → has_entry d i ≡ true → i < n)
+    (k : ℕ) (old mid now : Ids) (are : (id : IdOf) → IsKnown s names sent id (known_at old id)) where
+  abbrev live : List Course
+  live = s.live
+
+  abbrev earlier : Earlier
+  earlier = earlier_in s.done
+
   -- those that it joins, and the one that they are then
   abbrev hits : List Course
   hits = hit_by h live
@@ -29,7 +36,7 @@ module _ (live : List Course) (names : Course → ℕ) (earlier : List IdOf) (n 
   abbrev it : Course
   it = new live names earlier n h apart later below
 
-  abbrev is_made : Rattle.tcap_dialogues.proofs.CourseJoins.IsNew earlier n h live it
+  abbrev is_made : Rattle.tcap_dialogues.proofs.CourseJoins.IsNew earlier.ids n h live it
   is_made = made live names earlier n h apart later below
 
   abbrev names_now : Course → ℕ
@@ -37,15 +44,15 @@ module _ (live : List Course) (names : Course → ℕ) (earlier : List IdOf) (n 
 
   -- The one that has an ID of it is one of them.
   owner_hit : (d : Course) (id : IdOf) → Contains live d → is_among d.ids id ≡ true → is_among it.ids id ≡ true → Contains hits d
-  owner_hit d id listed its has = by (id_from earlier n h live it is_made id has)
+  owner_hit d id listed its has = by (id_from earlier.ids n h live it is_made id has)
     where
-      by : ((e : Course) × Hit earlier n h live it is_made e × (is_among e.ids id ≡ true)) ⊎ (is_among (ids_in h) id ≡ true) → Contains hits d
+      by : ((e : Course) × Hit earlier.ids n h live it is_made e × (is_among e.ids id ≡ true)) ⊎ (is_among (ids_in h) id ≡ true) → Contains hits d
       by (inl (e, hit, so)) =
-          subst (Contains hits) (apart.one_id e d id hit.listed listed so its) (hit_in earlier n h live it is_made e hit)
+          subst (Contains hits) (apart.one_id e d id hit.listed listed so its) (hit_in earlier.ids n h live it is_made e hit)
       by (inr here) = left_in (λ e. have_one (ids_in h) e.ids) live d listed (one_from (ids_in h) d.ids id here its)
 
   in_live : (d : Course) → Contains hits d → Contains live d
-  in_live d has = (in_hit earlier n h live it is_made d has).listed
+  in_live d has = (in_hit earlier.ids n h live it is_made d has).listed
 
   -- What one of them used or began is what is known.
   flag : (part : Course → List IdOf) (known : Bool) (id : IdOf) → is_among it.ids id ≡ true
@@ -112,14 +119,22 @@ module _ (live : List Course) (names : Course → ℕ) (earlier : List IdOf) (n 
       by false = refl
 
   abbrev Then : IdOf → Known → Type 0
-  Then id known = IsKnown (with_one earlier n h live) names_now (is_among earlier) id known
+  Then id known = IsKnown (joined_by n h s.done s.live) names_now (λ x. sent x || is_among (own_ids h) x) id known
 
   -- An ID of the new one is known as one of it;
-  of_new : (id : IdOf) (used begun : Bool) → is_among it.ids id ≡ true
+  of_new : (id : IdOf) (used begun came : Bool) → is_among it.ids id ≡ true
       → used ≡ ((known_at old id).used || is_among (own_ids h) id)
       → begun ≡ ((known_at old id).begun || (is_begin h.kind && is_among (own_ids h) id))
-      → Then id (record { dialogue = Some k; used = used; begun = begun; last = (known_at old id).last })
-  of_new id used begun has is_used is_begun = record {
+      → came ≡ (sent id || is_among (own_ids h) id)
+      → Then id (record {
+        dialogue = Some k;
+        used = used;
+        begun = begun;
+        last = (known_at old id).last;
+        firm = (known_at old id).firm;
+        sent = came;
+      })
+  of_new id used begun came has is_used is_begun is_sent = record {
     owned = (
       it,
       new_later live names earlier n h apart later below,
@@ -129,11 +144,22 @@ module _ (live : List Course) (names : Course → ℕ) (earlier : List IdOf) (n 
       is_begun ∙ sym (begun_is id has),
     );
     came = (are id).came;
+    firm_is = (are id).firm_is;
+    sent_is = is_sent;
   }
 
+  -- The sender of an entry sent from no other ID.
+  not_sent : (id : IdOf) → is_among (own_ids h) id ≡ false → (known_at old id).sent ≡ (sent id || is_among (own_ids h) id)
+  not_sent id not_own = (are id).sent_is ∙ sym (ap (λ b. sent id || b) not_own ∙ or_none (sent id))
+
   -- one of another is known as it was.
-  of_old : (id : IdOf) → is_among it.ids id ≡ false → Then id (known_at old id)
-  of_old id none = record { owned = by (known_at old id).dialogue _ _ (are id).owned; came = (are id).came }
+  of_old : (id : IdOf) → is_among it.ids id ≡ false → is_among (own_ids h) id ≡ false → Then id (known_at old id)
+  of_old id none not_own = record {
+    owned = by (known_at old id).dialogue _ _ (are id).owned;
+    came = (are id).came;
+    firm_is = (are id).firm_is;
+    sent_is = not_sent id not_own;
+  }
     where
       by : (o : Option ℕ) (used begun : Bool) → IsOwned live names id o used begun
           → IsOwned (with_one earlier n h live) names_now id o used begun
@@ -150,7 +176,7 @@ module _ (live : List Course) (names : Course → ℕ) (earlier : List IdOf) (n 
           let o : Old live names earlier n h apart later below d = (
             listed,
             false_from_ne_true _
-                (λ hit. true≢false (sym (id_stays earlier n h live it is_made d id (record { listed = listed; hit = hit }) its) ∙ none)),
+                (λ hit. true≢false (sym (id_stays earlier.ids n h live it is_made d id (record { listed = listed; hit = hit }) its) ∙ none)),
           ) in (
             d,
             old_later live names earlier n h apart later below d o,
@@ -180,31 +206,32 @@ module _ (live : List Course) (names : Course → ℕ) (earlier : List IdOf) (n 
 
         stays : is_among it.ids id ≡ true → is_among (own_ids h) id ≡ false → Then id (changed (changes.JoinTo k) (known_at old id))
         stays has not_own =
-            of_new id (known_at old id).used (known_at old id).begun has
+            of_new id (known_at old id).used (known_at old id).begun (known_at old id).sent has
             (sym (ap (λ x. (known_at old id).used || x) not_own ∙ or_none (known_at old id).used))
-            (old_flags (known_at old id).begun (is_among (own_ids h) id) not_own)
+            (old_flags (known_at old id).begun (is_among (own_ids h) id) not_own) (not_sent id not_own)
 
         left : (c : Bool) → list_any (λ d. is_among d.ids id) hits ≡ c → is_among (peer_ids h) id ≡ false → is_among (own_ids h) id ≡ false
             → Then id (cond c (changed (changes.JoinTo k) (known_at old id)) (known_at old id))
         left true is not_peer not_own =
             let (d, has, its) = found (λ x. is_among x.ids id) hits is in
-            stays (id_stays earlier n h live it is_made d id (in_hit earlier n h live it is_made d has) its) not_own
+            stays (id_stays earlier.ids n h live it is_made d id (in_hit earlier.ids n h live it is_made d has) its) not_own
         left false is not_peer not_own =
             of_old id (any_part (is_same id) (λ d. d.ids) hits (ids_in h) ∙ ap (λ b. b || is_among (ids_in h) id) is
-            ∙ here id ∙ ap (λ b. b || is_among (peer_ids h) id) not_own ∙ not_peer)
+            ∙ here id ∙ ap (λ b. b || is_among (peer_ids h) id) not_own ∙ not_peer) not_own
 
         by : (a b : Bool) → is_among (peer_ids h) id ≡ a → is_among (own_ids h) id ≡ b
             → Then id (cond a (changed (changes.JoinTo k) peer) (cond b (own_known h k own) (known_at mid id)))
         by true b is so =
             subst (λ known. Then id (changed (changes.JoinTo k) known)) (sym (peer_is ∙ known_here old (other h.sender) h.dtid id is))
-            (stays (id_comes earlier n h live it is_made id (here id ∙ or_right _ _ is))
+            (stays (id_comes earlier.ids n h live it is_made id (here id ∙ or_right _ _ is))
             (false_from_ne_true _ (λ own_too. ends_apart h id own_too is)))
         by false true is so =
             subst (λ known. Then id (own_known h k known)) (sym (own_is ∙ known_here old h.sender h.otid id so))
-            (of_new id true ((known_at old id).begun || is_begin h.kind)
-            (id_comes earlier n h live it is_made id (here id ∙ or_left _ _ so))
+            (of_new id true ((known_at old id).begun || is_begin h.kind) true
+            (id_comes earlier.ids n h live it is_made id (here id ∙ or_left _ _ so))
             (sym (or_right (known_at old id).used _ so))
-            (ap (λ b. (known_at old id).begun || b) (sym (ap (λ x. is_begin h.kind && x) so ∙ all (is_begin h.kind)))))
+            (ap (λ b. (known_at old id).begun || b) (sym (ap (λ x. is_begin h.kind && x) so ∙ all (is_begin h.kind))))
+            (sym (or_right (sent id) _ so)))
           where
             all : (x : Bool) → (x && true) ≡ x
             all true = refl

@@ -8,7 +8,7 @@ use Rattle.std.proofs.lemmas.Bool.{cases_Bool, eq-eqb, eqb-true, false_from_ne_t
 use Rattle.tcap_record.specs.declared.entry.End.{End as Side}
 use Rattle.tcap_record.specs.declared.entry.End.TheVariants as sides
 use Rattle.tcap_record.specs.Ends.{other}
-use Rattle.tcap_dialogues.specs.Course.{Course, Heading, has_entry, have_one, ids_in, own_ids, peer_ids, with_entry}
+use Rattle.tcap_dialogues.specs.Course.{Course, Courses, Earlier, Heading, has_entry, have_one, ids_in, own_ids, peer_ids, with_entry}
 use Rattle.tcap_dialogues.specs.Cut.{IdOf, is_among, is_same}
 use Rattle.tcap_dialogues.specs.Held.{AreApart, AreKept, AreLives, AreOvers, IsKnown, IsOwned, known_at, known_of, with_one}
 use Rattle.tcap_dialogues.specs.Joining.{IsPut, ids_at, is_over_at}
@@ -29,12 +29,12 @@ known_here ids end (Some octets) id is =
     ap (known_at ids) (sym (same_id id it (sym (or_none (is_same id it)) ∙ is)))
 
 -- The one that has an ID is known by its name.
-pub name_known : (live : List Course) (names : Course → ℕ) (earlier : IdOf → Bool) (ids : Ids) → AreApart live
-    → ((id : IdOf) → IsKnown live names earlier id (known_at ids id)) → (d : Course) (id : IdOf) → Contains live d → is_among d.ids id ≡ true
+pub name_known : (s : Courses) (names : Course → ℕ) (sent : IdOf → Bool) (ids : Ids) → AreApart s.live
+    → ((id : IdOf) → IsKnown s names sent id (known_at ids id)) → (d : Course) (id : IdOf) → Contains s.live d → is_among d.ids id ≡ true
     → (known_at ids id).dialogue ≡ Some (names d)
-name_known live names earlier ids apart are d id has its = by (known_at ids id).dialogue (are id).owned
+name_known s names sent ids apart are d id has its = by (known_at ids id).dialogue (are id).owned
   where
-    by : (o : Option ℕ) → IsOwned live names id o (known_at ids id).used (known_at ids id).begun → o ≡ Some (names d)
+    by : (o : Option ℕ) → IsOwned s.live names id o (known_at ids id).used (known_at ids id).begun → o ≡ Some (names d)
     by None (nobody, unused, unbegun) = absurd (true≢false (sym its ∙ nobody d has))
     by (Some m) (e, listed, hers, name, used, begun) =
         ap (λ x. Some x) (sym name ∙ ap names (apart.one_id e d id listed has hers its))
@@ -53,14 +53,14 @@ ends_apart h id own peer = differ h.sender id.end (end_of h.sender h.otid own) (
     differ sides.A e is so = let bad : sides.A ≡ sides.B = sym is ∙ so in cc
     differ sides.B e is so = let bad : sides.B ≡ sides.A = sym is ∙ so in cc
 
-module _ (live : List Course) (names : Course → ℕ) (earlier : List IdOf) (n : ℕ) (h : Heading) (apart : AreApart live)
+module _ (live : List Course) (names : Course → ℕ) (earlier : Earlier) (n : ℕ) (h : Heading) (apart : AreApart live)
     (later : AreApart (with_one earlier n h live))
     (below : (d : Course) (i : ℕ) → Contains live d → has_entry d i ≡ true → i < n) where
   -- the one that it joins
   abbrev pub new : Course
   new = with_entry earlier n h (hit_by h live)
 
-  pub made : IsNew earlier n h live new
+  pub made : IsNew earlier.ids n h live new
   made = record { numbers_are = refl; ids_are = refl; again_is = refl }
 
   -- one that it does not join
@@ -68,13 +68,13 @@ module _ (live : List Course) (names : Course → ℕ) (earlier : List IdOf) (n 
   Old d = Contains live d × (have_one (ids_in h) d.ids ≡ false)
 
   pub old_later : (d : Course) → Old d → Contains (with_one earlier n h live) d
-  old_later d (there, misses) = stays earlier n h live new made d there misses
+  old_later d (there, misses) = stays earlier.ids n h live new made d there misses
 
   pub new_later : Contains (with_one earlier n h live) new
-  new_later = joins earlier n h live new made
+  new_later = joins earlier.ids n h live new made
 
   pub cases : (d : Course) → Contains (with_one earlier n h live) d → Old d ⊎ (new ≡ d)
-  cases d has = which earlier n h live new made d has
+  cases d has = which earlier.ids n h live new made d has
 
   not_here : (d : Course) → Contains live d → has_entry d n ≡ false
   not_here d has = false_from_ne_true _ (λ is. let less = below d n has is in absurd (omega (arith, less)))
@@ -90,22 +90,22 @@ module _ (live : List Course) (names : Course → ℕ) (earlier : List IdOf) (n 
 
     pub name_new : names_then new ≡ k
     unfolding names_then
-    name_new = ap (λ b. cond b k (names new)) (number_comes earlier n h live new made)
+    name_new = ap (λ b. cond b k (names new)) (number_comes earlier.ids n h live new made)
 
     module _ (entry : (k ≡ n) ⊎ (list_any (λ d. has_entry d k) (hit_by h live) ≡ true)) where
       new_entry : has_entry new k ≡ true
       new_entry = by entry
         where
           by : (k ≡ n) ⊎ (list_any (λ d. has_entry d k) (hit_by h live) ≡ true) → has_entry new k ≡ true
-          by (inl is) = ap (has_entry new) is ∙ number_comes earlier n h live new made
+          by (inl is) = ap (has_entry new) is ∙ number_comes earlier.ids n h live new made
           by (inr is) =
               let (d, has, so) = found (λ x. has_entry x k) (hit_by h live) is in
-              number_stays earlier n h live new made d k (in_hit earlier n h live new made d has) so
+              number_stays earlier.ids n h live new made d k (in_hit earlier.ids n h live new made d has) so
 
       -- Two of these are not one.
       differ : (d : Course) → Old d → d ≡ new → ⊥
       differ d (there, misses) same =
-          true≢false (sym (number_comes earlier n h live new made) ∙ ap (λ x. has_entry x n) (sym same) ∙ not_here d there)
+          true≢false (sym (number_comes earlier.ids n h live new made) ∙ ap (λ x. has_entry x n) (sym same) ∙ not_here d there)
 
       module _ (lives : tree.BTreeMap ℕ Live) (overs : tree.BTreeMap ℕ ℕ) (left : List Course)
           (miss : AreSame left (filter (λ d. not (have_one (ids_in h) d.ids)) live)) (are : AreLives left names lives)

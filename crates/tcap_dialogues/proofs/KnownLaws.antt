@@ -1,6 +1,6 @@
 -- What is known of transaction IDs, where it changes.
-use Rattle.std.proofs.Common.{◌≡◌, ℕ, Bool, true, false, cond, List, [], ◌∷◌, ◌++◌, Some, None, bytes_eq, refl, sym, ap, ◌∙◌}
-use Rattle.std.specs.Prelude.{◌&&◌, ◌||◌}
+use Rattle.std.proofs.Common.{◌≡◌, ℕ, Bool, true, false, cond, List, [], ◌∷◌, ◌++◌, Option, Some, None, is_some, bytes_eq, refl, sym, ap, ◌∙◌}
+use Rattle.std.specs.Prelude.{◌&&◌, ◌||◌, nat_lt, not}
 use Rattle.std.specs.BTreeMap as tree
 use Rattle.std.specs.BTreeMap.{BTreeMap, is_at}
 use Rattle.std.specs.BTreeSet as set
@@ -10,16 +10,18 @@ use Rattle.std.specs.List.{list_any}
 use Rattle.std.proofs.lemmas.Cmp.{eq_by_cmp_equiv}
 use Rattle.std.proofs.lemmas.List.Folds.{list_any-append}
 use Rattle.std.proofs.lemmas.Map.Text.{is_eq-slice_cmp}
+use Rattle.std.proofs.lemmas.Slice.Eq.{bytes_eq-Decides}
 use Rattle.tcap_end.specs.Table.{octets_cmp}
 use Rattle.tcap_record.specs.declared.entry.End.{End as Side}
 use Rattle.tcap_record.specs.declared.entry.End.TheVariants as sides
 use Rattle.tcap_model.specs.World.{is_side}
 use Rattle.tcap_dialogues.specs.Cut.{IdOf, is_same}
 use Rattle.tcap_dialogues.specs.Gathered.{by_end, has_id}
-use Rattle.tcap_dialogues.specs.Held.{changed, free_since, known_at, known_by, known_in}
+use Rattle.tcap_dialogues.specs.Held.{changed, free_since, gone_since, known_at, known_by, known_in, last_of}
 use Rattle.tcap_dialogues.specs.declared.known.Change.{Change}
 use Rattle.tcap_dialogues.specs.declared.known.Change.TheVariants as changes
 use Rattle.tcap_dialogues.specs.declared.known.EndIds.{EndIds}
+use Rattle.tcap_dialogues.specs.declared.known.Gone.{Gone}
 use Rattle.tcap_dialogues.specs.declared.known.Ids.{Ids}
 use Rattle.tcap_dialogues.specs.declared.known.Known.{Known}
 use Rattle.tcap_dialogues.proofs.CutIds.{same_id}
@@ -48,27 +50,69 @@ set_in old new key known puts same q =
     by false = refl
 
 -- It became free.
-pub freed_in : (old new : EndIds) (key : List ℕ) (number : ℕ) → Puts old.done new.done key number
+pub freed_in : (old new : EndIds) (key : List ℕ) (gone : Gone) → Puts old.done new.done key gone
     → ((q : List ℕ) → tree.get octets_cmp new.live q ≡ cond (is_at (octets_cmp key) q) None (tree.get octets_cmp old.live q))
-    → (q : List ℕ) → known_in new q ≡ cond (bytes_eq q key) (free_since number) (known_in old q)
-freed_in old new key number puts removed q =
+    → (q : List ℕ) → known_in new q ≡ cond (bytes_eq q key) (known_by None (Some gone)) (known_in old q)
+freed_in old new key gone puts removed q =
     ap (λ kept. known_by kept (tree.get octets_cmp new.done q)) (removed q)
     ∙ ap (λ last. known_by (cond (is_at (octets_cmp key) q) None (tree.get octets_cmp old.live q)) last) (puts q)
-    ∙ ap (λ b. known_by (cond b None (tree.get octets_cmp old.live q)) (cond b (Some number) (tree.get octets_cmp old.done q)))
+    ∙ ap (λ b. known_by (cond b None (tree.get octets_cmp old.live q)) (cond b (Some gone) (tree.get octets_cmp old.done q)))
     (at_octets key q)
     ∙ by (bytes_eq q key)
   where
     by : (b : Bool)
-        → known_by (cond b None (tree.get octets_cmp old.live q)) (cond b (Some number) (tree.get octets_cmp old.done q))
-        ≡ cond b (free_since number) (known_in old q)
+        → known_by (cond b None (tree.get octets_cmp old.live q)) (cond b (Some gone) (tree.get octets_cmp old.done q))
+        ≡ cond b (known_by None (Some gone)) (known_in old q)
     by true = refl
     by false = refl
+
+-- So it did by what was known of it: of one that a live dialogue has, or of one that none has.
+pub freed_known : (old new : EndIds) (key : List ℕ) (first : ℕ) (early : Bool) (known : Known) → known ≡ known_in old key
+    → Puts old.done new.done key (gone_since first early known)
+    → ((q : List ℕ) → tree.get octets_cmp new.live q ≡ cond (is_at (octets_cmp key) q) None (tree.get octets_cmp old.live q))
+    → (q : List ℕ) → known_in new q ≡ cond (bytes_eq q key) (free_since first early (known_in old key)) (known_in old q)
+freed_known old new key first early known is puts removed q =
+    freed_in old new key (gone_since first early known) puts removed q
+    ∙ ap (λ k. cond (bytes_eq q key) (free_since first early k) (known_in old q)) is
+
+pub known_live : (ids : EndIds) (key : List ℕ) (known : Known) → Some known ≡ tree.get octets_cmp ids.live key → known ≡ known_in ids key
+known_live ids key known is = ap (λ o. known_by o (tree.get octets_cmp ids.done key)) is
+
+pub known_done : (ids : EndIds) (key : List ℕ) (known : Known) → None ≡ tree.get octets_cmp ids.live key
+    → known ≡ known_by None (tree.get octets_cmp ids.done key) → known ≡ known_in ids key
+known_done ids key known none is = is ∙ ap (λ o. known_by o (tree.get octets_cmp ids.done key)) none
 
 -- ---- many changes
 
 -- A change changes nothing more where it came before.
+last_twice : (first : ℕ) (last : Option ℕ) → last_of first (Some (last_of first last)) ≡ last_of first last
+last_twice first None = either_way (nat_lt first first)
+  where
+    either_way : (b : Bool) → cond b first first ≡ first
+    either_way true = refl
+    either_way false = refl
+last_twice first (Some last) = by (nat_lt first last) refl
+  where
+    either_way : (b : Bool) → cond b first first ≡ first
+    either_way true = refl
+    either_way false = refl
+
+    by : (b : Bool) → nat_lt first last ≡ b → cond (nat_lt first (cond b last first)) (cond b last first) first ≡ cond b last first
+    by true is = ap (λ c. cond c last first) is
+    by false is = either_way (nat_lt first first)
+
 twice : (change : Change) (known : Known) → changed change (changed change known) ≡ changed change known
-twice (changes.Free number) known = refl
+twice (changes.Free first early) known =
+    ap (λ last. known_by None (Some (record { last = last; firm = (known.firm || known.used || not early) || false || not early; sent = known.sent })))
+    (last_twice first known.last)
+    ∙ ap (λ firm. known_by None (Some (record { last = last_of first known.last; firm = firm; sent = known.sent })))
+    (firm_twice known.firm known.used (not early))
+  where
+    firm_twice : (a b c : Bool) → ((a || b || c) || false || c) ≡ (a || b || c)
+    firm_twice true b c = refl
+    firm_twice false true c = refl
+    firm_twice false false true = refl
+    firm_twice false false false = refl
 twice (changes.JoinTo name) known = refl
 
 -- whether an ID is one of these of an end
@@ -155,3 +199,82 @@ both_change a b change old now new first second id =
     change_then (λ x. is_side x.end sides.A && set.contains octets_cmp a x.octets) (λ x. is_side x.end sides.B && set.contains octets_cmp b x.octets)
     change old now new first second id
     ∙ ap (λ passes. cond passes (changed change (known_at old id)) (known_at old id)) (of_both a b id)
+
+-- ---- IDs that their owner sent from
+
+-- The IDs among these keys that their owner sent from were added to a set.
+abbrev pub AddsSent : EndIds → List (List ℕ) → BTreeSet (List ℕ) → BTreeSet (List ℕ) → Type 0
+AddsSent ids keys old new =
+    (q : List ℕ) → set.contains octets_cmp new q ≡ (set.contains octets_cmp old q || (list_any (is_at (octets_cmp q)) keys && (known_in ids q).sent))
+
+-- Of no keys it is the set itself;
+pub none_sent : (ids : EndIds) (old : BTreeSet (List ℕ)) → AddsSent ids [] old old
+none_sent ids old q = sym (or_none (set.contains octets_cmp old q))
+
+-- one key more.
+pub sent_more : (ids : EndIds) (keys : List (List ℕ)) (key : List ℕ) (old now new : BTreeSet (List ℕ)) → AddsSent ids keys old now
+    → ((q : List ℕ) → set.contains octets_cmp new q ≡ (set.contains octets_cmp now q || (bytes_eq q key && (known_in ids q).sent)))
+    → AddsSent ids (keys ++ key ∷ []) old new
+sent_more ids keys key old now new so_far adds q =
+    adds q ∙ ap (λ b. b || (bytes_eq q key && (known_in ids q).sent)) (so_far q)
+    ∙ by (set.contains octets_cmp old q) (list_any (is_at (octets_cmp q)) keys) (bytes_eq q key) (known_in ids q).sent
+    ∙ ap (λ b. set.contains octets_cmp old q || (b && (known_in ids q).sent)) (sym keys_are)
+  where
+    keys_are : list_any (is_at (octets_cmp q)) (keys ++ key ∷ []) ≡ (list_any (is_at (octets_cmp q)) keys || bytes_eq q key)
+    keys_are =
+        list_any-append (is_at (octets_cmp q)) keys (key ∷ [])
+        ∙ ap (λ b. list_any (is_at (octets_cmp q)) keys || b) (or_none (is_at (octets_cmp q) key) ∙ is_eq-slice_cmp q key)
+
+    by : (was some is sent : Bool) → ((was || (some && sent)) || (is && sent)) ≡ (was || ((some || is) && sent))
+    by true some is sent = refl
+    by false true is true = refl
+    by false true true false = refl
+    by false true false false = refl
+    by false false is sent = refl
+
+-- One of that key is added where its owner sent from it.
+pub sent_added : (ids : EndIds) (key : List ℕ) (old new : BTreeSet (List ℕ)) → (known_in ids key).sent ≡ true
+    → ((q : List ℕ) → set.contains octets_cmp new q ≡ cond (is_at (octets_cmp key) q) true (set.contains octets_cmp old q))
+    → (q : List ℕ) → set.contains octets_cmp new q ≡ (set.contains octets_cmp old q || (bytes_eq q key && (known_in ids q).sent))
+sent_added ids key old new sent adds q =
+    adds q ∙ ap (λ b. cond b true (set.contains octets_cmp old q)) (at_octets key q) ∙ by (bytes_eq q key) refl
+  where
+    either_true : (b : Bool) → true ≡ (b || true)
+    either_true true = refl
+    either_true false = refl
+
+    by : (b : Bool) → bytes_eq q key ≡ b
+        → cond b true (set.contains octets_cmp old q) ≡ (set.contains octets_cmp old q || (b && (known_in ids q).sent))
+    by true is =
+        either_true (set.contains octets_cmp old q)
+        ∙ ap (λ b. set.contains octets_cmp old q || b) (sym (ap (λ x. (known_in ids x).sent) ((bytes_eq-Decides q key).0 is) ∙ sent))
+    by false is = sym (or_none (set.contains octets_cmp old q))
+
+pub sent_not_added : (ids : EndIds) (key : List ℕ) (old : BTreeSet (List ℕ)) → (known_in ids key).sent ≡ false
+    → (q : List ℕ) → set.contains octets_cmp old q ≡ (set.contains octets_cmp old q || (bytes_eq q key && (known_in ids q).sent))
+sent_not_added ids key old not_sent q = sym (by (bytes_eq q key) refl)
+  where
+    by : (b : Bool) → bytes_eq q key ≡ b
+        → (set.contains octets_cmp old q || (b && (known_in ids q).sent)) ≡ set.contains octets_cmp old q
+    by true is =
+        ap (λ b. set.contains octets_cmp old q || b) (ap (λ x. (known_in ids x).sent) ((bytes_eq-Decides q key).0 is) ∙ not_sent)
+        ∙ or_none (set.contains octets_cmp old q)
+    by false is = or_none (set.contains octets_cmp old q)
+
+-- The keys of both maps are all of which something is known.
+pub all_sent : (ids : EndIds) (live done : List (List ℕ)) (old new : BTreeSet (List ℕ))
+    → ((q : List ℕ) → is_some (tree.get octets_cmp ids.live q) ≡ list_any (is_at (octets_cmp q)) live)
+    → ((q : List ℕ) → is_some (tree.get octets_cmp ids.done q) ≡ list_any (is_at (octets_cmp q)) done)
+    → AddsSent ids (live ++ done) old new
+    → (q : List ℕ) → set.contains octets_cmp new q ≡ (set.contains octets_cmp old q || (known_in ids q).sent)
+all_sent ids live done old new in_live in_done adds q =
+    adds q
+    ∙ ap (λ b. set.contains octets_cmp old q || (b && (known_in ids q).sent))
+    (list_any-append (is_at (octets_cmp q)) live done ∙ ap (λ b. b || list_any (is_at (octets_cmp q)) done) (sym (in_live q))
+    ∙ ap (λ b. is_some (tree.get octets_cmp ids.live q) || b) (sym (in_done q)))
+    ∙ ap (λ b. set.contains octets_cmp old q || b) (by (tree.get octets_cmp ids.live q) (tree.get octets_cmp ids.done q))
+  where
+    by : (o : Option Known) (p : Option Gone) → ((is_some o || is_some p) && (known_by o p).sent) ≡ (known_by o p).sent
+    by (Some known) p = refl
+    by None (Some gone) = refl
+    by None None = refl

@@ -1,9 +1,10 @@
 -- A live dialogue with more of what it has.
 use Rattle.std.proofs.Common.{◌≡◌, ℕ, Bool, true, false, cond, List, [], ◌++◌, Option, Some, None, is_none, is_some, bytes_eq, map, refl, sym, ap, ◌∙◌}
-use Rattle.std.specs.Prelude.{◌&&◌, ◌||◌}
+use Rattle.std.specs.Prelude.{◌&&◌, ◌||◌, ◌==◌, length, nat_lt, not}
 use Rattle.std.specs.BTreeMap.{is_at}
 use Rattle.std.specs.BTreeSet as set
 use Rattle.std.specs.BTreeSet.{BTreeSet}
+use Rattle.std.specs.Cmp.{unsigned_tied}
 use Rattle.std.specs.Iterator.{Yields}
 use Rattle.std.specs.List.{list_any}
 use Rattle.std.specs.Map.Iter.{TakesFirst}
@@ -15,11 +16,11 @@ use Rattle.tcap_end.specs.Table.{octets_cmp}
 use Rattle.tcap_record.specs.declared.entry.End.{End as Side}
 use Rattle.tcap_record.specs.declared.entry.End.TheVariants as sides
 use Rattle.tcap_model.specs.World.{is_side}
-use Rattle.tcap_dialogues.specs.Cut.{IdOf, is_among}
-use Rattle.tcap_dialogues.specs.Gathered.{by_end}
-use Rattle.tcap_dialogues.specs.Course.{Course, first_over, has_entry, lower}
-use Rattle.tcap_dialogues.specs.Held.{AreKept, earlier_of, has_sent, higher}
-use Rattle.tcap_dialogues.specs.Joining.{HasId, ids_at}
+use Rattle.tcap_dialogues.specs.Cut.{IdOf, is_among, is_same}
+use Rattle.tcap_dialogues.specs.Gathered.{by_end, has_id}
+use Rattle.tcap_dialogues.specs.Course.{Course, Heading, begun_by, first_over, has_begin, has_entry, lower, over_by, own_ids, peer_ids}
+use Rattle.tcap_dialogues.specs.Held.{AreKept, earlier_of, has_sent, higher, is_unsettled}
+use Rattle.tcap_dialogues.specs.Joining.{HasEntry, HasId, HasSender, ids_at}
 use Rattle.tcap_dialogues.specs.declared.known.Known.{Known}
 use Rattle.tcap_dialogues.specs.declared.live.Live.{Live}
 use Rattle.tcap_dialogues.proofs.HeldLists.{or_none}
@@ -85,6 +86,14 @@ some_earlier known = by (is_none known.dialogue)
     by true = refl
     by false = refl
 
+-- It is unsettled where, besides, it is not firm.
+pub some_unsettled : (known : Known) → is_unsettled known ≡ (is_none known.dialogue && (is_some known.last && not known.firm))
+some_unsettled known = by (is_none known.dialogue)
+  where
+    by : (b : Bool) → (is_some (cond b known.last None) && not known.firm) ≡ (b && (is_some known.last && not known.firm))
+    by true = refl
+    by false = refl
+
 -- The IDs, the senders and all else of both.
 pub absorbed : (ds es : List Course) (l m : Live) (numbers : BTreeSet ℕ) (a b : BTreeSet (List ℕ)) (over earlier : Option ℕ)
     → AreKept ds l → AreKept es m
@@ -99,8 +108,11 @@ pub absorbed : (ds es : List Course) (l m : Live) (numbers : BTreeSet ℕ) (a b 
       b = b;
       a_sent = l.a_sent || m.a_sent;
       b_sent = l.b_sent || m.b_sent;
+      begun = l.begun || m.begun;
       over = over;
+      early = l.early || m.early;
       earlier = earlier;
+      unsettled = l.unsettled || m.unsettled;
     })
 absorbed ds es l m numbers a b over earlier kept other numbers_are a_is b_is over_is earlier_is = record {
   numbers = λ n.
@@ -110,8 +122,11 @@ absorbed ds es l m numbers a b over earlier kept other numbers_are a_is b_is ove
   senders = λ side.
       senders_are side ∙ either _ _ _ _ (kept.senders side) (other.senders side)
       ∙ sym (list_any-append (λ d. list_any (is_side side) d.senders) ds es);
+  begun = either _ _ _ _ kept.begun other.begun ∙ sym (list_any-append has_begin ds es);
   over = over_is ∙ ap (λ o. lower o m.over) kept.over ∙ ap (lower (first_over ds)) other.over ∙ sym (over_appended ds es);
+  early = either _ _ _ _ kept.early other.early ∙ sym (list_any-append (λ d. d.early) ds es);
   again = ap is_some earlier_is ∙ some_higher l.earlier m.earlier ∙ either _ _ _ _ kept.again other.again ∙ sym (list_any-append (λ d. d.again) ds es);
+  unsettled = either _ _ _ _ kept.unsettled other.unsettled ∙ sym (list_any-append (λ d. d.unsettled) ds es);
 }
   where
     ids_are : (id : IdOf) (end : Side) → set.contains octets_cmp (by_end end a b) id.octets
@@ -122,3 +137,48 @@ absorbed ds es l m numbers a b over earlier kept other numbers_are a_is b_is ove
     senders_are : (side : Side) → by_end side (l.a_sent || m.a_sent) (l.b_sent || m.b_sent) ≡ (has_sent l side || has_sent m side)
     senders_are sides.A = refl
     senders_are sides.B = refl
+
+-- ---- an entry more
+
+-- What its IDs, its sender and the rest make of one.
+module _ (number : ℕ) (h : Heading) (own peer : Known) (old noted one new : Live) (numbers : BTreeSet ℕ) (begun early unsettled : Bool)
+    (over earlier : Option ℕ)
+    (adds : (n : ℕ) → set.contains nat_cmp numbers n ≡ cond (is_at (nat_cmp number) n) true (set.contains nat_cmp old.numbers n))
+    (sends : HasSender h.sender (record old { numbers = numbers }) noted)
+    (first : HasId (own_ids h) (record noted { begun = begun; over = over; early = early; earlier = earlier; unsettled = unsettled }) one)
+    (second : HasId (peer_ids h) one new) where
+  pub entry_added : begun ≡ (noted.begun || nat_lt 0 (length (begun_by h))) → over ≡ lower noted.over (over_by number h)
+      → early ≡ (noted.early || not h.under_way) → earlier ≡ higher noted.earlier (higher (earlier_of own) (earlier_of peer))
+      → unsettled ≡ (noted.unsettled || (is_unsettled own || is_unsettled peer)) → HasEntry number h own peer old new
+  entry_added begun_is over_is early_is earlier_is unsettled_is = record {
+    name = ap (λ l. l.name) second.rest ∙ ap (λ l. l.name) first.rest ∙ ap (λ l. l.name) sends.rest;
+    numbers = λ n.
+        ap (λ l. set.contains nat_cmp l.numbers n) second.rest ∙ ap (λ l. set.contains nat_cmp l.numbers n) first.rest
+        ∙ ap (λ l. set.contains nat_cmp l.numbers n) sends.rest ∙ adds n
+        ∙ ap (λ b. cond b true (set.contains nat_cmp old.numbers n)) (unsigned_tied number n)
+        ∙ put (set.contains nat_cmp old.numbers n) (number == n);
+    ids = λ id.
+        second.ids_are id ∙ ap (λ b. b || is_among (peer_ids h) id) (first.ids_are id)
+        ∙ ap (λ l. (has_id l.a l.b id || is_among (own_ids h) id) || is_among (peer_ids h) id) sends.rest
+        ∙ grouped (has_id old.a old.b id) (is_among (own_ids h) id) (is_among (peer_ids h) id)
+        ∙ ap (λ b. has_id old.a old.b id || b) (sym (list_any-append (is_same id) (own_ids h) (peer_ids h)));
+    senders = λ side. ap (λ l. has_sent l side) second.rest ∙ ap (λ l. has_sent l side) first.rest ∙ sends.senders side;
+    begun = ap (λ l. l.begun) second.rest ∙ ap (λ l. l.begun) first.rest ∙ begun_is
+        ∙ ap (λ l. l.begun || nat_lt 0 (length (begun_by h))) sends.rest;
+    over = ap (λ l. l.over) second.rest ∙ ap (λ l. l.over) first.rest ∙ over_is ∙ ap (λ l. lower l.over (over_by number h)) sends.rest;
+    early = ap (λ l. l.early) second.rest ∙ ap (λ l. l.early) first.rest ∙ early_is ∙ ap (λ l. l.early || not h.under_way) sends.rest;
+    earlier_is = ap (λ l. l.earlier) second.rest ∙ ap (λ l. l.earlier) first.rest ∙ earlier_is
+        ∙ ap (λ l. higher l.earlier (higher (earlier_of own) (earlier_of peer))) sends.rest;
+    unsettled = ap (λ l. l.unsettled) second.rest ∙ ap (λ l. l.unsettled) first.rest ∙ unsettled_is
+        ∙ ap (λ l. l.unsettled || (is_unsettled own || is_unsettled peer)) sends.rest;
+  }
+    where
+      put : (was is : Bool) → cond is true was ≡ (was || is)
+      put true true = refl
+      put true false = refl
+      put false true = refl
+      put false false = refl
+
+      grouped : (a b c : Bool) → ((a || b) || c) ≡ (a || (b || c))
+      grouped true b c = refl
+      grouped false b c = refl

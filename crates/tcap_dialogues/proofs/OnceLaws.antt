@@ -6,11 +6,9 @@ use Rattle.std.specs.List.{flat_map}
 use Rattle.std.proofs.lemmas.Bool.{true≢false}
 use Rattle.std.proofs.lemmas.List.{map-append}
 use Rattle.std.proofs.lemmas.List.Folds.{flat_map-map}
-use Rattle.tcap_msg.specs.declared.message.Message.{Message}
-use Rattle.tcap_record.specs.declared.entry.End.{End as Side}
 use Rattle.tcap_model.specs.World.{Item, Sent, has_quiet}
-use Rattle.tcap_dialogues.specs.Cut.{Dialogue, dialogues_behind, dialogues_of, has_one, ids_of, joined, with_message}
-use Rattle.tcap_dialogues.specs.Course.{Course, Courses, Heading, comes, courses_behind, courses_of, heading_of, headings_of}
+use Rattle.tcap_dialogues.specs.Cut.{Dialogue, dialogues_behind, dialogues_of, has_one, joined, with_message}
+use Rattle.tcap_dialogues.specs.Course.{Course, Courses, Heading, bare, comes, courses_behind, courses_of, heading_of, headings_of, ids_in}
 use Rattle.tcap_dialogues.specs.declared.reuse.Reuse.TheVariants as reuses
 
 -- ---- lists
@@ -46,48 +44,48 @@ forget d = record { numbers = d.numbers; ids = d.ids }
 abbrev only : List Course → Courses
 only live = record { done = []; live = live }
 
-module _ (n : ℕ) (side : Side) (m : Message) (live : List Course) where
-  -- the courses with the message
+module _ (n : ℕ) (h : Heading) (live : List Course) where
+  -- the courses with the entry
   abbrev after : List Course
-  after = (comes reuses.Once n (heading_of side m) (only live)).live
+  after = (comes reuses.Once n h (only live)).live
 
   -- None of them is done,
-  none_done : comes reuses.Once n (heading_of side m) (only live) ≡ only after
+  none_done : comes reuses.Once n h (only live) ≡ only after
   none_done = ap (λ ds. let s : Courses = record { done = ds; live = after } in s) (none_passes live)
 
   -- The courses that have one of its IDs are the dialogues that have one,
-  joins_same : map forget (filter (λ d. has_one (ids_of side m) (forget d)) live) ≡ filter (has_one (ids_of side m)) (map forget live)
-  joins_same = map_filter forget (has_one (ids_of side m)) live
+  joins_same : map forget (filter (λ d. has_one (ids_in h) (forget d)) live) ≡ filter (has_one (ids_in h)) (map forget live)
+  joins_same = map_filter forget (has_one (ids_in h)) live
 
   -- and so are those that have none.
-  stays_same : map forget (filter (λ d. not (has_one (ids_of side m) (forget d))) live)
-      ≡ filter (λ d. not (has_one (ids_of side m) d)) (map forget live)
-  stays_same = map_filter forget (λ d. not (has_one (ids_of side m) d)) live
+  stays_same : map forget (filter (λ d. not (has_one (ids_in h) (forget d))) live)
+      ≡ filter (λ d. not (has_one (ids_in h) d)) (map forget live)
+  stays_same = map_filter forget (λ d. not (has_one (ids_in h) d)) live
 
   -- the dialogue that courses are with the message
   abbrev of_one : List Course → Dialogue
-  of_one ds = record { numbers = flat_map (λ d. d.numbers) ds ++ n ∷ []; ids = flat_map (λ d. d.ids) ds ++ ids_of side m }
+  of_one ds = record { numbers = flat_map (λ d. d.numbers) ds ++ n ∷ []; ids = flat_map (λ d. d.ids) ds ++ ids_in h }
 
   -- It has the numbers and IDs of theirs.
-  one_same : (ds : List Course) → joined (map forget ds) n (ids_of side m) ≡ of_one ds
+  one_same : (ds : List Course) → joined (map forget ds) n (ids_in h) ≡ of_one ds
   one_same ds = rw (flat_map-map (λ (d : Dialogue). d.numbers) forget ds, flat_map-map (λ (d : Dialogue). d.ids) forget ds) refl
 
   -- the dialogues with the message, where these courses are not free
   abbrev of_left : List Course → List Dialogue
   of_left left =
-      map forget (filter (λ d. not (has_one (ids_of side m) (forget d))) left) ++ of_one (filter (λ d. has_one (ids_of side m) (forget d)) left) ∷ []
+      map forget (filter (λ d. not (has_one (ids_in h) (forget d))) left) ++ of_one (filter (λ d. has_one (ids_in h) (forget d)) left) ∷ []
 
   -- As no course is free, these are those of all of them,
   after_left : map forget after ≡ of_left live
   after_left = map-append forget _ _ ∙ ap of_left (all_pass live)
 
   -- and the message joins the same ones.
-  after_same : map forget after ≡ with_message n (ids_of side m) (map forget live)
+  after_same : map forget after ≡ with_message n (ids_in h) (map forget live)
   after_same =
       after_left
-      ∙ ap (λ ds. ds ++ of_one (filter (λ d. has_one (ids_of side m) (forget d)) live) ∷ []) stays_same
-      ∙ ap (λ d. filter (λ e. not (has_one (ids_of side m) e)) (map forget live) ++ d ∷ [])
-      (sym (one_same (filter (λ d. has_one (ids_of side m) (forget d)) live)) ∙ ap (λ ds. joined ds n (ids_of side m)) joins_same)
+      ∙ ap (λ ds. ds ++ of_one (filter (λ d. has_one (ids_in h) (forget d)) live) ∷ []) stays_same
+      ∙ ap (λ d. filter (λ e. not (has_one (ids_in h) e)) (map forget live) ++ d ∷ [])
+      (sym (one_same (filter (λ d. has_one (ids_in h) (forget d)) live)) ∙ ap (λ ds. joined ds n (ids_in h)) joins_same)
 
 -- ---- the list
 
@@ -96,16 +94,21 @@ abbrev behind : List Heading → ℕ → Courses → List Dialogue
 behind hs n s = let more = courses_behind reuses.Once s n hs in map forget (more.done ++ more.live)
 
 -- They are those behind the dialogues of the courses,
-behind_same : (items : List Item) (n : ℕ) (live : List Course) → has_quiet items ≡ false
-    → behind (headings_of items) n (only live) ≡ dialogues_behind (map forget live) n items
-behind_same [] n live none = refl
-behind_same (Sent side m ∷ items) n live none =
-    ap (behind (headings_of items) (n + 1)) (none_done n side m live)
-    ∙ behind_same items (n + 1) (after n side m live) none
-    ∙ ap (λ ds. dialogues_behind ds (n + 1) items) (after_same n side m live)
-behind_same (Item.Quiet ∷ items) n live none = absurd (true≢false none)
+behind_same : (items : List Item) (hs : List Heading) (n : ℕ) (live : List Course) → has_quiet items ≡ false
+    → map bare hs ≡ headings_of items → behind hs n (only live) ≡ dialogues_behind (map forget live) n items
+behind_same [] [] n live none same = refl
+behind_same [] (h ∷ hs) n live none same = cc
+behind_same (Sent side m ∷ items) [] n live none same = cc
+behind_same (Sent side m ∷ items) (h ∷ hs) n live none same =
+    let first : bare h ≡ heading_of side m = cc in
+    let rest : map bare hs ≡ headings_of items = cc in
+    ap (behind hs (n + 1)) (none_done n h live)
+    ∙ behind_same items hs (n + 1) (after n h live) none rest
+    ∙ ap (λ ds. dialogues_behind ds (n + 1) items)
+    (after_same n h live ∙ ap (λ x. with_message n (ids_in x) (map forget live)) first)
+behind_same (Item.Quiet ∷ items) hs n live none same = absurd (true≢false none)
 
 -- so those of the list are its dialogues.
-pub is_the_cut : (items : List Item) → has_quiet items ≡ false
-    → map (λ d. record { numbers = d.numbers; ids = d.ids }) (courses_of reuses.Once (headings_of items)) ≡ dialogues_of items
-is_the_cut items none = behind_same items 0 [] none
+pub is_the_cut : (items : List Item) (headings : List Heading) → has_quiet items ≡ false → map bare headings ≡ headings_of items
+    → map (λ d. record { numbers = d.numbers; ids = d.ids }) (courses_of reuses.Once headings) ≡ dialogues_of items
+is_the_cut items headings none same = behind_same items headings 0 [] none same

@@ -1,10 +1,10 @@
 -- The live dialogue that has an ID of a heading, of one end, if the heading carries one.
 use Rattle.std.proofs.Common.{◌≡◌, ℕ, Bool, true, false, List, [], ◌∷◌, Option, Some, None, is_some, refl, sym, subst, ◌∙◌}
 use Rattle.std.specs.Prelude.{Contains}
-use Rattle.std.specs.List.{list_any}
+use Rattle.std.specs.List.{flat_map}
 use Rattle.std.proofs.lemmas.Bool.{false_from_ne_true, true≢false}
 use Rattle.tcap_record.specs.declared.entry.End.{End as Side}
-use Rattle.tcap_dialogues.specs.Course.{Course, have_one}
+use Rattle.tcap_dialogues.specs.Course.{Course, Courses, firm_in, have_one}
 use Rattle.tcap_dialogues.specs.Cut.{IdOf, is_among}
 use Rattle.tcap_dialogues.specs.Held.{AreApart, IsKnown, IsOwned, known_at, known_of}
 use Rattle.tcap_dialogues.specs.Joining.{ids_at}
@@ -20,14 +20,13 @@ have_more ids xs ys more is = let (id, has, so) = found (is_among xs) ids is in 
 
 -- No dialogue has one of these IDs.
 abbrev pub IsNobodys : List Course → List IdOf → Known → Type 0
-IsNobodys live ids known = ((d : Course) → Contains live d → have_one ids d.ids ≡ false) × (known.used ≡ false) × (known.begun ≡ false)
+IsNobodys live ids known = ((d : Course) → Contains live d → have_one ids d.ids ≡ false) × (known.begun ≡ false)
 
 -- The dialogue of that name has.
 pub record IsOwner (live : List Course) (names : Course → ℕ) (ids : List IdOf) (name : ℕ) (known : Known) (d : Course) : Type 0 where
   pub listed : Contains live d
   pub has : have_one ids d.ids ≡ true
   pub named : names d ≡ name
-  pub used : known.used ≡ have_one ids d.used
   pub begun : known.begun ≡ have_one ids d.begun
   -- No other does.
   pub only : (e : Course) → Contains live e → have_one ids e.ids ≡ true → e ≡ d
@@ -36,64 +35,66 @@ abbrev pub Owns : List Course → (Course → ℕ) → List IdOf → Known → O
 Owns live names ids known None = IsNobodys live ids known
 Owns live names ids known (Some name) = (d : Course) × IsOwner live names ids name known d
 
-pub record IsOf (live : List Course) (names : Course → ℕ) (earlier : IdOf → Bool) (ids : List IdOf) (known : Known) : Type 0 where
-  pub owns : Owns live names ids known known.dialogue
-  pub came : is_some known.last ≡ list_any earlier ids
+-- the IDs of the dialogues that are done, and those of them that are firm
+abbrev pub done_ids : Courses → List IdOf
+done_ids s = flat_map (λ d. d.ids) s.done
 
-module _ (live : List Course) (names : Course → ℕ) (earlier : IdOf → Bool) (apart : AreApart live) where
-  of_one : (id : IdOf) (known : Known) → IsKnown live names earlier id known → IsOf live names earlier (id ∷ []) known
-  of_one id known is = record { owns = by known.dialogue is.owned; came = is.came ∙ sym (or_none (earlier id)) }
+abbrev pub firm_ids : Courses → List IdOf
+firm_ids s = flat_map firm_in s.done
+
+pub record IsOf (s : Courses) (names : Course → ℕ) (ids : List IdOf) (known : Known) : Type 0 where
+  pub owns : Owns s.live names ids known known.dialogue
+  pub came : is_some known.last ≡ have_one ids (done_ids s)
+  pub firm_is : known.firm ≡ have_one ids (firm_ids s)
+
+module _ (s : Courses) (names : Course → ℕ) (sent : IdOf → Bool) (apart : AreApart s.live) where
+  of_one : (id : IdOf) (known : Known) → IsKnown s names sent id known → IsOf s names (id ∷ []) known
+  of_one id known is = record {
+    owns = by known.dialogue is.owned;
+    came = is.came ∙ sym (or_none (is_among (done_ids s) id));
+    firm_is = is.firm_is ∙ sym (or_none (is_among (firm_ids s) id));
+  }
     where
-      by : (o : Option ℕ) → IsOwned live names id o known.used known.begun → Owns live names (id ∷ []) known o
-      by None (nobody, unused, unbegun) = (λ d has. or_none (is_among d.ids id) ∙ nobody d has, unused, unbegun)
+      by : (o : Option ℕ) → IsOwned s.live names id o known.used known.begun → Owns s.live names (id ∷ []) known o
+      by None (nobody, unused, unbegun) = (λ d has. or_none (is_among d.ids id) ∙ nobody d has, unbegun)
       by (Some name) (d, listed, its, named, used_is, begun_is) = (
         d,
         record {
           listed = listed;
           has = or_none (is_among d.ids id) ∙ its;
           named = named;
-          used = used_is ∙ sym (or_none (is_among d.used id));
           begun = begun_is ∙ sym (or_none (is_among d.begun id));
           only = λ e hers so. apart.one_id e d id hers listed (sym (or_none (is_among e.ids id)) ∙ so) its;
         },
       )
 
   -- So it is of what is known of the ID of an end.
-  pub known_ids : (ids : Ids) → ((id : IdOf) → IsKnown live names earlier id (known_at ids id)) → (end : Side) (octets : Option (List ℕ))
-      → IsOf live names earlier (ids_at end octets) (known_of ids end octets)
-  known_ids ids are end None = record { owns = (λ d has. refl, refl, refl); came = refl }
+  pub known_ids : (ids : Ids) → ((id : IdOf) → IsKnown s names sent id (known_at ids id)) → (end : Side) (octets : Option (List ℕ))
+      → IsOf s names (ids_at end octets) (known_of ids end octets)
+  known_ids ids are end None = record { owns = (λ d has. refl, refl); came = refl; firm_is = refl }
   known_ids ids are end (Some octets) =
       let id : IdOf = record { end = end; octets = octets } in of_one id (known_at ids id) (are id)
 
-  pub known_is : (ids : Ids) → ((id : IdOf) → IsKnown live names earlier id (known_at ids id)) → (end : Side) (octets : Option (List ℕ))
-      (known : Known) → known ≡ known_of ids end octets → IsOf live names earlier (ids_at end octets) known
-  known_is ids are end octets known is = subst (IsOf live names earlier (ids_at end octets)) (sym is) (known_ids ids are end octets)
+  pub known_is : (ids : Ids) → ((id : IdOf) → IsKnown s names sent id (known_at ids id)) → (end : Side) (octets : Option (List ℕ))
+      (known : Known) → known ≡ known_of ids end octets → IsOf s names (ids_at end octets) known
+  known_is ids are end octets known is = subst (IsOf s names (ids_at end octets)) (sym is) (known_ids ids are end octets)
 
-module _ (live : List Course) (names : Course → ℕ) (earlier : IdOf → Bool) (ids : List IdOf) (known : Known)
-    (of : IsOf live names earlier ids known) where
+module _ (s : Courses) (names : Course → ℕ) (ids : List IdOf) (known : Known) (of : IsOf s names ids known) where
   -- the dialogue of that name, or none
-  pub owner_of : (name : ℕ) → known.dialogue ≡ Some name → (d : Course) × IsOwner live names ids name known d
-  owner_of name is = subst (Owns live names ids known) is of.owns
+  pub owner_of : (name : ℕ) → known.dialogue ≡ Some name → (d : Course) × IsOwner s.live names ids name known d
+  owner_of name is = subst (Owns s.live names ids known) is of.owns
 
-  pub nobody_of : known.dialogue ≡ None → IsNobodys live ids known
-  nobody_of is = subst (Owns live names ids known) is of.owns
+  pub nobody_of : known.dialogue ≡ None → IsNobodys s.live ids known
+  nobody_of is = subst (Owns s.live names ids known) is of.owns
 
 module _ (live : List Course) (names : Course → ℕ) (ids : List IdOf) (known : Known) (apart : AreApart live) where
-  -- Where no dialogue has one of these IDs none used one, and none began one;
-  pub nobody_used : IsNobodys live ids known → (d : Course) → Contains live d → have_one ids d.used ≡ false
-  nobody_used nobody d has =
-      false_from_ne_true _
-      (λ is. true≢false (sym (have_more ids d.used d.ids (λ id. apart.used_in d id has) is) ∙ nobody.0 d has))
-
+  -- Where no dialogue has one of these IDs none began one;
   pub nobody_begun : IsNobodys live ids known → (d : Course) → Contains live d → have_one ids d.begun ≡ false
   nobody_begun nobody d has =
       false_from_ne_true _
       (λ is. true≢false (sym (have_more ids d.begun d.ids (λ id. apart.begun_in d id has) is) ∙ nobody.0 d has))
 
   -- where one has, no other did.
-  module _ (name : ℕ) (d : Course) (owner : IsOwner live names ids name known d) where
-    pub used_only : (e : Course) → Contains live e → have_one ids e.used ≡ true → e ≡ d
-    used_only e has is = owner.only e has (have_more ids e.used e.ids (λ id. apart.used_in e id has) is)
-
-    pub begun_only : (e : Course) → Contains live e → have_one ids e.begun ≡ true → e ≡ d
-    begun_only e has is = owner.only e has (have_more ids e.begun e.ids (λ id. apart.begun_in e id has) is)
+  pub begun_only : (name : ℕ) (d : Course) → IsOwner live names ids name known d → (e : Course) → Contains live e
+      → have_one ids e.begun ≡ true → e ≡ d
+  begun_only name d owner e has is = owner.only e has (have_more ids e.begun e.ids (λ id. apart.begun_in e id has) is)

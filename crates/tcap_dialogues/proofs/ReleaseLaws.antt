@@ -5,10 +5,10 @@ use Rattle.std.specs.List.{flat_map, list_any}
 use Rattle.std.proofs.lemmas.Bool.{false_from_ne_true, or_right, true≢false}
 use Rattle.std.proofs.lemmas.List.{append-nil}
 use Rattle.std.proofs.lemmas.List.Folds.{list_any-append}
-use Rattle.tcap_dialogues.specs.Course.{Course, has_entry}
+use Rattle.tcap_dialogues.specs.Course.{Course, Courses, firm_in, has_entry}
 use Rattle.tcap_dialogues.specs.Cut.{IdOf, is_among, is_same}
 use Rattle.tcap_dialogues.specs.Gathered.{HandsOver, IsGathered, has_id}
-use Rattle.tcap_dialogues.specs.Held.{AreApart, AreKept, AreLives, AreTaken, IsHeld, IsKnown, IsOut, IsOwned, free_since, is_named, known_at, others, those}
+use Rattle.tcap_dialogues.specs.Held.{AreApart, AreKept, AreLives, AreTaken, IsHeld, IsKnown, IsOut, IsOwned, free_since, freed, is_named, known_at, others, those}
 use Rattle.tcap_dialogues.specs.declared.cut.Cut.{Cut}
 use Rattle.tcap_dialogues.specs.declared.gathered.Gathered.{Gathered}
 use Rattle.tcap_dialogues.specs.declared.known.Known.{Known}
@@ -16,23 +16,33 @@ use Rattle.tcap_dialogues.specs.declared.live.Live.{Live}
 use Rattle.tcap_dialogues.proofs.CutLists.{finds, first_in, found, in_cases, kept_in, left_in, none_in}
 use Rattle.tcap_dialogues.proofs.GatheredLaws.{none_gathered, one_gathered}
 use Rattle.tcap_dialogues.proofs.HeldLaws.{one_name, same_kept}
-use Rattle.tcap_dialogues.proofs.HeldLists.{any_flat, or_none}
+use Rattle.tcap_dialogues.proofs.HeldLists.{any_flat, any_none, any_only, or_none}
+use Rattle.tcap_dialogues.proofs.LiveLaws.{either}
 
-module _ (live : List Course) (names : Course → ℕ) (number : Option ℕ) (apart : AreApart live) (earlier : List IdOf) where
-  -- those of that name, the others, and the IDs of those that are done then
+module _ (s : Courses) (names : Course → ℕ) (sent : IdOf → Bool) (number : Option ℕ) (apart : AreApart s.live) where
+  -- those of that name, the others, and all then
   abbrev gone : List Course
-  gone = those names number live
+  gone = those names number s.live
 
   abbrev left : List Course
-  left = others names number live
+  left = others names number s.live
 
-  abbrev now : List IdOf
-  now = earlier ++ flat_map (λ d. d.ids) gone
+  abbrev now : Courses
+  now = freed names number s
 
-  now_is : (id : IdOf) → is_among now id ≡ (is_among earlier id || list_any (λ d. is_among d.ids id) gone)
-  now_is id =
-      list_any-append (is_same id) earlier (flat_map (λ d. d.ids) gone)
-      ∙ ap (λ b. is_among earlier id || b) (any_flat (is_same id) (λ d. d.ids) gone)
+  abbrev Known_now : IdOf → Known → Type 0
+  Known_now = IsKnown now names sent
+
+  -- one of those is live
+  listed_gone : (d : Course) → Contains gone d → Contains s.live d
+  listed_gone d has = (kept_in (is_named names number) s.live d has).0
+
+  -- A part of the IDs of those that are done then.
+  then_is : (part : Course → List IdOf) (id : IdOf)
+      → is_among (flat_map part now.done) id ≡ (is_among (flat_map part s.done) id || list_any (λ d. is_among (part d) id) gone)
+  then_is part id =
+      any_flat (is_same id) part (s.done ++ gone) ∙ list_any-append (λ d. is_among (part d) id) s.done gone
+      ∙ ap (λ b. b || list_any (λ d. is_among (part d) id) gone) (sym (any_flat (is_same id) part s.done))
 
   -- None of the others has an ID of those.
   other_has_none : (id : IdOf) → list_any (λ d. is_among d.ids id) gone ≡ true → (e : Course) → Contains left e → is_among e.ids id ≡ false
@@ -41,51 +51,105 @@ module _ (live : List Course) (names : Course → ℕ) (number : Option ℕ) (ap
       bad : is_among e.ids id ≡ true → ⊥
       bad its =
           let (d, there, so) = found (λ x. is_among x.ids id) gone some in
-          let (listed, named) = kept_in (is_named names number) live d there in
-          let (hers, not_named) = kept_in (λ x. not (is_named names number x)) live e has in
+          let (listed, named) = kept_in (is_named names number) s.live d there in
+          let (hers, not_named) = kept_in (λ x. not (is_named names number x)) s.live e has in
           let same : d ≡ e = apart.one_id d e id listed hers so its in
           true≢false (sym not_named ∙ ap (λ x. not (is_named names number x)) (sym same) ∙ ap not named)
 
-  -- What is known of an ID where those are done.
-  pub freed : (since : ℕ) (old new : Known) (id : IdOf) → IsKnown live names (is_among earlier) id old
-      → new ≡ cond (list_any (λ d. is_among d.ids id) gone) (free_since since) old → IsKnown left names (is_among now) id new
-  freed since old new id known is = subst (IsKnown left names (is_among now) id) (sym is) (by (list_any (λ d. is_among d.ids id) gone) refl)
+  -- A firm ID of a live one is one of its IDs,
+  firm_has : (d : Course) (id : IdOf) → Contains s.live d → is_among (firm_in d) id ≡ true → is_among d.ids id ≡ true
+  firm_has d id listed is = by d.early is
     where
-      stays : (o : Option ℕ) (used begun : Bool) → list_any (λ d. is_among d.ids id) gone ≡ false → IsOwned live names id o used begun
-          → IsOwned left names id o used begun
-      stays None used begun none (nobody, unused, unbegun) =
-          (λ e has. nobody e (kept_in (λ x. not (is_named names number x)) live e has).0, unused, unbegun)
-      stays (Some m) used begun none (d, listed, its, name, used_is, begun_is) = (
-        d,
-        left_in (λ x. not (is_named names number x)) live d listed
-            (ap not (false_from_ne_true (is_named names number d)
-            (λ named. true≢false (sym (finds (λ x. is_among x.ids id) gone d (left_in (is_named names number) live d listed named) its) ∙ none)))),
-        its,
-        name,
-        used_is,
-        begun_is,
-      )
+      by : (b : Bool) → is_among (cond b d.used d.ids) id ≡ true → is_among d.ids id ≡ true
+      by true so = apart.used_in d id listed so
+      by false so = so
 
-      by : (b : Bool) → list_any (λ d. is_among d.ids id) gone ≡ b → IsKnown left names (is_among now) id (cond b (free_since since) old)
-      by true some = record {
-        owned = (other_has_none id some, refl, refl);
-        came = sym (now_is id ∙ or_right _ _ some);
-      }
-      by false none = record {
-        owned = stays old.dialogue old.used old.begun none known.owned;
-        came = known.came ∙ sym (now_is id ∙ ap (λ b. is_among earlier id || b) none ∙ or_none (is_among earlier id));
-      }
+  -- and one of its IDs is firm where it was used, or the dialogue began after that word.
+  firm_of : (d : Course) (id : IdOf) (early used : Bool) → is_among d.ids id ≡ true → early ≡ d.early → used ≡ is_among d.used id
+      → is_among (firm_in d) id ≡ (used || not early)
+  firm_of d id early used its same is = by d.early ∙ sym (ap (λ b. b || not early) is ∙ ap (λ b. is_among d.used id || not b) same)
+    where
+      by : (b : Bool) → is_among (cond b d.used d.ids) id ≡ (is_among d.used id || not b)
+      by true = sym (or_none (is_among d.used id))
+      by false = its ∙ sym (or_true (is_among d.used id))
+        where
+          or_true : (b : Bool) → (b || true) ≡ true
+          or_true true = refl
+          or_true false = refl
+
+  -- What is known of an ID where those are done.
+  module _ (first : ℕ) (early : Bool) (early_is : (d : Course) → Contains gone d → early ≡ d.early) (old : Known) (id : IdOf)
+      (known : IsKnown s names sent id old) where
+    -- Its dialogue used it by what is known.
+    used_is : (d : Course) → Contains s.live d → is_among d.ids id ≡ true → old.used ≡ is_among d.used id
+    used_is d listed its = by old.dialogue known.owned
+      where
+        by : (o : Option ℕ) → IsOwned s.live names id o old.used old.begun → old.used ≡ is_among d.used id
+        by None (nobody, unused, unbegun) = absurd (true≢false (sym its ∙ nobody d listed))
+        by (Some m) (e, there, hers, name, used, begun) =
+            used ∙ ap (λ x. is_among x.used id) (apart.one_id e d id there listed hers its)
+
+    firm_some : list_any (λ d. is_among d.ids id) gone ≡ true → list_any (λ d. is_among (firm_in d) id) gone ≡ (old.used || not early)
+    firm_some some =
+        let (d, has, its) = found (λ x. is_among x.ids id) gone some in
+        let listed = listed_gone d has in
+        any_only (λ x. is_among (firm_in x) id) gone d has
+        (λ e there so. apart.one_id e d id (listed_gone e there) listed (firm_has e id (listed_gone e there) so) its)
+        ∙ firm_of d id early old.used its (early_is d has) (used_is d listed its)
+
+    firm_none : list_any (λ d. is_among d.ids id) gone ≡ false → list_any (λ d. is_among (firm_in d) id) gone ≡ false
+    firm_none none =
+        any_none (λ x. is_among (firm_in x) id) gone
+        (λ e there. false_from_ne_true _
+        (λ so. true≢false (sym (finds (λ x. is_among x.ids id) gone e there (firm_has e id (listed_gone e there) so)) ∙ none)))
+
+    stays : (o : Option ℕ) (used begun : Bool) → list_any (λ d. is_among d.ids id) gone ≡ false → IsOwned s.live names id o used begun
+        → IsOwned left names id o used begun
+    stays None used begun none (nobody, unused, unbegun) =
+        (λ e has. nobody e (kept_in (λ x. not (is_named names number x)) s.live e has).0, unused, unbegun)
+    stays (Some m) used begun none (d, listed, its, name, used_so, begun_so) = (
+      d,
+      left_in (λ x. not (is_named names number x)) s.live d listed
+          (ap not (false_from_ne_true (is_named names number d)
+          (λ named. true≢false (sym (finds (λ x. is_among x.ids id) gone d (left_in (is_named names number) s.live d listed named) its) ∙ none)))),
+      its,
+      name,
+      used_so,
+      begun_so,
+    )
+
+    grouped : (a b c : Bool) → ((a || b) || c) ≡ (a || (b || c))
+    grouped true b c = refl
+    grouped false b c = refl
+
+    pub known_then : (new : Known) → new ≡ cond (list_any (λ d. is_among d.ids id) gone) (free_since first early old) old → Known_now id new
+    known_then new is = subst (Known_now id) (sym is) (by (list_any (λ d. is_among d.ids id) gone) refl)
+      where
+        by : (b : Bool) → list_any (λ d. is_among d.ids id) gone ≡ b → Known_now id (cond b (free_since first early old) old)
+        by true some = record {
+          owned = (other_has_none id some, refl, refl);
+          came = sym (then_is (λ d. d.ids) id ∙ or_right _ _ some);
+          firm_is = grouped old.firm old.used (not early) ∙ either _ _ _ _ known.firm_is (sym (firm_some some)) ∙ sym (then_is firm_in id);
+          sent_is = known.sent_is;
+        }
+        by false none = record {
+          owned = stays old.dialogue old.used old.begun none known.owned;
+          came = known.came ∙ sym (then_is (λ d. d.ids) id ∙ ap (λ b. is_among (flat_map (λ d. d.ids) s.done) id || b) none ∙ or_none _);
+          firm_is = known.firm_is
+              ∙ sym (then_is firm_in id ∙ ap (λ b. is_among (flat_map firm_in s.done) id || b) (firm_none none) ∙ or_none _);
+          sent_is = known.sent_is;
+        }
 
   -- ---- what was taken out
 
   -- It is of one of them, and there is no other.
-  taken_one : (lives : Rattle.std.specs.BTreeMap.BTreeMap ℕ Live) (l : Live) → AreLives live names lives → AreTaken gone names (Some l)
+  taken_one : (lives : Rattle.std.specs.BTreeMap.BTreeMap ℕ Live) (l : Live) → AreLives s.live names lives → AreTaken gone names (Some l)
       → (d : Course) × Contains gone d × ((e : Course) → Contains gone e → e ≡ d) × AreKept (d ∷ []) l
   taken_one lives l are (kept, named, some) =
       let (d, has, so) = found (λ x. has_entry x l.name) gone some in
-      let listed = (kept_in (is_named names number) live d has).0 in
+      let listed = listed_gone d has in
       let only : (e : Course) → Contains gone e → e ≡ d = λ e there.
-      one_name live names lives are apart e d (kept_in (is_named names number) live e there).0 listed (named e there ∙ sym (named d has)) in (
+      one_name s.live names lives are apart e d (listed_gone e there) listed (named e there ∙ sym (named d has)) in (
         d,
         has,
         only,
@@ -98,34 +162,38 @@ module _ (live : List Course) (names : Course → ℕ) (number : Option ℕ) (ap
       alone d e has (inl same) = subst (Contains gone) same has
       alone d e has (inr bad) = absurd (none_in e bad)
 
-  module _ (old : Cut) (held : IsHeld live names (is_among earlier) old) where
+  module _ (old : Cut) (held : IsHeld s names sent old) where
     -- One is handed over,
-    pub one_released : (since : ℕ) (out new : Cut) (l : Live) (g : Gathered) (before : List Gathered) → IsOut number live names old out (Some l)
+    pub one_released : (first : ℕ) (out new : Cut) (l : Live) (g : Gathered) (before : List Gathered) → IsOut number s.live names old out (Some l)
         → new.live ≡ out.live → new.overs ≡ out.overs
-        → ((id : IdOf) → known_at new.ids id ≡ cond (has_id l.a l.b id) (free_since since) (known_at out.ids id))
+        → ((id : IdOf) → known_at new.ids id ≡ cond (has_id l.a l.b id) (free_since first l.early (known_at out.ids id)) (known_at out.ids id))
         → ((d : Course) → AreKept (d ∷ []) l → IsGathered d g)
-        → IsHeld left names (is_among now) new × HandsOver gone before (before ++ g ∷ [])
-    one_released since out new l g before is same_live same_overs ids stands =
-        let (d, has, only, kept) = taken_one old.live l held.lives is.out in (
+        → IsHeld now names sent new × HandsOver gone before (before ++ g ∷ [])
+    one_released first out new l g before is same_live same_overs ids stands =
+        let (d, has, only, kept) = taken_one old.live l held.lives is.out in
+        let early_is : (e : Course) → Contains gone e → l.early ≡ e.early =
+        λ e there. kept.early ∙ or_none d.early ∙ ap (λ x. x.early) (sym (only e there)) in (
           record {
             lives = subst (AreLives left names) (sym same_live) is.lives;
             overs = subst (Rattle.tcap_dialogues.specs.Held.AreOvers left names) (sym same_overs) is.overs;
-            ids = λ id. freed since (known_at old.ids id) (known_at new.ids id) id (held.ids id)
-                (ids id ∙ ap (λ known. cond (has_id l.a l.b id) (free_since since) known) (ap (λ k. known_at k.ids id) is.rest)
-                ∙ ap (λ b. cond b (free_since since) (known_at old.ids id)) (is.out.0.ids id));
+            ids = λ id. known_then first l.early early_is (known_at old.ids id) id (held.ids id) (known_at new.ids id)
+                (ids id
+                ∙ ap (λ known. cond (has_id l.a l.b id) (free_since first l.early known) known) (ap (λ k. known_at k.ids id) is.rest)
+                ∙ ap (λ b. cond b (free_since first l.early (known_at old.ids id)) (known_at old.ids id)) (is.out.0.ids id));
           },
           (g ∷ [], refl, one_gathered gone d g has only (stands d kept)),
         )
 
     -- or there is none.
-    pub none_released : (out : Cut) (before : List Gathered) → IsOut number live names old out None
-        → IsHeld left names (is_among now) out × HandsOver gone before before
+    pub none_released : (out : Cut) (before : List Gathered) → IsOut number s.live names old out None
+        → IsHeld now names sent out × HandsOver gone before before
     none_released out before is = (
       record {
         lives = is.lives;
         overs = is.overs;
-        ids = λ id. freed 0 (known_at old.ids id) (known_at out.ids id) id (held.ids id)
-            (ap (λ k. known_at k.ids id) is.rest ∙ ap (λ b. cond b (free_since 0) (known_at old.ids id)) (sym (nobody id)));
+        ids = λ id. known_then 0 false (λ d has. absurd (is.out d has)) (known_at old.ids id) id (held.ids id) (known_at out.ids id)
+            (ap (λ k. known_at k.ids id) is.rest
+            ∙ ap (λ b. cond b (free_since 0 false (known_at old.ids id)) (known_at old.ids id)) (sym (nobody id)));
       },
       ([], sym (append-nil before), none_gathered gone is.out),
     )

@@ -1,16 +1,16 @@
 -- The next entry comes: the dialogues that are handed over, and what is kept then.
 use Rattle.std.proofs.Common.{◌≡◌, ◌⊎◌, inl, inr, ℕ, ◌+◌, ◌<◌, Bool, true, false, List, [], ◌∷◌, ◌++◌, length, Option, Some, None, refl, sym, ap, subst, ◌∙◌}
-use Rattle.std.specs.Prelude.{◌||◌, not, Contains, filter}
-use Rattle.std.specs.List.{flat_map}
+use Rattle.std.specs.Prelude.{◌&&◌, ◌||◌, cond, not, Contains, filter}
+use Rattle.std.specs.List.{flat_map, list_any}
 use Rattle.std.proofs.lemmas.Bool.{cases_Bool, or_left, or_right, true≢false}
-use Rattle.std.proofs.lemmas.List.{append_assoc}
+use Rattle.std.proofs.lemmas.List.{append-nil, append_assoc}
 use Rattle.std.proofs.lemmas.List.Elements.{Contains-append_cases, Contains-append_left, Contains-append_right}
 use Rattle.std.proofs.lemmas.List.Folds.{list_any-append}
 use Rattle.std.proofs.lemmas.Grind.{flat_map-append}
-use Rattle.tcap_dialogues.specs.Course.{Course, Courses, Heading, courses_so_far, has_entry, is_free}
+use Rattle.tcap_dialogues.specs.Course.{Course, Courses, Heading, begins_one, courses_so_far, firm_in, has_entry, have_one, ids_in, is_alone, is_free, joined_by, own_ids}
 use Rattle.tcap_dialogues.specs.Cut.{IdOf, is_among, is_same}
 use Rattle.tcap_dialogues.specs.Gathered.{HandsOver}
-use Rattle.tcap_dialogues.specs.Held.{AreApart, AreLives, AreOvers, IsCutOf, IsHeld, IsKnown, Lingers, is_given_up, is_named, is_past_by, known_at, others, those, with_one}
+use Rattle.tcap_dialogues.specs.Held.{AreApart, IsCut, IsCutOf, IsHeld, Lingers, freed, is_given_up, is_named, is_past_by, known_at, others, those}
 use Rattle.tcap_dialogues.specs.declared.cut.Cut.{Cut}
 use Rattle.tcap_dialogues.specs.declared.gathered.Gathered.{Gathered}
 use Rattle.tcap_dialogues.specs.declared.reuse.Reuse.{Reuse}
@@ -20,10 +20,10 @@ use Rattle.tcap_dialogues.proofs.GatheredLaws.{more_gathered, same_gathered}
 use Rattle.tcap_dialogues.proofs.HeldLists.{AreSame, any_flat, any_same}
 use Rattle.tcap_dialogues.proofs.LiveLaws.{either}
 
--- What is kept is kept of the same ones in another order.
-pub held_same : (ds es : List Course) (names : Course → ℕ) (earlier now : IdOf → Bool) (kept : Cut) → AreSame ds es
-    → ((id : IdOf) → earlier id ≡ now id) → IsHeld ds names earlier kept → IsHeld es names now kept
-held_same ds es names earlier now kept same agree held = record {
+-- What is kept is kept of the same ones in another order, and by the same IDs.
+pub held_same : (s t : Courses) (names : Course → ℕ) (sent sent_too : IdOf → Bool) (kept : Cut) → AreSame s.done t.done → AreSame s.live t.live
+    → ((id : IdOf) → sent id ≡ sent_too id) → IsHeld s names sent kept → IsHeld t names sent_too kept
+held_same s t names sent sent_too kept done same agree held = record {
   lives = record {
     there = λ d has. held.lives.there d (same.back d has);
     back = λ k l at. let (d, has, named) = held.lives.back k l at in (d, same.there d has, named);
@@ -33,13 +33,33 @@ held_same ds es names earlier now kept same agree held = record {
     there = λ d k has over. held.overs.there d k (same.back d has) over;
     back = λ k found at. let (d, has, over, named) = held.overs.back k found at in (d, same.there d has, over, named);
   };
-  ids = λ id. record { owned = by id (known_at kept.ids id).dialogue _ _ (held.ids id).owned; came = (held.ids id).came ∙ agree id };
+  ids = λ id. record {
+    owned = by id (known_at kept.ids id).dialogue _ _ (held.ids id).owned;
+    came = (held.ids id).came ∙ part (λ d. d.ids) id;
+    firm_is = (held.ids id).firm_is ∙ part firm_in id;
+    sent_is = (held.ids id).sent_is ∙ agree id;
+  };
 }
   where
-    by : (id : IdOf) (o : Option ℕ) (used begun : Bool) → Rattle.tcap_dialogues.specs.Held.IsOwned ds names id o used begun
-        → Rattle.tcap_dialogues.specs.Held.IsOwned es names id o used begun
+    part : (ids : Course → List IdOf) (id : IdOf) → is_among (flat_map ids s.done) id ≡ is_among (flat_map ids t.done) id
+    part ids id =
+        any_flat (is_same id) ids s.done ∙ any_same (λ d. is_among (ids d) id) s.done t.done done ∙ sym (any_flat (is_same id) ids t.done)
+
+    by : (id : IdOf) (o : Option ℕ) (used begun : Bool) → Rattle.tcap_dialogues.specs.Held.IsOwned s.live names id o used begun
+        → Rattle.tcap_dialogues.specs.Held.IsOwned t.live names id o used begun
     by id None used begun (nobody, unused, unbegun) = (λ d has. nobody d (same.back d has), unused, unbegun)
     by id (Some m) used begun (d, has, its, named, used_is, begun_is) = (d, same.there d has, its, named, used_is, begun_is)
+
+-- More before two lists with the same elements.
+same_behind : {X : Type 0} (before xs ys : List X) → AreSame xs ys → AreSame (before ++ xs) (before ++ ys)
+same_behind {X} before xs ys same = record {
+  there = λ x has. by xs ys same.there x (Contains-append_cases before xs x has);
+  back = λ x has. by ys xs same.back x (Contains-append_cases before ys x has);
+}
+  where
+    by : (us vs : List X) → ((x : X) → Contains us x → Contains vs x) → (x : X) → Contains before x ⊎ Contains us x → Contains (before ++ vs) x
+    by us vs there x (inl has) = Contains-append_left before vs x has
+    by us vs there x (inr has) = Contains-append_right before vs x (there x has)
 
 module _ (live : List Course) (names : Course → ℕ) (past given : Option ℕ) (free : Course → Bool)
     (is : (d : Course) → Contains live d → free d ≡ (is_named names past d || is_named names given d)) (apart : AreApart live) where
@@ -124,21 +144,32 @@ module _ (live : List Course) (names : Course → ℕ) (past given : Option ℕ)
           let same : d ≡ e = apart.one_number d e n listed there its too in
           true≢false (sym not_past ∙ ap (λ x. not (is_named names past x)) (sym same) ∙ ap not named)
 
-  -- The IDs of those that are done then.
-  pub earlier_is : (done : List Course) (id : IdOf)
-      → is_among ((flat_map (λ d. d.ids) done ++ flat_map (λ d. d.ids) first) ++ flat_map (λ d. d.ids) second) id
-      ≡ is_among (flat_map (λ d. d.ids) (done ++ filter free live)) id
-  earlier_is done id =
-      ap (λ ids. is_among ids id) (append_assoc (flat_map (λ d. d.ids) done) (flat_map (λ d. d.ids) first) (flat_map (λ d. d.ids) second))
-      ∙ list_any-append (is_same id) (flat_map (λ d. d.ids) done) (flat_map (λ d. d.ids) first ++ flat_map (λ d. d.ids) second)
-      ∙ ap (λ b. is_among (flat_map (λ d. d.ids) done) id || b)
-      (ap (λ ids. is_among ids id) (sym (flat_map-append (λ d. d.ids) first second))
-      ∙ any_flat (is_same id) (λ d. d.ids) (first ++ second) ∙ any_same (λ d. is_among d.ids id) (first ++ second) (filter free live) free_ones
-      ∙ sym (any_flat (is_same id) (λ d. d.ids) (filter free live)))
-      ∙ sym (list_any-append (is_same id) (flat_map (λ d. d.ids) done) (flat_map (λ d. d.ids) (filter free live)))
-      ∙ ap (λ ids. is_among ids id) (sym (flat_map-append (λ d. d.ids) done (filter free live)))
+  -- All that are done then.
+  pub done_ones : (done : List Course) → AreSame ((done ++ first) ++ second) (done ++ filter free live)
+  done_ones done =
+      subst (λ ds. AreSame ds (done ++ filter free live)) (sym (append_assoc done first second))
+      (same_behind done (first ++ second) (filter free live) free_ones)
 
 -- ---- with the entry
+
+-- What is left of a list and passes is what passes of it and is left.
+pub any_left : {X : Type 0} (p q : X → Bool) (xs : List X)
+    → list_any p (filter (λ x. not (q x)) xs) ≡ list_any (λ x. p x && not (q x)) xs
+any_left p q [] = refl
+any_left {X} p q (x ∷ xs) = by (q x) ∙ ap (λ b. (p x && not (q x)) || b) (any_left p q xs)
+  where
+    by : (b : Bool) → list_any p (cond (not b) (x ∷ filter (λ y. not (q y)) xs) (filter (λ y. not (q y)) xs))
+        ≡ ((p x && not b) || list_any p (filter (λ y. not (q y)) xs))
+    by true = ap (λ b. b || list_any p (filter (λ y. not (q y)) xs)) (sym (none (p x)))
+      where
+        none : (b : Bool) → (b && false) ≡ false
+        none true = refl
+        none false = refl
+    by false = ap (λ b. b || list_any p (filter (λ y. not (q y)) xs)) (sym (all (p x)))
+      where
+        all : (b : Bool) → (b && true) ≡ b
+        all true = refl
+        all false = refl
 
 module _ (reuse : Reuse) (headings : List Heading) (h : Heading) where
   abbrev s : Courses
@@ -147,77 +178,87 @@ module _ (reuse : Reuse) (headings : List Heading) (h : Heading) where
   abbrev n : ℕ
   n = length headings
 
-  -- those that are left, and the IDs of those that are done
-  abbrev pub left_then : List Course
-  left_then = filter (λ d. not (is_free reuse n s.live h d)) s.live
+  -- those that are done then, those that are left, and from which IDs an entry was sent
+  abbrev pub freed_now : Courses
+  freed_now = record { done = s.done ++ filter (is_free reuse n s h) s.live; live = filter (λ d. not (is_free reuse n s h d)) s.live }
 
-  abbrev pub earlier_then : List IdOf
-  earlier_then = flat_map (λ d. d.ids) (s.done ++ filter (is_free reuse n s.live h) s.live)
+  abbrev pub sent : IdOf → Bool
+  sent = is_among (flat_map own_ids headings)
 
-  pub left_then_apart : AreApart left_then
-  left_then_apart =
-      left_apart s.live left_then (λ d has. (kept_in (λ e. not (is_free reuse n s.live h e)) s.live d has).0) (apart_so_far reuse headings)
+  pub then_apart : AreApart freed_now.live
+  then_apart =
+      left_apart s.live freed_now.live (λ d has. (kept_in (λ e. not (is_free reuse n s h e)) s.live d has).0) (apart_so_far reuse headings)
 
-  pub later_apart : AreApart (with_one earlier_then n h left_then)
+  later_apart : AreApart (joined_by n h freed_now.done freed_now.live).live
   later_apart = subst (λ c. AreApart c.live) (so_far_more reuse headings h) (apart_so_far reuse (headings ++ h ∷ []))
 
-  pub left_then_below : (d : Course) (i : ℕ) → Contains left_then d → has_entry d i ≡ true → i < n
-  left_then_below d i has is =
+  then_below : (d : Course) (i : ℕ) → Contains freed_now.live d → has_entry d i ≡ true → i < n
+  then_below d i has is =
       (well_so_far reuse headings).courses.below d i
-      (inr (kept_in (λ e. not (is_free reuse n s.live h e)) s.live d has).0) is
+      (inr (kept_in (λ e. not (is_free reuse n s h e)) s.live d has).0) is
 
-  -- What is kept then is kept of the stretch with it.
-  pub cut_then : (kept : Cut) → IsCutOf reuse (n + 1) (with_one earlier_then n h left_then) (is_among earlier_then) kept
-      → IsCutOf reuse (length (headings ++ h ∷ [])) (courses_so_far reuse (headings ++ h ∷ [])).live
-      (is_among (flat_map (λ d. d.ids) (courses_so_far reuse (headings ++ h ∷ [])).done)) kept
+  sent_then : (id : IdOf) → (sent id || is_among (own_ids h) id) ≡ is_among (flat_map own_ids (headings ++ h ∷ [])) id
+  sent_then id =
+      sym (ap (λ ids. is_among ids id) (flat_map-append own_ids headings (h ∷ []))
+      ∙ list_any-append (is_same id) (flat_map own_ids headings) (flat_map own_ids (h ∷ []))
+      ∙ ap (λ ids. sent id || is_among ids id) (append-nil (own_ids h)))
+
+  -- What is kept then is kept of the segment with it.
+  cut_then : (kept : Cut) → IsCutOf reuse (n + 1) (joined_by n h freed_now.done freed_now.live) (λ id. sent id || is_among (own_ids h) id) kept
+      → IsCut reuse (headings ++ h ∷ []) kept
   cut_then kept is =
-      subst (λ c. IsCutOf reuse (length (headings ++ h ∷ [])) c.live (is_among (flat_map (λ d. d.ids) c.done)) kept)
+      subst (λ c. IsCutOf reuse (length (headings ++ h ∷ [])) c (is_among (flat_map own_ids (headings ++ h ∷ []))) kept)
       (sym (so_far_more reuse headings h))
-      (subst (λ m. IsCutOf reuse m (with_one earlier_then n h left_then) (is_among earlier_then) kept)
-      (sym (Rattle.std.proofs.lemmas.List.length-append headings (h ∷ []))) is)
+      (subst (λ m. IsCutOf reuse m (joined_by n h freed_now.done freed_now.live) (is_among (flat_map own_ids (headings ++ h ∷ []))) kept)
+      (sym (Rattle.std.proofs.lemmas.List.length-append headings (h ∷ [])))
+      (record {
+        reuse_is = is.reuse_is;
+        count_is = is.count_is;
+        name = is.name;
+        held = held_same _ _ is.name _ _ kept
+            (record { there = λ d has. has; back = λ d has. has }) (record { there = λ d has. has; back = λ d has. has }) sent_then is.held;
+      }))
+
+  -- whether it is the first of one more
+  pub begins_then : (not (is_alone h) && not (list_any (λ d. have_one (ids_in h) d.ids) freed_now.live)) ≡ begins_one reuse n s h
+  begins_then = ap (λ b. not (is_alone h) && not b) (any_left (λ d. have_one (ids_in h) d.ids) (is_free reuse n s h) s.live)
 
   -- ---- by the code's names
 
   -- What is live lingers by what the code keeps.
-  pub lingers_old : (old : Cut) → IsCutOf reuse n s.live (is_among (flat_map (λ d. d.ids) s.done)) old → (d : Course) → Contains s.live d
-      → Lingers old.reuse old.count d.over
+  pub lingers_old : (old : Cut) → IsCut reuse headings old → (d : Course) → Contains s.live d → Lingers old.reuse old.count d.over
   lingers_old old cut d has =
       subst (λ r. Lingers r old.count d.over) (sym cut.reuse_is)
       (subst (λ m. Lingers reuse m d.over) (sym cut.count_is) (((well_so_far reuse headings).sound d has).lingers))
 
-  pub free_names : (old : Cut) (cut : IsCutOf reuse n s.live (is_among (flat_map (λ d. d.ids) s.done)) old) (past given : Option ℕ)
+  pub free_names : (old : Cut) (cut : IsCut reuse headings old) (past given : Option ℕ)
       → ((d : Course) → Contains s.live d → is_past_by old.reuse old.count d ≡ is_named cut.name past d)
-      → ((d : Course) → Contains s.live d → is_given_up old.reuse s.live h d ≡ is_named cut.name given d)
-      → (d : Course) → Contains s.live d → is_free reuse n s.live h d ≡ (is_named cut.name past d || is_named cut.name given d)
+      → ((d : Course) → Contains s.live d → is_given_up old.reuse s h d ≡ is_named cut.name given d)
+      → (d : Course) → Contains s.live d → is_free reuse n s h d ≡ (is_named cut.name past d || is_named cut.name given d)
   free_names old cut past given past_is given_is d has =
-      free_is reuse n s.live h d
+      free_is reuse n s h d
       ∙ either _ _ _ _
       (ap (λ m. is_past_by reuse m d) (sym cut.count_is) ∙ ap (λ r. is_past_by r old.count d) (sym cut.reuse_is) ∙ past_is d has)
-      (ap (λ r. is_given_up r s.live h d) (sym cut.reuse_is) ∙ given_is d has)
+      (ap (λ r. is_given_up r s h d) (sym cut.reuse_is) ∙ given_is d has)
 
-  module _ (names : Course → ℕ) (past given : Option ℕ)
-      (is : (d : Course) → Contains s.live d → is_free reuse n s.live h d ≡ (is_named names past d || is_named names given d)) where
-    pub left_held : (kept : Cut)
-        → IsHeld (others names given (others names past s.live)) names
-        (is_among ((flat_map (λ d. d.ids) s.done ++ flat_map (λ d. d.ids) (those names past s.live))
-        ++ flat_map (λ d. d.ids) (those names given (others names past s.live)))) kept
-        → IsHeld left_then names (is_among earlier_then) kept
-    left_held kept held =
-        held_same (others names given (others names past s.live)) left_then names _ _ kept
-        (left_ones s.live names past given (is_free reuse n s.live h) is (apart_so_far reuse headings))
-        (earlier_is s.live names past given (is_free reuse n s.live h) is (apart_so_far reuse headings) s.done) held
+  pub then_held : (names : Course → ℕ) (past given : Option ℕ)
+      → ((d : Course) → Contains s.live d → is_free reuse n s h d ≡ (is_named names past d || is_named names given d))
+      → (kept : Cut) → IsHeld (freed names given (freed names past s)) names sent kept → IsHeld freed_now names sent kept
+  then_held names past given is kept held =
+      held_same (freed names given (freed names past s)) freed_now names sent sent kept
+      (done_ones s.live names past given (is_free reuse n s h) is (apart_so_far reuse headings) s.done)
+      (left_ones s.live names past given (is_free reuse n s h) is (apart_so_far reuse headings)) (λ id. refl) held
 
-  pub later_at : (m : ℕ) → m ≡ n → AreApart (with_one earlier_then m h left_then)
-  later_at m same = subst (λ k. AreApart (with_one earlier_then k h left_then)) (sym same) later_apart
+  pub later_at : (m : ℕ) → m ≡ n → AreApart (joined_by m h freed_now.done freed_now.live).live
+  later_at m same = subst (λ k. AreApart (joined_by k h freed_now.done freed_now.live).live) (sym same) later_apart
 
-  pub below_at : (m : ℕ) → m ≡ n → (d : Course) (i : ℕ) → Contains left_then d → has_entry d i ≡ true → i < m
-  below_at m same d i has so = subst (λ k. i < k) (sym same) (left_then_below d i has so)
+  pub below_at : (m : ℕ) → m ≡ n → (d : Course) (i : ℕ) → Contains freed_now.live d → has_entry d i ≡ true → i < m
+  below_at m same d i has so = subst (λ k. i < k) (sym same) (then_below d i has so)
 
   pub cut_at : (kept : Cut) (r : Reuse) (m : ℕ) → r ≡ reuse → m ≡ n
-      → IsCutOf r (m + 1) (with_one earlier_then m h left_then) (is_among earlier_then) kept
-      → IsCutOf reuse (length (headings ++ h ∷ [])) (courses_so_far reuse (headings ++ h ∷ [])).live
-      (is_among (flat_map (λ d. d.ids) (courses_so_far reuse (headings ++ h ∷ [])).done)) kept
+      → IsCutOf r (m + 1) (joined_by m h freed_now.done freed_now.live) (λ id. sent id || is_among (own_ids h) id) kept
+      → IsCut reuse (headings ++ h ∷ []) kept
   cut_at kept r m same_reuse same_count is =
       cut_then kept
-      (subst (λ k. IsCutOf reuse (k + 1) (with_one earlier_then k h left_then) (is_among earlier_then) kept) same_count
-      (subst (λ q. IsCutOf q (m + 1) (with_one earlier_then m h left_then) (is_among earlier_then) kept) same_reuse is))
+      (subst (λ k. IsCutOf reuse (k + 1) (joined_by k h freed_now.done freed_now.live) (λ id. sent id || is_among (own_ids h) id) kept) same_count
+      (subst (λ q. IsCutOf q (m + 1) (joined_by m h freed_now.done freed_now.live) (λ id. sent id || is_among (own_ids h) id) kept) same_reuse is))

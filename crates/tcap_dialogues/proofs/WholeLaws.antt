@@ -13,13 +13,13 @@ module _ (reuse : Reuse) (headings : List Heading) (before given : List Gathered
     (are : AreGathered (courses_so_far reuse headings).done before) where
   -- What is handed over as the next entry comes, with what was before, stands for those that are done then,
   pub next_gathered : (h : Heading)
-      → AreGathered (filter (is_free reuse (length headings) (courses_so_far reuse headings).live h) (courses_so_far reuse headings).live) given
+      → AreGathered (filter (is_free reuse (length headings) (courses_so_far reuse headings) h) (courses_so_far reuse headings).live) given
       → AreGathered (courses_so_far reuse (headings ++ h ∷ [])).done (before ++ given)
   next_gathered h more =
       subst (λ s. AreGathered s.done (before ++ given)) (sym (so_far_more reuse headings h))
       (more_gathered _ _ before given
       (λ d e n has hers its too. (well_so_far reuse headings).courses.no_number d e n has
-      (kept_in (is_free reuse (length headings) (courses_so_far reuse headings).live h) (courses_so_far reuse headings).live e hers).0 its too)
+      (kept_in (is_free reuse (length headings) (courses_so_far reuse headings) h) (courses_so_far reuse headings).live e hers).0 its too)
       are more)
 
   -- and with what is handed over at the end for all of the stretch.

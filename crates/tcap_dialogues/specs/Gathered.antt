@@ -35,6 +35,8 @@ pub record IsGathered (d : Course) (g : Gathered) : Type 0 where
   -- says when the dialogue is over, and has the number of an earlier one where an ID came again.
   pub over : g.over ≡ d.over
   pub again : is_some g.earlier ≡ d.again
+  -- and says whether the owner of such an ID had not sent from it.
+  pub unsettled : g.unsettled ≡ d.unsettled
 
 -- These stand for those dialogues, one for each.
 pub record AreGathered (ds : List Course) (given : List Gathered) : Type 0 where

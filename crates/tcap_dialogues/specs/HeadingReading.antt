@@ -1,7 +1,7 @@
 -- What can be read of an element that may be no message (Q.773 4.2.1): by its tag the kind of the message that it would be, and the
 -- transaction IDs which such a message has, where their elements are whole and of 1 to 4 octets, whatever stands behind them. Else
 -- nothing is read.
-use Rattle.std.specs.Prelude.{ℕ, List, Option, Some, None, Result, Ok, Err}
+use Rattle.std.specs.Prelude.{ℕ, false, List, Option, Some, None, Result, Ok, Err}
 use Rattle.std.specs.Option.{option_map}
 use Rattle.tcap_ber.specs.declared.fault.Fault.{Fault}
 use Rattle.tcap_ber.specs.declared.fault.Reason.TheVariants.{UnexpectedTag}
@@ -17,7 +17,14 @@ use Rattle.tcap_dialogues.specs.declared.heading.HeadingView.{HeadingView}
 
 -- of a sender and a kind, with these IDs
 abbrev pub heading_with : Side → Kind → Option (List ℕ) → Option (List ℕ) → Heading
-heading_with sender kind otid dtid = record { sender = sender; kind = Some kind; otid = otid; dtid = dtid }
+heading_with sender kind otid dtid = record {
+  sender = sender;
+  kind = Some kind;
+  otid = otid;
+  dtid = dtid;
+  under_way = false;
+  known = false;
+}
 
 -- the IDs of a Begin; of a Continue; of an End or an Abort
 unfoldable pub begin_heading_at : Side → Span → Result Heading Fault
@@ -52,7 +59,14 @@ heading_in sender s = one_of_at (heading_of_element sender) s
 -- what is read, or nothing but the sender
 abbrev pub or_nothing : Side → Result (Heading × Span) Fault → Heading
 or_nothing sender (Ok found) = found.0
-or_nothing sender (Err f) = record { sender = sender; kind = None; otid = None; dtid = None }
+or_nothing sender (Err f) = record {
+  sender = sender;
+  kind = None;
+  otid = None;
+  dtid = None;
+  under_way = false;
+  known = false;
+}
 
 abbrev pub heading_at : Side → List ℕ → Heading
 heading_at sender octets = or_nothing sender (heading_in sender (whole octets))
@@ -64,4 +78,6 @@ heading_read v = record {
   kind = v.kind;
   otid = option_map (λ id. id.octets.now) v.otid;
   dtid = option_map (λ id. id.octets.now) v.dtid;
+  under_way = v.under_way;
+  known = v.known;
 }

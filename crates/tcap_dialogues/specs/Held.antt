@@ -1,5 +1,5 @@
--- What is kept of the live dialogues of a stretch as its entries come.
-use Rattle.std.specs.Prelude.{◌≡◌, ⊤, ℕ, ◌+◌, ◌≤◌, ◌⊎◌, Bool, true, false, List, [], ◌∷◌, ◌++◌, filter, length, ◌==◌, ◌&&◌, ◌||◌, not, Contains, Option, Some, None, is_none, is_some, cond, max}
+-- What is kept of the dialogues of a segment as its entries come.
+use Rattle.std.specs.Prelude.{◌≡◌, ⊤, ℕ, ◌+◌, ◌≤◌, ◌⊎◌, Bool, true, false, List, [], ◌∷◌, ◌++◌, filter, length, ◌==◌, ◌&&◌, ◌||◌, not, Contains, Option, Some, None, is_none, is_some, cond, max, nat_lt}
 use Rattle.std.specs.BTreeMap as tree
 use Rattle.std.specs.BTreeMap.{BTreeMap}
 use Rattle.std.specs.BTreeSet as set
@@ -8,13 +8,14 @@ use Rattle.std.specs.Ordering.{nat_cmp}
 use Rattle.tcap_record.specs.declared.entry.End.{End as Side}
 use Rattle.tcap_end.specs.Table.{octets_cmp}
 use Rattle.tcap_model.specs.World.{is_side}
-use Rattle.tcap_dialogues.specs.Course.{Course, Heading, begins_from, courses_so_far, first_over, gives_to_another, has_entry, have_one, ids_in, is_past, with_entry}
+use Rattle.tcap_dialogues.specs.Course.{Course, Courses, Earlier, Heading, begins_from, courses_so_far, firm_in, first_over, gives_to_another, goes_on_with_another, has_begin, has_entry, have_one, ids_in, is_past, own_ids, with_entry}
 use Rattle.tcap_dialogues.specs.Cut.{IdOf, is_among}
 use Rattle.tcap_dialogues.specs.Gathered.{by_end, has_id}
 use Rattle.tcap_dialogues.specs.declared.cut.Cut.{Cut}
 use Rattle.tcap_dialogues.specs.declared.known.Change.{Change}
 use Rattle.tcap_dialogues.specs.declared.known.Change.TheVariants as changes
 use Rattle.tcap_dialogues.specs.declared.known.EndIds.{EndIds}
+use Rattle.tcap_dialogues.specs.declared.known.Gone.{Gone}
 use Rattle.tcap_dialogues.specs.declared.known.Ids.{Ids}
 use Rattle.tcap_dialogues.specs.declared.known.Known.{Known}
 use Rattle.tcap_dialogues.specs.declared.live.Live.{Live}
@@ -23,17 +24,36 @@ use Rattle.tcap_dialogues.specs.declared.reuse.Reuse.TheVariants as reuses
 
 -- ---- what is known of an ID
 
--- by what is kept of it, where a live dialogue has it, and by the number of the last one that is done and had it
-abbrev pub known_by : Option Known → Option ℕ → Known
-known_by (Some known) last = known
-known_by None last = record { dialogue = None; used = false; begun = false; last = last }
+-- by what is kept of it if a live dialogue has it, or by what is kept of it if dialogues that are done had it
+abbrev pub known_by : Option Known → Option Gone → Known
+known_by (Some known) found = known
+known_by None None = record { dialogue = None; used = false; begun = false; last = None; firm = false; sent = false }
+known_by None (Some gone) = record {
+  dialogue = None;
+  used = false;
+  begun = false;
+  last = Some gone.last;
+  firm = gone.firm;
+  sent = gone.sent;
+}
 
 abbrev pub nothing : Known
 nothing = known_by None None
 
--- that it is free, since the dialogue of that number is done
-abbrev pub free_since : ℕ → Known
-free_since number = known_by None (Some number)
+-- what is kept of an ID once its dialogue is done, and that the ID is free then
+abbrev pub last_of : ℕ → Option ℕ → ℕ
+last_of first None = first
+last_of first (Some last) = cond (nat_lt first last) last first
+
+abbrev pub gone_since : ℕ → Bool → Known → Gone
+gone_since first early known = record {
+  last = last_of first known.last;
+  firm = known.firm || known.used || not early;
+  sent = known.sent;
+}
+
+abbrev pub free_since : ℕ → Bool → Known → Known
+free_since first early known = known_by None (Some (gone_since first early known))
 
 abbrev pub known_in : EndIds → List ℕ → Known
 known_in ids octets = known_by (tree.get octets_cmp ids.live octets) (tree.get octets_cmp ids.done octets)
@@ -47,12 +67,16 @@ known_of ids end None = nothing
 known_of ids end (Some octets) = known_at ids (record { end = end; octets = octets })
 
 abbrev pub changed : Change → Known → Known
-changed (changes.Free number) known = free_since number
+changed (changes.Free first early) known = free_since first early known
 changed (changes.JoinTo name) known = record known { dialogue = Some name }
 
 -- the number of the last dialogue that had an ID, where no live one has it
 abbrev pub earlier_of : Known → Option ℕ
 earlier_of known = cond (is_none known.dialogue) known.last None
+
+-- whether an earlier dialogue had an ID, no live one has it, and it is not firm
+abbrev pub is_unsettled : Known → Bool
+is_unsettled known = is_some (earlier_of known) && not known.firm
 
 -- the higher one of two numbers, where they are
 abbrev pub higher : Option ℕ → Option ℕ → Option ℕ
@@ -81,8 +105,11 @@ pub record AreKept (ds : List Course) (l : Live) : Type 0 where
   pub numbers : (n : ℕ) → set.contains nat_cmp l.numbers n ≡ list_any (λ d. has_entry d n) ds
   pub ids : (id : IdOf) → has_id l.a l.b id ≡ list_any (λ d. is_among d.ids id) ds
   pub senders : (side : Side) → has_sent l side ≡ list_any (λ d. list_any (is_side side) d.senders) ds
+  pub begun : l.begun ≡ list_any has_begin ds
   pub over : l.over ≡ first_over ds
+  pub early : l.early ≡ list_any (λ d. d.early) ds
   pub again : is_some l.earlier ≡ list_any (λ d. d.again) ds
+  pub unsettled : l.unsettled ≡ list_any (λ d. d.unsettled) ds
 
 -- Each has one of its name, which is the number of one of its entries; and there are no others.
 pub record AreLives (live : List Course) (name : Course → ℕ) (lives : BTreeMap ℕ Live) : Type 0 where
@@ -97,36 +124,37 @@ pub record AreOvers (live : List Course) (name : Course → ℕ) (overs : BTreeM
   pub back : (number found : ℕ) → tree.get nat_cmp overs number ≡ Some found
       → (d : Course) × Contains live d × (d.over ≡ Some number) × (name d ≡ found)
 
--- What is known of an ID: which live dialogue has it, and whether one that is done had it.
+-- What is known of an ID: which live dialogue has it, whether one that is done had it, whether it is firm then, and whether its owner
+-- sent from it.
 abbrev pub IsOwned : List Course → (Course → ℕ) → IdOf → Option ℕ → Bool → Bool → Type 0
 IsOwned live name id None used begun = ((d : Course) → Contains live d → is_among d.ids id ≡ false) × (used ≡ false) × (begun ≡ false)
 IsOwned live name id (Some number) used begun =
     (d : Course) × Contains live d × (is_among d.ids id ≡ true) × (name d ≡ number) × (used ≡ is_among d.used id)
     × (begun ≡ is_among d.begun id)
 
-pub record IsKnown (live : List Course) (name : Course → ℕ) (earlier : IdOf → Bool) (id : IdOf) (known : Known) : Type 0 where
-  pub owned : IsOwned live name id known.dialogue known.used known.begun
-  pub came : is_some known.last ≡ earlier id
+pub record IsKnown (s : Courses) (name : Course → ℕ) (sent : IdOf → Bool) (id : IdOf) (known : Known) : Type 0 where
+  pub owned : IsOwned s.live name id known.dialogue known.used known.begun
+  pub came : is_some known.last ≡ is_among (flat_map (λ d. d.ids) s.done) id
+  pub firm_is : known.firm ≡ is_among (flat_map firm_in s.done) id
+  pub sent_is : known.sent ≡ sent id
 
--- All that is kept of live dialogues, and of the IDs of those that are done.
-pub record IsHeld (live : List Course) (name : Course → ℕ) (earlier : IdOf → Bool) (kept : Cut) : Type 0 where
-  pub lives : AreLives live name kept.live
-  pub overs : AreOvers live name kept.overs
-  pub ids : (id : IdOf) → IsKnown live name earlier id (known_at kept.ids id)
+-- All that is kept of live dialogues, and of the IDs of all.
+pub record IsHeld (s : Courses) (name : Course → ℕ) (sent : IdOf → Bool) (kept : Cut) : Type 0 where
+  pub lives : AreLives s.live name kept.live
+  pub overs : AreOvers s.live name kept.overs
+  pub ids : (id : IdOf) → IsKnown s name sent id (known_at kept.ids id)
 
--- what is kept of a stretch of which so many entries came
-pub record IsCutOf (reuse : Reuse) (n : ℕ) (live : List Course) (earlier : IdOf → Bool) (kept : Cut) : Type 0 where
+-- what is kept of a segment of which so many entries came
+pub record IsCutOf (reuse : Reuse) (n : ℕ) (s : Courses) (sent : IdOf → Bool) (kept : Cut) : Type 0 where
   pub reuse_is : kept.reuse ≡ reuse
   pub count_is : kept.count ≡ n
   pub name : Course → ℕ
-  pub held : IsHeld live name earlier kept
+  pub held : IsHeld s name sent kept
 
--- That is kept of a stretch of which those entries came.
+-- That is kept of a segment of which those entries came.
 abbrev pub IsCut : Reuse → List Heading → Cut → Type 0
-IsCut reuse headings kept = of (courses_so_far reuse headings)
-  where
-    of : Rattle.tcap_dialogues.specs.Course.Courses → Type 0
-    of s = IsCutOf reuse (length headings) s.live (is_among (flat_map (λ d. d.ids) s.done)) kept
+IsCut reuse headings kept =
+    IsCutOf reuse (length headings) (courses_so_far reuse headings) (is_among (flat_map own_ids headings)) kept
 
 -- ---- what holds of live dialogues
 
@@ -150,9 +178,12 @@ abbrev pub is_past_by : Reuse → ℕ → Course → Bool
 is_past_by reuses.Once n d = false
 is_past_by (reuses.Again linger) n d = is_past linger n d.over
 
-abbrev pub is_given_up : Reuse → List Course → Heading → Course → Bool
-is_given_up reuses.Once live h d = false
-is_given_up (reuses.Again linger) live h d = is_some d.over && (begins_from h d.used || gives_to_another live h d)
+abbrev pub is_used_anew : Courses → Heading → Course → Bool
+is_used_anew s h d = begins_from h d.ids || gives_to_another s.live h d || goes_on_with_another s h d
+
+abbrev pub is_given_up : Reuse → Courses → Heading → Course → Bool
+is_given_up reuses.Once s h d = false
+is_given_up (reuses.Again linger) s h d = is_some d.over && is_used_anew s h d
 
 -- ---- what is taken out
 
@@ -173,7 +204,11 @@ pub record IsOne (n : ℕ) (ds : List Course) (name : Course → ℕ) (l : Live)
   pub named : (d : Course) → Contains ds d → name d ≡ l.name
   pub entry : (l.name ≡ n) ⊎ (list_any (λ d. has_entry d l.name) ds ≡ true)
 
+-- the dialogues once those of that name are done
+abbrev pub freed : (Course → ℕ) → Option ℕ → Courses → Courses
+freed name number s = record { done = s.done ++ those name number s.live; live = others name number s.live }
+
 -- the live dialogues with an entry more
-abbrev pub with_one : List IdOf → ℕ → Heading → List Course → List Course
+abbrev pub with_one : Earlier → ℕ → Heading → List Course → List Course
 with_one earlier n h left =
     filter (λ d. not (have_one (ids_in h) d.ids)) left ++ with_entry earlier n h (filter (λ d. have_one (ids_in h) d.ids) left) ∷ []

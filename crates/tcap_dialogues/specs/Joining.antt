@@ -1,5 +1,5 @@
 -- An entry joins the live dialogues that have one of its IDs: what becomes of what is kept.
-use Rattle.std.specs.Prelude.{◌≡◌, ◌⊎◌, ℕ, Bool, true, cond, List, map, ◌==◌, ◌||◌, Option, Some, None, false}
+use Rattle.std.specs.Prelude.{◌≡◌, ◌⊎◌, ℕ, Bool, true, cond, List, length, map, nat_lt, not, ◌==◌, ◌||◌, Option, Some, None, false}
 use Rattle.std.specs.BTreeMap as tree
 use Rattle.std.specs.BTreeSet as set
 use Rattle.std.specs.List.{list_any}
@@ -7,10 +7,10 @@ use Rattle.std.specs.Option.{option_to_list}
 use Rattle.std.specs.Ordering.{nat_cmp}
 use Rattle.tcap_record.specs.declared.entry.End.{End as Side}
 use Rattle.tcap_model.specs.World.{is_side}
-use Rattle.tcap_dialogues.specs.Course.{Course, Heading, has_entry, ids_in, is_begin, lower, over_by, own_ids, peer_ids}
+use Rattle.tcap_dialogues.specs.Course.{Course, Heading, begun_by, has_entry, ids_in, is_begin, lower, over_by, own_ids, peer_ids}
 use Rattle.tcap_dialogues.specs.Cut.{IdOf, is_among}
 use Rattle.tcap_dialogues.specs.Gathered.{has_id}
-use Rattle.tcap_dialogues.specs.Held.{AreKept, AreLives, AreOvers, IsOne, changed, has_sent, higher, known_at, others, those}
+use Rattle.tcap_dialogues.specs.Held.{AreKept, AreLives, AreOvers, IsOne, changed, earlier_of, has_sent, higher, is_unsettled, known_at, others, those}
 use Rattle.tcap_dialogues.specs.declared.cut.Cut.{Cut}
 use Rattle.tcap_dialogues.specs.declared.known.Change.TheVariants as changes
 use Rattle.tcap_dialogues.specs.declared.known.Ids.{Ids}
@@ -31,17 +31,27 @@ pub record HasSender (sender : Side) (old new : Live) : Type 0 where
   pub senders : (side : Side) → has_sent new side ≡ has_sent old side || is_side side sender
   pub rest : new ≡ record old { a_sent = new.a_sent; b_sent = new.b_sent }
 
-pub record HasEntry (number : ℕ) (h : Heading) (earlier : Option ℕ) (old new : Live) : Type 0 where
+pub record HasEntry (number : ℕ) (h : Heading) (own peer : Known) (old new : Live) : Type 0 where
   pub name : new.name ≡ old.name
   pub numbers : (n : ℕ) → set.contains nat_cmp new.numbers n ≡ set.contains nat_cmp old.numbers n || (number == n)
   pub ids : (id : IdOf) → has_id new.a new.b id ≡ has_id old.a old.b id || is_among (ids_in h) id
   pub senders : (side : Side) → has_sent new side ≡ has_sent old side || is_side side h.sender
+  pub begun : new.begun ≡ old.begun || nat_lt 0 (length (begun_by h))
   pub over : new.over ≡ lower old.over (over_by number h)
-  pub earlier_is : new.earlier ≡ higher old.earlier earlier
+  pub early : new.early ≡ old.early || not h.under_way
+  pub earlier_is : new.earlier ≡ higher old.earlier (higher (earlier_of own) (earlier_of peer))
+  pub unsettled : new.unsettled ≡ old.unsettled || (is_unsettled own || is_unsettled peer)
 
 -- what is known of the IDs of an entry, which are those of that dialogue
 abbrev pub own_known : Heading → ℕ → Known → Known
-own_known h name own = record { dialogue = Some name; used = true; begun = own.begun || is_begin h.kind; last = own.last }
+own_known h name own = record {
+  dialogue = Some name;
+  used = true;
+  begun = own.begun || is_begin h.kind;
+  last = own.last;
+  firm = own.firm;
+  sent = true;
+}
 
 abbrev pub AreNoted : Heading → ℕ → Known → Known → Ids → Ids → Type 0
 AreNoted h name own peer old new =

@@ -1,5 +1,5 @@
 -- Worked elements that are no message, and what is read of them.
-use Rattle.std.specs.Prelude.{◌≡◌, ℕ, List, [], ◌∷◌, ◌++◌, Some, None, refl}
+use Rattle.std.specs.Prelude.{◌≡◌, ℕ, false, List, [], ◌∷◌, ◌++◌, Some, None, refl}
 use Rattle.tcap_ber.specs.Reading.{next_at, required_at, some_at}
 use Rattle.tcap_ber.specs.HeaderReading.{length_at, opening_at, tag_at}
 use Rattle.tcap_msg.specs.declared.kind.Kind.TheVariants as kinds
@@ -11,7 +11,7 @@ use Rattle.tcap_dialogues.specs.Course.{Heading}
 use Rattle.tcap_dialogues.specs.HeadingReading.{begin_heading_at, continue_heading_at, heading_at, heading_in, heading_with, last_heading_at}
 
 abbrev nothing : Heading
-nothing = record { sender = A; kind = None; otid = None; dtid = None }
+nothing = record { sender = A; kind = None; otid = None; dtid = None; under_way = false; known = false }
 
 -- an originating and a destination transaction ID, of one octet
 abbrev from : ℕ → List ℕ

@@ -1,12 +1,14 @@
 //! A stretch between quiet marks, cut into its dialogues as its entries come.
 
-ghost use Rattle.std.specs.Prelude.{◌≡◌, ℕ, List, [], ◌∷◌, ◌++◌, length, filter, OnOk};
+ghost use Rattle.std.specs.BTreeSet as set;
+ghost use Rattle.std.specs.Prelude.{◌≡◌, ◌||◌, ℕ, Bool, List, [], ◌∷◌, ◌++◌, length, filter, IfOk, OnOk};
 ghost use Rattle.std.specs.List.{flat_map};
-ghost use Rattle.tcap_dialogues.specs.Course.{Course, Heading, courses_so_far, is_free};
+ghost use Rattle.tcap_end.specs.Table.{octets_cmp};
+ghost use Rattle.tcap_dialogues.specs.Course.{Course, Courses, Heading, begins_one, courses_so_far, is_free, own_ids};
 ghost use Rattle.tcap_dialogues.specs.Cut.{IdOf, is_among};
 ghost use Rattle.tcap_dialogues.specs.Gathered.{HandsOver};
 ghost use Rattle.tcap_dialogues.specs.HeadingReading.{heading_read};
-ghost use Rattle.tcap_dialogues.specs.Held.{AreApart, AreLives, AreOvers, IsCut, IsHeld, IsOut, others, those};
+ghost use Rattle.tcap_dialogues.specs.Held.{AreApart, AreLives, AreOvers, IsCut, IsHeld, IsOut, freed, those};
 
 use crate::gathered::Gathered;
 use crate::heading::HeadingView;
@@ -14,18 +16,18 @@ use crate::known::{Change, Ids};
 use crate::live::Live;
 use crate::reuse::Reuse;
 use std::alloc::{AllocError, Global};
-use std::collections::BTreeMap;
+use std::collections::{BTreeMap, BTreeSet};
+use tcap_msg::TransactionId;
+use tcap_record::End;
 
-/// The dialogues of a stretch between quiet marks, as its entries come. What is kept is what is live and, of what is done, the
-/// number of the last dialogue that had it for each ID that was used.
+/// The dialogues of a segment between quiet marks, as its entries come. What is kept is what is live and, for each ID of a dialogue that
+/// is done, the number of the first entry of the last such dialogue and two bits: whether its owner sent from it, and whether it is firm.
 #[derive(Debug, Drop)]
 pub struct Cut {
     pub(crate) alloc: Global,
     pub(crate) reuse: Reuse,
     /// How many entries came.
     pub(crate) count: u64,
-    /// How many dialogues are done.
-    pub(crate) done: u64,
     /// The live dialogues, by their names.
     pub(crate) live: BTreeMap<u64, Live>,
     /// The names of those that are over, by the number of the first entry with which they are.
@@ -42,7 +44,6 @@ impl Cut {
             alloc,
             reuse,
             count: 0,
-            done: 0,
             live: BTreeMap::new(alloc),
             overs: BTreeMap::new(alloc),
             ids: Ids::new(alloc),
@@ -63,38 +64,57 @@ impl Cut {
 
     /// The dialogue of that name is done, if there is one: its IDs are free.
     fn release(&mut self, name: Option<u64>, done: &mut Vec<Gathered>) -> Result<(), AllocError>
-        ensures { (live : List Course) (names : Course → ℕ) (earlier : List IdOf) → AreApart live
-            → IsHeld live names (is_among earlier) self.old → OnOk result (
-            IsHeld (others names name live) names (is_among (earlier ++ flat_map (λ d. d.ids) (those names name live))) self.new
-            × HandsOver (those names name live) done.old.items done.new.items
+        ensures { (s : Courses) (names : Course → ℕ) (sent : IdOf → Bool) → AreApart s.live
+            → IsHeld s names sent self.old → OnOk result (IsHeld (freed names name s) names sent self.new
+            × HandsOver (those names name s.live) done.old.items done.new.items
             × (self.new.reuse ≡ self.old.reuse) × (self.new.count ≡ self.old.count)) }
     {
         let Some(live) = self.take_out(name) else {
             return Ok(());
         };
-        let Some(next) = self.done.checked_add(1) else {
-            return Err(AllocError);
+        let free = Change::Free {
+            first: live.first(),
+            early: live.early,
         };
-        self.ids
-            .change_both(&live.a, &live.b, Change::Free(self.done))?;
-        self.done = next;
+        self.ids.change_both(&live.a, &live.b, free)?;
         done.push(live.gathered(self.alloc)?)?;
         Ok(())
     }
 
-    /// The next entry comes, of which that is read. Hands over the dialogues whose IDs are free now, two at most. Once that failed
-    /// the cut is of no use; it fails where memory ends, or behind 2^64 - 1 entries.
-    pub fn take(&mut self, heading: HeadingView, done: &mut Vec<Gathered>) -> Result<(), AllocError>
-        ensures { (reuse : Reuse) (headings : List Heading) → IsCut reuse headings self.old
-            → let live = (courses_so_far reuse headings).live in OnOk result (
+    /// Takes the next entry, of which that is known, and hands over the dialogues whose IDs are free now, two at most. Returns whether
+    /// the entry is the first of one more dialogue that has IDs.
+    ///
+    /// # Errors
+    /// AllocError if memory runs out, or after 2^64 - 1 entries. The cut is of no use after an error.
+    pub fn take(
+        &mut self,
+        heading: HeadingView,
+        done: &mut Vec<Gathered>,
+    ) -> Result<bool, AllocError>
+        ensures takes { (reuse : Reuse) (headings : List Heading) → IsCut reuse headings self.old
+            → let s = courses_so_far reuse headings in OnOk result (
             IsCut reuse (headings ++ heading_read heading.entry ∷ []) self.new
-            × HandsOver (filter (is_free reuse (length headings) live (heading_read heading.entry)) live) done.old.items done.new.items) }
+            × HandsOver (filter (is_free reuse (length headings) s (heading_read heading.entry)) s.live) done.old.items done.new.items) }
+        ensures begins { (reuse : Reuse) (headings : List Heading) → IsCut reuse headings self.old
+            → IfOk result (λ begins. begins ≡ begins_one reuse (length headings) (courses_so_far reuse headings) (heading_read heading.entry)) }
     {
         let past = self.past();
         let given_up = self.given_up(heading);
         self.release(past, done)?;
         self.release(given_up, done)?;
         self.join(heading)
+    }
+
+    /// Adds each transaction ID of an end from which an entry of the segment was sent.
+    ///
+    /// # Errors
+    /// AllocError if memory runs out; some IDs may have been added by then.
+    pub fn sent_from(&self, end: End, ids: &mut BTreeSet<TransactionId>) -> Result<(), AllocError>
+        ensures { (reuse : Reuse) (headings : List Heading) → IsCut reuse headings self.now
+            → OnOk result ((octets : List ℕ) → set.contains octets_cmp ids.new octets
+            ≡ set.contains octets_cmp ids.old octets || is_among (flat_map own_ids headings) (record { end = «end»; octets = octets })) }
+    {
+        self.ids.sent_from(end, ids)
     }
 
     /// The stretch ends: hands over all that are live.

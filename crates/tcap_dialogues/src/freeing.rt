@@ -3,10 +3,10 @@
 ghost use Rattle.std.specs.Prelude.{◌≡◌, ◌&&◌, ◌||◌, ℕ, Bool, List, true, Contains, not, is_some};
 ghost use Rattle.std.specs.List.{list_any};
 ghost use Rattle.tcap_model.specs.World.{is_side};
-ghost use Rattle.tcap_dialogues.specs.Course.{Course, accepts, have_one, is_begin, is_continue, own_ids};
+ghost use Rattle.tcap_dialogues.specs.Course.{Course, Courses, gives_to_another, goes_on_with_another, has_begin, have_one, is_alone, is_begin, is_continue, own_ids};
 ghost use Rattle.tcap_dialogues.specs.Cut.{IdOf};
 ghost use Rattle.tcap_dialogues.specs.HeadingReading.{heading_read};
-ghost use Rattle.tcap_dialogues.specs.Held.{AreApart, AreLives, AreOvers, IsHeld, Lingers, is_given_up, is_named, is_past_by};
+ghost use Rattle.tcap_dialogues.specs.Held.{AreApart, AreLives, AreOvers, IsHeld, Lingers, is_given_up, is_named, is_past_by, is_used_anew};
 
 use crate::cut::Cut;
 use crate::heading::HeadingView;
@@ -20,6 +20,13 @@ impl HeadingView<'_> {
         ensures { result ≡ is_begin self.entry.kind }
     {
         matches!(self.kind, Some(Kind::Begin))
+    }
+
+    /// Returns whether it has an ID.
+    pub(crate) fn has_ids(self) -> bool
+        ensures { result ≡ not (is_alone (heading_read self.entry)) }
+    {
+        self.otid.is_some() | self.dtid.is_some()
     }
 
     /// Whether it is that of a Continue.
@@ -67,53 +74,67 @@ impl Cut {
         }
     }
 
-    /// Whether a Continue is the first entry of its sender in a dialogue, other than that one, which its peer began.
-    fn accepts_another(&self, heading: HeadingView, name: u64) -> bool
-        ensures { (live : List Course) (names : Course → ℕ) (earlier : IdOf → Bool) (d : Course) → AreApart live
-            → IsHeld live names earlier self.now → Contains live d → names d ≡ name
-            → have_one (own_ids (heading_read heading.entry)) d.ids ≡ true → is_continue (heading_read heading.entry).kind ≡ true
-            → result ≡ list_any (λ other. accepts (heading_read heading.entry) other && not (have_one (own_ids (heading_read heading.entry)) other.ids)) live }
+    /// Returns whether a live dialogue has a Begin.
+    fn has_begin(&self, name: u64) -> bool
+        ensures { (live : List Course) (names : Course → ℕ) → AreLives live names self.now.live → (d : Course) → Contains live d
+            → names d ≡ name → result ≡ has_begin d }
     {
-        let known = self.ids.get_some(heading.sender.other(), heading.dtid);
-        match known.dialogue {
-            Some(other) => (other != name) & known.begun & !self.has_sent(other, heading.sender),
+        match self.live.get(&name) {
+            Some(live) => live.begun,
             None => false,
         }
     }
 
-    /// Whether an entry uses its own ID, which is one of that dialogue, anew: in a Begin, or in the Continue by which its sender first
-    /// answers another dialogue.
+    /// Returns whether a Continue from an ID of that dialogue is of another one: of one that its peer began and that it accepts, or of
+    /// one whose Begin the segment lacks.
+    fn continues_another(&self, heading: HeadingView, name: u64) -> bool
+        ensures { (s : Courses) (names : Course → ℕ) (sent : IdOf → Bool) (d : Course) → AreApart s.live
+            → IsHeld s names sent self.now → Contains s.live d → names d ≡ name
+            → have_one (own_ids (heading_read heading.entry)) d.ids ≡ true → is_continue (heading_read heading.entry).kind ≡ true
+            → result ≡ gives_to_another s.live (heading_read heading.entry) d || goes_on_with_another s (heading_read heading.entry) d }
+    {
+        let known = self.ids.get_some(heading.sender.other(), heading.dtid);
+        match known.dialogue {
+            Some(other) => (other != name) & known.begun & !self.has_sent(other, heading.sender),
+            None => {
+                known.last.is_none() & (heading.under_way | heading.known) & self.has_begin(name)
+            }
+        }
+    }
+
+    /// Returns whether an entry uses its own ID, which is one of that dialogue, for another dialogue.
     fn uses_anew(&self, heading: HeadingView, name: u64) -> bool
-        ensures { (live : List Course) (names : Course → ℕ) (earlier : IdOf → Bool) (d : Course) → AreApart live
-            → IsHeld live names earlier self.now → Contains live d → names d ≡ name
+        ensures { (s : Courses) (names : Course → ℕ) (sent : IdOf → Bool) (d : Course) → AreApart s.live
+            → IsHeld s names sent self.now → Contains s.live d → names d ≡ name
             → have_one (own_ids (heading_read heading.entry)) d.ids ≡ true
-            → result ≡ is_begin (heading_read heading.entry).kind
-            || list_any (λ other. accepts (heading_read heading.entry) other && not (have_one (own_ids (heading_read heading.entry)) other.ids)) live }
+            → result ≡ is_used_anew s (heading_read heading.entry) d }
     {
         if heading.is_begin() {
             true
         } else if heading.is_continue() {
-            self.accepts_another(heading, name)
+            self.continues_another(heading, name)
         } else {
             false
         }
     }
 
-    /// The dialogue, over, one of whose IDs its sender uses anew.
+    /// Returns the dialogue, over, of which its sender uses an ID for another dialogue.
     pub(crate) fn given_up(&self, heading: HeadingView) -> Option<u64>
-        ensures { (live : List Course) (names : Course → ℕ) (earlier : IdOf → Bool) → AreApart live
-            → IsHeld live names earlier self.now → (d : Course) → Contains live d
-            → is_given_up self.now.reuse live (heading_read heading.entry) d ≡ is_named names result d }
+        ensures { (s : Courses) (names : Course → ℕ) (sent : IdOf → Bool) → AreApart s.live
+            → IsHeld s names sent self.now → (d : Course) → Contains s.live d
+            → is_given_up self.now.reuse s (heading_read heading.entry) d ≡ is_named names result d }
     {
         let Reuse::Again(_) = self.reuse else {
             return None;
         };
-        let known = self.ids.get_some(heading.sender, heading.otid);
-        let name = known.dialogue?;
+        let name = self.ids.get_some(heading.sender, heading.otid).dialogue?;
         if !self.is_over(name) {
             return None;
         }
-        let anew = known.used & self.uses_anew(heading, name);
-        if anew { Some(name) } else { None }
+        if self.uses_anew(heading, name) {
+            Some(name)
+        } else {
+            None
+        }
     }
 }

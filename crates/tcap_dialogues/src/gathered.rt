@@ -14,7 +14,10 @@ pub struct Gathered {
     pub b: BTreeSet<TransactionId>,
     /// The number of its first entry with which it is over: an End, an Abort, or an entry that carries no ID.
     pub over: Option<u64>,
-    /// The number of the last earlier dialogue of the stretch that had one of its IDs, where one had: counted from 0, in the order in
-    /// which they are handed over.
+    /// If an earlier dialogue of the segment had one of its IDs, the number of the first entry of the last such dialogue, counted from
+    /// 0 in the segment: the highest such number.
     pub earlier: Option<u64>,
+    /// Whether the owner of such an ID had not sent from it, in a dialogue that began before the bench's word that dialogues may have
+    /// been under way.
+    pub unsettled: bool,
 }

@@ -13,7 +13,8 @@ use tcap_msg::tags::{ABORT, BEGIN, CONTINUE, DTID, END, OTID, UNIDIRECTIONAL};
 use tcap_msg::{Kind, MessageParts, TransactionIdView};
 use tcap_record::End;
 
-/// What is read of an entry to find its dialogue, lent: who sent it, its kind and its transaction IDs (Q.773 4.2.1).
+/// What is known of an entry to find its dialogue, lent: its sender, its kind and its transaction IDs as far as they can be read
+/// (Q.773 4.2.1), and two facts about the trace before it, which a caller sets.
 #[derive(Clone, Copy, Debug)]
 pub struct HeadingView<'a> {
     /// The end that sent it.
@@ -24,9 +25,13 @@ pub struct HeadingView<'a> {
     pub otid: Option<TransactionIdView<'a>>,
     /// The destination transaction ID, which a Continue, an End and an Abort have.
     pub dtid: Option<TransactionIdView<'a>>,
+    /// Whether the entry comes after the bench's word that dialogues may have been under way.
+    pub under_way: bool,
+    /// Whether the owner of the destination ID sent from that ID in an earlier segment.
+    pub known: bool,
 }
 
-/// That of a message.
+/// Returns the heading of a message, of whose trace nothing is known.
 pub fn heading_of_message<M: MessageParts>(sender: End, message: &M) -> HeadingView<'_>
     ensures { heading_read result ≡ heading_of sender (M.meaning message.now) }
 {
@@ -35,6 +40,8 @@ pub fn heading_of_message<M: MessageParts>(sender: End, message: &M) -> HeadingV
         kind: Some(message.kind()),
         otid: message.otid(),
         dtid: message.dtid(),
+        under_way: false,
+        known: false,
     }
 }
 
@@ -67,6 +74,8 @@ fn begin_heading(sender: End, content: Window) -> Result<HeadingView, Fault>
         kind: Some(Kind::Begin),
         otid: Some(otid),
         dtid: None,
+        under_way: false,
+        known: false,
     })
 }
 
@@ -82,6 +91,8 @@ fn continue_heading(sender: End, content: Window) -> Result<HeadingView, Fault>
         kind: Some(Kind::Continue),
         otid: Some(otid),
         dtid: Some(dtid),
+        under_way: false,
+        known: false,
     })
 }
 
@@ -96,6 +107,8 @@ fn last_heading(sender: End, kind: Kind, content: Window) -> Result<HeadingView,
         kind: Some(kind),
         otid: None,
         dtid: Some(dtid),
+        under_way: false,
+        known: false,
     })
 }
 
@@ -109,6 +122,8 @@ fn heading_of_element(sender: End, found: Tlv) -> Result<HeadingView, Fault>
             kind: Some(Kind::Unidirectional),
             otid: None,
             dtid: None,
+            under_way: false,
+            known: false,
         })
     } else if found.tag.is(BEGIN) {
         begin_heading(sender, found.content)
@@ -135,7 +150,7 @@ fn heading_in(sender: End, window: Window) -> Result<(HeadingView, Window), Faul
 /// What can be read of the element at the front of `octets`, which may be no message (Q.773 4.2.1): by its tag the kind of the
 /// message that it would be, and the transaction IDs that such a message has, where their elements are whole and of 1 to 4
 /// octets, whatever stands behind them. Where they are not, or the tag is no message's, nothing but the sender. Of octets that
-/// spell a message it is what [`heading_of_message`] says.
+/// spell a message it is what [`heading_of_message`] says. Nothing is known of the trace.
 pub fn read_heading(sender: End, octets: &[u8]) -> HeadingView<'_>
     ensures exact { heading_read result ≡ heading_at sender octets.now }
     ensures message { (m : Meant) → Spells m octets.now → heading_read result ≡ heading_of sender m }
@@ -147,6 +162,8 @@ pub fn read_heading(sender: End, octets: &[u8]) -> HeadingView<'_>
             kind: None,
             otid: None,
             dtid: None,
+            under_way: false,
+            known: false,
         },
     }
 }

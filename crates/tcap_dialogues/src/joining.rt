@@ -1,17 +1,18 @@
 //! An entry joins the live dialogues that have one of its IDs.
 
-ghost use Rattle.std.specs.Prelude.{◌≡◌, ◌+◌, ◌<◌, ℕ, List, ◌++◌, true, cond, Contains, Some, IfOk, OnOk};
+ghost use Rattle.std.specs.List.{list_any};
+ghost use Rattle.std.specs.Prelude.{◌≡◌, ◌+◌, ◌<◌, ◌&&◌, ◌||◌, ℕ, Bool, List, ◌++◌, true, cond, not, Contains, Some, IfOk, OnOk};
 ghost use Rattle.tcap_msg.specs.Meaning.{id_of};
-ghost use Rattle.tcap_dialogues.specs.Course.{Course, has_entry};
+ghost use Rattle.tcap_dialogues.specs.Course.{Course, Courses, has_entry, have_one, ids_in, is_alone, joined_by, own_ids};
 ghost use Rattle.tcap_dialogues.specs.Cut.{IdOf, is_among};
 ghost use Rattle.tcap_dialogues.specs.HeadingReading.{heading_read};
-ghost use Rattle.tcap_dialogues.specs.Held.{AreApart, AreLives, AreOvers, IsCutOf, IsHeld, IsOne, known_at, with_one};
+ghost use Rattle.tcap_dialogues.specs.Held.{AreApart, AreLives, AreOvers, IsCutOf, IsHeld, IsOne, known_at};
 ghost use Rattle.tcap_dialogues.specs.Joining.{AreNoted, IsJoined, IsPut, TakesOne, ids_at};
 
 use crate::cut::Cut;
 use crate::heading::HeadingView;
 use crate::known::{Change, Ids, Known};
-use crate::live::{Live, higher};
+use crate::live::Live;
 use std::alloc::AllocError;
 use tcap_msg::TransactionIdView;
 use tcap_record::End;
@@ -47,6 +48,7 @@ impl Ids {
             dialogue: Some(name),
             used: true,
             begun: own.begun | heading.is_begin(),
+            sent: true,
             ..own
         };
         let peer = Known {
@@ -108,28 +110,28 @@ impl Cut {
         }
     }
 
-    /// The entry joins those that have one of its IDs, or is the first of one more.
-    pub(crate) fn join(&mut self, heading: HeadingView) -> Result<(), AllocError>
-        ensures { (live : List Course) (names : Course → ℕ) (earlier : List IdOf) → AreApart live
-            → IsHeld live names (is_among earlier) self.old
-            → AreApart (with_one earlier self.old.count (heading_read heading.entry) live)
-            → ((d : Course) (i : ℕ) → Contains live d → has_entry d i ≡ true → i < self.old.count)
-            → OnOk result (
-            IsCutOf self.old.reuse (self.old.count + 1) (with_one earlier self.old.count (heading_read heading.entry) live)
-            (is_among earlier) self.new) }
+    /// The entry joins those that have one of its IDs, or is the first of one more. Returns whether it is the first of one that has IDs.
+    pub(crate) fn join(&mut self, heading: HeadingView) -> Result<bool, AllocError>
+        ensures { (s : Courses) (names : Course → ℕ) (sent : IdOf → Bool) → AreApart s.live → IsHeld s names sent self.old
+            → let h = heading_read heading.entry in let new = joined_by self.old.count h s.done s.live in AreApart new.live
+            → ((d : Course) (i : ℕ) → Contains s.live d → has_entry d i ≡ true → i < self.old.count)
+            → IfOk result (λ begins.
+            IsCutOf self.old.reuse (self.old.count + 1) new (λ id. sent id || is_among (own_ids h) id) self.new
+            × (begins ≡ not (is_alone h) && not (list_any (λ d. have_one (ids_in h) d.ids) s.live))) }
     {
         let Some(next) = self.count.checked_add(1) else {
             return Err(AllocError);
         };
         let own = self.ids.get_some(heading.sender, heading.otid);
         let peer = self.ids.get_some(heading.sender.other(), heading.dtid);
+        let begins = heading.has_ids() & own.dialogue.is_none() & peer.dialogue.is_none();
         let one = self.take_or_new(own.dialogue);
         let other = self.take_or_new(peer.dialogue);
         let mut live = self.joined(one, other)?;
-        live.add(self.count, heading, higher(own.earlier(), peer.earlier()))?;
+        live.add(self.count, heading, own, peer)?;
         self.ids.note(heading, live.name, own, peer)?;
         self.put(live)?;
         self.count = next;
-        Ok(())
+        Ok(begins)
     }
 }

@@ -1,6 +1,6 @@
-//! What is known of the transaction IDs of a stretch.
+//! What is known of the transaction IDs of a segment.
 
-ghost use Rattle.std.specs.Prelude.{◌≡◌, ◌&&◌, ℕ, List, [], None, Some, cond, is_none, OnOk};
+ghost use Rattle.std.specs.Prelude.{◌≡◌, ◌&&◌, ◌||◌, ℕ, List, [], None, Some, cond, is_none, OnOk};
 ghost use Rattle.std.specs.BTreeMap as tree;
 ghost use Rattle.std.specs.BTreeSet as set;
 ghost use Rattle.std.specs.Str.{bytes_eq};
@@ -9,7 +9,7 @@ ghost use Rattle.tcap_model.specs.World.{is_side};
 ghost use Rattle.tcap_msg.specs.Meaning.{id_of};
 ghost use Rattle.tcap_dialogues.specs.Cut.{IdOf, is_same};
 ghost use Rattle.tcap_dialogues.specs.Gathered.{has_id};
-ghost use Rattle.tcap_dialogues.specs.Held.{changed, earlier_of, free_since, known_at, known_in, known_of, nothing};
+ghost use Rattle.tcap_dialogues.specs.Held.{changed, earlier_of, free_since, gone_since, is_unsettled, known_at, known_by, known_in, known_of, nothing};
 
 use std::alloc::{AllocError, Global};
 use std::collections::{BTreeMap, BTreeSet};
@@ -25,15 +25,36 @@ pub(crate) struct Known {
     pub(crate) used: bool,
     /// Whether one of that dialogue's Begins is from it.
     pub(crate) begun: bool,
-    /// The number of the last dialogue that had it, of those that are done.
+    /// If dialogues that are done had it, the number of the first entry of the last one: the highest such number.
     pub(crate) last: Option<u64>,
+    /// Whether its owner sent from it in one of those dialogues, or one of them began after the bench's word that dialogues may have
+    /// been under way.
+    pub(crate) firm: bool,
+    /// Whether its owner sent from it in the segment.
+    pub(crate) sent: bool,
+}
+
+/// What is known of a transaction ID that no live dialogue has.
+#[derive(Clone, Copy, Debug)]
+pub(crate) struct Gone {
+    /// The number of the first entry of the last dialogue that had it: the highest such number.
+    pub(crate) last: u64,
+    /// Whether its owner sent from it, or a dialogue that had it began after the bench's word that dialogues may have been under way.
+    pub(crate) firm: bool,
+    /// Whether its owner sent from it in the segment.
+    pub(crate) sent: bool,
 }
 
 /// What becomes of the IDs of a dialogue.
 #[derive(Clone, Copy)]
 pub(crate) enum Change {
-    /// They are free: the dialogue is done, as the one of that number.
-    Free(u64),
+    /// They are free: the dialogue is done.
+    Free {
+        /// The number of its first entry.
+        first: u64,
+        /// Whether it began before the bench's word that dialogues may have been under way.
+        early: bool,
+    },
     /// They are of the live dialogue of that name.
     JoinTo(u64),
 }
@@ -45,9 +66,11 @@ impl Known {
         used: false,
         begun: false,
         last: None,
+        firm: false,
+        sent: false,
     };
 
-    /// The number of the last dialogue that had the ID, where no live one has it.
+    /// Returns the number of the last dialogue that had the ID, if no live one has it.
     pub(crate) fn earlier(self) -> Option<u64>
         ensures { result ≡ earlier_of self }
     {
@@ -57,6 +80,27 @@ impl Known {
             None
         }
     }
+
+    /// Returns whether an earlier dialogue had the ID, no live one has it, and it is not firm.
+    pub(crate) fn is_unsettled(self) -> bool
+        ensures { result ≡ is_unsettled self }
+    {
+        self.earlier().is_some() & !self.firm
+    }
+
+    /// Returns what is known of the ID once its dialogue is done.
+    fn gone(self, first: u64, early: bool) -> Gone
+        ensures { result ≡ gone_since first early self }
+    {
+        Gone {
+            last: match self.last {
+                Some(last) if first < last => last,
+                _ => first,
+            },
+            firm: self.firm | self.used | !early,
+            sent: self.sent,
+        }
+    }
 }
 
 /// What is known of each transaction ID of an end that was used.
@@ -64,8 +108,8 @@ impl Known {
 pub(crate) struct EndIds {
     /// Of those that live dialogues have.
     live: BTreeMap<TransactionId, Known>,
-    /// Of those of dialogues that are done: the number of the last one that had it.
-    done: BTreeMap<TransactionId, u64>,
+    /// Of those of dialogues that are done.
+    done: BTreeMap<TransactionId, Gone>,
 }
 
 impl EndIds {
@@ -79,11 +123,19 @@ impl EndIds {
         }
     }
 
-    /// The number of the last dialogue that had an ID, of those that are done.
-    fn last(&self, id: TransactionIdView) -> Option<u64>
-        ensures { result ≡ tree.get octets_cmp self.now.done id.entry.octets.now }
+    /// Returns what is known of an ID that no live dialogue has.
+    fn get_done(&self, id: TransactionIdView) -> Known
+        ensures { result ≡ known_by None (tree.get octets_cmp self.now.done id.entry.octets.now) }
     {
-        Some(*self.done.get(&id.to_transaction_id())?)
+        match self.done.get(&id.to_transaction_id()) {
+            Some(gone) => Known {
+                last: Some(gone.last),
+                firm: gone.firm,
+                sent: gone.sent,
+                ..Known::NOTHING
+            },
+            None => Known::NOTHING,
+        }
     }
 
     /// What is known of an ID.
@@ -92,10 +144,7 @@ impl EndIds {
     {
         match self.live.get(&id.to_transaction_id()) {
             Some(known) => *known,
-            None => Known {
-                last: self.last(id),
-                ..Known::NOTHING
-            },
+            None => self.get_done(id),
         }
     }
 
@@ -108,13 +157,47 @@ impl EndIds {
         Ok(())
     }
 
-    /// It is free: its dialogue, of that number, is done.
-    fn free(&mut self, id: TransactionIdView, number: u64) -> Result<(), AllocError>
+    /// It is free: its dialogue is done.
+    fn free(&mut self, id: TransactionIdView, first: u64, early: bool) -> Result<(), AllocError>
         ensures { OnOk result ((octets : List ℕ) → known_in self.new octets
-            ≡ cond (bytes_eq octets id.entry.octets.now) (free_since number) (known_in self.old octets)) }
+            ≡ cond (bytes_eq octets id.entry.octets.now) (free_since first early (known_in self.old id.entry.octets.now))
+            (known_in self.old octets)) }
     {
-        self.done.insert(id.to_transaction_id(), number)?;
-        self.live.remove(&id.to_transaction_id());
+        let known = match self.live.remove(&id.to_transaction_id()) {
+            Some(known) => known,
+            None => self.get_done(id),
+        };
+        self.done
+            .insert(id.to_transaction_id(), known.gone(first, early))?;
+        Ok(())
+    }
+
+    /// Adds an ID, if its owner sent from it.
+    fn add_sent(
+        &self,
+        id: &TransactionId,
+        ids: &mut BTreeSet<TransactionId>,
+    ) -> Result<(), AllocError>
+        ensures { OnOk result ((octets : List ℕ) → set.contains octets_cmp ids.new octets
+            ≡ set.contains octets_cmp ids.old octets || (bytes_eq octets id.now && (known_in self.now octets).sent)) }
+    {
+        if self.get(id.view()).sent {
+            ids.insert(id.view().to_transaction_id())?;
+        }
+        Ok(())
+    }
+
+    /// Adds each ID that its owner sent from.
+    fn sent_from(&self, ids: &mut BTreeSet<TransactionId>) -> Result<(), AllocError>
+        ensures { OnOk result ((octets : List ℕ) → set.contains octets_cmp ids.new octets
+            ≡ set.contains octets_cmp ids.old octets || (known_in self.now octets).sent) }
+    {
+        for id in self.live.keys() {
+            self.add_sent(id, ids)?;
+        }
+        for id in self.done.keys() {
+            self.add_sent(id, ids)?;
+        }
         Ok(())
     }
 }
@@ -184,10 +267,25 @@ impl Ids {
                 let dialogue = Some(name);
                 self.set(end, id, Known { dialogue, ..known })
             }
-            Change::Free(number) => match end {
-                End::A => self.a.free(id, number),
-                End::B => self.b.free(id, number),
+            Change::Free { first, early } => match end {
+                End::A => self.a.free(id, first, early),
+                End::B => self.b.free(id, first, early),
             },
+        }
+    }
+
+    /// Adds each ID of an end that its owner sent from.
+    pub(crate) fn sent_from(
+        &self,
+        end: End,
+        ids: &mut BTreeSet<TransactionId>,
+    ) -> Result<(), AllocError>
+        ensures { OnOk result ((octets : List ℕ) → set.contains octets_cmp ids.new octets
+            ≡ set.contains octets_cmp ids.old octets || (known_at self.now (record { end = «end»; octets = octets })).sent) }
+    {
+        match end {
+            End::A => self.a.sent_from(ids),
+            End::B => self.b.sent_from(ids),
         }
     }
 

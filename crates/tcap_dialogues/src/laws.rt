@@ -7,7 +7,7 @@ ghost use Rattle.tcap_model.specs.World.{Item};
 ghost use Rattle.tcap_model.specs.Run.{IsLawful, IsLawfulFor};
 ghost use Rattle.tcap_msg.specs.declared.message.Message.{Message};
 ghost use Rattle.tcap_model.specs.World.{Sent, has_quiet};
-ghost use Rattle.tcap_dialogues.specs.Course.{Course, Heading, courses_of, courses_so_far, has_entry, headings_of, is_free};
+ghost use Rattle.tcap_dialogues.specs.Course.{Course, Heading, bare, courses_of, courses_so_far, has_entry, headings_of, is_free};
 ghost use Rattle.tcap_dialogues.specs.declared.reuse.Reuse.{Reuse};
 ghost use Rattle.tcap_dialogues.specs.declared.reuse.Reuse.TheVariants as reuses;
 ghost use Rattle.tcap_dialogues.specs.Cut.{Dialogue, IdOf, dialogues_of, is_among, is_of};
@@ -67,17 +67,17 @@ pub fn each_entry_has_one()
 
 /// Where none of its IDs came again, a dialogue shares no ID with the rest of the stretch up to each of its entries.
 pub fn course_is_closed()
-    ensures { (reuse : Reuse) (items : List Item) (d : Course) (n : ℕ) → has_quiet items ≡ false
-        → Contains (courses_of reuse (headings_of items)) d → d.again ≡ false → has_entry d n ≡ true
-        → IsClosed (has_entry d) (take (n + 1) items) }
+    ensures { (reuse : Reuse) (items : List Item) (headings : List Heading) (d : Course) (n : ℕ) → has_quiet items ≡ false
+        → map bare headings ≡ headings_of items → Contains (courses_of reuse headings) d → d.again ≡ false
+        → has_entry d n ≡ true → IsClosed (has_entry d) (take (n + 1) items) }
 {}
 
 /// So what an end may have sent of the stretch up to that entry that keeps the rules, it may have sent of the dialogue: what is at
 /// fault in the dialogue is at fault in the stretch.
 pub fn course_keeps_rules()
-    ensures { (side : Side) (reuse : Reuse) (items : List Item) (table : Table) (d : Course) (n : ℕ)
-        → has_quiet items ≡ false → Contains (courses_of reuse (headings_of items)) d → d.again ≡ false
-        → has_entry d n ≡ true → IsLawfulFor side (take (n + 1) items) table
+    ensures { (side : Side) (reuse : Reuse) (items : List Item) (headings : List Heading) (table : Table) (d : Course) (n : ℕ)
+        → has_quiet items ≡ false → map bare headings ≡ headings_of items → Contains (courses_of reuse headings) d
+        → d.again ≡ false → has_entry d n ≡ true → IsLawfulFor side (take (n + 1) items) table
         → IsLawfulFor side (part_of (has_entry d) 0 (take (n + 1) items)) table }
 {}
 
@@ -91,9 +91,8 @@ pub fn again_is_shared()
 
 /// Where no ID comes again, the dialogues are those of the list.
 pub fn once_is_the_cut()
-    ensures { (items : List Item) → has_quiet items ≡ false
-        → map (λ d. record { numbers = d.numbers; ids = d.ids }) (courses_of reuses.Once (headings_of items))
-        ≡ dialogues_of items }
+    ensures { (items : List Item) (headings : List Heading) → has_quiet items ≡ false → map bare headings ≡ headings_of items
+        → map (λ d. record { numbers = d.numbers; ids = d.ids }) (courses_of reuses.Once headings) ≡ dialogues_of items }
 {}
 
 /// What a [`Cut`](crate::Cut) handed over so far stands for the dialogues that are done: with what it hands over as the next entry
@@ -101,7 +100,7 @@ pub fn once_is_the_cut()
 pub fn handed_over_are_all()
     ensures next { (reuse : Reuse) (headings : List Heading) (before given : List Gathered)
         → AreGathered (courses_so_far reuse headings).done before → (h : Heading)
-        → let live = (courses_so_far reuse headings).live in AreGathered (filter (is_free reuse (length headings) live h) live) given
+        → let s = courses_so_far reuse headings in AreGathered (filter (is_free reuse (length headings) s h) s.live) given
         → AreGathered (courses_so_far reuse (headings ++ h ∷ [])).done (before ++ given) }
     ensures end { (reuse : Reuse) (headings : List Heading) (before given : List Gathered)
         → AreGathered (courses_so_far reuse headings).done before → AreGathered (courses_so_far reuse headings).live given

@@ -1,8 +1,8 @@
 //! A dialogue of which more entries may come.
 
-ghost use Rattle.std.specs.Prelude.{◌≡◌, List, [], ◌∷◌, ◌++◌, IfOk, OnOk};
+ghost use Rattle.std.specs.Prelude.{◌≡◌, List, [], ◌∷◌, ◌++◌, length, nat_lt, IfOk, OnOk};
 ghost use Rattle.tcap_msg.specs.Meaning.{id_of};
-ghost use Rattle.tcap_dialogues.specs.Course.{Course, lower, over_by};
+ghost use Rattle.tcap_dialogues.specs.Course.{Course, begun_by, lower, over_by};
 ghost use Rattle.tcap_dialogues.specs.Gathered.{IsGathered};
 ghost use Rattle.tcap_dialogues.specs.HeadingReading.{heading_read};
 ghost use Rattle.tcap_dialogues.specs.Held.{AreKept, has_sent, higher};
@@ -10,6 +10,7 @@ ghost use Rattle.tcap_dialogues.specs.Joining.{HasEntry, HasId, HasSender, ids_a
 
 use crate::gathered::Gathered;
 use crate::heading::HeadingView;
+use crate::known::Known;
 use std::alloc::{AllocError, Global};
 use std::collections::BTreeSet;
 use tcap_msg::{Kind, TransactionId, TransactionIdView};
@@ -30,10 +31,16 @@ pub(crate) struct Live {
     pub(crate) a_sent: bool,
     /// Whether B did.
     pub(crate) b_sent: bool,
+    /// Whether one of them is a Begin from an ID.
+    pub(crate) begun: bool,
     /// The number of the first one with which it is over.
     pub(crate) over: Option<u64>,
-    /// The number of the last dialogue that is done and had one of its IDs.
+    /// Whether one of them comes before the bench's word that dialogues may have been under way, or there is no such word.
+    pub(crate) early: bool,
+    /// The number of the first entry of the last dialogue that is done and had one of its IDs.
     pub(crate) earlier: Option<u64>,
+    /// Whether the owner of such an ID had not sent from it, in a dialogue that began before that word.
+    pub(crate) unsettled: bool,
 }
 
 /// The lower one of two numbers, where they are.
@@ -48,7 +55,7 @@ fn lower(one: Option<u64>, other: Option<u64>) -> Option<u64>
 }
 
 /// The higher one of two numbers, where they are.
-pub(crate) fn higher(one: Option<u64>, other: Option<u64>) -> Option<u64>
+fn higher(one: Option<u64>, other: Option<u64>) -> Option<u64>
     ensures { result ≡ higher one other }
 {
     match (one, other) {
@@ -70,6 +77,13 @@ impl HeadingView<'_> {
             _ => None,
         }
     }
+
+    /// Returns whether the entry is a Begin from an ID.
+    fn begins(self) -> bool
+        ensures { result ≡ nat_lt 0 (length (begun_by (heading_read self.entry))) }
+    {
+        self.is_begin() & self.otid.is_some()
+    }
 }
 
 impl Live {
@@ -84,8 +98,11 @@ impl Live {
             b: BTreeSet::new(alloc),
             a_sent: false,
             b_sent: false,
+            begun: false,
             over: None,
+            early: false,
             earlier: None,
+            unsettled: false,
         }
     }
 
@@ -109,8 +126,11 @@ impl Live {
         self.b.extend(other.b)?;
         self.a_sent |= other.a_sent;
         self.b_sent |= other.b_sent;
+        self.begun |= other.begun;
         self.over = lower(self.over, other.over);
+        self.early |= other.early;
         self.earlier = higher(self.earlier, other.earlier);
+        self.unsettled |= other.unsettled;
         Ok(())
     }
 
@@ -138,21 +158,33 @@ impl Live {
         }
     }
 
-    /// An entry more of that number, and the number of the last dialogue that is done and had an ID of it which is one of no live one.
+    /// Adds an entry of that number, with what is known of the IDs that it is from and to.
     pub(crate) fn add(
         &mut self,
         number: u64,
         heading: HeadingView,
-        earlier: Option<u64>,
+        own: Known,
+        peer: Known,
     ) -> Result<(), AllocError>
-        ensures { OnOk result (HasEntry number (heading_read heading.entry) earlier self.old self.new) }
+        ensures { OnOk result (HasEntry number (heading_read heading.entry) own peer self.old self.new) }
     {
         self.numbers.insert(number)?;
         self.note_sender(heading.sender);
+        self.begun |= heading.begins();
         self.over = lower(self.over, heading.is_over(number));
-        self.earlier = higher(self.earlier, earlier);
+        self.early |= !heading.under_way;
+        self.earlier = higher(self.earlier, higher(own.earlier(), peer.earlier()));
+        self.unsettled |= own.is_unsettled() | peer.is_unsettled();
         self.add_id(heading.sender, heading.otid)?;
         self.add_id(heading.sender.other(), heading.dtid)
+    }
+
+    /// Returns the number of its first entry.
+    pub(crate) fn first(&self) -> u64 {
+        match self.numbers.first() {
+            Some(number) => *number,
+            None => self.name,
+        }
     }
 
     /// The dialogue whose entries are all here.
@@ -166,6 +198,7 @@ impl Live {
             b: self.b,
             over: self.over,
             earlier: self.earlier,
+            unsettled: self.unsettled,
         })
     }
 }

@@ -6,7 +6,7 @@ pub const FRAME_HEAD: &str = r##"<!doctype html>
 <head>
 <meta charset="utf-8">
 <meta name="viewport" content="width=device-width, initial-scale=1">
-<meta http-equiv="Content-Security-Policy" content="default-src 'none'; base-uri 'none'; form-action 'none'; img-src data:; style-src 'sha256-b0zgqhZQcEiID3cAmXbQG5ZjidSJJ+1gn/Cjo2FQ6OU='; script-src 'sha256-0j7oibWAbyh24SAkGU6SyIUPxqv13K67S14u2M9aQUs='">
+<meta http-equiv="Content-Security-Policy" content="default-src 'none'; base-uri 'none'; form-action 'none'; img-src data:; style-src 'sha256-b0zgqhZQcEiID3cAmXbQG5ZjidSJJ+1gn/Cjo2FQ6OU='; script-src 'sha256-C5q5tPmQXMOLabQBVTDUfDjHXccMqR9OfvNs080TeKU='">
 <meta name="referrer" content="no-referrer">
 <title>TCAP dialogues, judged</title>
 <link rel="icon" href="data:,">
@@ -1208,7 +1208,8 @@ function idsFact(end, ids) {
 /** The facts of a dialogue. */
 function factsOf(head) {
   const {entries, lines, ids, table, context} = head;
-  const told = [["open", "open at the end of its trace"], ["marked", "ended by a quiet mark"],
+  const open = head.marked ? "open at the quiet mark after it" : "open at the end of its trace";
+  const told = [["open", open], ["marked", "ended by a quiet mark"],
     ["again", "with an ID of an earlier dialogue"]].filter(([flag]) => head[flag]).map(([, words]) => words);
   const [word, span] = lines[0] > 0 ? ["lines", lines] : ["entries", entries];
   const words = `${entries.length.toLocaleString("en")}: ${word} ${span[0]} to ${span.at(-1)} of the trace`;
@@ -1264,7 +1265,7 @@ function traceSums(head) {
 
 /** What became of the messages of a trace that is an error by itself. */
 function unjudgedWords({dialogues, messages}) {
-  if (VERDICTS.some((it) => dialogues[it] > 0)) return "What was under way at the fault is not judged.";
+  if (VERDICTS.some((it) => dialogues[it] > 0)) return "Dialogues that were open there may not be told.";
   if (messages === 0) return "";
   return messages === 1 ? "Its message was not judged." : `None of its ${messages.toLocaleString("en")} messages was judged.`;
 }

@@ -1,2 +1,4 @@
 pub mod CountsLaws
+pub mod MarksLaws
+pub mod DirectiveLaws
 pub mod TraceLaws

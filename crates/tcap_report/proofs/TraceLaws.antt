@@ -1,11 +1,12 @@
 -- What is kept of a trace, through each of its steps.
 use Rattle.std.proofs.Common.{arith, ◌≡◌, ℕ, ◌+◌, ◌-◌, ◌^◌, ◌≤◌, min, cond, Bool, true, false, List, [], ◌∷◌, ◌++◌, length, map, refl, sym, ap, subst, ◌∙◌}
-use Rattle.std.specs.Prelude.{Option, None, Some, Result, Ok, Err, IfOk, count_by, filter, is_some}
+use Rattle.std.specs.Prelude.{◌||◌, not, Option, None, Some, Result, Ok, Err, IfOk, count_by, filter, is_some}
 use Rattle.std.specs.Io.KnownBytes.{Consumes}
 use Rattle.std.specs.List.{AllByRecursion}
 use Rattle.std.proofs.lemmas.List.{length_push, map-append}
+use Rattle.std.proofs.lemmas.List.Elements.{filter-append}
 use Rattle.std.proofs.lemmas.List.Sums.{sum_by_push}
-use Rattle.tcap_traces.specs.declared.judging.Ends.{Ends}
+use Rattle.tcap_record.specs.declared.entry.End.{End as Side}
 use Rattle.tcap_traces.specs.declared.said.Circumstances.{Circumstances}
 use Rattle.tcap_traces.specs.declared.verdict.Verdict.{Verdict}
 use Rattle.tcap_traces.specs.Verdict.{trace_verdict}
@@ -15,17 +16,19 @@ use Rattle.tcap_dialogues.specs.Held.{IsCut}
 use Rattle.tcap_dialogues.specs.declared.gathered.Gathered.{Gathered}
 use Rattle.tcap_dialogues.proofs.CutLists.{none_in}
 use Rattle.tcap_dialogues.proofs.WholeLaws.{all_gathered, next_gathered}
+use Rattle.tcap_report.specs.declared.case.Behind.{Behind}
+use Rattle.tcap_report.specs.declared.case.Behind.TheVariants as behinds
 use Rattle.tcap_report.specs.declared.fault.Halt.{Halt}
 use Rattle.tcap_report.specs.declared.fault.Halt.TheVariants as halts
 use Rattle.tcap_report.specs.declared.sum.Sum.{Sum}
 use Rattle.tcap_report.specs.declared.trace.Asked.{Asked}
 use Rattle.tcap_report.specs.declared.trace.Trace.{Trace}
 use Rattle.tcap_report.specs.Counts.{more, with_each, with_one, with_read, with_verdict}
-use Rattle.tcap_report.specs.Dialogue.{Dialogue, IsNoted, IsNotedOf, ends_by, verdict_by, verdict_on}
-use Rattle.tcap_report.specs.Stretch.{Stretch, counts_in, messages_in, readable_in, those_judged}
+use Rattle.tcap_report.specs.Dialogue.{Dialogue, IsNoted, IsNotedOf, verdict_on}
+use Rattle.tcap_report.specs.Stretch.{Stretch, counts_in, is_fail, messages_in, readable_in, those_judged}
 use Rattle.tcap_report.specs.Judged.{IsJudged}
 use Rattle.tcap_report.proofs.CountsLaws.{each_append}
-use Rattle.tcap_report.specs.Progress.{HasRead, IsBetween, IsStopped, IsWithin, Judges, Reads, UnlessStopped}
+use Rattle.tcap_report.specs.Progress.{HasRead, IsBetween, IsStopped, IsWithin, Judges, Reads, UnlessStopped, is_fault, is_told_if}
 
 -- ---- counts
 
@@ -67,53 +70,111 @@ noted_by : (one two : Asked) (judged : List Dialogue) → one ≡ two → AllByR
 noted_by one two judged same noted =
     subst (λ (a : Asked). AllByRecursion (IsNoted a.settled a.complete) judged) same noted
 
-pub more_judged : (xs ys : List Gathered) (a b c : Trace) → Judges xs a b → Judges ys b c → Judges (xs ++ ys) a c
-more_judged xs ys a b c one two =
-    let verdicts = verdict_on a.asked.of in
-    record {
-      judged = one.judged ++ two.judged;
-      those = map-append (λ d. d.gathered) one.judged two.judged
-          ∙ ap (λ l. l ++ map (λ d. d.gathered) two.judged) one.those ∙ ap (λ l. xs ++ l) two.those;
-      noted = all_both (IsNoted a.asked.settled a.asked.complete) one.judged two.judged one.noted
-          (noted_by b.asked a.asked two.judged one.asked two.noted);
-      counts = two.counts ∙ ap (λ k. with_each (map (verdict_on k.of) two.judged) b.dialogues) one.asked
-          ∙ ap (with_each (map verdicts two.judged)) one.counts
-          ∙ sym (each_append (map verdicts one.judged) (map verdicts two.judged) a.dialogues)
-          ∙ ap (λ vs. with_each vs a.dialogues) (sym (map-append verdicts one.judged two.judged));
-      asked = two.asked ∙ one.asked;
-      cut = two.cut ∙ one.cut;
-      messages = two.messages ∙ one.messages;
-      readable = two.readable ∙ one.readable;
-    }
+-- What holds of all holds of those that are left;
+all_left : {A : Type 0} (P : A → Type 0) (p : A → Bool) (xs : List A) → AllByRecursion P xs → AllByRecursion P (filter p xs)
+all_left P p [] all = tt
+all_left P p (x ∷ xs) all = by (p x) (all_left P p xs all.1)
+  where
+    by : (b : Bool) → AllByRecursion P (filter p xs) → AllByRecursion P (cond b (x ∷ filter p xs) (filter p xs))
+    by true left = (all.0, left)
+    by false left = left
 
--- One is: its entries were held, and its verdict is counted.
-pub one_judged : (d : Dialogue) (ends : Option Ends) (verdict : Verdict) (old one new : Trace) → one ≡ record old { held = one.held }
-    → verdict ≡ verdict_by one.asked.of ends → ends ≡ ends_by d.table d.circumstances d.entries
-    → new ≡ record one { dialogues = with_one verdict one.dialogues; unheard = new.unheard }
-    → IsNoted one.asked.settled one.asked.complete d → Judges (d.gathered ∷ []) old new
-one_judged d ends verdict old one new taken is said counted noted = record {
-  judged = d ∷ [];
-  those = refl;
-  noted = (subst (λ (a : Asked). IsNoted a.settled a.complete d) (ap (λ t. t.asked) taken) noted, tt);
-  counts = ap (λ t. t.dialogues) counted ∙ ap (λ t. with_one verdict t.dialogues) taken
-      ∙ ap (λ v. with_one v old.dialogues)
-      (is ∙ ap (λ t. verdict_by t.asked.of ends) taken ∙ ap (verdict_by old.asked.of) said);
-  asked = ap (λ t. t.asked) counted ∙ ap (λ t. t.asked) taken;
-  cut = ap (λ t. t.cut) counted ∙ ap (λ t. t.cut) taken;
-  messages = ap (λ t. t.messages) counted ∙ ap (λ t. t.messages) taken;
-  readable = ap (λ t. t.readable) counted ∙ ap (λ t. t.readable) taken;
+-- and all are left of which each is to be.
+none_left_out : {A : Type 0} (xs : List A) → filter (λ x. true) xs ≡ xs
+none_left_out [] = refl
+none_left_out (x ∷ xs) = ap (λ l. x ∷ l) (none_left_out xs)
+
+-- the verdicts on those that are told
+abbrev verdicts_told : Bool → Option Side → List Dialogue → List Verdict
+verdicts_told fault of judged = map (verdict_on of) (filter (is_told_if fault of) judged)
+
+told_both : (fault : Bool) (of : Option Side) (xs ys : List Dialogue)
+    → verdicts_told fault of (xs ++ ys) ≡ verdicts_told fault of xs ++ verdicts_told fault of ys
+told_both fault of xs ys =
+    ap (map (verdict_on of)) (filter-append (is_told_if fault of) xs ys)
+    ∙ map-append (verdict_on of) (filter (is_told_if fault of) xs) (filter (is_told_if fault of) ys)
+
+pub more_judged : (fault : Bool) (xs ys : List Gathered) (a b c : Trace) → Judges fault xs a b → Judges fault ys b c
+    → Judges fault (xs ++ ys) a c
+more_judged fault xs ys a b c one two = record {
+  judged = one.judged ++ two.judged;
+  those = map-append (λ d. d.gathered) one.judged two.judged
+      ∙ ap (λ l. l ++ map (λ d. d.gathered) two.judged) one.those ∙ ap (λ l. xs ++ l) two.those;
+  noted = all_both (IsNoted a.asked.settled a.asked.complete) one.judged two.judged one.noted
+      (noted_by b.asked a.asked two.judged one.asked two.noted);
+  counts = two.counts ∙ ap (λ k. with_each (verdicts_told fault k.of two.judged) b.dialogues) one.asked
+      ∙ ap (with_each (verdicts_told fault a.asked.of two.judged)) one.counts
+      ∙ sym (each_append (verdicts_told fault a.asked.of one.judged) (verdicts_told fault a.asked.of two.judged) a.dialogues)
+      ∙ ap (λ vs. with_each vs a.dialogues) (sym (told_both fault a.asked.of one.judged two.judged));
+  asked = two.asked ∙ one.asked;
+  cut = two.cut ∙ one.cut;
+  messages = two.messages ∙ one.messages;
+  readable = two.readable ∙ one.readable;
 }
 
--- What is noted is so of more entries, too.
-pub noted_of : (settled complete a b : Bool) (over : Option ℕ) (m n : ℕ) (c : Circumstances) → a ≡ b → m ≤ n
-    → IsNotedOf settled complete a over m c → IsNotedOf settled complete b over n c
-noted_of settled complete a b over m n c same few noted = record {
-  again = λ is. sym same ∙ noted.again is;
-  unsettled = λ is. noted.unsettled is ∙ same;
-  under_way = λ is. sym same ∙ noted.under_way is;
+-- A dialogue is told, by what comes after it: if it is over, other entries alone.
+pub told_behind : (over fails : Bool) (behind : Behind)
+    → not (is_fault (cond over behinds.More behind)) || fails ≡ not (is_fault behind) || (over || fails)
+told_behind true fails behind = by (is_fault behind)
+  where
+    by : (b : Bool) → true ≡ not b || true
+    by true = refl
+    by false = refl
+told_behind false fails behind = refl
+
+-- One is judged, and its verdict is counted if it is told.
+pub one_judged : (fault : Bool) (d : Dialogue) (old new : Trace) → new.asked ≡ old.asked → new.cut ≡ old.cut
+    → new.messages ≡ old.messages → new.readable ≡ old.readable → IsNoted old.asked.settled old.asked.complete d
+    → new.dialogues ≡ cond (is_told_if fault old.asked.of d) (with_one (verdict_on old.asked.of d) old.dialogues) old.dialogues
+    → Judges fault (d.gathered ∷ []) old new
+one_judged fault d old new asked cut messages readable noted counted = record {
+  judged = d ∷ [];
+  those = refl;
+  noted = (noted, tt);
+  counts = counted ∙ by (is_told_if fault old.asked.of d);
+  asked = asked;
+  cut = cut;
+  messages = messages;
+  readable = readable;
+}
+  where
+    by : (b : Bool) → cond b (with_one (verdict_on old.asked.of d) old.dialogues) old.dialogues
+        ≡ with_each (map (verdict_on old.asked.of) (cond b (d ∷ []) [])) old.dialogues
+    by true = refl
+    by false = refl
+
+-- A verdict is told, by what comes after the dialogue.
+pub told_as : (behind case_behind : Behind) (of : Option Side) (d : Dialogue) (verdict : Verdict) (told : Bool)
+    → case_behind ≡ cond (is_some d.gathered.over) behinds.More behind → verdict ≡ verdict_on of d
+    → told ≡ not (is_fault case_behind) || is_fail verdict → told ≡ is_told_if (is_fault behind) of d
+told_as behind case_behind of d verdict told is_behind is_verdict is =
+    is ∙ ap (λ b. not (is_fault b) || is_fail verdict) is_behind
+    ∙ told_behind (is_some d.gathered.over) (is_fail verdict) behind
+    ∙ ap (λ v. not (is_fault behind) || (is_some d.gathered.over || is_fail v)) is_verdict
+
+-- What is noted is so of more entries, too,
+grown : (settled complete is_earlier : Bool) (over : Option ℕ) (m n : ℕ) (c : Circumstances) → m ≤ n
+    → IsNotedOf settled complete is_earlier over m c → IsNotedOf settled complete is_earlier over n c
+grown settled complete is_earlier over m n c few noted = record {
+  again = noted.again;
+  unsettled = noted.unsettled;
+  under_way = noted.under_way;
+  early_mark = noted.early_mark;
+  began = noted.began;
   is_open = noted.is_open;
   is_cut = λ is. let many = noted.is_cut is in omega arith;
 }
+
+-- and of a dialogue that is asked the same.
+pub noted_of : (settled other_settled complete other_complete : Bool) (g h : Gathered) (m n : ℕ) (c : Circumstances)
+    → settled ≡ other_settled → complete ≡ other_complete → g ≡ h → m ≤ n
+    → IsNotedOf settled complete (is_some g.earlier) g.over m c
+    → IsNotedOf other_settled other_complete (is_some h.earlier) h.over n c
+noted_of settled other_settled complete other_complete g h m n c same_settled same_complete same few noted =
+    subst (λ (x : Gathered). IsNotedOf other_settled other_complete (is_some x.earlier) x.over n c) same
+    (subst (λ k. IsNotedOf other_settled k (is_some g.earlier) g.over n c) same_complete
+    (subst (λ k. IsNotedOf k complete (is_some g.earlier) g.over n c) same_settled
+    (grown settled complete (is_some g.earlier) g.over m n c few noted)))
 
 nothing_gathered : AreGathered [] []
 nothing_gathered = record {
@@ -147,28 +208,33 @@ reads_fault asked (halts.Stop stop) t within = tt
 -- ---- steps of a trace
 
 module _ (asked : Asked) where
-  -- What is judged more is counted, and is of the stretch.
-  counts_more : (old one new : Trace) (s : Stretch) (before : List Stretch) (given : List Gathered) → HasRead asked (s ∷ before) old
-      → one.asked ≡ old.asked → one.dialogues ≡ old.dialogues → (j : Judges given one new)
-      → new.dialogues ≡ with_each (map (verdict_on asked.of) (s.judged ++ j.judged)) (counts_in asked.of before)
-  counts_more old one new s before given has asks dialogues j =
+  -- What is judged more and told is counted, and is of the segment.
+  abbrev told_in : (fault : Bool) {given : List Gathered} {one new : Trace} → Judges fault given one new → List Dialogue
+  told_in fault j = filter (is_told_if fault asked.of) j.judged
+
+  counts_more : (fault : Bool) (old one new : Trace) (s : Stretch) (before : List Stretch) (given : List Gathered)
+      → HasRead asked (s ∷ before) old → one.asked ≡ old.asked → one.dialogues ≡ old.dialogues → (j : Judges fault given one new)
+      → new.dialogues ≡ with_each (map (verdict_on asked.of) (s.judged ++ told_in fault j)) (counts_in asked.of before)
+  counts_more fault old one new s before given has asks dialogues j =
       let verdicts = verdict_on asked.of in
-      j.counts ∙ ap (λ k. with_each (map (verdict_on k.of) j.judged) one.dialogues) (asks ∙ has.asks)
-      ∙ ap (with_each (map verdicts j.judged)) (dialogues ∙ has.counts)
-      ∙ sym (each_append (map verdicts s.judged) (map verdicts j.judged) (counts_in asked.of before))
-      ∙ ap (λ vs. with_each vs (counts_in asked.of before)) (sym (map-append verdicts s.judged j.judged))
+      j.counts ∙ ap (λ k. with_each (verdicts_told fault k.of j.judged) one.dialogues) (asks ∙ has.asks)
+      ∙ ap (with_each (verdicts_told fault asked.of j.judged)) (dialogues ∙ has.counts)
+      ∙ sym (each_append (map verdicts s.judged) (verdicts_told fault asked.of j.judged) (counts_in asked.of before))
+      ∙ ap (λ vs. with_each vs (counts_in asked.of before)) (sym (map-append verdicts s.judged (told_in fault j)))
 
-  those_more : (s : Stretch) (given : List Gathered) (one new : Trace) (j : Judges given one new)
-      → map (λ d. d.gathered) (s.judged ++ j.judged) ≡ those_judged s ++ given
+  those_more : (s : Stretch) (given : List Gathered) (one new : Trace) (j : Judges false given one new)
+      → map (λ d. d.gathered) (s.judged ++ told_in false j) ≡ those_judged s ++ given
   those_more s given one new j =
-      map-append (λ d. d.gathered) s.judged j.judged ∙ ap (λ l. those_judged s ++ l) j.those
+      map-append (λ d. d.gathered) s.judged (told_in false j)
+      ∙ ap (λ l. those_judged s ++ map (λ d. d.gathered) l) (none_left_out j.judged) ∙ ap (λ l. those_judged s ++ l) j.those
 
-  noted_more : (old one new : Trace) (s : Stretch) (before : List Stretch) (given : List Gathered) → HasRead asked (s ∷ before) old
-      → one.asked ≡ old.asked → (j : Judges given one new)
-      → AllByRecursion (IsNoted asked.settled asked.complete) (s.judged ++ j.judged)
-  noted_more old one new s before given has asks j =
-      all_both (IsNoted asked.settled asked.complete) s.judged j.judged has.noted.0
-      (noted_by one.asked asked j.judged (asks ∙ has.asks) j.noted)
+  noted_more : (fault : Bool) (old one new : Trace) (s : Stretch) (before : List Stretch) (given : List Gathered)
+      → HasRead asked (s ∷ before) old → one.asked ≡ old.asked → (j : Judges fault given one new)
+      → AllByRecursion (IsNoted asked.settled asked.complete) (s.judged ++ told_in fault j)
+  noted_more fault old one new s before given has asks j =
+      all_both (IsNoted asked.settled asked.complete) s.judged (told_in fault j) has.noted.0
+      (all_left (IsNoted asked.settled asked.complete) (is_told_if fault asked.of) j.judged
+      (noted_by one.asked asked j.judged (asks ∙ has.asks) j.noted))
 
   -- The first entry of a stretch may come.
   pub begins : (t : Trace) → IsBetween asked t → IsWithin asked t
@@ -187,21 +253,36 @@ module _ (asked : Asked) where
     cut = b.cut;
   }
 
-  -- A line says that dialogues may have been under way.
-  pub under_way_noted : (t : Trace) (number : Option ℕ) → IsWithin asked t → IsWithin asked (record t { under_way = number })
-  under_way_noted t number w = record {
+  same_read : (stretches : List Stretch) (t u : Trace) → u.asked ≡ t.asked → u.dialogues ≡ t.dialogues → u.messages ≡ t.messages
+      → u.readable ≡ t.readable → HasRead asked stretches t → HasRead asked stretches u
+  same_read stretches t u asks dialogues messages readable has = record {
+    asks = asks ∙ has.asks;
+    noted = has.noted;
+    counts = dialogues ∙ has.counts;
+    messages = messages ∙ has.messages;
+    readable = readable ∙ has.readable;
+  }
+
+  -- Something else changes, within a segment,
+  pub still_within : (t u : Trace) → u.asked ≡ t.asked → u.cut ≡ t.cut → u.dialogues ≡ t.dialogues → u.messages ≡ t.messages
+      → u.readable ≡ t.readable → IsWithin asked t → IsWithin asked u
+  still_within t u asks cut dialogues messages readable w = record {
     stretch = w.stretch;
     before = w.before;
     whole = w.whole;
     done = w.done;
-    has = record {
-      asks = w.has.asks;
-      noted = w.has.noted;
-      counts = w.has.counts;
-      messages = w.has.messages;
-      readable = w.has.readable;
-    };
-    cut = w.cut;
+    has = same_read (w.stretch ∷ w.before) t u asks dialogues messages readable w.has;
+    cut = subst (IsCut asked.reuse w.stretch.headings) (sym cut) w.cut;
+  }
+
+  -- or between two.
+  pub still_between : (t u : Trace) → u.asked ≡ t.asked → u.cut ≡ t.cut → u.dialogues ≡ t.dialogues → u.messages ≡ t.messages
+      → u.readable ≡ t.readable → IsBetween asked t → IsBetween asked u
+  still_between t u asks cut dialogues messages readable b = record {
+    stretches = b.stretches;
+    whole = b.whole;
+    has = same_read b.stretches t u asks dialogues messages readable b.has;
+    cut = subst (IsCut asked.reuse []) (sym cut) b.cut;
   }
 
   -- An entry comes, and the dialogues are judged whose IDs are free then.
@@ -209,19 +290,19 @@ module _ (asked : Asked) where
       → one.dialogues ≡ old.dialogues → one.messages ≡ more old.messages 1
       → one.readable ≡ cond (is_some h.kind) (more old.readable 1) old.readable
       → IsCut asked.reuse (w.stretch.headings ++ h ∷ []) one.cut
-      → AreGathered (filter (is_free asked.reuse (length w.stretch.headings) (courses_so_far asked.reuse w.stretch.headings).live h) (courses_so_far asked.reuse w.stretch.headings).live) given
-      → Judges given one new → IsWithin asked new
+      → AreGathered (filter (is_free asked.reuse (length w.stretch.headings) (courses_so_far asked.reuse w.stretch.headings) h) (courses_so_far asked.reuse w.stretch.headings).live) given
+      → Judges false given one new → IsWithin asked new
   comes old one new h given w asks dialogues messages readable cut gives j =
       let hs = w.stretch.headings in record {
-        stretch = record { headings = hs ++ h ∷ []; judged = w.stretch.judged ++ j.judged };
+        stretch = record { headings = hs ++ h ∷ []; judged = w.stretch.judged ++ told_in false j };
         before = w.before;
         whole = w.whole;
         done = subst (AreGathered (courses_so_far asked.reuse (hs ++ h ∷ [])).done) (sym (those_more w.stretch given one new j))
             (next_gathered asked.reuse hs (those_judged w.stretch) given w.done h gives);
         has = record {
           asks = j.asked ∙ asks ∙ w.has.asks;
-          noted = (noted_more old one new w.stretch w.before given w.has asks j, w.has.noted.1);
-          counts = counts_more old one new w.stretch w.before given w.has asks dialogues j;
+          noted = (noted_more false old one new w.stretch w.before given w.has asks j, w.has.noted.1);
+          counts = counts_more false old one new w.stretch w.before given w.has asks dialogues j;
           messages = j.messages ∙ messages ∙ ap (λ n. more n 1) w.has.messages ∙ one_more (messages_in w.before) (length hs)
               ∙ ap (more (messages_in w.before)) (sym (length_push hs h));
           readable = j.readable ∙ readable ∙ ap (λ n. cond (is_some h.kind) (more n 1) n) w.has.readable
@@ -233,10 +314,10 @@ module _ (asked : Asked) where
   -- A stretch ends: all its dialogues that are live are judged.
   pub ends : (old one new : Trace) (given : List Gathered) (w : IsWithin asked old) → one ≡ record old { cut = one.cut }
       → IsCut old.asked.reuse [] one.cut → AreGathered (courses_so_far asked.reuse w.stretch.headings).live given
-      → Judges given one new → IsBetween asked new
+      → Judges false given one new → IsBetween asked new
   ends old one new given w rest cut live j =
       let hs = w.stretch.headings in record {
-        stretches = record { headings = hs; judged = w.stretch.judged ++ j.judged } ∷ w.before;
+        stretches = record { headings = hs; judged = w.stretch.judged ++ told_in false j } ∷ w.before;
         whole = (
           subst (AreGathered (courses_of asked.reuse hs)) (sym (those_more w.stretch given one new j))
               (all_gathered asked.reuse hs (those_judged w.stretch) given w.done live),
@@ -244,37 +325,34 @@ module _ (asked : Asked) where
         );
         has = record {
           asks = j.asked ∙ ap (λ t. t.asked) rest ∙ w.has.asks;
-          noted = (noted_more old one new w.stretch w.before given w.has (ap (λ t. t.asked) rest) j, w.has.noted.1);
-          counts = counts_more old one new w.stretch w.before given w.has (ap (λ t. t.asked) rest) (ap (λ t. t.dialogues) rest) j;
+          noted = (noted_more false old one new w.stretch w.before given w.has (ap (λ t. t.asked) rest) j, w.has.noted.1);
+          counts = counts_more false old one new w.stretch w.before given w.has (ap (λ t. t.asked) rest) (ap (λ t. t.dialogues) rest) j;
           messages = j.messages ∙ ap (λ t. t.messages) rest ∙ w.has.messages;
           readable = j.readable ∙ ap (λ t. t.readable) rest ∙ w.has.readable;
         };
         cut = subst (IsCut asked.reuse []) (sym j.cut) (subst (λ k. IsCut k.reuse [] one.cut) w.has.asks cut);
       }
 
-  -- It breaks off: those are judged that are over.
+  -- A fault breaks it off: all that are live are judged, and those are told that are over or fail.
   pub stops : (old one new : Trace) (live : List Gathered) (w : IsWithin asked old) → one ≡ record old { cut = one.cut }
       → AreGathered (courses_so_far asked.reuse w.stretch.headings).live live
-      → Judges (filter (λ g. is_some g.over) live) one new → IsStopped asked new
+      → Judges true live one new → IsStopped asked new
   stops old one new live w rest are j = record {
-    stretch = record { headings = w.stretch.headings; judged = w.stretch.judged ++ j.judged };
+    stretch = record { headings = w.stretch.headings; judged = w.stretch.judged ++ told_in true j };
     before = w.before;
     whole = w.whole;
     broken = record {
-      done = those_judged w.stretch;
-      live = live;
+      done = w.stretch.judged;
+      live = j.judged;
       done_are = w.done;
-      live_are = are;
-      judged = those_more w.stretch (filter (λ g. is_some g.over) live) one new j;
+      live_are = subst (AreGathered (courses_so_far asked.reuse w.stretch.headings).live) (sym j.those) are;
+      noted = noted_by one.asked asked j.judged (ap (λ t. t.asked) rest ∙ w.has.asks) j.noted;
+      judged = refl;
     };
     has = record {
       asks = j.asked ∙ ap (λ t. t.asked) rest ∙ w.has.asks;
-      noted = (
-        noted_more old one new w.stretch w.before (filter (λ g. is_some g.over) live) w.has (ap (λ t. t.asked) rest) j,
-        w.has.noted.1,
-      );
-      counts = counts_more old one new w.stretch w.before (filter (λ g. is_some g.over) live) w.has
-          (ap (λ t. t.asked) rest) (ap (λ t. t.dialogues) rest) j;
+      noted = (noted_more true old one new w.stretch w.before live w.has (ap (λ t. t.asked) rest) j, w.has.noted.1);
+      counts = counts_more true old one new w.stretch w.before live w.has (ap (λ t. t.asked) rest) (ap (λ t. t.dialogues) rest) j;
       messages = j.messages ∙ ap (λ t. t.messages) rest ∙ w.has.messages;
       readable = j.readable ∙ ap (λ t. t.readable) rest ∙ w.has.readable;
     };
@@ -296,17 +374,18 @@ module _ (asked : Asked) where
       sum ∙ ap (λ c. with_verdict verdict (with_read c t.messages t.unheard old)) has.counts
       ∙ ap (λ n. with_verdict verdict (with_read (counts_in asked.of stretches) n t.unheard old)) has.messages
 
-  pub whole_is_judged : (t : Trace) (verdict : Verdict) (old new : Sum) → IsBetween asked t
-      → verdict ≡ trace_verdict false t.readable t.dialogues.worst
+  pub whole_is_judged : (t : Trace) (is_broken_off : Bool) (verdict : Verdict) (old new : Sum) → IsBetween asked t
+      → verdict ≡ trace_verdict is_broken_off t.readable t.dialogues.worst
       → new ≡ with_verdict verdict (with_read t.dialogues t.messages t.unheard old)
       → IsJudged asked verdict old new
-  whole_is_judged t verdict old new b is sum = record {
+  whole_is_judged t is_broken_off verdict old new b is sum = record {
     stretches = b.stretches;
     unheard = t.unheard;
     is_faulty = false;
+    is_broken_off = is_broken_off;
     judged = b.whole;
     noted = b.has.noted;
-    is = verdict_is b.stretches t false verdict b.has is;
+    is = verdict_is b.stretches t is_broken_off verdict b.has is;
     sum = sum_is b.stretches t verdict old new b.has sum;
   }
 
@@ -318,6 +397,7 @@ module _ (asked : Asked) where
     stretches = s.stretch ∷ s.before;
     unheard = t.unheard;
     is_faulty = true;
+    is_broken_off = false;
     judged = (s.broken, s.whole);
     noted = s.has.noted;
     is = verdict_is (s.stretch ∷ s.before) t true verdict s.has is;

@@ -32,15 +32,19 @@ pub record Dialogue : Type 0 where
 abbrev pub verdict_on : Option Side → Dialogue → Verdict
 verdict_on of d = verdict_by of (ends_by d.table d.circumstances d.entries)
 
--- What is noted of a dialogue beside its entries, by what was gathered of it: whether an earlier dialogue had one of its IDs, where it is
--- over, and how many entries it has. It is asked whether nothing was under way when an ID came again, and whether dialogues are to be
--- complete. An ID came again only where an earlier dialogue had it; and where it is not said that nothing was under way, it did so then.
--- Only where none had it may the dialogue have been under way before. Only where it is to be complete, and is not over, is it open; and
--- only where it has so many entries is it cut.
+-- What is noted of a dialogue beside its entries, by what was gathered of it: whether an earlier dialogue of its segment had one of its
+-- IDs, the entry with which it is over, and how many entries it has. It is asked whether IDs have settled when they come again, and
+-- whether dialogues are to be complete.
 pub record IsNotedOf (settled complete is_earlier : Bool) (over : Option ℕ) (count : ℕ) (c : Circumstances) : Type 0 where
+  -- An ID came again only if an earlier dialogue had it; and unless IDs have settled, it did so then.
   pub again : c.again ≡ true → is_earlier ≡ true
   pub unsettled : settled ≡ false → c.again ≡ is_earlier
+  -- Only if none had it may the dialogue have been under way before its trace, or before a quiet mark that came too early.
   pub under_way : c.under_way ≡ true → is_earlier ≡ false
+  pub early_mark : c.early_mark ≡ true → is_earlier ≡ false
+  -- Only unless IDs have settled may the end that began it have used its ID just before.
+  pub began : settled ≡ true → c.began ≡ None
+  -- Only if it is to be complete, and is not over, is it open; and only if it has so many entries is it cut.
   pub is_open : c.open ≡ true → (complete ≡ true) × (over ≡ None)
   pub is_cut : c.cut ≡ true → 100000 ≤ count
 

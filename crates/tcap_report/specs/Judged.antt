@@ -1,5 +1,5 @@
 -- What is said of a trace.
-use Rattle.std.specs.Prelude.{◌≡◌, ℕ, Bool, List}
+use Rattle.std.specs.Prelude.{◌≡◌, ℕ, Bool, ◌||◌, List}
 use Rattle.tcap_traces.specs.declared.verdict.Verdict.{Verdict}
 use Rattle.tcap_traces.specs.Verdict.{trace_verdict}
 use Rattle.tcap_report.specs.declared.sum.Sum.{Sum}
@@ -7,14 +7,15 @@ use Rattle.tcap_report.specs.declared.trace.Asked.{Asked}
 use Rattle.tcap_report.specs.Counts.{with_read, with_verdict}
 use Rattle.tcap_report.specs.Stretch.{AreJudged, AreNoted, Stretch, counts_in, messages_in, readable_in}
 
--- The verdict on a trace, by what is asked of it, and the sum before and behind it. It has stretches whose dialogues are judged, by what
--- is noted of them; the verdict is that of the worst of these, or an error where the form of the trace has a fault or where of no entry a
--- kind could be read. The sum has their verdicts more, their entries, and the verdict on the trace.
+-- The verdict on a trace, by what is asked of it, and the sum before and after it. It has segments whose dialogues are judged, by what
+-- is noted of them; the verdict is that of the worst of these, or an error if a fault of its form ends the trace, if it says of itself that
+-- it is broken off, or if of no entry a kind could be read. The sum has their verdicts more, their entries, and the verdict on the trace.
 pub record IsJudged (asked : Asked) (verdict : Verdict) (before after : Sum) : Type 0 where
   pub stretches : List Stretch
   pub unheard : ℕ
   pub is_faulty : Bool
-  pub judged : AreJudged asked.reuse is_faulty stretches
+  pub is_broken_off : Bool
+  pub judged : AreJudged asked is_faulty stretches
   pub noted : AreNoted asked.settled asked.complete stretches
-  pub is : verdict ≡ trace_verdict is_faulty (readable_in stretches) (counts_in asked.of stretches).worst
+  pub is : verdict ≡ trace_verdict (is_faulty || is_broken_off) (readable_in stretches) (counts_in asked.of stretches).worst
   pub sum : after ≡ with_verdict verdict (with_read (counts_in asked.of stretches) (messages_in stretches) unheard before)

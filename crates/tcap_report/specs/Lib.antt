@@ -1,6 +1,10 @@
+pub mod BeforeMarks
 pub mod Counts
+pub mod Course
 pub mod Dialogue
+pub mod Directive
 pub mod Judged
 pub mod Progress
 pub mod Stretch
 pub mod Untold
+pub mod WorkedDirectives

@@ -1,19 +1,22 @@
 -- What is kept of a trace as it is read.
 use Rattle.std.specs.List.{AllByRecursion}
-use Rattle.std.specs.Prelude.{◌≡◌, List, [], ◌∷◌, Result, Ok, Err, map}
+use Rattle.std.specs.Prelude.{◌≡◌, Bool, true, false, not, ◌||◌, List, [], ◌∷◌, Option, Result, Ok, Err, filter, map}
+use Rattle.tcap_record.specs.declared.entry.End.{End as Side}
 use Rattle.tcap_dialogues.specs.Course.{courses_so_far}
 use Rattle.tcap_dialogues.specs.Gathered.{AreGathered}
 use Rattle.tcap_dialogues.specs.Held.{IsCut}
 use Rattle.tcap_dialogues.specs.declared.gathered.Gathered.{Gathered}
+use Rattle.tcap_report.specs.declared.case.Behind.{Behind}
+use Rattle.tcap_report.specs.declared.case.Behind.TheVariants as behinds
 use Rattle.tcap_report.specs.declared.fault.Halt.{Halt}
 use Rattle.tcap_report.specs.declared.fault.Halt.TheVariants as halts
 use Rattle.tcap_report.specs.declared.trace.Asked.{Asked}
 use Rattle.tcap_report.specs.declared.trace.Trace.{Trace}
 use Rattle.tcap_report.specs.Counts.{with_each}
 use Rattle.tcap_report.specs.Dialogue.{Dialogue, IsNoted, verdict_on}
-use Rattle.tcap_report.specs.Stretch.{AreNoted, AreWhole, IsBrokenOff, Stretch, counts_in, messages_in, readable_in, those_judged}
+use Rattle.tcap_report.specs.Stretch.{AreNoted, AreWhole, IsBrokenOff, Stretch, counts_in, is_told, messages_in, readable_in, those_judged}
 
--- What was asked, and what is noted and counted of these stretches, the last one first.
+-- What was asked, and what is noted and counted of these segments, the last one first.
 pub record HasRead (asked : Asked) (stretches : List Stretch) (trace : Trace) : Type 0 where
   pub asks : trace.asked ≡ asked
   pub noted : AreNoted asked.settled asked.complete stretches
@@ -28,7 +31,7 @@ pub record IsBetween (asked : Asked) (trace : Trace) : Type 0 where
   pub has : HasRead asked stretches trace
   pub cut : IsCut asked.reuse [] trace.cut
 
--- One is under way: of its dialogues those whose IDs are free are judged.
+-- A segment is under way: of its dialogues those whose IDs are free are judged.
 pub record IsWithin (asked : Asked) (trace : Trace) : Type 0 where
   pub stretch : Stretch
   pub before : List Stretch
@@ -42,16 +45,26 @@ pub record IsStopped (asked : Asked) (trace : Trace) : Type 0 where
   pub stretch : Stretch
   pub before : List Stretch
   pub whole : AreWhole asked.reuse before
-  pub broken : IsBrokenOff asked.reuse stretch
+  pub broken : IsBrokenOff asked stretch
   pub has : HasRead asked (stretch ∷ before) trace
 
--- The dialogues of which these were gathered are judged, by what is noted of them, one after the other, and counted. Nothing else
--- changes that is counted.
-pub record Judges (given : List Gathered) (old new : Trace) : Type 0 where
+-- whether that is a fault which ends the trace
+abbrev pub is_fault : Behind → Bool
+is_fault behinds.Fault = true
+is_fault behind = false
+
+-- whether a dialogue that was judged is told: if a fault ends the trace before the dialogue's IDs are free, only if it is over or fails
+abbrev pub is_told_if : Bool → Option Side → Dialogue → Bool
+is_told_if fault of d = not fault || is_told of d
+
+-- The dialogues of which these were gathered are judged, by what is noted of them, one after the other, and those that are told are
+-- counted. Nothing else changes that is counted.
+pub record Judges (fault : Bool) (given : List Gathered) (old new : Trace) : Type 0 where
   pub judged : List Dialogue
   pub those : map (λ d. d.gathered) judged ≡ given
   pub noted : AllByRecursion (IsNoted old.asked.settled old.asked.complete) judged
-  pub counts : new.dialogues ≡ with_each (map (verdict_on old.asked.of) judged) old.dialogues
+  pub counts : new.dialogues
+      ≡ with_each (map (verdict_on old.asked.of) (filter (is_told_if fault old.asked.of) judged)) old.dialogues
   pub asked : new.asked ≡ old.asked
   pub cut : new.cut ≡ old.cut
   pub messages : new.messages ≡ old.messages

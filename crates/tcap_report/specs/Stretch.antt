@@ -1,12 +1,15 @@
--- The stretches of a trace, between quiet marks, and which of their dialogues are judged.
+-- The segments of a trace, between quiet marks, and which of their dialogues are judged.
 use Rattle.std.specs.List.{AllByRecursion}
-use Rattle.std.specs.Prelude.{◌≡◌, ℕ, Bool, true, false, List, [], ◌∷◌, ◌++◌, Option, ⊤, is_some, length, map, filter, count_by}
+use Rattle.std.specs.Prelude.{◌≡◌, ℕ, Bool, true, false, List, [], ◌∷◌, ◌++◌, Option, ⊤, ◌||◌, is_some, length, map, filter, count_by}
 use Rattle.tcap_record.specs.declared.entry.End.{End as Side}
 use Rattle.tcap_dialogues.specs.Course.{Heading, courses_of, courses_so_far}
 use Rattle.tcap_dialogues.specs.Gathered.{AreGathered}
 use Rattle.tcap_dialogues.specs.declared.gathered.Gathered.{Gathered}
 use Rattle.tcap_dialogues.specs.declared.reuse.Reuse.{Reuse}
+use Rattle.tcap_traces.specs.declared.verdict.Verdict.{Verdict}
+use Rattle.tcap_traces.specs.declared.verdict.Verdict.TheVariants as verdicts
 use Rattle.tcap_report.specs.declared.sum.Counts.{Counts}
+use Rattle.tcap_report.specs.declared.trace.Asked.{Asked}
 use Rattle.tcap_report.specs.Counts.{more, no_counts, with_each}
 use Rattle.tcap_report.specs.Dialogue.{Dialogue, IsNoted, verdict_on}
 
@@ -22,23 +25,32 @@ those_judged s = map (λ d. d.gathered) s.judged
 abbrev pub IsWhole : Reuse → Stretch → Type 0
 IsWhole reuse s = AreGathered (courses_of reuse s.headings) (those_judged s)
 
--- A fault breaks it off: those whose IDs were free before are judged, and of the others those that are over.
-pub record IsBrokenOff (reuse : Reuse) (s : Stretch) : Type 0 where
-  pub done : List Gathered
-  pub live : List Gathered
-  pub done_are : AreGathered (courses_so_far reuse s.headings).done done
-  pub live_are : AreGathered (courses_so_far reuse s.headings).live live
-  pub judged : those_judged s ≡ done ++ filter (λ g. is_some g.over) live
+-- whether a dialogue of which more entries may have been to come is told: it is over, or it fails by what came of it
+abbrev pub is_fail : Verdict → Bool
+is_fail verdicts.Fail = true
+is_fail verdict = false
+
+abbrev pub is_told : Option Side → Dialogue → Bool
+is_told of d = is_some d.gathered.over || is_fail (verdict_on of d)
+
+-- A fault breaks it off: those whose IDs were free before are judged, and of the others those are told that are over or fail.
+pub record IsBrokenOff (asked : Asked) (s : Stretch) : Type 0 where
+  pub done : List Dialogue
+  pub live : List Dialogue
+  pub done_are : AreGathered (courses_so_far asked.reuse s.headings).done (map (λ d. d.gathered) done)
+  pub live_are : AreGathered (courses_so_far asked.reuse s.headings).live (map (λ d. d.gathered) live)
+  pub noted : AllByRecursion (IsNoted asked.settled asked.complete) live
+  pub judged : s.judged ≡ done ++ filter (is_told asked.of) live
 
 abbrev pub AreWhole : Reuse → List Stretch → Type 0
 AreWhole reuse [] = Unit {0}
 AreWhole reuse (s ∷ before) = IsWhole reuse s × AreWhole reuse before
 
--- The stretches of a trace, the last one first: all are whole, but for the last where the form of the trace has a fault.
-abbrev pub AreJudged : Reuse → Bool → List Stretch → Type 0
-AreJudged reuse false stretches = AreWhole reuse stretches
-AreJudged reuse true [] = Unit {0}
-AreJudged reuse true (s ∷ before) = IsBrokenOff reuse s × AreWhole reuse before
+-- The segments of a trace, the last one first: all are whole, but for the last if a fault of its form ends the trace.
+abbrev pub AreJudged : Asked → Bool → List Stretch → Type 0
+AreJudged asked false stretches = AreWhole asked.reuse stretches
+AreJudged asked true [] = Unit {0}
+AreJudged asked true (s ∷ before) = IsBrokenOff asked s × AreWhole asked.reuse before
 
 -- What is noted of each of their dialogues beside its entries is so.
 abbrev pub AreNoted : Bool → Bool → List Stretch → Type 0

@@ -4,7 +4,8 @@ ghost use Rattle.std.specs.Prelude.{◌≡◌, ◌≤◌, true, false, None, IfO
 ghost use Rattle.tcap_traces.specs.declared.said.Circumstances.{Circumstances as Known};
 ghost use Rattle.tcap_report.specs.Dialogue.{IsNotedOf, ends_by, verdict_by};
 
-use crate::choosing::choose;
+use crate::before_marks::InUse;
+use crate::choosing::{Chosen, choose};
 use crate::fault::Stop;
 use std::alloc::{AllocError, Global};
 use tcap_books::{Book, NamedTable};
@@ -27,22 +28,24 @@ pub(crate) struct Held {
     pub(crate) comment: Vec<u8>,
 }
 
-/// What stands behind a dialogue.
+/// What comes after the entries of a dialogue.
 #[derive(Clone, Copy, PartialEq, Eq)]
 pub(crate) enum Behind {
-    /// Other entries of its stretch.
+    /// Other entries of its segment, or nothing that concerns it since it is over.
     More,
     /// A quiet mark: its line, 0 where it has none, and its number in the trace.
     Mark { line: u64, number: u64 },
     /// The end of the trace.
     End,
+    /// A fault of the trace's form, which ends the trace.
+    Fault,
 }
 
 /// A dialogue that is judged, with its entries.
 #[derive(Drop)]
 pub(crate) struct Case {
-    /// Its number among the dialogues of its trace.
-    pub(crate) number: u64,
+    /// What is asked of it.
+    pub(crate) rules: Rules,
     /// Its entries, in their order.
     pub(crate) entries: Vec<Held>,
     /// What was gathered of it: the numbers of its entries in the stretch, and its IDs.
@@ -51,11 +54,11 @@ pub(crate) struct Case {
     pub(crate) before: u64,
     /// How it came to be judged.
     pub(crate) behind: Behind,
-    /// The number of the last earlier dialogue of the stretch that had one of its IDs, among those of its trace.
-    pub(crate) earlier: Option<u64>,
-    /// The number of the first entry in the stretch of which nothing can be read.
+    /// The ID by which it seems to go on after the quiet mark before its segment.
+    pub(crate) in_use: Option<InUse>,
+    /// The number in the segment of the first entry that can't be read and may have been one of it.
     pub(crate) unread: Option<u64>,
-    /// The number of the first entry in the stretch behind the line that says that dialogues may have been under way.
+    /// The number in the segment of the first entry after the directive that says that dialogues may have been under way.
     pub(crate) under_way: Option<u64>,
 }
 
@@ -72,7 +75,7 @@ pub(crate) fn heading_of(octets: &[u8]) -> HeadingView<'_> {
 #[derive(Drop)]
 pub(crate) struct Judged<'a> {
     pub(crate) record: Record,
-    /// The application context name that its Begin asks for.
+    /// The application context name by which its table was chosen.
     pub(crate) context: Option<Vec<u8>>,
     pub(crate) table: Option<&'a NamedTable>,
     /// What is said of its ends; nothing where there is no table.
@@ -89,9 +92,28 @@ pub(crate) struct Rules {
     pub(crate) settled: bool,
     /// Whether dialogues are to be complete.
     pub(crate) complete: bool,
+    /// Whether transaction IDs come once between two quiet marks.
+    pub(crate) once: bool,
 }
 
 impl Case {
+    /// The number of its first entry in the trace.
+    pub(crate) fn number(&self) -> u64 {
+        match self.gathered.numbers.first() {
+            Some(first) => self.before.saturating_add(*first),
+            None => self.before,
+        }
+    }
+
+    /// If an earlier dialogue of the segment had one of its IDs, the number of the last such dialogue: that of its first entry in the
+    /// trace.
+    pub(crate) fn earlier(&self) -> Option<u64> {
+        match self.gathered.earlier {
+            Some(earlier) => Some(self.before.saturating_add(earlier)),
+            None => None,
+        }
+    }
+
     /// Whether it has more entries than are judged.
     pub(crate) fn is_cut(&self) -> bool
         ensures { result ≡ true → 100000 ≤ length self.now.entries.items }
@@ -109,11 +131,20 @@ impl Case {
         !self.gathered.a.is_empty() || !self.gathered.b.is_empty()
     }
 
-    /// Whether its trace ended before its transaction did.
-    pub(crate) fn is_open(&self) -> bool
+    /// Returns whether its trace ends before its transaction, or a quiet mark comes before that; but with prearranged ends the
+    /// transaction may have ended in silence before the mark.
+    pub(crate) fn is_open(&self, table: Option<&NamedTable>) -> bool
         ensures { result ≡ true → self.now.gathered.over ≡ None }
     {
-        self.behind == Behind::End && self.gathered.over.is_none()
+        if self.gathered.over.is_some() {
+            return false;
+        }
+        match (self.behind, table) {
+            (Behind::End, _) => true,
+            (Behind::Mark { .. }, Some(table)) => !table.table().prearranged(),
+            (Behind::Mark { .. }, None) => true,
+            _ => false,
+        }
     }
 
     /// The octets of the record of it.
@@ -128,67 +159,69 @@ impl Case {
         Ok(octets)
     }
 
-    /// Whether its first entry is a Begin, as far as its heading tells.
-    fn begins(&self) -> bool {
-        match self.entries.first() {
-            Some(held) => heading_of(&held.octets).kind == Some(Form::Begin),
-            None => false,
-        }
-    }
-
-    /// Whether its Begin may stand before its trace: dialogues may have been under way before its first entry, and that is a message to
-    /// an ID that was never sent.
+    /// Returns whether it may lack its Begin, which then came before its trace: it comes after the directive that dialogues may have been
+    /// under way, none of its IDs came again, and its first entry is a message with a destination ID.
     fn may_be_under_way(&self, record: &Record) -> bool
-        ensures { result ≡ true → is_some self.now.earlier ≡ false }
+        ensures { result ≡ true → is_some self.now.gathered.earlier ≡ false }
     {
-        let (Some(from), Some(first)) = (self.under_way, self.gathered.numbers.first()) else {
-            return false;
-        };
         let is_to_one = match first_message(record) {
             Some(message) => message.dtid().is_some(),
             None => false,
         };
-        from <= *first && self.earlier.is_none() && is_to_one
+        self.is_after_directive() && self.gathered.earlier.is_none() && is_to_one
     }
 
-    /// Whether an ID of it came again, and something of its earlier use may have been under way. Where it begins without a Begin, no ID
-    /// came again: an earlier dialogue goes on, of which more was under way.
-    fn comes_again(&self, settled: bool) -> bool
-        ensures only { result ≡ true → is_some self.now.earlier ≡ true }
-        ensures unsettled { settled ≡ false → result ≡ is_some self.now.earlier }
+    /// Returns whether its first entry comes after the directive that dialogues may have been under way.
+    fn is_after_directive(&self) -> bool {
+        match (self.under_way, self.gathered.numbers.first()) {
+            (Some(from), Some(first)) => from <= *first,
+            _ => false,
+        }
+    }
+
+    /// Returns the end whose Begin is its first entry, if that comes after the directive that dialogues may have been under way, and it is
+    /// not said that IDs have settled.
+    fn began(&self) -> Option<End>
+        ensures { self.now.rules.settled ≡ true → result ≡ None }
     {
-        self.earlier.is_some() && !(settled && self.begins())
+        let sender = begins(&self.entries)?;
+        if !self.rules.settled && self.is_after_directive() {
+            Some(sender)
+        } else {
+            None
+        }
+    }
+
+    /// Returns whether an ID of it came again, and a message of an earlier use of the ID may have been under way. If it is said that IDs
+    /// have settled, none was if the dialogue begins by a Begin and the owner of each such ID had sent from it.
+    fn comes_again(&self) -> bool
+        ensures only { result ≡ true → is_some self.now.gathered.earlier ≡ true }
+        ensures unsettled { self.now.rules.settled ≡ false → result ≡ is_some self.now.gathered.earlier }
+    {
+        let is_settled = self.rules.settled && !self.gathered.unsettled;
+        self.gathered.earlier.is_some() && !(is_settled && begins(&self.entries).is_some())
     }
 
     /// What is noted of it beside its entries, which were read as that record; and whether its table is unsure.
-    fn circumstances(&self, record: &Record, unsure: bool, rules: Rules) -> Circumstances
-        ensures { IsNotedOf rules.settled rules.complete (is_some self.now.earlier) self.now.gathered.over
+    fn circumstances(&self, record: &Record, chosen: &Chosen) -> Circumstances
+        ensures { IsNotedOf self.now.rules.settled self.now.rules.complete (is_some self.now.gathered.earlier) self.now.gathered.over
             (length self.now.entries.items) result }
     {
         Circumstances {
-            again: self.comes_again(rules.settled),
+            again: self.comes_again(),
             under_way: self.may_be_under_way(record),
-            unsure,
+            early_mark: self.gathered.earlier.is_none() && self.in_use.is_some(),
+            began: self.began(),
+            unsure: chosen.unsure,
             unread_from: self.unread_from(),
             cut: self.is_cut(),
-            open: rules.complete && self.is_open(),
+            open: self.rules.complete && self.is_open(chosen.table),
         }
     }
 
-    /// Whether an entry that can't be read may have been one of it.
-    fn may_have_had(&self, unread: u64) -> bool {
-        let Some(first) = self.gathered.numbers.first() else {
-            return false;
-        };
-        self.has_ids() && (*first < unread || !self.begins())
-    }
-
-    /// The number of the first of its entries behind one that may have been one of it.
+    /// Returns the number of the first of its entries after one that can't be read and may have been one of it.
     fn unread_from(&self) -> Option<u64> {
         let unread = self.unread?;
-        if !self.may_have_had(unread) {
-            return None;
-        }
         let found = self
             .gathered
             .numbers
@@ -198,6 +231,30 @@ impl Case {
             Some(at) => Some(at as u64),
             None => Some(self.gathered.numbers.len() as u64),
         }
+    }
+
+    /// Returns whether it may go on after its segment: a quiet mark comes before it is over, and both ends sent entries of it; or it goes
+    /// on with IDs of earlier segments itself.
+    pub(crate) fn may_go_on(&self) -> bool {
+        self.in_use.is_some()
+            || (self.is_marked() && self.has_sent(End::A) && self.has_sent(End::B))
+    }
+
+    /// Whether an end sent one of its entries.
+    fn has_sent(&self, end: End) -> bool {
+        self.entries
+            .iter()
+            .any(|held| heading_of(&held.octets).sender == end)
+    }
+}
+
+/// Returns the end that sent the first of these entries, if that is a Begin as far as its heading can be read.
+pub(crate) fn begins(entries: &[Held]) -> Option<End> {
+    let heading = heading_of(&entries.first()?.octets);
+    if heading.kind == Some(Form::Begin) {
+        Some(heading.sender)
+    } else {
+        None
     }
 }
 
@@ -283,28 +340,23 @@ fn verdict_of(ends: Option<Ends>, of: Option<End>) -> Verdict
 }
 
 /// Judges a dialogue.
-pub(crate) fn judge<'a>(
-    alloc: Global,
-    case: &Case,
-    book: &'a Book,
-    rules: Rules,
-) -> Result<Judged<'a>, Stop>
+pub(crate) fn judge<'a>(alloc: Global, case: &Case, book: &'a Book) -> Result<Judged<'a>, Stop>
     ensures said { IfOk result (λ judged. (c : Known) × (judged.ends
         ≡ ends_by (option_map (λ table. table.now.table) judged.table) c judged.record.entries.items)
-        × IsNotedOf rules.settled rules.complete (is_some case.now.earlier) case.now.gathered.over
+        × IsNotedOf case.now.rules.settled case.now.rules.complete (is_some case.now.gathered.earlier) case.now.gathered.over
         (length case.now.entries.items) c) }
-    ensures verdict { IfOk result (λ judged. judged.verdict ≡ verdict_by rules.of judged.ends) }
+    ensures verdict { IfOk result (λ judged. judged.verdict ≡ verdict_by case.now.rules.of judged.ends) }
 {
     let octets = case.octets(alloc)?;
     let mut record = record_of(alloc, &octets)?;
     let chosen = choose(alloc, book, &record)?;
-    let circumstances = case.circumstances(&record, chosen.unsure, rules);
+    let circumstances = case.circumstances(&record, &chosen);
     let ends = ends_of(alloc, &mut record, chosen.table, circumstances)?;
     Ok(Judged {
         record,
         context: chosen.context,
         table: chosen.table,
         ends,
-        verdict: verdict_of(ends, rules.of),
+        verdict: verdict_of(ends, case.rules.of),
     })
 }

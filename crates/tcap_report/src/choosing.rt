@@ -1,9 +1,8 @@
 //! The table by which a dialogue is judged.
 
-use crate::case::first_message;
 use crate::words::context_in;
 use std::alloc::{AllocError, Global};
-use tcap_books::{Book, NamedTable};
+use tcap_books::{Book, Context, NamedTable};
 use tcap_msg::{Kind as Form, MessageParts};
 use tcap_record::{Body, Record};
 
@@ -53,53 +52,55 @@ fn table_of<'a>(book: &'a Book, context: &Option<Vec<u8>>) -> Option<&'a NamedTa
     }
 }
 
-/// The table of a dialogue that does not begin by a Begin: that of the first context that a message of it has, or any, of which it is
-/// then unsure.
+/// The table of a dialogue without a Begin or a Unidirectional: that of the first context that a message of it has, or the first table
+/// if none has one. It is sure only if the tables are one table without contexts.
 fn without_begin<'a>(
     alloc: Global,
     book: &'a Book,
     record: &Record,
 ) -> Result<Chosen<'a>, AllocError> {
     let context = first_context(alloc, record)?;
-    let found = table_of(book, &context);
+    let table = match &context {
+        Some(context) => book.table_of(Some(context.as_slice())),
+        None => book.tables().first(),
+    };
     Ok(Chosen {
-        unsure: found.is_none(),
-        table: match found {
-            Some(table) => Some(table),
-            None => book.tables().first(),
-        },
+        table,
         context,
+        unsure: match book.tables() {
+            [table] => !table.contexts().is_empty(),
+            _ => true,
+        },
     })
 }
 
-/// Whether two tables of a book are one, as far as their names and contexts tell.
+/// Whether two tables of a book that contexts have, or the lack of one, are one. Of two tables with the same contexts none has the second.
 fn are_one(one: Option<&NamedTable>, other: Option<&NamedTable>) -> bool {
     match (one, other) {
-        (Some(one), Some(other)) => {
-            one.name() == other.name() && first_octets(one) == first_octets(other)
-        }
+        (Some(one), Some(other)) => have_same(one.contexts(), other.contexts()),
         (None, None) => true,
         _ => false,
     }
 }
 
-/// The octets of a table's first context.
-fn first_octets(table: &NamedTable) -> Option<&[u8]> {
-    match table.contexts().first() {
-        Some(context) => Some(context.octets()),
-        None => None,
-    }
+/// Whether these are the same contexts in the same order.
+fn have_same(ones: &[Context], others: &[Context]) -> bool {
+    ones.len() == others.len()
+        && ones
+            .iter()
+            .zip(others)
+            .all(|(one, other)| one.octets() == other.octets())
 }
 
-/// The table of a dialogue: that of the context which its Begin asks for, or its Unidirectional has. Where several Begins ask for
-/// contexts of different tables it is unsure.
+/// Chooses the table of a dialogue: that of its first Begin or Unidirectional, by its context or its lack of one. If others of them have
+/// other tables it is unsure.
 pub(crate) fn choose<'a>(
     alloc: Global,
     book: &'a Book,
     record: &Record,
 ) -> Result<Chosen<'a>, AllocError> {
     let mut contexts = contexts_of(alloc, record)?;
-    if first_message(record).is_none() || contexts.is_empty() {
+    if contexts.is_empty() {
         return without_begin(alloc, book, record);
     }
     let context = contexts.swap_remove(0);

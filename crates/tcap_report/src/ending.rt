@@ -44,7 +44,7 @@ fn push_fault(
                 text: what,
             },
         ) => text.push_str(what),
-        None if readable == 0 => text.push_str("there is no message in it"),
+        None if readable == 0 => text.push_str("no entry has the tag of a message"),
         None => Ok(()),
     }
 }
@@ -96,6 +96,23 @@ impl Trace<'_> {
         *sinks.sum = self.so_far(sinks.sum);
         sinks.sum.traces.add(verdict);
         Ok(verdict)
+    }
+
+    /// Says what is said of a trace that was read to its end, which may say of itself that it is broken off.
+    pub(crate) fn end_whole<W: Write, J: Lines, P: Watch>(
+        &mut self,
+        sinks: &mut Sinks<W, J, P>,
+    ) -> Result<Verdict, Stop>
+        ensures is { IfOk result (λ verdict.
+            verdict ≡ trace_verdict (is_some self.old.broken_off) self.old.readable self.old.dialogues.worst) }
+        ensures sum { IfOk result (λ verdict. sinks.new.sum.now
+            ≡ with_verdict verdict (with_read self.old.dialogues self.old.messages self.old.unheard sinks.old.sum.now)) }
+        ensures same_sum { sinks.new.sum.ghost_name ≡ sinks.old.sum.ghost_name }
+    {
+        match self.broken_off.take() {
+            Some(text) => self.end(Some(FormFault { line: None, text }), None, sinks),
+            None => self.end(None, None, sinks),
+        }
     }
 
     /// Appends the line of the trace.

@@ -1,9 +1,13 @@
 //! The entries of a trace: lines of hexadecimal digits, or a record, told apart by the first octets.
 
-ghost use Rattle.std.specs.Prelude.{◌≡◌, [], None, IfOk, OnOk};
+ghost use Rattle.std.specs.Prelude.{◌≡◌, ◌+◌, ◌<◌, ◌≤◌, [], None, Ok, true, false, drop, length, IfOk, IsErr, MatchResult, OnOk};
+ghost use Rattle.tcap_record.specs.HexLines.{line_limit};
 ghost use Rattle.tcap_report.specs.declared.entries.Form.TheVariants as forms;
+ghost use Rattle.tcap_report.specs.Course.{IsPieceOf, IsWrong, UnlessStops, has_named, may_come, named, noted};
+ghost use Rattle.tcap_report.specs.Directive.{said_of};
 ghost use Rattle.tcap_report.specs.Untold.{HasNothing};
 
+use crate::directive::{Directive, directive_of};
 use crate::fault::{FormFault, Halt};
 use std::alloc::{AllocError, Global};
 use std::mem;
@@ -26,8 +30,24 @@ pub(crate) enum Piece {
     Entry(Vec<u8>, u64, Vec<u8>),
     /// A quiet mark, with its line, where it has one.
     Mark(u64),
-    /// A comment that says that dialogues may have been under way.
+    /// A directive: dialogues may have been under way.
     UnderWay,
+    /// The trace says of itself that it is broken off: the text to print. No piece comes after it.
+    BrokenOff(String),
+    /// What an end is, in words.
+    About(End, String),
+}
+
+/// What was read of a trace of lines, as far as a directive or an entry is a fault after it.
+#[derive(Drop)]
+pub(crate) struct Course {
+    // Whether an entry or a quiet mark was read.
+    begun: bool,
+    // Whether a directive said what A is, and what B is.
+    a: bool,
+    b: bool,
+    // Whether a directive said that the trace was broken off.
+    broken_off: bool,
 }
 
 /// A trace that is read.
@@ -48,10 +68,8 @@ pub(crate) struct Entries {
     ended: bool,
     // The first octets.
     first: Vec<u8>,
+    course: Course,
 }
-
-/// The comment that says that dialogues may have been under way.
-const UNDER_WAY: &[u8] = b"dialogues may have been under way";
 
 /// So many of the first octets are kept.
 const FIRST: usize = 64;
@@ -98,21 +116,26 @@ fn entry_of(alloc: Global, end: End, element: &[u8]) -> Result<Vec<u8>, AllocErr
     Ok(octets)
 }
 
-/// The text of a comment, without its sign and the blank behind it; of no comment, nothing.
+/// Returns the text of a comment, without its sign and the blank after it. A directive is no comment.
 fn comment_of(line: &[u8]) -> &[u8] {
     match line {
+        [b'#', b':', ..] => &[],
         [b'#', b' ', text @ ..] => text,
         [b'#', text @ ..] => text,
         _ => &[],
     }
 }
 
-/// Whether a line is the comment that says that dialogues may have been under way.
-fn is_under_way(line: &[u8]) -> bool {
-    match line {
-        [b'#', text @ ..] => text.trim_ascii() == UNDER_WAY,
-        _ => false,
-    }
+/// The fault of the line of that number, in words.
+fn fault_in(alloc: Global, number: u64, what: &str) -> Result<Halt, AllocError>
+    ensures { IfOk result IsWrong }
+{
+    let mut text = String::new(alloc);
+    text.push_str(what)?;
+    Ok(Halt::Form(FormFault {
+        line: Some(number),
+        text,
+    }))
 }
 
 /// The fault of the line of that number, which is none.
@@ -125,6 +148,86 @@ fn fault_of(alloc: Global, number: u64, line: &[u8]) -> Result<Halt, AllocError>
         line: Some(number),
         text,
     }))
+}
+
+/// The text that says that the trace was broken off, by the line of that number.
+fn broken_off_text(alloc: Global, number: u64, missing: &[u8]) -> Result<String, AllocError> {
+    let missing = String::from_utf8_lossy(alloc, missing)?;
+    let mut text = String::new(alloc);
+    write!(text, "line {number}: the trace was broken off")?;
+    text.push_str(&missing)?;
+    Ok(text)
+}
+
+impl Course {
+    /// Notes an entry or a quiet mark in the line of that number.
+    ///
+    /// # Errors
+    /// A fault of the line if the trace was broken off before.
+    fn begin(&mut self, alloc: Global, number: u64) -> Result<(), Halt>
+        ensures { MatchResult result
+            (λ _. (self.old.broken_off ≡ false) × (self.new ≡ record self.old { begun = true }))
+            (λ halt. UnlessStops halt (self.old.broken_off ≡ true) × (self.new ≡ self.old)) }
+    {
+        if self.broken_off {
+            let what = "an entry or a quiet mark after the trace was broken off";
+            return Err(fault_in(alloc, number, what)?);
+        }
+        self.begun = true;
+        Ok(())
+    }
+
+    /// Notes that a directive says what an end is. Returns whether an earlier one did.
+    fn name(&mut self, end: End) -> bool
+        ensures before { result ≡ has_named end self.old }
+        ensures after { self.new ≡ named end self.old }
+    {
+        match end {
+            End::A => mem::replace(&mut self.a, true),
+            End::B => mem::replace(&mut self.b, true),
+        }
+    }
+
+    /// Takes a directive in the line of that number.
+    ///
+    /// # Errors
+    /// A fault of the line if the directive may not come here.
+    fn take(&mut self, alloc: Global, directive: Directive, number: u64) -> Result<Piece, Halt>
+        ensures { MatchResult result
+            (λ piece. (may_come self.old (said_of directive.entry) ≡ true)
+            × IsPieceOf piece (said_of directive.entry)
+            × (self.new ≡ noted (said_of directive.entry) self.old))
+            (λ halt. UnlessStops halt ((may_come self.old (said_of directive.entry) ≡ false)
+            × (self.new ≡ self.old))) }
+    {
+        if self.broken_off {
+            return Err(fault_in(alloc, number, "a directive after the trace was broken off")?);
+        }
+        match directive {
+            Directive::UnderWay => Ok(Piece::UnderWay),
+            Directive::BrokenOff(missing) => {
+                self.broken_off = true;
+                match broken_off_text(alloc, number, missing) {
+                    Ok(text) => Ok(Piece::BrokenOff(text)),
+                    Err(error) => Err(Halt::from(error)),
+                }
+            }
+            Directive::About(end, text) => {
+                if self.begun {
+                    let what = "a directive of an end after the first entry or quiet mark";
+                    return Err(fault_in(alloc, number, what)?);
+                }
+                if self.name(end) {
+                    return Err(fault_in(alloc, number, "a second directive of an end")?);
+                }
+                match String::from_utf8_lossy(alloc, text) {
+                    Ok(text) => Ok(Piece::About(end, text)),
+                    Err(error) => Err(Halt::from(error)),
+                }
+            }
+            Directive::Unknown => Err(fault_in(alloc, number, "unknown directive")?),
+        }
+    }
 }
 
 impl Entries {
@@ -142,6 +245,12 @@ impl Entries {
             comment: Vec::new(alloc),
             ended: false,
             first: Vec::new(alloc),
+            course: Course {
+                begun: false,
+                a: false,
+                b: false,
+                broken_off: false,
+            },
         }
     }
 
@@ -169,7 +278,9 @@ impl Entries {
     }
 
     /// What is held.
-    fn rest(&self) -> &[u8] {
+    fn rest(&self) -> &[u8]
+        ensures { result.now ≡ drop self.now.from self.now.held.items }
+    {
         &self.held[self.from.min(self.held.len())..]
     }
 
@@ -205,12 +316,18 @@ impl Entries {
             let above = mem::replace(&mut self.comment, comment);
             let found = match read_line(self.alloc, line) {
                 Ok(Line::Sent(end, element)) => {
+                    self.course.begin(self.alloc, number)?;
                     let octets = entry_of(self.alloc, end, &element)?;
                     Some(Piece::Entry(octets, number, above))
                 }
-                Ok(Line::Mark) => Some(Piece::Mark(number)),
-                Ok(Line::Skipped) if is_under_way(line) => Some(Piece::UnderWay),
-                Ok(Line::Skipped) => None,
+                Ok(Line::Mark) => {
+                    self.course.begin(self.alloc, number)?;
+                    Some(Piece::Mark(number))
+                }
+                Ok(Line::Skipped) => match directive_of(line) {
+                    Some(directive) => Some(self.course.take(self.alloc, directive, number)?),
+                    None => None,
+                },
                 Err(LineFault::Bad) => return Err(fault_of(self.alloc, number, line)?),
                 Err(LineFault::Memory) => return Err(Halt::from(AllocError)),
             };
@@ -223,9 +340,16 @@ impl Entries {
         Ok(None)
     }
 
-    /// Nothing yet, where the line that is held may still end.
-    fn too_long(&self) -> Result<Option<Piece>, Halt> {
-        if self.rest().len() <= LINE_LIMIT {
+    /// Returns nothing yet if the line that is held may still end within the limit: its last octet may be a carriage
+    /// return that is of its end.
+    ///
+    /// # Errors
+    /// The fault of a line that is too long, whatever its end will be.
+    fn too_long(&self) -> Result<Option<Piece>, Halt>
+        ensures short { length (drop self.now.from self.now.held.items) ≤ line_limit + 1 → result ≡ Ok None }
+        ensures long { line_limit + 1 < length (drop self.now.from self.now.held.items) → IsErr result }
+    {
+        if self.rest().len() <= LINE_LIMIT + 1 {
             return Ok(None);
         }
         let number = self.lines.saturating_add(1);

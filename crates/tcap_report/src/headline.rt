@@ -3,9 +3,9 @@
 use crate::case::{Case, Judged};
 use crate::order::{in_order, is_asked};
 use crate::reason::push_sentence;
-use crate::text::{no_table_words, push_doubt};
+use crate::text::no_table_words;
 use crate::waiting::push_first_wait;
-use crate::words::{letter, line_of, undecided_words};
+use crate::words::{letter, line_of, push_doubt, push_said};
 use std::alloc::{AllocError, Global};
 use tcap_record::End;
 use tcap_refute::Refutation;
@@ -52,19 +52,19 @@ fn push_end(
         Said::Doubtful(at, doubt) => {
             push_blame(alloc, text, case, judged, end, at)?;
             text.push_str("; inconclusive: ")?;
-            push_doubt(text, case, doubt)
+            push_doubt(alloc, text, case, doubt)
         }
         Said::Behind(entry) => {
             push_line(text, case, entry)?;
             text.push_str("which ")?;
-            text.push_str(undecided_words(said))
+            push_said(alloc, text, case, said)
         }
         Said::Open => {
-            text.push_str(undecided_words(said))?;
+            push_said(alloc, text, case, said)?;
             text.push_str("; ")?;
             push_first_wait(alloc, text, judged)
         }
-        _ => text.push_str(undecided_words(said)),
+        _ => push_said(alloc, text, case, said),
     }
 }
 

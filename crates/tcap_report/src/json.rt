@@ -8,9 +8,9 @@ use crate::order::{is_asked, last_open};
 use crate::reason::push_reason;
 use crate::sum::Sum;
 use crate::telling::Told;
-use crate::text::{push_behind, push_doubt, push_undecided};
+use crate::text::{push_behind, push_undecided};
 use crate::waiting::push_waiting;
-use crate::words::{comment_of, ids_of, letter, line_of};
+use crate::words::{comment_of, ids_of, letter, line_of, push_doubt};
 use std::alloc::{AllocError, Global};
 use tcap_evidence::{Evidence, push_what};
 use tcap_page::{push_flag, push_named, push_numbers, push_octets, push_text};
@@ -152,7 +152,7 @@ fn push_end(
         Said::Doubtful(at, doubt) => {
             push_blamed(alloc, json, case, judged, end, at, grounds)?;
             let mut text = String::new(alloc);
-            push_doubt(&mut text, case, doubt)?;
+            push_doubt(alloc, &mut text, case, doubt)?;
             push_named(json, "doubt", &text)?;
         }
         _ => {
@@ -214,7 +214,7 @@ pub(crate) fn push_case(
     judged: &Judged,
     of: Option<End>,
 ) -> Result<(), AllocError> {
-    let number = case.number;
+    let number = case.number();
     json.push_str("{\"trace\":")?;
     push_text(json, trace)?;
     write!(json, ",\"dialogue\":{number}")?;
@@ -226,8 +226,8 @@ pub(crate) fn push_case(
     push_ids(json, case, End::B)?;
     json.push_str("}")?;
     push_table(json, judged)?;
-    push_flag(json, "open", case.is_open())?;
-    push_flag(json, "again", case.earlier.is_some())?;
+    push_flag(json, "open", case.is_open(judged.table))?;
+    push_flag(json, "again", case.gathered.earlier.is_some())?;
     push_flag(json, "marked", case.is_marked())?;
     let grounds = Grounds::of(alloc, judged, of)?;
     push_ends(alloc, json, case, judged, of, &grounds)?;

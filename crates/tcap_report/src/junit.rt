@@ -143,7 +143,7 @@ impl Junit {
         of: Option<End>,
         text: &str,
     ) -> Result<(), AllocError> {
-        let number = case.number;
+        let number = case.number();
         let mut name = String::new(self.alloc);
         write!(name, "dialogue {number}")?;
         let mut message = String::new(self.alloc);

@@ -1,8 +1,10 @@
 //! What `tcapjudge test` reads and says: traces, their dialogues and the verdicts on them, as text, JSON, JUnit XML and a page.
 #![tactic(auto)]
 
+mod before_marks;
 mod case;
 mod choosing;
+mod directive;
 mod ending;
 mod entries;
 mod fault;
@@ -14,6 +16,7 @@ mod junit;
 mod listed;
 mod messages;
 mod no_message;
+mod noting;
 mod order;
 mod page;
 mod reason;
@@ -22,6 +25,8 @@ mod telling;
 mod text;
 mod trace;
 mod unheard;
+mod unread;
+mod used_again;
 mod waiting;
 mod which;
 mod words;

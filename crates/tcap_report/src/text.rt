@@ -6,14 +6,14 @@ use crate::no_message::push_no_message;
 use crate::order::{in_order, is_asked, last_open, later_end};
 use crate::reason::push_reason;
 use crate::waiting::push_waiting;
-use crate::words::{comment_of, doubt_words, ids_of, letter, line_of, push_ids, undecided_words};
+use crate::words::{comment_of, ids_of, letter, line_of, push_doubt, push_ids, push_said};
 use std::alloc::{AllocError, Global};
 use tcap_books::NamedTable;
 use tcap_msg::MessageParts;
 use tcap_page::push_component;
 use tcap_record::{Body, End, Entry, push_head, push_hex};
 use tcap_refute::Refutation;
-use tcap_traces::{Doubt, Said, Verdict};
+use tcap_traces::{Said, Verdict};
 
 /// So many entries are listed of the beginning of a dialogue, and before the last one at fault.
 const FIRST: usize = 8;
@@ -52,7 +52,7 @@ fn push_dialogue(
     case: &Case,
     judged: &Judged,
 ) -> Result<(), AllocError> {
-    let number = case.number;
+    let number = case.number();
     text.push_str(trace)?;
     write!(text, ": dialogue {number}")?;
     push_all_ids(text, case)?;
@@ -109,21 +109,6 @@ fn push_blamed(
     text.push_str("\n")
 }
 
-/// Appends what makes a blame inconclusive.
-pub(crate) fn push_doubt(text: &mut String, case: &Case, doubt: Doubt) -> Result<(), AllocError> {
-    text.push_str(doubt_words(doubt))?;
-    match case.earlier {
-        Some(earlier) if doubt == Doubt::CameAgain => {
-            let number = case.number;
-            write!(
-                text,
-                "; this is dialogue {number}, and that was dialogue {earlier}"
-            )
-        }
-        _ => Ok(()),
-    }
-}
-
 /// Appends why nothing is shown of an end, and no entry is blamed on it.
 pub(crate) fn push_undecided(
     alloc: Global,
@@ -136,7 +121,7 @@ pub(crate) fn push_undecided(
         push_place(alloc, text, case, entry)?;
         text.push_str(" ")?;
     }
-    text.push_str(undecided_words(said))?;
+    push_said(alloc, text, case, said)?;
     text.push_str("\n")
 }
 
@@ -159,7 +144,7 @@ fn push_end(
         Said::Doubtful(at, doubt) => {
             push_blamed(alloc, text, case, end, said.verdict(), at, later)?;
             text.push_str("  that is inconclusive: ")?;
-            push_doubt(text, case, doubt)?;
+            push_doubt(alloc, text, case, doubt)?;
             text.push_str("\n")?;
             push_reason(alloc, text, case, judged, end, at)
         }

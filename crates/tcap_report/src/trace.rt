@@ -1,7 +1,7 @@
 //! A trace, judged dialogue by dialogue as it is read.
 
 ghost use Rattle.std.specs.Io.KnownBytes.{IsAtEnd};
-ghost use Rattle.std.specs.Prelude.{◌≡◌, ◌⊎◌, ◌≤◌, [], ◌∷◌, List, Some, cond, filter, is_some, length, IfOk, OnOk};
+ghost use Rattle.std.specs.Prelude.{◌≡◌, ◌⊎◌, ◌||◌, ◌≤◌, [], ◌∷◌, List, Some, cond, false, not, is_some, length, IfOk, OnOk};
 ghost use Rattle.tcap_dialogues.specs.Course.{Heading, courses_so_far};
 ghost use Rattle.tcap_dialogues.specs.Gathered.{AreGathered};
 ghost use Rattle.tcap_dialogues.specs.Held.{IsCut};
@@ -10,15 +10,18 @@ ghost use Rattle.tcap_traces.specs.declared.verdict.Verdict.TheVariants as verdi
 ghost use Rattle.tcap_report.specs.declared.trace.Asked.{Asked as AskedOf};
 ghost use Rattle.tcap_report.specs.Counts.{HasJudged, more, no_counts, with_one};
 ghost use Rattle.tcap_report.specs.Judged.{IsJudged};
-ghost use Rattle.tcap_report.specs.Progress.{IsBetween, IsStopped, IsWithin, Judges, Reads, UnlessStopped};
+ghost use Rattle.tcap_report.specs.Progress.{IsBetween, IsStopped, IsWithin, Judges, Reads, UnlessStopped, is_fault};
+ghost use Rattle.tcap_report.specs.Stretch.{is_fail};
 ghost use Rattle.tcap_report.specs.Untold.{HasNothing};
 
-use crate::case::{Behind, Case, Held, Judged, Rules, heading_of, judge};
+use crate::before_marks::BeforeMarks;
+use crate::case::{Behind, Case, Held, Judged, judge};
 use crate::entries::{Entries, Piece};
 use crate::fault::{FormFault, Halt, Stop};
 use crate::sum::{Counts, Sum};
 use crate::telling::{Lines, Sinks};
 use crate::unheard::is_unheard;
+use crate::unread::Unread;
 use std::alloc::{AllocError, Global};
 use std::collections::BTreeMap;
 use std::mem;
@@ -39,7 +42,7 @@ pub struct Asked<'a> {
     pub reuse: Reuse,
     /// Whether nothing of a dialogue was under way when one of its IDs came again.
     pub settled: bool,
-    /// Whether a dialogue that is open at the end of the trace is inconclusive.
+    /// Whether a dialogue that is open at the end of the trace, or at a quiet mark, is inconclusive.
     pub complete: bool,
     /// The operation tables.
     pub book: &'a Book,
@@ -57,16 +60,18 @@ pub(crate) struct Trace<'a> {
     pub(crate) alloc: Global,
     pub(crate) asked: Asked<'a>,
     cut: Cut,
-    // The entries of the stretch that are not judged, by their numbers in it.
-    held: BTreeMap<u64, Held>,
-    // How many entries the stretch has, and the trace before it.
+    // The entries of the segment that are not judged, by their numbers in it.
+    pub(crate) held: BTreeMap<u64, Held>,
+    // How many entries the segment has, and the trace before it, quiet marks included.
     count: u64,
-    before: u64,
-    unread: Option<u64>,
-    // The number in the stretch of the first entry behind the line that says that dialogues may have been under way.
-    under_way: Option<u64>,
-    // How many dialogues stand before the stretch.
-    dialogues_before: u64,
+    pub(crate) before: u64,
+    pub(crate) unread: Unread,
+    // The number in the segment of the first entry after the directive that says that dialogues may have been under way.
+    pub(crate) under_way: Option<u64>,
+    // The transaction IDs that were in use before the segment.
+    pub(crate) marks: BeforeMarks,
+    // What the trace says of itself if it is broken off.
+    pub(crate) broken_off: Option<String>,
     pub(crate) messages: u64,
     // Those of which a kind can be read.
     pub(crate) readable: u64,
@@ -87,9 +92,10 @@ impl<'a> Trace<'a> {
             held: BTreeMap::new(alloc),
             count: 0,
             before: 0,
-            unread: None,
+            unread: Unread::new(alloc),
             under_way: None,
-            dialogues_before: 0,
+            marks: BeforeMarks::new(alloc),
+            broken_off: None,
             messages: 0,
             readable: 0,
             dialogues: Counts::new(),
@@ -109,9 +115,10 @@ impl<'a> Trace<'a> {
         ensures same_sum { sinks.new.sum ≡ sinks.old.sum }
     {
         let mut done = Vec::new(self.alloc);
-        let heading = heading_of(&octets);
+        let heading = self.heading_of(&octets);
         self.note(heading);
-        self.cut.take(heading, &mut done)?;
+        let begins = self.cut.take(heading, &mut done)?;
+        self.unread.note(self.count, heading, begins)?;
         if self
             .held
             .insert(
@@ -134,17 +141,11 @@ impl<'a> Trace<'a> {
     fn note(&mut self, heading: HeadingView)
         ensures messages { self.new.messages ≡ more self.old.messages 1 }
         ensures readable { self.new.readable ≡ cond (is_some heading.entry.kind) (more self.old.readable 1) self.old.readable }
-        ensures rest { self.new ≡ record self.old {
-          messages = self.new.messages;
-          readable = self.new.readable;
-          unread = self.new.unread;
-        } }
+        ensures rest { self.new ≡ record self.old { messages = self.new.messages; readable = self.new.readable } }
     {
         self.messages = self.messages.saturating_add(1);
         if heading.kind.is_some() {
             self.readable = self.readable.saturating_add(1);
-        } else if self.unread.is_none() {
-            self.unread = Some(self.count);
         }
     }
 
@@ -161,10 +162,23 @@ impl<'a> Trace<'a> {
         Ok(given)
     }
 
-    /// The stretch ends: by a quiet mark, or with the trace.
+    /// What comes after a segment that ends: the quiet mark in that line, if there is one, or the end of the trace.
+    fn ending(&self, mark: Option<u64>) -> Behind
+        ensures { is_fault result ≡ false }
+    {
+        match mark {
+            Some(line) => Behind::Mark {
+                line,
+                number: self.before.saturating_add(self.count),
+            },
+            None => Behind::End,
+        }
+    }
+
+    /// The segment ends: by a quiet mark, of which that is the line, or with the trace.
     fn end_stretch<W: Write, J: Lines, P: Watch>(
         &mut self,
-        behind: Behind,
+        mark: Option<u64>,
         sinks: &mut Sinks<W, J, P>,
     ) -> Result<(), Stop>
         ensures between { (asked : AskedOf) → IsWithin asked self.old → OnOk result (IsBetween asked self.new) }
@@ -172,16 +186,31 @@ impl<'a> Trace<'a> {
         ensures same_sum { sinks.new.sum ≡ sinks.old.sum }
     {
         let given = self.finished()?;
-        self.judge_all(given, behind, sinks)?;
+        self.judge_all(given, self.ending(mark), sinks)?;
         self.before = self.before.saturating_add(self.count).saturating_add(1);
         self.count = 0;
-        self.unread = None;
+        self.unread = Unread::new(self.alloc);
         self.under_way = None;
-        self.dialogues_before = self.dialogues.all();
         Ok(())
     }
 
-    /// A fault of its form ends the trace: the dialogues that are over are judged. Of the others more may have been to come.
+    /// A quiet mark comes, in that line.
+    fn pass_mark<W: Write, J: Lines, P: Watch>(
+        &mut self,
+        line: u64,
+        sinks: &mut Sinks<W, J, P>,
+    ) -> Result<(), Stop>
+        ensures between { (asked : AskedOf) → IsWithin asked self.old → OnOk result (IsBetween asked self.new) }
+        ensures same_sum { sinks.new.sum ≡ sinks.old.sum }
+    {
+        self.marks.note_sent(&self.cut)?;
+        self.end_stretch(Some(line), sinks)?;
+        self.marks.mark()?;
+        Ok(())
+    }
+
+    /// A fault of its form ends the trace: the dialogues that are over are judged. Of the others more may have been to come, so only
+    /// those that fail are told.
     fn judge_over<W: Write, J: Lines, P: Watch>(
         &mut self,
         sinks: &mut Sinks<W, J, P>,
@@ -189,8 +218,8 @@ impl<'a> Trace<'a> {
         ensures stopped { (asked : AskedOf) → IsWithin asked self.old → OnOk result (IsStopped asked self.new) }
         ensures same_sum { sinks.new.sum ≡ sinks.old.sum }
     {
-        let given = over_of(self.finished()?);
-        self.judge_all(given, Behind::More, sinks)
+        let given = self.finished()?;
+        self.judge_all(given, Behind::Fault, sinks)
     }
 
     /// Judges these dialogues, one after the other.
@@ -200,7 +229,7 @@ impl<'a> Trace<'a> {
         behind: Behind,
         sinks: &mut Sinks<W, J, P>,
     ) -> Result<(), Stop>
-        ensures judges { OnOk result (Judges given.items self.old self.new) }
+        ensures judges { OnOk result (Judges (is_fault behind) given.items self.old self.new) }
         ensures same_sum { sinks.new.sum ≡ sinks.old.sum }
     {
         for gathered in given {
@@ -211,7 +240,7 @@ impl<'a> Trace<'a> {
     }
 
     /// The entries of a dialogue, which are held no longer.
-    fn taken(&mut self, gathered: &Gathered) -> Result<Vec<Held>, AllocError>
+    pub(crate) fn taken(&mut self, gathered: &Gathered) -> Result<Vec<Held>, AllocError>
         ensures few { IfOk result (λ entries. length entries.items ≤ length gathered.now.numbers.items) }
         ensures rest { self.new ≡ record self.old { held = self.new.held } }
     {
@@ -224,16 +253,6 @@ impl<'a> Trace<'a> {
         Ok(entries)
     }
 
-    /// The number of the earlier dialogue of the stretch that had one of its IDs, where one had, among those of the trace.
-    fn earlier_of(&self, gathered: &Gathered) -> Option<u64>
-        ensures { is_some result ≡ is_some gathered.now.earlier }
-    {
-        match gathered.earlier {
-            Some(earlier) => Some(self.dialogues_before.saturating_add(earlier)),
-            None => None,
-        }
-    }
-
     /// Judges a dialogue, and says what is said of it.
     fn judge<W: Write, J: Lines, P: Watch>(
         &mut self,
@@ -241,30 +260,36 @@ impl<'a> Trace<'a> {
         behind: Behind,
         sinks: &mut Sinks<W, J, P>,
     ) -> Result<(), Stop>
-        ensures judges { OnOk result (Judges (gathered ∷ []) self.old self.new) }
+        ensures judges { OnOk result (Judges (is_fault behind) (gathered ∷ []) self.old self.new) }
         ensures same_sum { sinks.new.sum ≡ sinks.old.sum }
     {
-        let entries = self.taken(&gathered)?;
-        let earlier = self.earlier_of(&gathered);
-        let case = Case {
-            number: self.dialogues.all(),
-            entries,
-            gathered,
-            before: self.before,
-            behind,
-            earlier,
-            unread: self.unread,
-            under_way: self.under_way,
-        };
-        let rules = Rules {
-            of: self.asked.of,
-            settled: self.asked.settled,
-            complete: self.asked.complete,
-        };
-        let judged = judge(self.alloc, &case, self.asked.book, rules)?;
-        self.count(&case, &judged);
-        sinks.tell_case(self.alloc, self.asked.name, &case, &judged, self.asked.of)?;
-        Ok(())
+        let case = self.case_of(gathered, behind)?;
+        let judged = judge(self.alloc, &case, self.asked.book)?;
+        self.tell(&case, &judged, sinks)
+    }
+
+    /// Counts the verdict on a dialogue, and says what is said of it. If a fault ends the trace before the dialogue is over, that is done
+    /// of a fail alone.
+    fn tell<W: Write, J: Lines, P: Watch>(
+        &mut self,
+        case: &Case,
+        judged: &Judged,
+        sinks: &mut Sinks<W, J, P>,
+    ) -> Result<(), Stop>
+        ensures counted { OnOk result (self.new.dialogues ≡ cond (not (is_fault case.now.behind) || is_fail judged.now.verdict)
+            (with_one judged.now.verdict self.old.dialogues) self.old.dialogues) }
+        ensures asked { self.new.asked ≡ self.old.asked }
+        ensures cut { self.new.cut ≡ self.old.cut }
+        ensures messages { self.new.messages ≡ self.old.messages }
+        ensures readable { self.new.readable ≡ self.old.readable }
+        ensures same_sum { sinks.new.sum ≡ sinks.old.sum }
+    {
+        if !is_told(case, judged) {
+            return Ok(());
+        }
+        self.marks.note(&case.gathered, case.may_go_on())?;
+        self.count(case, judged);
+        sinks.tell_case(self.alloc, self.asked.name, case, judged, self.asked.of)
     }
 
     /// Counts the verdict on a dialogue.
@@ -313,10 +338,12 @@ impl<'a> Trace<'a> {
                 self.under_way = Some(self.under_way.unwrap_or(self.count));
                 Ok(())
             }
-            Piece::Mark(line) => {
-                let number = self.before.saturating_add(self.count);
-                self.end_stretch(Behind::Mark { line, number }, sinks)
+            Piece::BrokenOff(text) => {
+                self.broken_off = Some(text);
+                Ok(())
             }
+            Piece::About(_, _) => Ok(()),
+            Piece::Mark(line) => self.pass_mark(line, sinks),
         }
     }
 
@@ -344,7 +371,7 @@ impl<'a> Trace<'a> {
             sinks.flush()?;
             sinks.watch.look(&self.so_far(sinks.sum));
             if told == 0 {
-                return match self.end_stretch(Behind::End, sinks) {
+                return match self.end_stretch(None, sinks) {
                     Ok(()) => Ok(()),
                     Err(stop) => Err(Halt::Stop(stop)),
                 };
@@ -361,17 +388,20 @@ impl<'a> Trace<'a> {
     }
 }
 
-/// Those that are over.
-fn over_of(given: Vec<Gathered>) -> Vec<Gathered>
-    ensures { result.items ≡ filter (λ g. is_some g.over) given.items }
+/// Returns whether a judged dialogue is told: if a fault ends the trace before it is over, only if it fails.
+fn is_told(case: &Case, judged: &Judged) -> bool
+    ensures { result ≡ not (is_fault case.now.behind) || is_fail judged.now.verdict }
 {
-    let mut over = given;
-    over.retain(|gathered| gathered.over.is_some());
-    over
+    match (case.behind, judged.verdict) {
+        (Behind::Fault, Verdict::Fail) => true,
+        (Behind::Fault, _) => false,
+        _ => true,
+    }
 }
 
 /// Judges each dialogue of the trace that `reader` tells, says of each one that does not pass why, and answers the verdict on the
-/// trace. A fault of its form ends the reading; what is over by then is judged.
+/// trace. A fault of its form ends the reading: the dialogues that are over by then are judged, and of the others those that fail are
+/// told.
 pub fn run_trace<R: Read, W: Write, J: Lines, P: Watch>(
     alloc: Global,
     reader: &mut R,
@@ -389,7 +419,7 @@ pub fn run_trace<R: Read, W: Write, J: Lines, P: Watch>(
     let mut trace = Trace::new(alloc, asked);
     let mut entries = Entries::new(alloc);
     match trace.read_all(reader, &mut entries, sinks) {
-        Ok(()) => trace.end(None, None, sinks),
+        Ok(()) => trace.end_whole(sinks),
         Err(Halt::Form(fault)) => {
             trace.judge_over(sinks)?;
             trace.end(Some(fault), entries.hint(), sinks)

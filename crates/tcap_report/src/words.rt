@@ -1,6 +1,7 @@
 //! Words for what is said.
 
 use crate::case::{Behind, Case};
+use crate::used_again::push_used_again;
 use std::alloc::{AllocError, Global};
 use std::collections::BTreeSet;
 use tcap_msg::{Message, MessageParts, TransactionId};
@@ -35,8 +36,71 @@ pub(crate) fn context_in(alloc: Global, message: &Message) -> Result<Option<Vec<
 const UNDER_WAY: &str =
     "its first message goes to an ID that was never sent in the trace: dialogues may have been under way when it began";
 
-/// What makes a blame inconclusive, in words.
-pub(crate) fn doubt_words(doubt: Doubt) -> &'static str {
+/// Appends that the quiet mark before a dialogue may have come too early, and why.
+fn push_early_mark(text: &mut String, case: &Case) -> Result<(), AllocError> {
+    text.push_str("the quiet mark before this dialogue may have come too early")?;
+    let Some(in_use) = &case.in_use else {
+        return Ok(());
+    };
+    text.push_str(": ID ")?;
+    push_hex(text, in_use.id.octets())?;
+    text.push_str(" of ")?;
+    text.push_str(letter(in_use.end))?;
+    text.push_str(" was in use before it")
+}
+
+/// Appends that an ID of a dialogue came again, and which dialogue had it.
+fn push_came_again(text: &mut String, case: &Case) -> Result<(), AllocError> {
+    text.push_str(
+        "an ID of the dialogue was one of an earlier one, of which a message may have been under way",
+    )?;
+    if !case.rules.settled {
+        text.push_str(" (--ids settled says that none was)")?;
+    }
+    let Some(earlier) = case.earlier() else {
+        return Ok(());
+    };
+    let number = case.number();
+    write!(
+        text,
+        "; this is dialogue {number}, and that was dialogue {earlier}"
+    )
+}
+
+/// Appends what makes a blame inconclusive.
+pub(crate) fn push_doubt(
+    alloc: Global,
+    text: &mut String,
+    case: &Case,
+    doubt: Doubt,
+) -> Result<(), AllocError> {
+    match doubt {
+        Doubt::EarlyMark => push_early_mark(text, case)?,
+        Doubt::CameAgain => push_came_again(text, case)?,
+        _ => text.push_str(doubt_words(doubt))?,
+    }
+    push_used_again(alloc, text, case)
+}
+
+/// Appends what is said of an end that is undecided; nothing of the others.
+pub(crate) fn push_said(
+    alloc: Global,
+    text: &mut String,
+    case: &Case,
+    said: Said,
+) -> Result<(), AllocError> {
+    match said {
+        Said::EarlyMark => push_early_mark(text, case)?,
+        Said::Open if case.is_marked() => text.push_str(
+            "the dialogue is open at the quiet mark after it",
+        )?,
+        _ => text.push_str(undecided_words(said))?,
+    }
+    push_used_again(alloc, text, case)
+}
+
+/// What makes a blame inconclusive, in words; nothing of what has others for each dialogue.
+fn doubt_words(doubt: Doubt) -> &'static str {
     match doubt {
         Doubt::UnderWay => UNDER_WAY,
         Doubt::AtMark => "the trace's quiet mark is the bench's word, and it may stand too early",
@@ -45,14 +109,15 @@ pub(crate) fn doubt_words(doubt: Doubt) -> &'static str {
             "the transaction of the ID that is begun again may have been given up or may have ended in silence",
         Doubt::UnsureTable =>
             "it is of what the table says, and it is not sure that this is the table of the dialogue: it has no Begin, or its Begins ask for different contexts",
-        Doubt::CameAgain =>
-            "an ID of the dialogue was one of an earlier one, of which a message may have been under way (--ids settled says that none was)",
+        Doubt::UsedBefore =>
+            "dialogues may have been under way before this one, and its peer, which began it, may have used its ID in one of them (if stacks do not use an ID again at once, say --ids settled)",
         Doubt::Unread => "an entry before it can't be read, and may have been one of this dialogue",
+        Doubt::EarlyMark | Doubt::CameAgain => "",
     }
 }
 
-/// What is said of an end that is undecided, in words; nothing of the others.
-pub(crate) fn undecided_words(said: Said) -> &'static str {
+/// What is said of an end that is undecided, in words; nothing of the others, and of what has others for each dialogue.
+fn undecided_words(said: Said) -> &'static str {
     match said {
         Said::Undecided =>
             "it is not found how it can have sent its part, and no entry of it is blamed",

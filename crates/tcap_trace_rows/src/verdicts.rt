@@ -46,6 +46,8 @@ const BEHIND: &[u8] = b"\x41\x62\x03\x48\x01\x01\x42\x64\x00\x41\x62\x03\x48\x01
 const ALONE: Circumstances = Circumstances {
     again: false,
     under_way: false,
+    early_mark: false,
+    began: None,
     unsure: false,
     unread_from: None,
     cut: false,
@@ -132,6 +134,45 @@ fn fails(rt: HostRuntime) -> Result<(), Fail> {
             Said::Doubtful(fault, Doubt::UnderWay)
         )
     );
+    Ok(())
+}
+
+/// A dialogue before which a quiet mark came too early, and one that A began, which may have used its ID before.
+#[test]
+fn fails_beside_what_came_before(rt: HostRuntime) -> Result<(), Fail> {
+    let alloc = rt.alloc();
+    let fault = at(1, Kind::UnknownTransaction);
+    let early = Circumstances {
+        early_mark: true,
+        again: true,
+        ..ALONE
+    };
+    let found = said(alloc, TO_NINE, TABLE, early);
+    assert!(rt;
+        says(
+            found,
+            Said::EarlyMark,
+            Said::Doubtful(fault, Doubt::EarlyMark)
+        )
+    );
+    let by_a = Circumstances {
+        began: Some(End::A),
+        ..ALONE
+    };
+    let found = said(alloc, TO_NINE, TABLE, by_a);
+    assert!(rt;
+        says(
+            found,
+            Said::Pass(0),
+            Said::Doubtful(fault, Doubt::UsedBefore)
+        )
+    );
+    let by_b = Circumstances {
+        began: Some(End::B),
+        ..ALONE
+    };
+    let found = said(alloc, TO_NINE, TABLE, by_b);
+    assert!(rt; says(found, Said::Pass(0), Said::Fail(fault)));
     Ok(())
 }
 

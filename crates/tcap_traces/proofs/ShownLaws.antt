@@ -46,15 +46,17 @@ named_is table entries side =
 -- ---- what is said
 
 module _ (table : Table) (c : Circumstances) (entries : List Entry) (side : Side) where
-  passes_so : (under_way cut unsure over : Bool) (unheard : ℕ) → MayHaveSent side table entries
+  passes_so : (under_way early_mark cut unsure over : Bool) (unheard : ℕ) → MayHaveSent side table entries
       → IsSo side table entries
       (cond under_way saids.UnderWay
-      (cond cut saids.TooLong (cond unsure saids.UnsureTable (cond over saids.Open (saids.Pass unheard)))))
-  passes_so true cut unsure over unheard may = may
-  passes_so false true unsure over unheard may = may
-  passes_so false false true over unheard may = may
-  passes_so false false false true unheard may = may
-  passes_so false false false false unheard may = may
+      (cond early_mark saids.EarlyMark
+      (cond cut saids.TooLong (cond unsure saids.UnsureTable (cond over saids.Open (saids.Pass unheard))))))
+  passes_so true early_mark cut unsure over unheard may = may
+  passes_so false true cut unsure over unheard may = may
+  passes_so false false true unsure over unheard may = may
+  passes_so false false false true over unheard may = may
+  passes_so false false false false true unheard may = may
+  passes_so false false false false false unheard may = may
 
   fails_so : (r : Refutation) (doubt : Option Doubt) → IsAtFaultOf table side entries r
       → IsSo side table entries (fails r doubt)
@@ -65,7 +67,7 @@ module _ (table : Table) (c : Circumstances) (entries : List Entry) (side : Side
       → AreLawful (Some side) table (take number entries)
       → IsSo side table entries (cond own (saids.Behind number) (passes c unheard))
   behind_so number unheard true is lawful = lawful
-  behind_so number unheard false is lawful = passes_so c.under_way c.cut c.unsure c.open unheard (inr (number, lawful, is))
+  behind_so number unheard false is lawful = passes_so c.under_way c.early_mark c.cut c.unsure c.open unheard (inr (number, lawful, is))
 
   before_so : (number : ℕ) (earlier : Option Finding) → IsFoundBefore side table entries (Some number) earlier
       → IsSo side table entries (said_before c side entries number earlier)
@@ -84,7 +86,7 @@ module _ (table : Table) (c : Circumstances) (entries : List Entry) (side : Side
   said_so at_fault (Blamed r) is so earlier are =
       fails_so r (doubt_of table c side entries r)
       (at_fault r (sym (named_is table entries side) ∙ sym (ap named_in is)))
-  said_so at_fault (Lawful n unheard) is so earlier are = passes_so c.under_way c.cut c.unsure c.open unheard (inl so)
+  said_so at_fault (Lawful n unheard) is so earlier are = passes_so c.under_way c.early_mark c.cut c.unsure c.open unheard (inl so)
   said_so at_fault (NotBlamed n) is so earlier are = before_so n earlier (are n refl)
 
 -- ---- those before the first that is no message, as both ends have it

@@ -11,7 +11,7 @@ use Rattle.tcap_model.specs.declared.reason.Reason.{Reason}
 use Rattle.tcap_model.specs.World.{Item, Sent, has_quiet}
 use Rattle.tcap_model.specs.Run.{IsLawfulFor}
 use Rattle.tcap_model.specs.Entries.{AreItems, item_of}
-use Rattle.tcap_dialogues.specs.Course.{Course, courses_of, has_entry, headings_of}
+use Rattle.tcap_dialogues.specs.Course.{Course, Heading, bare, courses_of, has_entry, headings_of}
 use Rattle.tcap_dialogues.specs.declared.reuse.Reuse.{Reuse}
 use Rattle.tcap_dialogues.specs.Part.{part_of}
 use Rattle.tcap_dialogues.proofs.CourseEnds.{course_keeps}
@@ -74,15 +74,15 @@ not_sent table side entries items r are (inr (inr f)) (events, (w, runs, sent), 
     f.none events w [] runs keeps
     (sent ∙ items_up_to entries items f.before Item.Quiet f.more r.entry are f.are f.counted)
 
-pub fault_of_trace : (table : Table) (side : Side) (reuse : Reuse) (items : List Item) (d : Course) (n : ℕ)
-    (entries : List Entry) (r : Refutation) → has_quiet items ≡ false → Contains (courses_of reuse (headings_of items)) d
-    → d.again ≡ false → has_entry d n ≡ true
+pub fault_of_trace : (table : Table) (side : Side) (reuse : Reuse) (items : List Item) (headings : List Heading) (d : Course) (n : ℕ)
+    (entries : List Entry) (r : Refutation) → has_quiet items ≡ false → map bare headings ≡ headings_of items
+    → Contains (courses_of reuse headings) d → d.again ≡ false → has_entry d n ≡ true
     → AreItems (take (r.entry + 1) entries) (part_of (has_entry d) 0 (take (n + 1) items)) → IsAtFaultOf table side entries r
     → IsFaultOfTrace table side (take (n + 1) items)
-fault_of_trace table side reuse items d n entries r unmarked has anew of_it are fault =
+fault_of_trace table side reuse items headings d n entries r unmarked bares has anew of_it are fault =
     let up_to_it : AreItems (take (suc r.entry) entries) (part_of (has_entry d) 0 (take (n + 1) items)) =
     subst (λ (k : ℕ). AreItems (take k entries) (part_of (has_entry d) 0 (take (n + 1) items))) (add-one r.entry) are in
     let none : IsLawfulFor side (take (n + 1) items) table → ⊥ = λ lawful. not_sent table side entries
     (part_of (has_entry d) 0 (take (n + 1) items)) r up_to_it fault
-    (course_keeps side reuse items table d n unmarked has anew of_it lawful) in
+    (course_keeps side reuse items headings table d n unmarked bares has anew of_it lawful) in
     (none, λ earlier lawful. none (stretch_keeps table side earlier (take (n + 1) items) lawful))

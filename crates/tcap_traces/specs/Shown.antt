@@ -31,6 +31,7 @@ IsSo side table entries (saids.Doubtful r doubt) = IsAtFaultOf table side entrie
 IsSo side table entries saids.Undecided = Unit {0}
 IsSo side table entries (saids.Behind number) = AreLawful (Some side) table (take number entries)
 IsSo side table entries saids.UnderWay = MayHaveSent side table entries
+IsSo side table entries saids.EarlyMark = MayHaveSent side table entries
 IsSo side table entries saids.TooLong = MayHaveSent side table entries
 IsSo side table entries saids.UnsureTable = MayHaveSent side table entries
 IsSo side table entries saids.Open = MayHaveSent side table entries

@@ -142,19 +142,29 @@ abbrev pub is_from : Option ℕ → ℕ → Bool
 is_from None number = false
 is_from (Some first) number = nat_le first number
 
--- The first that is so of what makes a blame inconclusive: the dialogue may have been under way before its trace, so that nothing
--- else would make it sure; it is of a quiet mark; of an operation that the table lacks; of an ID whose transaction may be over; of
--- what the table says, where it is not sure which is the dialogue's; of a dialogue in which an ID came again; or it stands behind an
--- entry that may have been one of this dialogue.
+-- whether the peer of an end began the dialogue, by whose Begin it began
+abbrev pub is_begun_by_peer : Option Side → Side → Bool
+is_begun_by_peer None side = false
+is_begun_by_peer (Some began) side = is_side (other side) began
+
+-- The first of these that makes a blame inconclusive. The first two come before all others, since a bench can mend nothing else that would
+-- make the blame sure.
 abbrev pub doubt_of : Table → Circumstances → Side → List Entry → Refutation → Option Doubt
 doubt_of table c side entries r =
+    -- The dialogue may have been under way before its trace, or before a quiet mark that came too early.
     cond c.under_way (Some doubts.UnderWay)
+    (cond c.early_mark (Some doubts.EarlyMark)
+    -- The blame is about a quiet mark; about an operation that the table lacks; about an ID whose transaction may be over.
     (cond (is_of_mark r.kind) (Some doubts.AtMark)
     (cond (rests_on_lack table side entries r) (Some doubts.LackingOperation)
     (cond (may_be_over table side entries r) (Some doubts.MaybeOver)
+    -- It rests on what the table says, and the table may not be the dialogue's.
     (cond (c.unsure && rests_on_table r.kind) (Some doubts.UnsureTable)
+    -- An ID of the dialogue came again; or its peer, which began it, may have used its ID just before the trace.
     (cond c.again (Some doubts.CameAgain)
-    (cond (is_from c.unread_from r.entry) (Some doubts.Unread) None))))))
+    (cond (is_begun_by_peer c.began side) (Some doubts.UsedBefore)
+    -- An entry that cannot be read comes before it, and may belong to the dialogue.
+    (cond (is_from c.unread_from r.entry) (Some doubts.Unread) None))))))))
 
 -- ---- what is said of an end
 
@@ -162,11 +172,14 @@ doubt_of table c side entries r =
 abbrev pub is_of : Side → Entry → Bool
 is_of side entry = is_entry_of side entry.side
 
--- that it passes, but for what the bench asks beside
+-- that it passes, unless one of these makes that inconclusive
 abbrev pub passes : Circumstances → ℕ → Said
 passes c unheard =
     cond c.under_way saids.UnderWay
-    (cond c.cut saids.TooLong (cond c.unsure saids.UnsureTable (cond c.open saids.Open (saids.Pass unheard))))
+    (cond c.early_mark saids.EarlyMark
+    (cond c.cut saids.TooLong
+    (cond c.unsure saids.UnsureTable
+    (cond c.open saids.Open (saids.Pass unheard)))))
 
 -- that it fails, or what makes that doubtful
 abbrev pub fails : Refutation → Option Doubt → Said

@@ -57,7 +57,16 @@ of_another = (refl, refl)
 
 -- that no ID came again, that each entry could be read, and so on
 abbrev alone : Circumstances
-alone = record { again = false; under_way = false; unsure = false; unread_from = None; cut = false; «open» = false }
+alone = record {
+  again = false;
+  under_way = false;
+  early_mark = false;
+  began = None;
+  unsure = false;
+  unread_from = None;
+  cut = false;
+  «open» = false;
+}
 
 abbrev doubt : Table → Circumstances → Side → List Item → ℕ → Kind → Option Doubt
 doubt given c side items entry kind = doubt_of given c side (map entry_of items) (record { entry = entry; kind = kind })
@@ -95,6 +104,18 @@ pub under_way : (to_nothing (record alone { under_way = true }) ≡ Some doubts.
     × (doubt table (record alone { under_way = true }) sides.A (invoked 49) 0 kinds.WrongOperation ≡ Some doubts.UnderWay)
 under_way = (refl, refl, refl, refl)
 
+-- A quiet mark that came too early counts before all others, too.
+pub early_mark : (to_nothing (record alone { early_mark = true; again = true }) ≡ Some doubts.EarlyMark)
+    × (doubt table (record alone { early_mark = true }) sides.B (begins ∷ answers ∷ Item.Quiet ∷ []) 2 kinds.OpenAtMark
+    ≡ Some doubts.EarlyMark)
+early_mark = (refl, refl)
+
+-- A began the dialogue, and may have used its ID before: a doubt of B's fault, and none of A's.
+pub used_before : (to_nothing (record alone { began = Some sides.A }) ≡ Some doubts.UsedBefore)
+    × (to_nothing (record alone { began = Some sides.B }) ≡ None)
+    × (to_nothing (record alone { began = Some sides.A; again = true }) ≡ Some doubts.CameAgain)
+used_before = (refl, refl, refl)
+
 pub of_a_dialogue : (to_nothing (record alone { again = true }) ≡ Some doubts.CameAgain)
     × (to_nothing (unread 1) ≡ Some doubts.Unread) × (to_nothing (unread 2) ≡ None) × (to_nothing alone ≡ None)
 of_a_dialogue = (refl, refl, refl, refl)
@@ -104,7 +125,8 @@ of_a_dialogue = (refl, refl, refl, refl)
 pub cut_or_open : (passes alone 3 ≡ saids.Pass 3) × (passes (record alone { «open» = true }) 3 ≡ saids.Open)
     × (passes (record alone { cut = true; «open» = true }) 3 ≡ saids.TooLong)
     × (passes (record alone { under_way = true; cut = true; unsure = true; «open» = true }) 3 ≡ saids.UnderWay)
-cut_or_open = (refl, refl, refl, refl)
+    × (passes (record alone { early_mark = true; cut = true; unsure = true; «open» = true }) 3 ≡ saids.EarlyMark)
+cut_or_open = (refl, refl, refl, refl, refl)
 
 pub the_worse_one : (worse Pass Pass ≡ Pass) × (worse Pass Inconclusive ≡ Inconclusive) × (worse Fail Inconclusive ≡ Fail)
     × (worse Fail Error ≡ Error)

@@ -13,7 +13,7 @@ ghost use Rattle.tcap_model.specs.World.{is_side};
 ghost use Rattle.tcap_refute.specs.Before.{is_a};
 ghost use Rattle.tcap_refute.specs.Kind.{is_unknown_operation};
 ghost use Rattle.tcap_evidence.specs.Evidence.{component_at};
-ghost use Rattle.tcap_traces.specs.Verdict.{doubt_of, faulty_component, heard_id, invokes_lacking, is_from, is_heard, is_heard_with, is_silent, lacks_heard, may_be_over, message_at, rests_on_lack, rests_on_table, sends_lacking};
+ghost use Rattle.tcap_traces.specs.Verdict.{doubt_of, faulty_component, heard_id, invokes_lacking, is_begun_by_peer, is_from, is_heard, is_heard_with, is_silent, lacks_heard, may_be_over, message_at, rests_on_lack, rests_on_table, sends_lacking};
 
 use crate::said::{Circumstances, Doubt};
 use std::alloc::{AllocError, Global};
@@ -276,6 +276,16 @@ fn is_from(first: Option<u64>, number: u64) -> bool
     }
 }
 
+/// Returns whether the peer of an end began the dialogue, which began by a Begin of `began`.
+fn is_begun_by_peer(began: Option<End>, end: End) -> bool
+    ensures { result ≡ is_begun_by_peer began «end» }
+{
+    match began {
+        Some(began) => is_side(end.other(), began),
+        None => false,
+    }
+}
+
 /// Whether a kind rests on what the table says of an operation: its class, whether it may expire, what may be linked to it.
 fn rests_on_table(kind: Kind) -> bool
     ensures { result ≡ rests_on_table kind }
@@ -304,6 +314,9 @@ pub(crate) fn doubt_of(
     if circumstances.under_way {
         return Ok(Some(Doubt::UnderWay));
     }
+    if circumstances.early_mark {
+        return Ok(Some(Doubt::EarlyMark));
+    }
     if at.kind == Kind::OpenAtMark {
         return Ok(Some(Doubt::AtMark));
     }
@@ -318,6 +331,9 @@ pub(crate) fn doubt_of(
     }
     if circumstances.again {
         return Ok(Some(Doubt::CameAgain));
+    }
+    if is_begun_by_peer(circumstances.began, end) {
+        return Ok(Some(Doubt::UsedBefore));
     }
     if is_from(circumstances.unread_from, at.entry) {
         return Ok(Some(Doubt::Unread));

@@ -57,6 +57,8 @@ fn passes(circumstances: Circumstances, unheard: u64) -> Said
 {
     if circumstances.under_way {
         Said::UnderWay
+    } else if circumstances.early_mark {
+        Said::EarlyMark
     } else if circumstances.cut {
         Said::TooLong
     } else if circumstances.unsure {

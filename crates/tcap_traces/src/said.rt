@@ -4,6 +4,7 @@ ghost use Rattle.std.specs.Prelude.{◌≡◌};
 ghost use Rattle.tcap_traces.specs.Verdict.{verdict_of};
 
 use crate::verdict::Verdict;
+use tcap_record::End;
 use tcap_refute::Refutation;
 
 /// What a blame rests on beside the end that is blamed, so that it is inconclusive.
@@ -11,6 +12,8 @@ use tcap_refute::Refutation;
 pub enum Doubt {
     /// The dialogue may have been under way before its trace, which then lacks its Begin.
     UnderWay,
+    /// The quiet mark before the dialogue may have come too early: the dialogue goes on with IDs that were in use before it.
+    EarlyMark,
     /// It is of a quiet mark: that all was quiet the bench said.
     AtMark,
     /// It is of an operation that the table lacks, which is invoked or answered.
@@ -21,6 +24,8 @@ pub enum Doubt {
     UnsureTable,
     /// An earlier dialogue of the stretch had one of the dialogue's IDs, and a message of it may have been under way.
     CameAgain,
+    /// The peer began the dialogue after the bench's word that dialogues may have been under way, and may have used its ID just before.
+    UsedBefore,
     /// Before it stands an entry of which nothing can be read, and which may have been one of this dialogue.
     Unread,
 }
@@ -40,6 +45,8 @@ pub enum Said {
     Behind(u64),
     /// It may have sent its part of the entries, and the dialogue may have been under way before its trace, which then lacks its Begin.
     UnderWay,
+    /// It may have sent its part of the entries, and the quiet mark before the dialogue may have come too early.
+    EarlyMark,
     /// The dialogue has more entries than are judged, and those that are judged may have been sent.
     TooLong,
     /// It may have sent its part by one table, and it is not sure which table is the dialogue's.
@@ -55,6 +62,10 @@ pub struct Circumstances {
     pub again: bool,
     /// It may have been under way before its trace: its first message goes to an ID that was never sent.
     pub under_way: bool,
+    /// The quiet mark before it may have come too early: it goes on with IDs that were in use before that mark.
+    pub early_mark: bool,
+    /// The end whose Begin began it after the bench's word that dialogues may have been under way, unless IDs have settled.
+    pub began: Option<End>,
     /// It is judged by one table, and it is not sure that this is its own.
     pub unsure: bool,
     /// The number of the first of its entries from which on one that could not be read may have been one of this dialogue.

@@ -285,7 +285,7 @@ fn test_command<'a>(alloc: Global) -> Result<Command<'a>, AllocError>
     let complete = flag_arg(
         alloc,
         "complete",
-        "A dialogue that is open at the end of its trace is inconclusive",
+        "A dialogue that is open at the end of its trace, or at a quiet mark, is inconclusive",
     );
     let json = file_arg(
         alloc,

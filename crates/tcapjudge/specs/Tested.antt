@@ -14,11 +14,7 @@ AreCounted count old new = (judged : List Verdict) × (length judged ≡ count) 
 abbrev pub IsWorst : ℕ → Sum → Sum → Verdict → Type 0
 IsWorst count old new verdict = AreCounted count old new × (verdict ≡ worst_of new)
 
--- That is so; or there is no table to judge by, and the verdict is an error.
-abbrev pub IsWorstOrError : ℕ → Sum → Sum → Verdict → Type 0
-IsWorstOrError count old new verdict = IsWorst count old new verdict ⊎ (verdict ≡ verdicts.Error)
-
--- The exit status is that of the worst of so many verdicts, or of an error, or 4.
+-- The exit status is that of the worst of so many verdicts; of an error, if the run stopped; or 4, if the words are wrong.
 abbrev pub IsStatus : ℕ → ℕ → Type 0
 IsStatus count status =
     ((sum : Sum) × AreCounted count no_sum sum × (status ≡ status_of (worst_of sum)))

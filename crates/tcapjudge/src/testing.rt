@@ -1,14 +1,15 @@
 //! The word `test`: each dialogue of traces is judged.
 
-ghost use Rattle.std.specs.Prelude.{◌≡◌, [], ◌∷◌, IfOk, OnErr, OnOk, length};
+ghost use Rattle.std.specs.Prelude.{◌≡◌, [], ◌∷◌, true, is_some, IfOk, OnErr, OnOk, length};
 ghost use Rattle.tcap_traces.specs.declared.verdict.Verdict.TheVariants as verdicts;
 ghost use Rattle.tcap_traces.specs.Verdict.{status_of};
 ghost use Rattle.tcap_report.specs.Counts.{HasJudged, worst_of};
-ghost use Rattle.tcapjudge.specs.Tested.{AreCounted, IsStatus, IsWorst, IsWorstOrError};
+ghost use Rattle.tcapjudge.specs.Tested.{AreCounted, IsStatus, IsWorst};
 
 use crate::opening::{is_folder, tell_codes, tell_text};
 use crate::outputs::{INPUT, Outputs, stand_ins};
 use crate::writing::{Output, Sink, tell_unprinted};
+use std::fmt::Display;
 use std::time::Instant;
 use std::{fs, io};
 use tcap_ber::{Counted, Read, Write};
@@ -59,66 +60,114 @@ impl Watch for Progress<'_> {
     }
 }
 
-/// Reads the books of those paths, as one; that which the program carries, where there are none. What is wrong is said.
-fn book_of(rt: &HostRuntime, paths: &[&str]) -> Option<Book> {
-    let alloc = rt.alloc();
-    if paths.is_empty() {
+/// The tables that dialogues are judged by.
+#[derive(Drop)]
+struct Tables {
+    /// One book of them all. If a table is refused, a book without operations, which no dialogue is judged by.
+    book: Book,
+    /// Why a table is refused, in words.
+    refused: Option<String>,
+}
+
+/// The text of a book without operations.
+const NO_OPERATIONS: &str = "{\"operations\":[]}";
+
+/// Reads the books of those paths, or the one that the program carries if there is no path.
+fn tables_of(rt: &HostRuntime, paths: &[&str]) -> Result<Tables, Stop> {
+    match book_of(rt, paths)? {
+        Ok(book) => Ok(Tables {
+            book,
+            refused: None,
+        }),
+        Err(why) => match Book::from_json(rt.alloc(), NO_OPERATIONS.as_bytes()) {
+            Ok(book) => Ok(Tables {
+                book,
+                refused: Some(why),
+            }),
+            Err(_) => Err(Stop::Memory),
+        },
+    }
+}
+
+/// Reads the books of those paths as one book; if there is no path, the book that the program carries. Returns what is
+/// wrong with a table, which standard error says too.
+fn book_of(rt: &HostRuntime, paths: &[&str]) -> Result<Result<Book, String>, Stop> {
+    let mut all = None;
+    for path in paths {
+        let octets = match fs::read(rt, *path) {
+            Ok(octets) => octets,
+            Err(error) => return Ok(Err(told_fault(rt, Some(*path), &error)?)),
+        };
+        let book = match read_book(rt, *path, &octets)? {
+            Ok(book) => book,
+            Err(why) => return Ok(Err(why)),
+        };
+        tell_codes(rt, *path, &octets);
+        all = match all {
+            None => Some(book),
+            Some(mut books) => {
+                Book::add(&mut books, book)?;
+                Some(books)
+            }
+        };
+    }
+    let Some(book) = all else {
         return read_book(
             rt,
             "the book that the program carries",
             CARRIED_BOOK.as_bytes(),
         );
+    };
+    if book.is_ambiguous() {
+        return Ok(Err(told_fault(rt, None, &AMBIGUOUS)?));
     }
-    let mut all = None;
-    for path in paths {
-        let octets = match fs::read(rt, *path) {
-            Ok(octets) => octets,
-            Err(error) => {
-                let _ = eprintln!(rt; "error: {path}: {error}");
-                return None;
-            }
-        };
-        let book = read_book(rt, *path, &octets)?;
-        tell_codes(rt, *path, &octets);
-        all = match all {
-            None => Some(book),
-            Some(mut books) => {
-                if Book::add(&mut books, book).is_err() {
-                    let _ = eprintln!(rt; "error: out of memory");
-                    return None;
-                }
-                Some(books)
-            }
-        };
-    }
-    all
+    Ok(Ok(book))
 }
 
-/// The book of that text. What is wrong with it is said.
-fn read_book(rt: &HostRuntime, name: &str, text: &[u8]) -> Option<Book> {
+/// Reads the book of that text. Returns what is wrong with it, which standard error says too.
+fn read_book(rt: &HostRuntime, name: &str, text: &[u8]) -> Result<Result<Book, String>, Stop> {
     match Book::from_json(rt.alloc(), text) {
-        Ok(book) => Some(book),
+        Ok(book) => Ok(Ok(book)),
         Err(fault) => {
-            let _ = eprintln!(rt; "error: {name}: {fault}");
+            let why = told_fault(rt, Some(name), &fault)?;
             tell_text(rt, Role::Book, name, text);
-            None
+            Ok(Err(why))
         }
     }
+}
+
+/// Says on standard error what is wrong with the table of that name, or with all tables together. Returns that text.
+fn told_fault<E: Display>(rt: &HostRuntime, name: Option<&str>, fault: &E) -> Result<String, Stop> {
+    let mut why = String::new(rt.alloc());
+    if let Some(name) = name {
+        why.push_str(name)?;
+        why.push_str(": ")?;
+    }
+    if write!(why, "{fault}").is_err() {
+        return Err(Stop::Memory);
+    }
+    let _ = eprintln!(rt; "error: {why}");
+    Ok(why)
 }
 
 /// Why a directory is no trace.
 const IS_FOLDER: &str = "it is a directory";
 
-/// Judges the trace of that path.
+/// Judges the trace of that path. If a table is refused, that is why the trace is an error, and it is not read.
 fn test_path<W: Write, J: Lines, P: Watch>(
     rt: &HostRuntime,
     path: &str,
     asked: Asked,
+    refused: &Option<String>,
     sinks: &mut Sinks<W, J, P>,
 ) -> Result<Verdict, Stop>
-    ensures { IfOk result (λ verdict. HasJudged (verdict ∷ []) sinks.old.sum.now sinks.new.sum.now) }
+    ensures judged { IfOk result (λ verdict. HasJudged (verdict ∷ []) sinks.old.sum.now sinks.new.sum.now) }
+    ensures refused { is_some refused.now ≡ true → IfOk result (λ verdict. verdict ≡ verdicts.Error) }
 {
     let alloc = rt.alloc();
+    if let Some(why) = refused {
+        return tell_unread(alloc, asked, why, sinks);
+    }
     if path == "-" {
         if is_folder(rt, INPUT) {
             return tell_unread(alloc, asked, IS_FOLDER, sinks);
@@ -142,7 +191,7 @@ fn test_path<W: Write, J: Lines, P: Watch>(
 fn test_all<W: Write, J: Lines, P: Watch>(
     rt: &HostRuntime,
     test: &Test,
-    book: &Book,
+    tables: &Tables,
     sinks: &mut Sinks<W, J, P>,
 ) -> Result<Verdict, Stop>
     ensures each { OnOk result (AreCounted (length test.now.traces.items) sinks.old.sum.now sinks.new.sum.now) }
@@ -158,9 +207,9 @@ fn test_all<W: Write, J: Lines, P: Watch>(
             },
             settled: test.ids == Ids::Settled,
             complete: test.complete,
-            book,
+            book: &tables.book,
         };
-        test_path(rt, *path, asked, sinks)?;
+        test_path(rt, *path, asked, &tables.refused, sinks)?;
     }
     let mut lines = String::new(rt.alloc());
     sinks.sum.push(&mut lines)?;
@@ -183,13 +232,13 @@ fn write_junit(output: Option<&mut Output>, junit: &Junit) -> Result<(), Stop> {
 fn test_over<W: Write, P: Watch>(
     rt: &HostRuntime,
     test: &Test,
-    book: &Book,
+    tables: &Tables,
     sinks: &mut Sinks<W, Output, P>,
 ) -> Result<Verdict, Stop>
     ensures each { OnOk result (AreCounted (length test.now.traces.items) sinks.old.sum.now sinks.new.sum.now) }
     ensures worst { IfOk result (λ verdict. verdict ≡ worst_of sinks.new.sum.now) }
 {
-    let verdict = test_all(rt, test, book, sinks)?;
+    let verdict = test_all(rt, test, tables, sinks)?;
     if let Some(page) = &mut sinks.page {
         page.end(rt.alloc(), sinks.sum)?;
     }
@@ -204,11 +253,11 @@ fn begun<'a>(html: Option<&'a mut Output>) -> Result<Option<Page<'a, Output>>, S
     }
 }
 
-/// Judges all traces by that book, and counts the verdicts. Where standard output can't be written, standard error says why.
+/// Judges all traces by those tables, and counts the verdicts. Standard error says why standard output can't be written.
 fn tested(
     rt: &HostRuntime,
     test: &Test,
-    book: &Book,
+    tables: &Tables,
     json: Option<&mut Output>,
     html: Option<&mut Output>,
     junit: &mut Junit,
@@ -228,13 +277,13 @@ fn tested(
         sum: &mut counted,
         watch: &mut watch,
     };
-    let ended = test_over(rt, test, book, &mut sinks);
+    let ended = test_over(rt, test, tables, &mut sinks);
     *sum = *sinks.sum;
     tell_unprinted(rt, &text);
     ended
 }
 
-/// Reads the tables, and judges all traces by them. What is wrong with a table is said.
+/// Reads the tables, and judges all traces by them.
 fn judged(
     rt: &HostRuntime,
     test: &Test,
@@ -243,24 +292,18 @@ fn judged(
     junit: Option<&mut Output>,
     sum: &mut Sum,
 ) -> Result<Verdict, Stop>
-    ensures { IfOk result (λ verdict. IsWorstOrError (length test.now.traces.items) sum.old sum.new verdict) }
+    ensures { IfOk result (λ verdict. IsWorst (length test.now.traces.items) sum.old sum.new verdict) }
 {
-    let Some(book) = book_of(rt, &test.tables) else {
-        return Ok(Verdict::Error);
-    };
-    if book.is_ambiguous() {
-        let _ = eprintln!(rt; "error: {AMBIGUOUS}");
-        return Ok(Verdict::Error);
-    }
+    let tables = tables_of(rt, &test.tables)?;
     let mut cases = Junit::new(rt.alloc());
-    let verdict = tested(rt, test, &book, json, html, &mut cases, sum)?;
+    let verdict = tested(rt, test, &tables, json, html, &mut cases, sum)?;
     write_junit(junit, &cases)?;
     Ok(verdict)
 }
 
 /// Judges all traces. The files that it goes to are there, and empty, before the first table is read, so that none is of a run before.
 fn written(rt: &HostRuntime, test: &Test, sum: &mut Sum) -> Result<Verdict, Stop>
-    ensures { IfOk result (λ verdict. IsWorstOrError (length test.now.traces.items) sum.old sum.new verdict) }
+    ensures { IfOk result (λ verdict. IsWorst (length test.now.traces.items) sum.old sum.new verdict) }
 {
     let Outputs {
         mut json,

@@ -56,10 +56,14 @@ impl<W: io::Write> Write for Sink<W> {
     }
 }
 
-/// Says on standard error that standard output can't be written, where that is so, and why.
+/// Says on standard error why standard output can't be written, if it can't. Nothing is said of a pipe that its reader
+/// closed, as `head` does.
 pub(crate) fn tell_unprinted<W>(rt: &HostRuntime, sink: &Sink<W>) {
-    if let Some(error) = &sink.error {
-        let _ = eprintln!(rt; "error: standard output can't be written: {error}");
+    match &sink.error {
+        Some(error) if error.kind() != io::ErrorKind::BrokenPipe => {
+            let _ = eprintln!(rt; "error: standard output can't be written: {error}");
+        }
+        _ => {}
     }
 }
 

@@ -1,4 +1,5 @@
 use Rattle.std.proofs.Common.{◌≡◌, ap, ◌∙◌}
+use Rattle.std.specs.Prelude.{is_some}
 use Rattle.tcap_report.specs.Counts.{with_read, with_verdict}
 use Rattle.tcap_report.proofs.TraceLaws.{begins, both_ok, broken_is_judged, whole_is_judged}
 use Rattle.tcap_report.proofs.trace.run_trace.Goals as goal
@@ -7,22 +8,22 @@ pub returns-in-Ok-clause-judged : goal.returns-in-Ok-clause-judged
 returns-in-Ok-clause-judged g c =
     let asked = c.args.asked in
     let trace = c.read_all.new.self in
-    both_ok c.end.result _ _ _
+    both_ok c.end_whole.result _ _ _
     (λ verdict is sum.
-    whole_is_judged asked trace verdict c.args.sinks.now.sum.now c.end.new.sinks.sum.now
+    whole_is_judged asked trace (is_some trace.broken_off) verdict c.args.sinks.now.sum.now c.end_whole.new.sinks.sum.now
     (c.in-Ok.ensures.reads asked (begins asked c.new-trace.result c.new-trace.ensures.between)) is
     (sum ∙ ap (λ s. with_verdict verdict (with_read trace.dialogues trace.messages trace.unheard s.now)) c.in-Ok.ensures.same_sum))
-    c.end.ensures.is c.end.ensures.sum
+    c.end_whole.ensures.is c.end_whole.ensures.sum
 
 pub returns-in-Err-Form-clause-judged : goal.returns-in-Err-Form-clause-judged
 returns-in-Err-Form-clause-judged g c =
     let asked = c.args.asked in
     let trace = c.judge_over.new.self in
-    both_ok c.end-in-Err-Form.result _ _ _
+    both_ok c.end.result _ _ _
     (λ verdict is sum.
-    broken_is_judged asked trace verdict c.args.sinks.now.sum.now c.end-in-Err-Form.new.sinks.sum.now
+    broken_is_judged asked trace verdict c.args.sinks.now.sum.now c.end.new.sinks.sum.now
     (c.in_ok-judge_over-in-Err-Form.ensures.stopped asked
     (rw c.in-Err-Form.field-0-is at (c.in-Err-Form.ensures.reads asked (begins asked c.new-trace.result c.new-trace.ensures.between)))) is
     (sum ∙ ap (λ s. with_verdict verdict (with_read trace.dialogues trace.messages trace.unheard s.now))
     (c.in_ok-judge_over-in-Err-Form.ensures.same_sum ∙ c.in-Err-Form.ensures.same_sum)))
-    c.end-in-Err-Form.ensures.is c.end-in-Err-Form.ensures.sum
+    c.end.ensures.is c.end.ensures.sum

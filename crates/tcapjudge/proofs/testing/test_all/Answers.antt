@@ -13,5 +13,5 @@ loop-path-preserved g c =
       before ++ verdict ∷ [],
       length_push before verdict ∙ ap (λ n. n + 1) length_is,
       judged_more before (verdict ∷ []) c.args.sinks.now.sum.now c.loop-path.sinks.sum.now c.test_path.new.sinks.sum.now judged
-          c.in_ok-test_path.ensures,
+          c.in_ok-test_path.ensures.judged,
     )

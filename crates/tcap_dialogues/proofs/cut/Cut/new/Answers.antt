@@ -7,5 +7,5 @@ returns c = record {
   reuse_is = refl;
   count_is = refl;
   name = λ d. 0;
-  held = nothing_held _ _ _ c.new.ensures.empty c.new-2.ensures.empty c.new-3.ensures (λ id. refl);
+  held = nothing_held _ _ c.new.ensures.empty c.new-2.ensures.empty c.new-3.ensures;
 }

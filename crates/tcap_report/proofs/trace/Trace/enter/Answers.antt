@@ -1,4 +1,4 @@
-use Rattle.std.proofs.Common.{◌≡◌, ◌++◌, sym, ap, subst, ◌∙◌}
+use Rattle.std.proofs.Common.{◌≡◌, ◌++◌, false, sym, ap, subst, ◌∙◌}
 use Rattle.std.proofs.lemmas.Result.{on_ok_weaker}
 use Rattle.tcap_dialogues.specs.Held.{IsCut}
 use Rattle.tcap_dialogues.specs.HeadingReading.{heading_read}
@@ -10,13 +10,18 @@ pub returns-clause-within : goal.returns-clause-within
 returns-clause-within g c = λ asked within.
     let rest = c.note.ensures.rest in
     let taken =
-    c.in_ok-take.ensures asked.reuse within.stretch.headings
+    c.in_ok-begins.ensures.takes asked.reuse within.stretch.headings
     (subst (IsCut asked.reuse within.stretch.headings) (sym (ap (λ t. t.cut) rest)) within.cut) in
     let (given, is, are) = taken.1 in
-    let one = record c.note.new.self { cut = c.take.new.self; held = c.insert.new.self; count = c.saturating_add-self.result } in
+    let one = record c.note.new.self {
+      cut = c.take.new.self;
+      unread = c.note-2.new.self;
+      held = c.insert.new.self;
+      count = c.saturating_add-self.result;
+    } in
     on_ok_weaker c.judge_all.result
     (λ judges.
     comes asked c.args.self.now one c.judge_all.new.self (heading_read c.heading_of-heading.result) given within
     (ap (λ t. t.asked) rest) (ap (λ t. t.dialogues) rest) c.note.ensures.messages c.note.ensures.readable taken.0 are
-    (subst (λ l. Judges l one c.judge_all.new.self) (is ∙ ap (λ l. l ++ given) c.new-done.ensures.items) judges))
+    (subst (λ l. Judges false l one c.judge_all.new.self) (is ∙ ap (λ l. l ++ given) c.new-done.ensures.items) judges))
     c.judge_all.ensures.judges

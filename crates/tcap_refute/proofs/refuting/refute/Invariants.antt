@@ -1,6 +1,0 @@
--- What is left of the entries decides.
-use Rattle.tcap_refute.proofs.ItemLaws.{Searches}
-use Rattle.tcap_refute.proofs.refuting.refute.Given as goal
-
-abbrev pub invariant-loop-number : goal.invariant-loop-number
-invariant-loop-number l = Searches l.table l.record.entries.items l.number l.notes

@@ -1,0 +1,11 @@
+-- Those of the IDs so far that are open were added.
+use Rattle.std.proofs.Common.{◌≡◌, map}
+use Rattle.tcap_report.specs.BeforeMarks.{known_in}
+use Rattle.tcap_report.proofs.MarksLaws.{Adds}
+use Rattle.tcap_report.proofs.before_marks.EndMarks.note_closed.Given as goal
+
+abbrev pub invariant-loop-id : goal.invariant-loop-id
+invariant-loop-id l = record {
+  noted : Adds (λ q. (known_in l.fn.self q).open) (map (λ id. id.now) l.yielded) l.fn.self.closed l.self.closed;
+  rest : l.self ≡ record l.fn.self { closed = l.self.closed };
+}

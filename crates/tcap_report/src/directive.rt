@@ -1,0 +1,130 @@
+//! Directives: lines of a trace that begin with `#:`.
+
+ghost use Rattle.std.specs.Prelude.{◌≡◌, option_map};
+ghost use Rattle.std.specs.Str.{all_ascii_digits};
+ghost use Rattle.tcap_report.specs.Directive.{about, broken_off, directive_in, directive_of, is_blank, is_missing, said_of, trimmed};
+
+use tcap_record::End;
+
+/// What a directive says.
+#[derive(Clone, Copy)]
+pub(crate) enum Directive<'a> {
+    /// Dialogues may have been under way.
+    UnderWay,
+    /// The trace was broken off. The text is empty, or says how many messages are missing, after a comma.
+    BrokenOff(&'a [u8]),
+    /// What an end is.
+    About(End, &'a [u8]),
+    /// Nothing that is known.
+    Unknown,
+}
+
+const UNDER_WAY: &[u8] = b"under way";
+
+const BROKEN_OFF: &[u8] = b"broken off";
+
+const ONE_MISSING: &[u8] = b", 1 message missing";
+
+const MANY_MISSING: &[u8] = b" messages missing";
+
+/// Returns whether an octet is a space or a tab.
+fn is_blank(octet: u8) -> bool
+    ensures { result ≡ is_blank octet }
+{
+    octet == b' ' || octet == b'\t'
+}
+
+/// Returns the octets without the blanks before and after them.
+fn trimmed(octets: &[u8]) -> &[u8]
+    ensures { result.now ≡ trimmed octets.now }
+{
+    let mut rest = octets;
+    while let [first, more @ ..] = rest {
+        if !is_blank(*first) {
+            break;
+        }
+        rest = more;
+    }
+    while let [more @ .., last] = rest {
+        if !is_blank(*last) {
+            break;
+        }
+        rest = more;
+    }
+    rest
+}
+
+/// Returns whether all octets are decimal digits.
+fn are_digits(octets: &[u8]) -> bool
+    ensures { result ≡ all_ascii_digits octets.now }
+{
+    let mut rest = octets;
+    while let [b'0'..=b'9', more @ ..] = rest {
+        rest = more;
+    }
+    rest.is_empty()
+}
+
+/// Returns whether octets say how many messages are missing, after a comma.
+fn is_missing(octets: &[u8]) -> bool
+    ensures { result ≡ is_missing octets.now }
+{
+    if octets == ONE_MISSING {
+        return true;
+    }
+    let Some(octets) = octets.strip_prefix(b", ") else {
+        return false;
+    };
+    match octets.strip_suffix(MANY_MISSING) {
+        Some(digits) => !digits.is_empty() && are_digits(digits),
+        None => false,
+    }
+}
+
+/// Returns what a directive says, by the octets after the words `broken off`.
+fn broken_off(octets: &[u8]) -> Directive
+    ensures { said_of result ≡ broken_off octets.now }
+{
+    if octets.is_empty() || is_missing(octets) {
+        Directive::BrokenOff(octets)
+    } else {
+        Directive::Unknown
+    }
+}
+
+/// Returns what a directive says, by the octets after the letter of an end.
+fn about(end: End, octets: &[u8]) -> Directive
+    ensures { said_of result ≡ about end octets.now }
+{
+    match octets {
+        [blank, text @ ..] if is_blank(*blank) => Directive::About(end, trimmed(text)),
+        _ => Directive::Unknown,
+    }
+}
+
+/// Returns what a directive of this text says.
+fn directive_in(text: &[u8]) -> Directive
+    ensures { said_of result ≡ directive_in text.now }
+{
+    if text == UNDER_WAY {
+        return Directive::UnderWay;
+    }
+    if let Some(octets) = text.strip_prefix(BROKEN_OFF) {
+        return broken_off(octets);
+    }
+    match text {
+        [b'A', octets @ ..] => about(End::A, octets),
+        [b'B', octets @ ..] => about(End::B, octets),
+        _ => Directive::Unknown,
+    }
+}
+
+/// Returns what a line says if it is a directive. Its end is left out.
+pub(crate) fn directive_of(line: &[u8]) -> Option<Directive>
+    ensures { option_map said_of result ≡ directive_of line.now }
+{
+    match line {
+        [b'#', b':', text @ ..] => Some(directive_in(trimmed(text))),
+        _ => None,
+    }
+}

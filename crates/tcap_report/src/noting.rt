@@ -1,0 +1,85 @@
+//! What is noted of an entry and of a dialogue, by the trace before them.
+
+ghost use Rattle.std.specs.Prelude.{◌≡◌, ◌≤◌, cond, is_some, length, IfOk};
+ghost use Rattle.tcap_report.specs.declared.case.Behind.TheVariants as behinds;
+
+use crate::before_marks::InUse;
+use crate::case::{Behind, Case, Held, Rules, begins, heading_of};
+use crate::trace::Trace;
+use std::alloc::AllocError;
+use tcap_dialogues::{Gathered, HeadingView, Reuse};
+use tcap_msg::Kind as Form;
+
+impl Trace<'_> {
+    /// Returns what is known of an entry to find its dialogue: what is read of it, and of the trace before it.
+    pub(crate) fn heading_of<'o>(&self, octets: &'o [u8]) -> HeadingView<'o> {
+        let heading = heading_of(octets);
+        HeadingView {
+            under_way: self.under_way.is_some(),
+            known: heading.kind == Some(Form::Continue) && self.marks.sent_to(heading).is_some(),
+            ..heading
+        }
+    }
+
+    /// Returns the ID by which a dialogue with these entries seems to go on after the quiet mark before it; `None` if one of its IDs came
+    /// again in its segment.
+    fn in_use(&self, gathered: &Gathered, entries: &[Held]) -> Option<InUse> {
+        if gathered.earlier.is_some() {
+            return None;
+        }
+        self.marks
+            .in_use(heading_of(&entries.first()?.octets), gathered)
+    }
+
+    /// Returns the number of the first entry that can't be read and may have been one of a dialogue with these entries: one after its
+    /// first entry, or any of the segment, if that is no Begin. There is none if no entry of the dialogue carries an ID.
+    fn unread_for(&self, gathered: &Gathered, entries: &[Held]) -> Option<u64> {
+        if gathered.a.is_empty() && gathered.b.is_empty() {
+            return None;
+        }
+        match begins(entries) {
+            Some(_) => self.unread.first_after(gathered.numbers.first().copied()),
+            None => self.unread.first_after(None),
+        }
+    }
+
+    /// Returns what is asked of its dialogues.
+    fn rules(&self) -> Rules
+        ensures sides { result.of ≡ self.now.asked.of }
+        ensures settled { result.settled ≡ self.now.asked.settled }
+        ensures complete { result.complete ≡ self.now.asked.complete }
+    {
+        Rules {
+            of: self.asked.of,
+            settled: self.asked.settled,
+            complete: self.asked.complete,
+            once: self.asked.reuse == Reuse::Once,
+        }
+    }
+
+    /// The dialogue of which this was gathered, with what is noted of it. A mark, or the end of the trace, is its own if it is not over.
+    pub(crate) fn case_of(&mut self, gathered: Gathered, behind: Behind) -> Result<Case, AllocError>
+        ensures is { IfOk result (λ case. (case.gathered ≡ gathered)
+            × (case.behind ≡ cond (is_some gathered.over) behinds.More behind)
+            × (case.rules.of ≡ self.old.asked.of) × (case.rules.settled ≡ self.old.asked.settled)
+            × (case.rules.complete ≡ self.old.asked.complete)) }
+        ensures few { IfOk result (λ case. length case.entries.items ≤ length gathered.numbers.items) }
+        ensures rest { self.new ≡ record self.old { held = self.new.held } }
+    {
+        let entries = self.taken(&gathered)?;
+        Ok(Case {
+            rules: self.rules(),
+            in_use: self.in_use(&gathered, &entries),
+            unread: self.unread_for(&gathered, &entries),
+            entries,
+            before: self.before,
+            behind: if gathered.over.is_some() {
+                Behind::More
+            } else {
+                behind
+            },
+            under_way: self.under_way,
+            gathered,
+        })
+    }
+}
