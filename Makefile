@@ -1,5 +1,5 @@
 # make demo      judges the traces of examples/ by `tcapjudge test`, compiled without a proof: four minutes on four processors,
-#                once for the same sources (tools/unproved.py)
+#                once for the same sources (dev/unproved.py)
 # make quick     runs all tests that need the program and no proof, side by side, over the same unproved program: five minutes
 #                from a fresh clone. At its end it says what that does not show
 # make program   proves and builds the program, and prints where it lies
@@ -27,10 +27,10 @@ PROGRAM = crates/tcapjudge/out/tcapjudge
 SECONDS = 60
 
 demo: needs
-	@python3 tools/demo.py
+	@python3 dev/demo.py
 
 quick: needs
-	@python3 tools/quick.py
+	@python3 dev/quick.py
 
 program: needs
 	@echo "Proves what is not yet proved: minutes on a fresh clone"
@@ -39,17 +39,17 @@ program: needs
 	@echo "The proved program is $(PROGRAM)"
 
 clib: program
-	@python3 tools/clib.py
+	@python3 dev/clib.py
 	@python3 tests/titan.py
 
 test: needs
-	@python3 tools/gate.py
+	@python3 dev/gate.py
 
 edits: needs
-	@python3 tools/edits.py $(CRATES)
+	@python3 dev/edits.py $(CRATES)
 
 changed: needs
-	@python3 tools/changed.py $(BASE)
+	@python3 dev/changed.py $(BASE)
 
 bench: measured
 	@python3 bench/linear.py

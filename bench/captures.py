@@ -1,5 +1,5 @@
 """Shows how much processor time tools/lines_of_capture.py takes beside the `tshark` that it runs, and how much memory each of
-both, over a capture of 100,000 frames of the network of tests/made_network.py. The exit status is 1 where the tool takes over
+both, over a capture of 100,000 frames of the network of tests/cases/made_network.py. The exit status is 1 where the tool takes over
 TIMES the processor time of tshark, or over MOST of memory, or loses messages. Where tshark is not installed it says so."""
 
 import shutil
@@ -7,7 +7,7 @@ import subprocess
 import sys
 import tempfile
 
-sys.path.insert(0, "tests")
+sys.path.insert(0, "tests/cases")
 
 import made_captures as made
 import made_network

@@ -18,6 +18,7 @@ import sys
 import tempfile
 import time
 
+import rooms  # noqa: F401
 import capture_rows
 import loopback
 import made_captures

@@ -1,9 +1,9 @@
 """Compares the operation tables of examples/tables, their pages, the book that is made of them, and the text of it that the program
-carries, as tools/book.py says."""
+carries, as dev/book.py says."""
 
 import sys
 
-sys.path.insert(0, "tools")
+sys.path.insert(0, "dev")
 
 import book
 

@@ -14,6 +14,7 @@ import subprocess
 import sys
 import tempfile
 
+import rooms  # noqa: F401
 import made_captures as made
 import made_network
 from tested import PROGRAM

@@ -1,4 +1,4 @@
-"""The library for programs in C, which tools/clib.py built: of the records of judged.py, blamed.py, alone.py and examples/,
+"""The library for programs in C, which dev/clib.py built: of the records of judged.py, blamed.py, alone.py and examples/,
 and of octets that are none, it says what the program prints, of both ends and of one alone, with and without a certificate;
 of traces it says what the program writes as JSON (clib_traces.py); and so do its two examples, in C and in Python, which say of a
 file that it can't be read. Where an allocation fails, the library says so, and gives back all that it took. Closes with
@@ -11,6 +11,7 @@ import subprocess
 import sys
 import tempfile
 
+import rooms  # noqa: F401
 import alone
 import blamed
 import clib_traces

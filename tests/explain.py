@@ -1,6 +1,7 @@
 """Runs the built program's word `explain`, and looks at what it says. The texts of explained.py are printed of the records there,
 octet for octet. Of these and of further records, those of judged.py, blamed.py and alone.py and those of faults.json: the first
-line and the status are those of `judge`, of `judge --end`, or of `check` with the certificate that `judge` proposes; behind a line
+line and the status are those of `judge`, of `judge --end`, or of `check` with the certificate that `judge` proposes, but LAWFUL where
+`blame` says it of both ends: then behind each of its lines stands what is said of that end alone; behind a line
 that is not LAWFUL stand the lines of `blame`; each line else begins with two blanks; under what is refuted or blamed that entry
 is named, and no entry that is not there; a run names each entry where it is sent, once and in order; and a chart is a page with one
 object, whose title is that line, and which says what is printed: of a run that is lawful its steps, else what stands behind the
@@ -13,6 +14,7 @@ import subprocess
 import sys
 import tempfile
 
+import rooms  # noqa: F401
 import alone
 import blamed
 import explained
@@ -110,7 +112,8 @@ def look_at(rows, name, text, count, blame):
     plain = [line for line in lines[1:] if not line.startswith("  ")]
     rows.row(f"{name}: lines of blame", plain, blame)
     if lines[0].startswith("LAWFUL"):
-        look_at_run(rows, name, lines[1:], count)
+        for run_text in filter(None, re.split(r"^LAWFUL .*\n", text, flags=re.M)):
+            look_at_run(rows, name, run_text.splitlines(), count)
     else:
         look_at_facts(rows, name, lines, count)
 
@@ -138,8 +141,8 @@ def printed_step(it, heads, of):
     return forms[step].format(**it)
 
 
-def look_at_chart(rows, name, path, text, count, end=None):
-    """A chart says what is printed, of so many entries, of both ends or of one."""
+def look_at_chart(rows, name, path, text, count, end=None, is_of_each=False):
+    """A chart says what is printed, of so many entries, of both ends or of one. Where each end has a run of its own it has no steps."""
     run, is_alone = chart_in(path)
     title, _, behind = text.partition("\n")
     place = re.match(r"(?:REFUTED|UNDECIDED|NOT SHOWN) (\d+)", title)
@@ -149,7 +152,9 @@ def look_at_chart(rows, name, path, text, count, end=None):
     numbers = [it["entry"] for it in run["entries"]]
     steps = [it["entry"] for it in run["steps"] if it["step"] in ("sends", "tells", "replies", "quiet", "stands")]
     rows.row(f"{name}: its entries", (numbers, steps), (list(range(count)), list(range(count))))
-    if not place:
+    if is_of_each:
+        rows.row(f"{name}: no steps", {it["step"] for it in run["steps"]}, {"stands"})
+    elif not place:
         heads = {it["entry"]: it["show"].split("\n")[0] for it in run["entries"] if "show" in it}
         lines = "".join(printed_step(it, heads, end) for it in run["steps"])
         rows.row(f"{name}: its steps", f"  one run that shows it:\n{lines}", behind)
@@ -183,20 +188,28 @@ def agrees(rows, files):
         paths = files.record, files.table
         shown = run("show", files.record)[0].splitlines()
         count = len([line for line in shown if not line.startswith("  ") and not line.startswith("FAULT")])
-        verdict, blame = run("judge", *paths), run("blame", *paths)[0].splitlines()[1:]
+        judge, blame = run("judge", *paths), run("blame", *paths)[0]
         found = run("explain", *paths, "--chart", files.chart)
+        title, _, lines = blame.partition("\n")
         first = found[0].partition("\n")[0]
-        rows.row(f"{name}: the verdict", (f"{first}\n", found[1], found[2]), verdict)
-        look_at(rows, name, found[0], count, [] if first.startswith("LAWFUL") else blame)
-        look_at_chart(rows, name, files.chart, found[0], count)
+        is_lawful, is_shown = title.startswith("LAWFUL"), judge[0].startswith("LAWFUL")
+        wanted = f"{title}\n", "", 0 if is_lawful else judge[2]
+        rows.row(f"{name}: the verdict", (f"{first}\n", found[1], found[2]), wanted)
+        rows.row(f"{name}: that of judge", is_shown or is_lawful or f"{title}\n" == judge[0])
+        look_at(rows, name, found[0], count, [] if is_shown else lines.splitlines())
+        look_at_chart(rows, name, files.chart, found[0], count, is_of_each=is_lawful and not is_shown)
+        each = f"{title}\n"
         for end in "AB":
             verdict = run("judge", "--end", end, *paths)
             alone_text = run("explain", "--end", end, *paths, "--chart", files.chart)
             look_at_chart(rows, f"{name}: {end}", files.chart, alone_text[0], count, end)
-            line = alone_text[0].partition("\n")[0]
+            line, _, behind = alone_text[0].partition("\n")
             rows.row(f"{name}: {end}", (f"{line}\n", alone_text[1], alone_text[2]), verdict)
             look_at(rows, f"{name}: {end}", alone_text[0], count, [])
-        if first.startswith("LAWFUL"):
+            each += line.replace("LAWFUL", f"LAWFUL {end}") + "\n" + behind
+        if is_lawful and not is_shown:
+            rows.row(f"{name}: the runs of both", found[0], each)
+        if is_shown:
             certificate = run("judge", "--cert", *paths)[0].splitlines()[1]
             files.write(files.cert, certificate.encode())
             rows.row(f"{name}: by the certificate", run("explain", *paths, files.cert), found)

@@ -1,7 +1,7 @@
 """Runs the built program's word `explain` over records in which an entry is at fault, and looks at the lines behind
 REFUTED and BLAMED, which say what the fault rests on. Those of facts.json are written out, to be read beside what
 `show` prints: of each kind one at least, and each form of words. Those of the records of faults.json, each as it is,
-behind a mark, and twice, and of random records are those that tests/evidence.py and tests/unblamed.py have, of both ends and of each
+behind a mark, and twice, and of random records are those that tests/oracle/evidence.py and tests/oracle/unblamed.py have, of both ends and of each
 end alone."""
 
 import json
@@ -12,6 +12,7 @@ import subprocess
 import sys
 import tempfile
 
+import rooms  # noqa: F401
 import blamed
 import evidence
 import fuzz
@@ -22,7 +23,7 @@ import unblamed
 from shown import Table, entries_in, printed
 from tested import PROGRAM
 
-FACTS = "tests/facts.json"
+FACTS = "tests/cases/facts.json"
 # How many random records, how many over IDs that may be tangled, and the seed.
 RANDOM, TANGLED, SEED = 400, 300, "facts"
 # A uses 01 again, so that it is blamed for nothing behind that.
@@ -102,7 +103,7 @@ def wanted(entries, table, lines, end):
 
 
 def compared(rows, files, name, record, table, read):
-    """The lines of a record are those of tests/evidence.py and tests/unblamed.py; `read` is the table as that has it."""
+    """The lines of a record are those of tests/oracle/evidence.py and tests/oracle/unblamed.py; `read` is the table as that has it."""
     files.fill(record, table)
     entries = entries_in(record)
     found = told(files.explained())
@@ -121,7 +122,7 @@ def of_known(rows, files):
 
 
 def random_record(rng):
-    """A record of tests/random_dialogues.py, some with entries changed, or one of tests/fuzz.py; and its table."""
+    """A record of tests/oracle/random_dialogues.py, some with entries changed, or one of tests/fuzz.py; and its table."""
     if rng.random() < 0.25:
         case = fuzz.Case(rng)
         return case.record, case.table

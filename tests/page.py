@@ -1,4 +1,4 @@
-"""Compares the frame of a page with the files that it is made of (tools/page.py), and looks at pages of made reports
+"""Compares the frame of a page with the files that it is made of (dev/page.py), and looks at pages of made reports
 and runs (made_reports.py), and at pages that the program writes, in a browser (browser.py): the cases are those of page_cases.py,
 page_parts.py, page_traces.py, page_limits.py and page_runs.py, and of page_written.py. Where there is no browser that starts, or no loopback interface, over which
 it is driven, it says so, and counts the frame alone."""
@@ -8,8 +8,9 @@ import signal
 import sys
 import tempfile
 
-sys.path.insert(0, "tools")
+sys.path.insert(0, "dev")
 
+import rooms  # noqa: F401
 import browser
 import loopback
 import page
@@ -27,7 +28,7 @@ TURNS = 3
 
 
 def frame_checks():
-    """What tools/page.py compares."""
+    """What dev/page.py compares."""
     checks = Checks("frame")
     for what, holds in page.checks():
         checks.holds(what, holds)

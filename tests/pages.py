@@ -11,8 +11,7 @@ exit status, which is 0 where there is no such line. Nothing may go to standard 
 command. The commands of a page run one after the other, by bash with pipefail, in a folder of their own that has what is in
 COPIED. `tcapjudge` is the program that is tested (tests/tested.py).
 
-Each link of a page leads to a file that is there, and to a heading of it; each `make WORD` names a target; and the table of
-docs/PROOFS.md has the edits that the gate tries, and how many others stand in crates/*/edits."""
+Each link of a page leads to a file that is there, and to a heading of it; each `make WORD` names a target."""
 
 import glob
 import itertools
@@ -95,20 +94,6 @@ def is_sound(page):
     return not wrong
 
 
-def has_edits():
-    """Whether docs/PROOFS.md has the edits of each crate."""
-    rows = re.findall(r"^\| `(tcap\w+)` \| (.*) \| (\d+) \|$", text_of("docs/PROOFS.md"), re.MULTILINE)
-    said = {name: (sorted(re.findall(r"`(\w+)`", tried)), int(count)) for name, tried, count in rows}
-    lines = [line.split(":") for line in text_of("tools/gate_edits.txt").splitlines() if not line.startswith("#")]
-    gate = {name: sorted(edits.split()) for name, edits in lines}
-    count = {os.path.basename(it): len(glob.glob(f"{it}/edits/*.edit")) for it in glob.glob("crates/*")}
-    found = {name: (gate.get(name, []), number - len(gate.get(name, []))) for name, number in count.items()}
-    wrong = [name for name, both in found.items() if both != said.get(name, ([], 0))]
-    if wrong:
-        print(f"docs/PROOFS.md has other edits of {' '.join(wrong)}", file=sys.stderr)
-    return not wrong
-
-
 def command_of(part):
     """A command, as it is typed; what the page says that it prints; and its exit status."""
     lines = part.splitlines()
@@ -156,7 +141,6 @@ def runs_of(page, program):
 def main():
     held = [is_proved(page, names) for page, names in PAGES.items()]
     held += map(is_sound, ["README.md", *sorted(glob.glob("docs/*.md") + glob.glob("crates/*/README.md"))])
-    held.append(has_edits())
     with tempfile.TemporaryDirectory() as folder:
         os.symlink(os.path.abspath(PROGRAM), f"{folder}/tcapjudge")
         for page in ["README.md", *sorted(glob.glob("docs/*.md"))]:

@@ -6,6 +6,7 @@ import subprocess
 import sys
 import tempfile
 
+import rooms  # noqa: F401
 import alone
 import blamed
 import judged
@@ -52,6 +53,17 @@ FILES = {
     "LISTS": b"[" * 200 + b"]" * 200,
     "OPEN_LISTS": b"[" * 1_000_000,
 }
+
+
+def version():
+    """Returns what `--version` prints: the kit that proved the program, which has to be the one that is here, or that it is not proved. If
+    the kit is another one, name it in VERSION of crates/tcap_words/src/command_line.rt."""
+    if os.path.basename(os.path.realpath(PROGRAM)) == "tcapjudge-unproved":
+        return b"tcapjudge 0.1.0 (not proved)\n"
+    kit = subprocess.run(["rt", "version"], stdout=subprocess.PIPE, check=True).stdout.strip()
+    return b"tcapjudge 0.1.0 (proved, %s)\n" % kit
+
+
 NONE = "/no/such/file"
 SOME = object()
 
@@ -156,7 +168,7 @@ ROWS = [
     (["blame", "--end", "A", "DIALOGUE", "TABLE"], b"", b"", SOME, 4),
     (["check", "DIALOGUE", "TABLE"], b"", b"", SOME, 4),
     (["check", "DIALOGUE", "TABLE", "CERT", "x"], b"", b"", SOME, 4),
-    (["--version"], b"", b"tcapjudge 0.1.0\n", b"", 0),
+    (["--version"], b"", version(), b"", 0),
     ([b"\xff"], b"", b"", b"error: a word of the command is not text: word 1\n", 4),
     (["test", "--json", "x", b"y\xff", "-", b"\xff"], b"", b"", b"error: a word of the command is not text: word 4\n", 4),
     (["show", "x" * 131_071, b"\xff"], b"", b"", b"error: a word of the command is not text: word 3\n", 4),
@@ -294,7 +306,9 @@ def misblamed_in(folder):
         paths = written(folder, record, table)
         line = said(["judge", *paths])[0].decode().removesuffix("\n")
         ends = {end: said(["judge", "--end", end, *paths])[0].decode().removesuffix("\n") for end in faults}
-        lines = [line, *blamed.lines_of(faults, ends, blamed.count_of(said(["show", paths[0]])[0]))]
+        count = blamed.count_of(said(["show", paths[0]])[0])
+        lines = blamed.lines_of(faults, ends, count)
+        lines = [blamed.first_line(line, lines, count), *lines]
         wanted = "".join(f"{line}\n" for line in lines).encode(), b"", blamed.status_of(lines)
         found = said(["blame", *paths])
         if found != wanted:

@@ -24,7 +24,7 @@ import time
 
 from tested import PROGRAM
 
-sys.path.insert(0, "tools")
+sys.path.insert(0, "dev")
 
 import unproved
 
@@ -267,7 +267,7 @@ def skipped(why):
 
 
 def main():
-    unproved.end_in_order()
+    unproved.machine.end_in_order()
     os.environ["PATH"] += f":{SBIN}"
     is_direct = has_sctp()
     if lacking := missing(is_direct):

@@ -11,6 +11,7 @@ import subprocess
 import sys
 import xml.etree.ElementTree
 
+import rooms  # noqa: F401
 from evidence import WORDS
 from tested import PROGRAM
 from trace_page import lines_in, look_at_page

@@ -14,6 +14,7 @@ import re
 import sys
 import tempfile
 
+import rooms  # noqa: F401
 import lawful_traces
 import random_traces
 import runs

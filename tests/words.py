@@ -13,6 +13,7 @@ import subprocess
 import sys
 import tempfile
 
+import rooms  # noqa: F401
 from looks import GIVEN, LOOKS, SHOWN_LOOKS, SWAPPED
 from table_rows import BOOKS, TABLES
 from tested import PROGRAM
@@ -394,15 +395,43 @@ HELP = [
     (["help", "table"], "Example: tcapjudge table table.json\n"),
 ]
 
-# What stands in the help of `explain`, and the subcommands in the order in which the help of the program lists them.
-EXPLAIN = [
-    "Says in words why a record is lawful, refuted or undecided\n",
-    "Usage: tcapjudge explain [OPTIONS] <RECORD> <TABLE> [CERT]\n",
-    "--end <END>",
-    "--chart <FILE>",
-    "Writes a chart of the run, a page of HTML, to that file",
-]
+# The subcommands in the order in which the help of the program lists them.
 SUBCOMMANDS = ["show", "pack", "check", "judge", "explain", "blame", "table", "test", "help"]
+
+# Words by which help or the version is printed, and a part of that text.
+PRINTED = [
+    (["explain", "--help"], "Says in words why a record is lawful, refuted or undecided\n"),
+    (["explain", "--help"], "Usage: tcapjudge explain [OPTIONS] <RECORD> <TABLE> [CERT]\n"),
+    (["explain", "--help"], "Writes a chart of the run, a page of HTML, to that file"),
+    (["explain", "--help"], "--end <END>"),
+    (["explain", "--help"], "--chart <FILE>"),
+    (["--help"], "Usage: tcapjudge"),
+    (["-h"], "Usage: tcapjudge"),
+    (["help"], "Usage: tcapjudge"),
+    (["show", "--help"], "Usage: tcapjudge"),
+    (["show", "x", "-h"], "Usage: tcapjudge"),
+    (["pack", "--help"], "Usage: tcapjudge"),
+    (["check", "--help"], "Usage: tcapjudge check [OPTIONS] <RECORD> <TABLE> <CERT>"),
+    (["check", "--help"], "--end <END>"),
+    (["judge", "--help"], "Judges that end alone, whatever its peer sends"),
+    (["help", "explain"], "--chart <FILE>"),
+    (["explain", "-h"], "--end <END>"),
+    (["--version"], "tcapjudge 0.1.0"),
+    (["-V"], "tcapjudge 0.1.0"),
+    (["help", "show"], "Usage: tcapjudge"),
+    (["help", "pack"], "Usage: tcapjudge"),
+    (["help", "pack"], "Example: tcapjudge pack dialogue.hex > record"),
+    (["check", "-h"], "Example: tcapjudge check record table.json cert.json"),
+    (["judge", "-h"], "Example: tcapjudge judge record table.json --cert"),
+    (["explain", "-h"], "Example: tcapjudge explain record table.json --chart run.html"),
+    (["blame", "-h"], "Example: tcapjudge blame record table.json"),
+    (["table", "-h"], "Usage: tcapjudge table [TABLE]"),
+    (["test", "--help"], "Usage: tcapjudge test [OPTIONS] <TRACE>..."),
+    (["help", "test"], "Judges each dialogue of traces"),
+    (["test", "-h"], "Example: tcapjudge test --table map.json traces/*.hex"),
+    (["test", "--help"], "[possible values: again, settled, once]"),
+    (["test", "--help"], "Writes a page to that file, to look at the dialogues that do not pass"),
+]
 
 # Words that are wrong, and what is said of them.
 REFUSED = [
@@ -419,6 +448,49 @@ REFUSED = [
     (["explain", "--end", "C", "x", "y"], "invalid value 'C' for '--end <END>'"),
     (["explain", "x", "y", "--cert"], "unexpected argument '--cert'"),
     (["judge", "x", "y", "--chart", "v"], "unexpected argument '--chart'"),
+    (["check", "--end", "C", "x", "y", "z"], "invalid value 'C' for '--end <END>'"),
+    (["check", "--end", "a", "x", "y", "z"], "[possible values: A, B]"),
+    (["check", "x", "y", "z", "--end"], "a value is required for '--end <END>'"),
+    (["check", "--end", "A", "--end", "B", "x", "y", "z"], "cannot be used multiple times"),
+    (["check", "--end", "A", "x", "y"], "<CERT>"),
+    (["judge", "--end", "AB", "x", "y"], "invalid value 'AB' for '--end <END>'"),
+    (["blame", "--end", "A", "x", "y"], "unexpected argument '--end'"),
+    (["judge", "x"], "<TABLE>"),
+    (["judge", "x", "y", "z"], "unexpected argument 'z'"),
+    (["explain", "--chart", "x", "y"], "<TABLE>"),
+    (["explain", "--end", "a", "x", "y"], "invalid value 'a' for '--end <END>'"),
+    (["explain", "--chart", "v", "--chart", "w", "x", "y"], "cannot be used multiple times"),
+    (["blame", "x"], "<TABLE>"),
+    (["blame", "x", "y", "--cert"], "unexpected argument '--cert'"),
+    (["test"], "<TRACE>"),
+    (["test", "--table", "t"], "<TRACE>"),
+    (["test", "--of", "C", "x"], "invalid value 'C' for '--of <END>'"),
+    (["test", "--of", "a", "x"], "[possible values: A, B]"),
+    (["test", "--ids", "never", "x"], "[possible values: again, settled, once]"),
+    (["test", "--linger", "many", "x"], "invalid value 'many' for '--linger <N>'"),
+    (["test", "--linger", "18446744073709551616", "x"], "invalid value '18446744073709551616' for '--linger <N>'"),
+    (["test", "--linger", "1.5", "x"], "invalid value '1.5' for '--linger <N>'"),
+    (["test", "x", "--table"], "a value is required for '--table <FILE>'"),
+    (["test", "x", "--json"], "a value is required for '--json <FILE>'"),
+    (["test", "x", "--html"], "a value is required for '--html <FILE>'"),
+    (["test", "--ids", "once", "--ids", "once", "x"], "cannot be used multiple times"),
+    (["test", "--linger", "1", "--linger", "1", "x"], "cannot be used multiple times"),
+    (["test", "--json", "f", "--json", "g", "x"], "cannot be used multiple times"),
+    (["test", "--html", "f", "--html", "g", "x"], "cannot be used multiple times"),
+    (["judge", "x", "y", "--html", "h"], "unexpected argument '--html'"),
+    (["test", "--complete", "--complete", "x"], "cannot be used multiple times"),
+    (["test", "--end", "A", "x"], "unexpected argument '--end'"),
+    (["judge", "--of", "A", "x", "y"], "unexpected argument '--of'"),
+    ([], "requires a subcommand"),
+    (["shew"], "unrecognized subcommand 'shew'"),
+    (["show", "x", "y"], "unexpected argument 'y'"),
+    (["pack", "x", "y"], "unexpected argument 'y'"),
+    (["check"], "<RECORD> <TABLE> <CERT>"),
+    (["check", "x", "y"], "<CERT>"),
+    (["check", "x", "y", "z", "w"], "unexpected argument 'w'"),
+    (["show", "--version"], "unexpected argument '--version'"),
+    (["show", "-x"], "unexpected argument '-x'"),
+    (["x"], "unrecognized subcommand 'x'"),
 ]
 
 
@@ -601,8 +673,9 @@ def words(rows):
     for asked, end in HELP:
         out, error, status = run(asked)
         rows.row(asked, (out.endswith(end), error, status), (True, "", 0))
-    for part in EXPLAIN:
-        rows.row(part, part in run(["explain", "--help"])[0], True)
+    for asked, part in PRINTED:
+        out, error, status = run(asked)
+        rows.row(asked, (part if part in out else out, error, status), (part, "", 0))
     listed = re.findall(r"^  ([a-z]+) ", run(["--help"])[0].split("Options:")[0], re.M)
     rows.row("subcommands", listed, SUBCOMMANDS)
     for asked, said in REFUSED:

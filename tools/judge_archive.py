@@ -25,7 +25,7 @@ import time
 import archive_results
 import archive_words
 import lines_of_capture
-import unproved
+import machine
 from archive_results import stamp_of
 from archive_words import FAULTY, WRONG_WORDS, Fault, is_capture, say
 
@@ -320,7 +320,7 @@ def main(arguments):
         names = archive_words.names_of(words, f"{words.json}.results")
         tool, program = tool_of(words), program_of(words)
         results = results_of(words, names, program[0])
-        unproved.end_in_order()
+        machine.end_in_order()
         try:
             wrong = judge(words, names, tool, program, results)
         except SystemExit:

@@ -1,6 +1,7 @@
-"""What of this machine a run may take."""
+"""What a run may take of this machine, and how it ends if a signal comes."""
 
 import os
+import signal
 import sys
 
 
@@ -24,3 +25,17 @@ def say_if_short(wanted, what):
             file=sys.stderr,
             flush=True,
         )
+
+
+def end_in_order():
+    """Makes a signal that ends this process end it as an error does, so that the processes that it started end and its files are removed."""
+    # A shell has what it runs in the background ignore the first, and so would what this starts. `nohup` has it ignore the last.
+    numbers = [signal.SIGINT, signal.SIGTERM] + [signal.SIGHUP] * (signal.getsignal(signal.SIGHUP) != signal.SIG_IGN)
+
+    def end(number, _):
+        for it in numbers:
+            signal.signal(it, signal.SIG_IGN)
+        sys.exit(128 + number)
+
+    for it in numbers:
+        signal.signal(it, end)

@@ -1,5 +1,5 @@
 -- What is known of octets that are in memory, by what is said of them.
-use Rattle.std.proofs.Common.{◌≡◌, ℕ, List, [], ◌++◌, length, map, false, refl, sym, ap, subst, ◌∙◌, inl, inr, append-nil}
+use Rattle.std.proofs.Common.{◌≡◌, ◌&&◌, Bool, cond, ℕ, List, [], ◌++◌, length, map, true, false, refl, sym, ap, subst, ◌∙◌, inl, inr, append-nil}
 use Rattle.std.specs.Prelude.{Option, Some, None, Result, Ok, Err}
 use Rattle.std.specs.Io.KnownBytes.{Consumes, IsAtEnd}
 use Rattle.tcap_record.specs.declared.entry.End.{End as Side}
@@ -25,11 +25,12 @@ use Rattle.tcap_judge.specs.declared.outcome.Outcome.{Outcome}
 use Rattle.tcap_judge.specs.declared.outcome.Outcome.TheVariants.{Lawful, LawfulFor, NotShown, Refuted, Undecided, Faulty}
 use Rattle.tcap_lines.specs.declared.status.Status.TheVariants as statuses
 use Rattle.tcap_judge.specs.Outcome.{outcome_status}
-use Rattle.tcap_judge.specs.Judged.{AreLawful, MayBeSent, MayBeSentUnheard, replayed_by}
+use Rattle.tcap_judge.specs.Judged.{AreLawful, AreLawfulUnheard, IsShown, replayed_by}
 use Rattle.tcap_judge.specs.Checked.{JudgesWith, ReadsRecord, ReadsTable}
 use Rattle.tcap_judge.specs.LawfulRecord.{SpellsRecord}
-use Rattle.tcap_judge.specs.Verdict.{GivesVerdictWith, IsAtFaultBy, certificate_line, named_by, proposed_by}
-use Rattle.tcap_judge.specs.Blamed.{AreFound, GivesBlame, GivesBlameWith, IsFound, ends_of, finding, finding_by, items_before, record_ends}
+use Rattle.tcap_judge.specs.Verdict.{GivesVerdictWith, IsAtFaultBy, certificate_line, named_by, proposed_by, record_verdict, verdict}
+use Rattle.tcap_judge.specs.Blamed.{AreFound, GivesBlame, GivesBlameWith, IsFound, ends_of, finding, finding_by, is_lawful, items_before, joint_record_verdict, record_ends}
+use Rattle.tcap_judge.proofs.BlamedLaws.{are_lawful, without_unheard}
 use Rattle.tcap_judge.proofs.LawfulLaws.{IsFoundBy, by_certificate, fine_fault, no_fault, spells_items, table_fault, table_text}
 use Rattle.tcap_judge.proofs.VerdictLaws.{NamesRightly, blames_rightly, by_refutation, lawful_record, names_rightly, refuted_record}
 use Rattle.tcap_c.specs.declared.answer.Answer.{Answer}
@@ -45,12 +46,6 @@ text_is : (text left : List ℕ) (operations : Table) → ReadsTable (in_memory 
 text_is text left operations reads =
     let (octets, tells, is) = table_text (in_memory text left) operations reads in
     subst (λ (t : List ℕ). IsTableOf t (Ok operations)) (told_all text left octets tells.0 tells.1) is
-
--- However many are unheard, the items may be sent.
-without_unheard : (judged : Option Side) (items : List Item) (operations : Table) (unheard : ℕ)
-    → MayBeSentUnheard judged items operations unheard → MayBeSent judged items operations
-without_unheard None items operations unheard sent = sent
-without_unheard (Some side) items operations unheard (events, w, runs, same, keeps, left, lost) = (events, (w, runs, same), keeps)
 
 may_be_sent : (judged : Option Side) (octets text left left_of_text : List ℕ) (operations : Table) (outcome : Outcome)
     → ReadsTable (in_memory text left_of_text) (Ok operations)
@@ -192,42 +187,64 @@ checked_right judged octets text certificate outcome says is =
 
 -- ---- blaming
 
--- what is said of the record is what judging says
-judged_too : (octets text : List ℕ) (outcome : Outcome) (ends : Option Ends) → SaysBlamed octets text outcome ends
-    → SaysJudged None octets text outcome
-judged_too octets text outcome ends says = by says.given.0 says.given.1 says.given.2
+-- What is said of the record is what judging says, or that it is lawful, where each end by itself is.
+told_right : NamesRightly None → (octets text left left_of_text : List ℕ) (operations : Table) (entries : List Entry)
+    (end : Result (Unit {0}) FeedFault) (outcome : Outcome) → ReadsTable (in_memory text left_of_text) (Ok operations)
+    → ReadsRecord (in_memory octets left) entries end → outcome ≡ joint_record_verdict None operations entries end
+    → IsShown None operations entries outcome → IsRight None octets text (outcome_answer outcome)
+told_right rightly octets text left left_of_text operations entries end outcome reads read says shown = by end read says
+  where
+    judged : (end : Result (Unit {0}) FeedFault) → ReadsRecord (in_memory octets left) entries end
+        → outcome ≡ record_verdict None operations entries end → IsRight None octets text (outcome_answer outcome)
+    judged end read is = judged_right None rightly octets text outcome (record {
+      left = left;
+      left_of_text = left_of_text;
+      behind = certificate_line None false entries outcome;
+      given = (
+        Ok operations,
+        reads,
+        inr (record { entries = entries; end = end; reads = read; says = is; behind_is = refl; shown = shown }),
+      );
+    })
+
+    joint : (end : Unit {0}) → ReadsRecord (in_memory octets left) entries (Ok end) → (both : Bool)
+        → outcome ≡ cond both (Lawful (length entries)) (verdict operations entries)
+        → IsRight None octets text (outcome_answer outcome)
+    joint end read true is =
+        right_of None octets text outcome
+        (λ fine. entries_may_be_sent None octets text left left_of_text operations entries end reads read
+        (subst (IsShown None operations entries) is shown))
+        (λ r refuted. let bad : Refuted r ≡ Lawful (length entries) = sym refuted ∙ is in cc)
+    joint end read false is = judged (Ok end) read is
+
+    by : (end : Result (Unit {0}) FeedFault) → ReadsRecord (in_memory octets left) entries end
+        → outcome ≡ joint_record_verdict None operations entries end → IsRight None octets text (outcome_answer outcome)
+    by (Err fault) read is = judged (Err fault) read is
+    by (Ok end) read is =
+        joint end read
+        (is_lawful (finding operations entries sides.A) && is_lawful (finding operations entries sides.B)) is
+
+both_right : NamesRightly None → (octets text : List ℕ) (outcome : Outcome) (ends : Option Ends)
+    → SaysBlamed octets text outcome ends → IsRight None octets text (outcome_answer outcome)
+both_right rightly octets text outcome ends says = by says.given.0 says.given.1 says.given.2
   where
     by : (given : Result Table Outcome) → ReadsTable (in_memory text says.left_of_text) given
-        → GivesBlameWith given (in_memory octets says.left) outcome ends → SaysJudged None octets text outcome
-    by (Err said) reads (is, none, untouched) = record {
+        → GivesBlameWith given (in_memory octets says.left) outcome ends → IsRight None octets text (outcome_answer outcome)
+    by (Err said) reads (is, none, untouched) = judged_right None rightly octets text outcome (record {
       left = says.left;
       left_of_text = says.left_of_text;
       behind = [];
       given = (Err said, reads, (is, refl, untouched));
-    }
-    by (Ok operations) reads (inl (is, none)) = record {
+    })
+    by (Ok operations) reads (inl (is, none)) = judged_right None rightly octets text outcome (record {
       left = says.left;
       left_of_text = says.left_of_text;
       behind = [];
       given = (Ok operations, reads, inl (is, refl));
-    }
-    by (Ok operations) reads (inr told) = record {
-      left = says.left;
-      left_of_text = says.left_of_text;
-      behind = certificate_line None false told.entries outcome;
-      given = (
-        Ok operations,
-        reads,
-        inr (record {
-          entries = told.entries;
-          end = told.end;
-          reads = told.reads;
-          says = told.says;
-          behind_is = refl;
-          shown = told.shown;
-        }),
-      );
-    }
+    })
+    by (Ok operations) reads (inr told) =
+        told_right rightly octets text says.left says.left_of_text operations told.entries told.end outcome reads told.reads
+        told.says told.shown
 
 -- an answer on an end is right where what is said of it is
 end_right_of : (side : Side) (octets text : List ℕ) (said : Finding)
@@ -264,8 +281,9 @@ end_right : (side : Side) (octets text left left_of_text : List ℕ) (operations
 end_right side octets text left left_of_text operations entries end said reads told is found rightly =
     end_right_of side octets text said
     (λ count unheard lawful.
-    let are : AreLawful (Some side) operations entries = subst (IsFound side operations entries) lawful found in
-    entries_may_be_sent (Some side) octets text left left_of_text operations entries end reads told are)
+    let are : AreLawfulUnheard (Some side) operations entries unheard = subst (IsFound side operations entries) lawful found in
+    entries_may_be_sent (Some side) octets text left left_of_text operations entries end reads told
+    (are_lawful (Some side) operations entries unheard are))
     (λ r blamed.
     let refuted = named_by_finding (items_before (map item_of entries)) _ r (sym is ∙ blamed) in
     is_at_fault (Some side) octets text left left_of_text operations entries end r (refutation_answer 5 r) reads told
@@ -298,14 +316,14 @@ ends_right octets text left left_of_text operations outcome ends reads (inr told
 pub blamed_right : NamesRightly None → (octets text : List ℕ) (outcome : Outcome) (ends : Option Ends)
     → SaysBlamed octets text outcome ends → AreRight octets text (blame_answers outcome ends)
 blamed_right rightly octets text outcome None says = record {
-  both = judged_right None rightly octets text outcome (judged_too octets text outcome None says);
+  both = both_right rightly octets text outcome None says;
   a = nothing_right (Some sides.A) octets text;
   b = nothing_right (Some sides.B) octets text;
 }
 blamed_right rightly octets text outcome (Some ends) says =
     let (a, b) = by says.given.0 says.given.1 says.given.2 in
     record {
-      both = judged_right None rightly octets text outcome (judged_too octets text outcome (Some ends) says);
+      both = both_right rightly octets text outcome (Some ends) says;
       a = a;
       b = b;
     }

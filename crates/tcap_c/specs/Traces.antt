@@ -3,7 +3,7 @@ use Rattle.std.specs.Prelude.{◌≡◌, ℕ, ◌<◌, List, ◌++◌, length, t
 use Rattle.tcap_record.specs.declared.entry.End.{End as Side}
 use Rattle.tcap_dialogues.specs.declared.reuse.Reuse.{Reuse}
 use Rattle.tcap_dialogues.specs.declared.reuse.Reuse.TheVariants.{Again, Once}
-use Rattle.tcap_books.specs.Book.{NamedTable, is_ambiguous}
+use Rattle.tcap_books.specs.Book.{NamedTable, clash, is_ambiguous}
 use Rattle.tcap_books.specs.BookText.{IsBookOf}
 use Rattle.tcap_traces.specs.declared.verdict.Verdict.{Verdict}
 use Rattle.tcap_traces.specs.Verdict.{status_of}
@@ -49,6 +49,6 @@ pub record Tells (old new : List ℕ) (len status : ℕ) : Type 0 where
 abbrev pub TellsNothing : List ℕ → List ℕ → ℕ → ℕ → Type 0
 TellsNothing old new len status = (new ≡ old) × (len ≡ 0) × (status ≡ 4)
 
--- the text is a book, and it is told which of its tables is for a dialogue without a context
+-- The text is a book, and it is told which of its tables is for a dialogue: one at most has no contexts, and no two have one context.
 abbrev pub IsClearBook : List ℕ → Type 0
-IsClearBook text = (tables : List NamedTable) × IsBookOf text (Ok tables) × (is_ambiguous tables ≡ false)
+IsClearBook text = (tables : List NamedTable) × IsBookOf text (Ok tables) × (is_ambiguous tables ≡ false) × (clash tables ≡ None)

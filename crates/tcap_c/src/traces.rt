@@ -11,7 +11,7 @@ use crate::octets::Octets;
 use crate::room::lay;
 use std::alloc::{AllocError, Global};
 use tcap_ber::{Counted, Failed, Write};
-use tcap_books::{AMBIGUOUS, Book, BookFault, CARRIED_BOOK};
+use tcap_books::{AMBIGUOUS, Book, BookFault, CARRIED_BOOK, CLASH};
 use tcap_report::{Asked, Sinks, Stop, Sum, Watch, run_trace, tell_unread};
 use tcap_traces::Verdict;
 
@@ -57,11 +57,14 @@ fn book_of(alloc: Global, text: &[u8]) -> Result<Result<Book, String>, AllocErro
     };
     let mut why = String::new(alloc);
     match Book::from_json(alloc, text) {
-        Ok(book) if !book.is_ambiguous() => return Ok(Ok(book)),
-        Ok(_) => {
-            why.push_str("the book: ")?;
-            why.push_str(AMBIGUOUS)?;
-        }
+        Ok(book) => match (book.is_ambiguous(), book.clash()) {
+            (false, None) => return Ok(Ok(book)),
+            (true, _) => write!(why, "the book: {AMBIGUOUS}")?,
+            (false, Some(pair)) => {
+                write!(why, "the book: {CLASH}: ")?;
+                book.push_pair(&mut why, pair)?;
+            }
+        },
         Err(BookFault::Memory) => return Err(AllocError),
         Err(fault) => write!(why, "the book: {fault}")?,
     }

@@ -280,7 +280,7 @@ module _ (side : Side) (table : Table) (c : Certificate) where
 
 -- ---- the whole
 
-tells_kept : (judged : Option Side) (table : Table) (c : Certificate) → IsKept judged table c (TellsSo judged table c)
+pub tells_kept : (judged : Option Side) (table : Table) (c : Certificate) → IsKept judged table c (TellsSo judged table c)
 tells_kept None table c = record {
   step = tells_step None table c;
   front = tells_front None table c;

@@ -1,5 +1,5 @@
 -- Steps over what is kept, one after the other: what is left, and what it does to what is kept now, tell of all.
-use Rattle.std.proofs.Common.{◌≡◌, ℕ, zero, suc, true, false, ◌+◌, ◌^◌, ◌≤◌, ◌<◌, List, [], ◌∷◌, length, drop, get_or, Option, Some, None, Result, refl, ap, ◌∙◌, arith}
+use Rattle.std.proofs.Common.{◌≡◌, ℕ, zero, suc, true, false, ◌+◌, ◌^◌, ◌≤◌, ◌<◌, List, [], ◌∷◌, length, drop, get_or, Option, Some, None, Result, Ok, Err, refl, ap, ◌∙◌, arith}
 use Rattle.tcap_record.specs.declared.entry.End.{End as Side}
 use Rattle.tcap_certificate.specs.declared.fault.CheckFault.{CheckFault}
 use Rattle.tcap_check.specs.declared.progress.Progress.{Progress}
@@ -11,6 +11,8 @@ use Rattle.tcap_certificate.specs.declared.certificate.Expiry.{Expiry}
 use Rattle.tcap_certificate.specs.Replayed.{closings_judged, expiries_judged, is_judged}
 use Rattle.tcap_check.specs.Progress.{HasNoMore, closing_kept, closings_kept, expiries_kept, expiry_kept}
 use Rattle.tcap_check.specs.Hearing.{deliveries_kept}
+use Rattle.tcap_check.specs.Left.{closings_left, expiries_left}
+use Rattle.tcap_check.specs.SoFar.{behind_or}
 
 -- What the items from that index on do to what is kept now is what all do to what was kept first; there is room for them.
 pub record Going {X : Type 0} (all : List X → Progress → Result Progress CheckFault) (first : Progress) (xs : List X)
@@ -33,7 +35,7 @@ next_left (x ∷ xs) (suc i) default less =
     rw behind (next_left xs i default (omega (arith, less)))
 
 -- So it goes on behind the item there,
-pub same_next : {X : Type 0} (all : List X → Progress → Result Progress CheckFault) (first : Progress) (xs : List X) (p q : Progress)
+pub same_next : {X B : Type 0} (all : List X → Progress → B) (first : Progress) (xs : List X) (p q : Progress)
     (i : ℕ) (default : X) → all xs first ≡ all (drop i xs) p → i < length xs
     → all (get_or xs i default ∷ drop (i + 1) xs) p ≡ all (drop (i + 1) xs) q
     → all xs first ≡ all (drop (i + 1) xs) q
@@ -83,3 +85,59 @@ pub ends_none : (judged : Option Side) (table : Table) (entries : List Outline) 
     ≡ expiries_kept table entries since (expiries_judged judged more) p
 ends_none None table entries since x more p is = cc
 ends_none (Some judged) table entries since x more p is = rw is refl
+
+-- The same of what is left.
+module _ (judged : Option Side) (table : Table) (entries : List Outline) (since : ℕ) (p : Progress) where
+  pub closing_left : (x : Closing) (more : List Closing) → is_judged judged x.side ≡ true
+      → closings_left table entries since (closings_judged judged (x ∷ more)) p
+      ≡ behind_or (closing_kept table entries since x p) p (closings_left table entries since (closings_judged judged more))
+  closing_left x more is = by judged is
+    where
+      by : (judged : Option Side) → is_judged judged x.side ≡ true
+          → closings_left table entries since (closings_judged judged (x ∷ more)) p
+          ≡ behind_or (closing_kept table entries since x p) p (closings_left table entries since (closings_judged judged more))
+      by None is = refl
+      by (Some side) is = rw is refl
+
+  pub closing_passed : (x : Closing) (more : List Closing) → is_judged judged x.side ≡ false
+      → closings_left table entries since (closings_judged judged (x ∷ more)) p
+      ≡ closings_left table entries since (closings_judged judged more) p
+  closing_passed x more is = by judged is
+    where
+      by : (judged : Option Side) → is_judged judged x.side ≡ false
+          → closings_left table entries since (closings_judged judged (x ∷ more)) p
+          ≡ closings_left table entries since (closings_judged judged more) p
+      by None is = cc
+      by (Some side) is = rw is refl
+
+  pub expiry_left : (x : Expiry) (more : List Expiry) → is_judged judged x.side ≡ true
+      → expiries_left table entries since (expiries_judged judged (x ∷ more)) p
+      ≡ behind_or (expiry_kept table entries since x p) p (expiries_left table entries since (expiries_judged judged more))
+  expiry_left x more is = by judged is
+    where
+      by : (judged : Option Side) → is_judged judged x.side ≡ true
+          → expiries_left table entries since (expiries_judged judged (x ∷ more)) p
+          ≡ behind_or (expiry_kept table entries since x p) p (expiries_left table entries since (expiries_judged judged more))
+      by None is = refl
+      by (Some side) is = rw is refl
+
+  pub expiry_passed : (x : Expiry) (more : List Expiry) → is_judged judged x.side ≡ false
+      → expiries_left table entries since (expiries_judged judged (x ∷ more)) p
+      ≡ expiries_left table entries since (expiries_judged judged more) p
+  expiry_passed x more is = by judged is
+    where
+      by : (judged : Option Side) → is_judged judged x.side ≡ false
+          → expiries_left table entries since (expiries_judged judged (x ∷ more)) p
+          ≡ expiries_left table entries since (expiries_judged judged more) p
+      by None is = cc
+      by (Some side) is = rw is refl
+
+-- What is left after a step that is Ok,
+pub left_behind : {A F : Type 0} (o : Result A F) (left next : A) (on : A → A) → o ≡ Ok next → behind_or o left on ≡ on next
+left_behind (Ok x) left next on is = let same : x ≡ next = cc in ap on same
+left_behind (Err fault) left next on is = cc
+
+-- and of one that is refused.
+pub left_there : {A F : Type 0} (o : Result A F) (left : A) (fault : F) (on : A → A) → o ≡ Err fault → behind_or o left on ≡ left
+left_there (Ok x) left fault on is = cc
+left_there (Err other) left fault on is = refl

@@ -171,21 +171,21 @@ delivered_is listing judged table c sender number r heard =
 -- ---- all that is due
 
 -- What stands from a number on.
-abbrev StandsFrom : List Outline → ℕ → List Outline → Type 0
+abbrev pub StandsFrom : List Outline → ℕ → List Outline → Type 0
 StandsFrom entries n rest = (i : ℕ) → slice_get entries (n + i) ≡ slice_get rest i
 
 further : (n i : ℕ) → n + suc i ≡ (n + 1) + i
 further n i = omega arith
 
-stands_next : (entries : List Outline) (n : ℕ) (first : Outline) (rest : List Outline) → StandsFrom entries n (first ∷ rest)
+pub stands_next : (entries : List Outline) (n : ℕ) (first : Outline) (rest : List Outline) → StandsFrom entries n (first ∷ rest)
     → StandsFrom entries (n + 1) rest
 stands_next entries n first rest stands i = ap (slice_get entries) (sym (further n i)) ∙ stands (suc i)
 
-first_stands : (entries : List Outline) (n : ℕ) (first : Outline) (rest : List Outline) → StandsFrom entries n (first ∷ rest)
+pub first_stands : (entries : List Outline) (n : ℕ) (first : Outline) (rest : List Outline) → StandsFrom entries n (first ∷ rest)
     → slice_get entries n ≡ Some first
 first_stands entries n first rest stands = let here : n ≡ n + 0 = omega arith in ap (slice_get entries) here ∙ stands 0
 
-none_next : (entries : List Outline) (n : ℕ) → StandsFrom entries n [] → StandsFrom entries (n + 1) []
+pub none_next : (entries : List Outline) (n : ℕ) → StandsFrom entries n [] → StandsFrom entries (n + 1) []
 none_next entries n stands i = ap (slice_get entries) (sym (further n i)) ∙ stands (suc i)
 
 -- Of entries that did not come yet nothing is delivered.

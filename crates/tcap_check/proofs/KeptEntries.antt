@@ -89,7 +89,7 @@ same_filter : {A : Type 0} (p q : A → Bool) (xs : List A) → ((x : A) → p x
 same_filter p q [] same = refl
 same_filter p q (x ∷ xs) same = ap₂ (λ (b : Bool) (more : List _). cond b (x ∷ more) more) (same x) (same_filter p q xs same)
 
-tied_is : (listing : Bool) (judged : Option Side) (c : Certificate) (r : Replay) → tied_now judged c (kept_of listing judged c r) ≡ tied judged c r
+pub tied_is : (listing : Bool) (judged : Option Side) (c : Certificate) (r : Replay) → tied_now judged c (kept_of listing judged c r) ≡ tied judged c r
 tied_is listing None c r = ap (λ (k : ℕ). taken_by k 0 c.fates) (outlines_count c 0 r.world.sent)
 tied_is listing (Some judged) c r =
     ap (λ (k : ℕ). told_among (other judged) (outlines_from c 0 r.world.sent) (taken_by k 0 c.fates)) (outlines_count c 0 r.world.sent)

@@ -159,7 +159,7 @@ each_any entry (x ∷ xs) = (
 )
 
 -- in that gap, and of an entry that is named
-abbrev IsListed : Certificate → ℕ → ℕ → ℕ → Type 0
+abbrev pub IsListed : Certificate → ℕ → ℕ → ℕ → Type 0
 IsListed c count gap entry = (gap ≡ count) × (is_named c entry ≡ true)
 
 -- What is listed for a gap is so.
@@ -264,7 +264,7 @@ closing_is listing judged table c items x r is sent =
     by (Some name) = half_closes_is listing judged table c x name r
 
 -- Closings that are listed for the gap behind these items.
-closings_from : (listing : Bool) (judged : Option Side) (table : Table) (c : Certificate) (items : List Item) (listed : List Closing) (r : Replay)
+pub closings_from : (listing : Bool) (judged : Option Side) (table : Table) (c : Certificate) (items : List Item) (listed : List Closing) (r : Replay)
     → AllByRecursion (λ (x : Closing). IsListed c (length items) x.gap x.entry) listed → r.world.sent ≡ items
     → closings_kept table (outlines_from c 0 items) (since_from 0 0 items) listed (progress_of listing judged c r)
     ≡ map_ok (progress_of listing judged c) (closings_replayed table c listed r)
@@ -288,19 +288,21 @@ closings_from listing judged table c items (x ∷ more) r all sent =
     still next is =
         (closings_replay table c (x ∷ []) r.world.sent r next refl (alone ∙ is)).2.sent ∙ append-nil r.world.sent
 
+-- Those of the ends that are judged.
+pub judged_closings : (judged : Option Side) (c : Certificate) (count : ℕ) → AllByRecursion (λ (x : Closing). IsListed c count x.gap x.entry)
+    (closings_judged judged (filter (λ x. x.gap == count) c.close))
+judged_closings None c count = closings_listed c count
+judged_closings (Some judged) c count =
+    some_hold (λ (x : Closing). IsListed c count x.gap x.entry) (λ x. is_side judged x.side)
+    (filter (λ x. x.gap == count) c.close) (closings_listed c count)
+
 pub closings_are : (listing : Bool) (judged : Option Side) (table : Table) (c : Certificate) (items : List Item) (r : Replay) → r.world.sent ≡ items
     → closings_kept table (outlines_from c 0 items) (since_from 0 0 items)
     (closings_judged judged (filter (λ x. x.gap == length items) c.close)) (progress_of listing judged c r)
     ≡ map_ok (progress_of listing judged c) (closings_replayed table c (closings_judged judged (filter (λ x. x.gap == length items) c.close)) r)
 closings_are listing judged table c items r sent =
-    closings_from listing judged table c items (closings_judged judged (filter (λ x. x.gap == length items) c.close)) r (by judged) sent
-  where
-    by : (judged : Option Side) → AllByRecursion (λ (x : Closing). IsListed c (length items) x.gap x.entry)
-        (closings_judged judged (filter (λ x. x.gap == length items) c.close))
-    by None = closings_listed c (length items)
-    by (Some judged) =
-        some_hold (λ (x : Closing). IsListed c (length items) x.gap x.entry) (λ x. is_side judged x.side)
-        (filter (λ x. x.gap == length items) c.close) (closings_listed c (length items))
+    closings_from listing judged table c items (closings_judged judged (filter (λ x. x.gap == length items) c.close)) r
+    (judged_closings judged c (length items)) sent
 
 -- ---- expiries
 
@@ -397,7 +399,7 @@ expiry_is listing judged table c items x r is sent =
     by (Some invocation) = invocation_ends_is listing judged table c x invocation r
 
 -- Expiries that are listed for it.
-expiries_from : (listing : Bool) (judged : Option Side) (table : Table) (c : Certificate) (items : List Item) (listed : List Expiry) (r : Replay)
+pub expiries_from : (listing : Bool) (judged : Option Side) (table : Table) (c : Certificate) (items : List Item) (listed : List Expiry) (r : Replay)
     → AllByRecursion (λ (x : Expiry). IsListed c (length items) x.gap x.entry) listed → r.world.sent ≡ items
     → expiries_kept table (outlines_from c 0 items) (since_from 0 0 items) listed (progress_of listing judged c r)
     ≡ map_ok (progress_of listing judged c) (expiries_replayed table c listed r)
@@ -421,16 +423,18 @@ expiries_from listing judged table c items (x ∷ more) r all sent =
     still next is =
         (expiries_replay table c (x ∷ []) r.world.sent r next refl (alone ∙ is)).2.sent ∙ append-nil r.world.sent
 
+-- Those of the ends that are judged.
+pub judged_expiries : (judged : Option Side) (c : Certificate) (count : ℕ) → AllByRecursion (λ (x : Expiry). IsListed c count x.gap x.entry)
+    (expiries_judged judged (filter (λ x. x.gap == count) c.expire))
+judged_expiries None c count = expiries_listed c count
+judged_expiries (Some judged) c count =
+    some_hold (λ (x : Expiry). IsListed c count x.gap x.entry) (λ x. is_side judged x.side)
+    (filter (λ x. x.gap == count) c.expire) (expiries_listed c count)
+
 pub expiries_are : (listing : Bool) (judged : Option Side) (table : Table) (c : Certificate) (items : List Item) (r : Replay) → r.world.sent ≡ items
     → expiries_kept table (outlines_from c 0 items) (since_from 0 0 items)
     (expiries_judged judged (filter (λ x. x.gap == length items) c.expire)) (progress_of listing judged c r)
     ≡ map_ok (progress_of listing judged c) (expiries_replayed table c (expiries_judged judged (filter (λ x. x.gap == length items) c.expire)) r)
 expiries_are listing judged table c items r sent =
-    expiries_from listing judged table c items (expiries_judged judged (filter (λ x. x.gap == length items) c.expire)) r (by judged) sent
-  where
-    by : (judged : Option Side) → AllByRecursion (λ (x : Expiry). IsListed c (length items) x.gap x.entry)
-        (expiries_judged judged (filter (λ x. x.gap == length items) c.expire))
-    by None = expiries_listed c (length items)
-    by (Some judged) =
-        some_hold (λ (x : Expiry). IsListed c (length items) x.gap x.entry) (λ x. is_side judged x.side)
-        (filter (λ x. x.gap == length items) c.expire) (expiries_listed c (length items))
+    expiries_from listing judged table c items (expiries_judged judged (filter (λ x. x.gap == length items) c.expire)) r
+    (judged_expiries judged c (length items)) sent

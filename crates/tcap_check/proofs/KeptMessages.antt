@@ -80,7 +80,7 @@ implied_sends_nothing table side name (id ∷ ids) r =
     implied_sends_nothing table side name ids (or_same r (stepped table (Expires side name id) r))
     ∙ one_sends_nothing table side name id r
 
-over_is : (listing : Bool) (table : Table) (judged : Option Side) (c : Certificate) (side : Side) (message : Message) (half : Option HalfName) (r : Replay)
+pub over_is : (listing : Bool) (table : Table) (judged : Option Side) (c : Certificate) (side : Side) (message : Message) (half : Option HalfName) (r : Replay)
     → ids_ended_over table side half (filter_map invoke_id (components_in message)) (progress_of listing judged c r)
     ≡ progress_of listing judged c (implied_over table side message half r)
 over_is listing table judged c side message None r = refl

@@ -46,6 +46,7 @@ pub mod ReplayKeeps
 pub mod DiscardLaws
 pub mod DiscardReasons
 pub mod StandsLaws
+pub mod KeptLeft
 pub mod StandsTaken
 pub mod KeptBasics
 pub mod KeptCounts

@@ -81,7 +81,7 @@ module _ (judged : Option Side) (table : Table) (c : Certificate) (Holds : Repla
 
   -- ---- a gap
 
-  closings_keep : (listed : List Closing) (r next : Replay) → closings_replayed table c listed r ≡ Ok next → Keeps r next
+  pub closings_keep : (listed : List Closing) (r next : Replay) → closings_replayed table c listed r ≡ Ok next → Keeps r next
   closings_keep [] r next is holds = same_keeps r next is holds
   closings_keep (x ∷ more) r next is holds =
       let event = then_ok (ok_or (closing_event r.world.sent x) (fault_at FateRange x.entry)) _ next is in
@@ -90,7 +90,7 @@ module _ (judged : Option Side) (table : Table) (c : Certificate) (Holds : Repla
       closings_keep more then.0 next then.2
       (happens_keeps event.0 (HiddenRefused faults.CannotClose) x.entry r then.0 plain then.1 holds)
 
-  expiries_keep : (listed : List Expiry) (r next : Replay) → expiries_replayed table c listed r ≡ Ok next → Keeps r next
+  pub expiries_keep : (listed : List Expiry) (r next : Replay) → expiries_replayed table c listed r ≡ Ok next → Keeps r next
   expiries_keep [] r next is holds = same_keeps r next is holds
   expiries_keep (x ∷ more) r next is holds =
       let event = then_ok (ok_or (expiry_event r.world.sent x) (fault_at FateRange x.entry)) _ next is in
@@ -129,7 +129,7 @@ module _ (judged : Option Side) (table : Table) (c : Certificate) (Holds : Repla
       deliveries_keep gap (n + 1) fates items one.0 next (fates_next c.fates n fate fates from) one.2
       (delivery_keeps gap n fate item r one.0 (ap (slice_get c.fates) first ∙ from 0) one.1 holds)
 
-  gap_keeps : (r next : Replay) → gap_by judged table c r ≡ Ok next → Keeps r next
+  pub gap_keeps : (r next : Replay) → gap_by judged table c r ≡ Ok next → Keeps r next
   gap_keeps r next is holds =
       let closings : List Closing = closings_judged judged (filter (λ x. x.gap == next_entry r) c.close) in
       let expiries : List Expiry = expiries_judged judged (filter (λ x. x.gap == next_entry r) c.expire) in
@@ -149,7 +149,7 @@ module _ (judged : Option Side) (table : Table) (c : Certificate) (Holds : Repla
       by None is = holds
       by (Some next) is = kept.step (Expires side name id) r next refl is holds
 
-  over_keeps : (side : Side) (message : Message) (name : Option HalfName) (r : Replay) → Keeps r (implied_over table side message name r)
+  pub over_keeps : (side : Side) (message : Message) (name : Option HalfName) (r : Replay) → Keeps r (implied_over table side message name r)
   over_keeps side message None r holds = holds
   over_keeps side message (Some name) r holds = implied_keeps side name (filter_map invoke_id (components_in message)) r holds
 
@@ -195,7 +195,7 @@ module _ (judged : Option Side) (table : Table) (c : Certificate) (Holds : Repla
 
   -- ---- a mark
 
-  closed_keeps : (side : Side) (mark : ℕ) (names : List HalfName) (r next : Replay) → closed_at_mark table side mark names r ≡ Ok next → Keeps r next
+  pub closed_keeps : (side : Side) (mark : ℕ) (names : List HalfName) (r next : Replay) → closed_at_mark table side mark names r ≡ Ok next → Keeps r next
   closed_keeps side mark [] r next is holds = same_keeps r next is holds
   closed_keeps side mark (name ∷ more) r next is holds =
       let one = then_ok (ok_or (stepped table (Closes side name) r) (fault_at NotQuiet mark)) (closed_at_mark table side mark more) next is in

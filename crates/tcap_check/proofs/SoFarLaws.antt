@@ -1,16 +1,16 @@
 -- What a checker took so far was sent by a run in which those who are judged keep the rules.
-use Rattle.std.proofs.Common.{◌≡◌, ℕ, ◌+◌, arith, List, [], ◌∷◌, ◌++◌, map, length, Option, Some, None, Result, Ok, Err, refl, sym, ap, ap₂, subst, ◌∙◌, IsTrue, is_ok, false, append-nil}
+use Rattle.std.proofs.Common.{◌≡◌, ◌+◌, arith, List, [], ◌∷◌, ◌++◌, map, length, Option, Some, None, Result, Ok, Err, refl, sym, ap, ap₂, subst, ◌∙◌, IsTrue, is_ok, false}
 use Rattle.std.specs.Prelude.{ok_or, slice_get}
 use Rattle.std.specs.List.{AllByRecursion}
 use Rattle.tcap_record.specs.declared.entry.End.{End as Side}
 use Rattle.tcap_record.specs.declared.entry.End.TheVariants as sides
-use Rattle.tcap_end.specs.Step.{◌>>◌, ◌>>=◌}
+use Rattle.tcap_end.specs.Step.{◌>>◌}
 use Rattle.tcap_end.specs.Table.{Table}
 use Rattle.tcap_end.proofs.AnsweringLaws.{some_ok, then_ok}
 use Rattle.tcap_model.specs.declared.reason.Reason.{Reason}
 use Rattle.tcap_model.specs.declared.reason.Reason.TheVariants.{FateCount}
 use Rattle.tcap_model.specs.Entries.{entry_of}
-use Rattle.tcap_model.specs.Run.{BothKeepRules, Event, IsRunOf}
+use Rattle.tcap_model.specs.Run.{BothKeepRules, IsRunOf}
 use Rattle.tcap_model.specs.World.{Item}
 use Rattle.tcap_model.proofs.ListLaws.{all_both}
 use Rattle.tcap_certificate.specs.declared.certificate.Fate.{Fate}

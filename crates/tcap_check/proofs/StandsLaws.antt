@@ -1,60 +1,35 @@
--- What stands for steps from a start still does behind each step that sends nothing.
-use Rattle.std.proofs.Common.{◌≡◌, ℕ, ℤ, ◌==◌, true, List, [], ◌∷◌, ◌++◌, filter, length, Option, Some, None, Result, Ok, Err, false, refl, sym, ap, subst, ◌∙◌, append-nil}
-use Rattle.std.specs.Prelude.{ok_or, slice_get}
+-- A replay goes on as far as it goes where it is refused: by steps that send nothing.
+use Rattle.std.proofs.Common.{◌≡◌, ℕ, ◌+◌, ◌==◌, Bool, true, false, cond, List, [], ◌∷◌, ◌++◌, filter, length, Option, Some, None, Result, Ok, Err, refl, ap, subst, ◌∙◌, append-nil}
+use Rattle.std.specs.Prelude.{◌||◌, not, slice_get}
+use Rattle.tcap_msg.specs.declared.message.Message.{Message}
 use Rattle.tcap_record.specs.declared.entry.End.{End as Side}
 use Rattle.tcap_record.specs.declared.entry.End.TheVariants as sides
 use Rattle.tcap_record.specs.Ends.{other}
-use Rattle.tcap_end.specs.declared.fault.EndFault.TheVariants as faults
 use Rattle.tcap_end.specs.declared.half.HalfName.{HalfName}
-use Rattle.tcap_end.specs.End.{End}
-use Rattle.tcap_end.specs.Hidden.{close}
+use Rattle.tcap_end.specs.Hidden.{open_halves}
 use Rattle.tcap_end.specs.Table.{Table}
-use Rattle.tcap_end.specs.Step.{◌>>=◌}
-use Rattle.tcap_end.proofs.AnsweringLaws.{ok_same, some_ok, then_ok}
-use Rattle.tcap_model.specs.declared.reason.Reason.TheVariants.{BadReply, FateRange, HiddenRefused, NotQuiet}
-use Rattle.tcap_model.specs.World.{Item, end_at}
-use Rattle.tcap_model.specs.Run.{Adds, Event, Receives, Expires, Closes}
-use Rattle.tcap_model.proofs.RunLaws.{some_is, where_some}
+use Rattle.tcap_end.proofs.AnsweringLaws.{ok_same, some_ok}
+use Rattle.tcap_model.specs.declared.reason.Reason.{Reason}
+use Rattle.tcap_model.specs.declared.reason.Reason.TheVariants.{BadReply}
+use Rattle.tcap_model.specs.World.{Item, Sent, end_at}
+use Rattle.tcap_model.specs.Run.{Adds, Event, Sends, Receives, Replies, Loses, Expires, Closes, Quiet, Tells}
 use Rattle.tcap_certificate.specs.declared.certificate.Closing.{Closing}
 use Rattle.tcap_certificate.specs.declared.certificate.Expiry.{Expiry}
+use Rattle.tcap_certificate.specs.declared.certificate.Fate.{Fate}
+use Rattle.tcap_certificate.specs.declared.certificate.Fate.TheVariants.{Gap, Lost, By}
 use Rattle.tcap_certificate.specs.declared.fault.CheckFault.{CheckFault}
-use Rattle.tcap_check.specs.declared.outline.Outline.{Outline}
-use Rattle.tcap_check.specs.declared.outline.Outline.TheVariants as outlines
-use Rattle.tcap_check.specs.declared.progress.Progress.{Progress}
 use Rattle.tcap_certificate.specs.Certificate.{Certificate}
-use Rattle.tcap_certificate.specs.Replayed.{Replay, closings_judged, expiries_judged, fault_at, happens, lost_from_front, lost_last, or_same, received, stepped}
-use Rattle.tcap_check.specs.Progress.{closing_kept, closings_kept, due_in, end_moved, end_tried, expiries_kept, expiry_kept, front_lost, half_closes, ids_ended, ids_ended_over, invocation_ends, last_lost, seat_at}
-use Rattle.tcap_check.specs.Hearing.{deliveries_kept, delivery_kept, gap_kept, halves_shut, heard_from, is_heard, is_judged, message_received}
-use Rattle.tcap_check.specs.Checking.{map_ok, progress_of}
-use Rattle.tcap_check.specs.Outlines.{half_closed, invocation_ended}
-use Rattle.tcap_certificate.specs.Follows.{is_loss}
-use Rattle.tcap_check.specs.Stands.{StandsFor, TellsSo}
-use Rattle.tcap_check.specs.Told.{Told}
-use Rattle.tcap_check.proofs.ReplaySteps.{Extends, extends_nothing, extends_then, losing_replays, stepped_extends}
+use Rattle.tcap_certificate.specs.Follows.{invoking_half, is_loss, sending_by}
+use Rattle.tcap_certificate.specs.Replayed.{Replay, closed_at_mark, closings_judged, closings_replayed, delivery_by, expiries_judged, expiries_replayed, fault_at, gap_by, implied_over, is_due, is_gap, is_judged, is_nothing, is_overtaking, lost_from_front, lost_last, next_entry, received, stepped, tied}
+use Rattle.tcap_check.specs.Checking.{is_alone}
+use Rattle.tcap_check.specs.SoFar.{as_far, behind_or, closings_so_far, deliveries_so_far, expiries_so_far, fated_so_far, gap_so_far, halves_so_far, losses_before, mark_so_far, message_so_far, next_so_far, quiet_so_far, sending_so_far}
+use Rattle.tcap_check.specs.Stands.{TellsSo}
+use Rattle.tcap_check.proofs.AloneReplays.{closed_leads, gap_leads, heard_leads}
 use Rattle.tcap_check.proofs.AloneSteps.{stepped_adds}
-use Rattle.tcap_check.proofs.DiscardReasons.{tells_front, tells_heard, tells_step}
-use Rattle.tcap_check.proofs.AloneReplays.{heard_leads}
-use Rattle.tcap_check.proofs.KeptBasics.{end_kept, front_is, last_is}
-use Rattle.tcap_check.proofs.KeptHidden.{end_is, half_closes_is, invocation_ends_is}
-use Rattle.tcap_check.proofs.KeptDeliveries.{delivered_is}
-use Rattle.tcap_check.proofs.KeptMessages.{one_implied}
-
--- What is Ok by a function is what it makes of something.
-pub map_is : {A B F : Type 0} (f : A → B) (o : Result A F) (y : B) → map_ok f o ≡ Ok y → (x : A) × (o ≡ Ok x) × (f x ≡ y)
-map_is f (Ok x) y is = (x, refl, cc)
-map_is f (Err reason) y is = cc
-
-some_or_none : {A : Type 0} (o : Option A) (x : A) → Some x ≡ o → o ≡ None → ⊥
-some_or_none (Some y) x is none = cc
-some_or_none None x is none = cc
-
--- Who is heard is one that is to be.
-pub heard_is : (judged : Option Side) (o : Option Outline) (sender : Side) → heard_from judged o ≡ Some sender → is_heard judged sender ≡ true
-heard_is judged (Some (outlines.Sent from kept)) sender is =
-    let both = where_some (is_heard judged from) (Some from) sender is in
-    subst (λ (x : Side). is_heard judged x ≡ true) (some_is both.1) both.0
-heard_is judged (Some outlines.Mark) sender is = cc
-heard_is judged None sender is = cc
+use Rattle.tcap_check.proofs.DiscardReasons.{tells_front, tells_heard, tells_kept, tells_step}
+use Rattle.tcap_check.proofs.ReplayKeeps.{closed_keeps, closings_keep, expiries_keep, gap_keeps, over_keeps}
+use Rattle.tcap_check.proofs.ReplayLaws.{closings_replay, expiries_replay, gap_replays, implied_by}
+use Rattle.tcap_check.proofs.ReplaySteps.{Extends, extends_nothing, extends_then, losing_replays, stepped_extends}
 
 -- ---- replays that go on
 
@@ -85,10 +60,44 @@ module _ (judged : Option Side) (table : Table) (c : Certificate) where
         tells_step judged table c event r next plain is,
       )
 
-  tried_goes : (event : Event) (r : Replay) (o : Option Replay) → is_loss event ≡ false → ((items : List Item) → Adds r.world event items → items ≡ [])
-      → stepped table event r ≡ o → Goes r (or_same r o)
-  tried_goes event r None plain none is = ([], extends_nothing table r, refl, λ so. so)
-  tried_goes event r (Some next) plain none is = step_goes event r next plain none is
+  same_goes : (r : Replay) → Goes r r
+  same_goes r = ([], extends_nothing table r, refl, λ so. so)
+
+  same_on : (r next : Replay) → (let x : Result Replay CheckFault = Ok r in x) ≡ Ok next → Goes r next
+  same_on r next is = subst (Goes r) (ok_same {F = CheckFault} r next is) (same_goes r)
+
+  -- It goes on from each step that is Ok.
+  or_goes : (r left : Replay) (o : Result Replay CheckFault) (on : Replay → Replay) → Goes r left
+      → ((next : Replay) → o ≡ Ok next → Goes r (on next)) → Goes r (behind_or o left on)
+  or_goes r left (Ok next) on here more = more next refl
+  or_goes r left (Err fault) on here more = here
+
+  as_far_goes : {X : Type 0} (step : X → Replay → Result Replay CheckFault)
+      → ((x : X) (r next : Replay) → step x r ≡ Ok next → Goes r next) → (xs : List X) (r : Replay) → Goes r (as_far step xs r)
+  as_far_goes step each [] r = same_goes r
+  as_far_goes step each (x ∷ more) r =
+      or_goes r r (step x r) (as_far step more) (same_goes r)
+      (λ next is. goes_then r next (as_far step more next) (each x r next is) (as_far_goes step each more next))
+
+  -- ---- a gap
+
+  closings_go : (xs : List Closing) (r next : Replay) → closings_replayed table c xs r ≡ Ok next → Goes r next
+  closings_go xs r next is =
+      let found = closings_replay table c xs r.world.sent r next refl is in (
+        found.2.steps,
+        found.2.extends,
+        found.2.sent ∙ append-nil r.world.sent,
+        closings_keep judged table c (TellsSo judged table c) (tells_kept judged table c) xs r next is,
+      )
+
+  expiries_go : (xs : List Expiry) (r next : Replay) → expiries_replayed table c xs r ≡ Ok next → Goes r next
+  expiries_go xs r next is =
+      let found = expiries_replay table c xs r.world.sent r next refl is in (
+        found.2.steps,
+        found.2.extends,
+        found.2.sent ∙ append-nil r.world.sent,
+        expiries_keep judged table c (TellsSo judged table c) (tells_kept judged table c) xs r next is,
+      )
 
 received_goes : (table : Table) (c : Certificate) (judged : Option Side) (sender : Side) (number : ℕ) (r next : Replay)
     → received judged table c sender number r ≡ Ok next → GoesOn judged table c r next
@@ -107,171 +116,151 @@ last_goes table c None r =
     goes_then None table c r mid (lost_from_front c sides.B mid) (front_goes None table c sides.A r) (front_goes None table c sides.B mid)
 last_goes table c (Some side) r = front_goes (Some side) table c (other side) r
 
-module _ (table : Table) (c : Certificate) (judged : Option Side) (start : Replay) where
-  abbrev Stands : Progress → Type 0
-  Stands p = StandsFor table c judged start p
+delivery_goes : (table : Table) (c : Certificate) (judged : Option Side) (gap n : ℕ) (fate : Fate) (item : Item) (r next : Replay)
+    → delivery_by judged table c gap n fate item r ≡ Ok next → GoesOn judged table c r next
+delivery_goes table c judged gap n (Gap g) (Sent sender message) r next is = by (is_due judged gap g sender) is
+  where
+    by : (b : Bool) → cond b (received judged table c sender n r) (Ok r) ≡ Ok next → GoesOn judged table c r next
+    by true e = received_goes table c judged sender n r next e
+    by false e = same_on judged table c r next e
+delivery_goes table c judged gap n (Gap g) Item.Quiet r next is = same_on judged table c r next is
+delivery_goes table c judged gap n (By k) item r next is = same_on judged table c r next is
+delivery_goes table c judged gap n Lost item r next is = same_on judged table c r next is
 
-  abbrev kept : Replay → Progress
-  kept r = progress_of true judged c r
+losses_go : (table : Table) (c : Certificate) (judged : Option Side) (gap : ℕ) (fate : Fate) (item : Item) (r : Replay)
+    → GoesOn judged table c r (losses_before judged c gap fate item r)
+losses_go table c judged gap (Gap g) (Sent sender message) r = by (is_due judged gap g sender)
+  where
+    by : (b : Bool) → GoesOn judged table c r (cond b (lost_from_front c sender r) r)
+    by true = front_goes judged table c sender r
+    by false = same_goes judged table c r
+losses_go table c judged gap (Gap g) Item.Quiet r = same_goes judged table c r
+losses_go table c judged gap (By k) item r = same_goes judged table c r
+losses_go table c judged gap Lost item r = same_goes judged table c r
 
-  -- Behind steps that send nothing what is kept stands for the same.
-  pub goes_on : (p q : Progress) (s : Stands p) (next : Replay) (more : List Event) → Extends table s.replay more next
-      → next.world.sent ≡ s.replay.world.sent → (TellsSo judged table c s.replay → TellsSo judged table c next) → kept next ≡ q → Stands q
-  goes_on p q s next more extends sent tells is =
-      let all = extends_then table start s.replay next s.more more (record { events = s.events; plays = s.plays }) extends in
-      record { replay = next; kept = is; more = s.more ++ more; events = all.events; plays = all.plays; sent = sent ∙ s.sent; tells = λ so. tells (s.tells so) }
+deliveries_far : (table : Table) (c : Certificate) (judged : Option Side) (gap n : ℕ) (fates : List Fate) (items : List Item) (r : Replay)
+    → GoesOn judged table c r (deliveries_so_far judged table c gap n fates items r)
+deliveries_far table c judged gap n [] items r = same_goes judged table c r
+deliveries_far table c judged gap n (fate ∷ fates) [] r = same_goes judged table c r
+deliveries_far table c judged gap n (fate ∷ fates) (item ∷ items) r =
+    or_goes judged table c r (losses_before judged c gap fate item r) (delivery_by judged table c gap n fate item r)
+    (deliveries_so_far judged table c gap (n + 1) fates items) (losses_go table c judged gap fate item r)
+    (λ next is. goes_then judged table c r next (deliveries_so_far judged table c gap (n + 1) fates items next)
+    (delivery_goes table c judged gap n fate item r next is) (deliveries_far table c judged gap (n + 1) fates items next))
 
-  -- So it does behind a step over what is kept that is one of the replay,
-  pub goes_where : (step : Progress → Result Progress CheckFault) (on : Replay → Result Replay CheckFault)
-      → ((r : Replay) → step (kept r) ≡ map_ok kept (on r)) → ((r next : Replay) → on r ≡ Ok next → GoesOn judged table c r next)
-      → (p q : Progress) → Stands p → step p ≡ Ok q → Stands q
-  goes_where step on same goes p q s is =
-      let found = map_is kept (on s.replay) q (sym (same s.replay) ∙ ap step s.kept ∙ is) in
-      let then = goes s.replay found.0 found.1 in
-      goes_on p q s found.0 then.0 then.1 then.2 then.3 found.2
+gap_far : (table : Table) (c : Certificate) (judged : Option Side) (r : Replay) → GoesOn judged table c r (gap_so_far judged table c r)
+gap_far table c judged r =
+    let closings : List Closing = closings_judged judged (filter (λ x. x.gap == next_entry r) c.close) in
+    let expiries : List Expiry = expiries_judged judged (filter (λ x. x.gap == next_entry r) c.expire) in
+    let last = deliveries_so_far judged table c (next_entry r) 0 c.fates r.world.sent in
+    let then = λ (closed : Replay). behind_or (expiries_replayed table c expiries closed) (expiries_so_far table c expiries closed) last in
+    or_goes judged table c r (closings_so_far table c closings r) (closings_replayed table c closings r) then
+    (as_far_goes judged table c (λ x. closings_replayed table c (x ∷ [])) (λ x. closings_go judged table c (x ∷ [])) closings r)
+    (λ closed is. goes_then judged table c r closed (then closed) (closings_go judged table c closings r closed is)
+    (or_goes judged table c closed (expiries_so_far table c expiries closed) (expiries_replayed table c expiries closed) last
+    (as_far_goes judged table c (λ x. expiries_replayed table c (x ∷ [])) (λ x. expiries_go judged table c (x ∷ [])) expiries closed)
+    (λ expired at. goes_then judged table c closed expired (last expired) (expiries_go judged table c expiries closed expired at)
+    (deliveries_far table c judged (next_entry r) 0 c.fates r.world.sent expired))))
 
-  -- which may not be refused.
-  pub goes_always : (step : Progress → Progress) (on : Replay → Replay)
-      → ((r : Replay) → step (kept r) ≡ kept (on r)) → ((r : Replay) → GoesOn judged table c r (on r)) → (p : Progress) → Stands p → Stands (step p)
-  goes_always step on same goes p s =
-      let then = goes s.replay in
-      goes_on p (step p) s (on s.replay) then.0 then.1 then.2 then.3 (sym (same s.replay) ∙ ap step s.kept)
+gap_goes : (table : Table) (c : Certificate) (judged : Option Side) (r next : Replay) → gap_by judged table c r ≡ Ok next
+    → GoesOn judged table c r next
+gap_goes table c None r next is =
+    let found = gap_replays table c r next is in (
+      found.2.steps,
+      found.2.extends,
+      found.2.sent ∙ append-nil r.world.sent,
+      gap_keeps None table c (TellsSo None table c) (tells_kept None table c) r next is,
+    )
+gap_goes table c (Some side) r next is =
+    let found = gap_leads side table c r next is in (
+      found.steps,
+      found.extends,
+      found.sent ∙ append-nil r.world.sent,
+      gap_keeps (Some side) table c (TellsSo (Some side) table c) (tells_kept (Some side) table c) r next is,
+    )
 
-  same_stands : (p q : Progress) → Stands p → (let x : Result Progress CheckFault = Ok p in x) ≡ Ok q → Stands q
-  same_stands p q s is = subst Stands (ok_same {F = CheckFault} p q is) s
+-- ---- an entry
 
-  -- Its steps are listed.
-  pub listed_so : (p : Progress) → Stands p → p.steps ≡ None → ⊥
-  listed_so p s none =
-      let told : Told = record { events = s.replay.events; discards = s.replay.discards } in
-      some_or_none p.steps told (ap (λ (x : Progress). x.steps) s.kept) none
+implied_goes : (table : Table) (c : Certificate) (judged : Option Side) (side : Side) (message : Message) (r : Replay)
+    → GoesOn judged table c r (implied_over table side message (invoking_half message) r)
+implied_goes table c judged side message r =
+    let found = implied_by table side message r in (
+      found.2.steps,
+      found.2.extends,
+      found.2.sent ∙ append-nil r.world.sent,
+      over_keeps judged table c (TellsSo judged table c) (tells_kept judged table c) side message (invoking_half message) r,
+    )
 
-  -- ---- a gap
+message_far : (table : Table) (c : Certificate) (judged : Option Side) (side : Side) (message : Message) (o : Option Event) (r : Replay)
+    → GoesOn judged table c r (message_so_far table c side message o r)
+message_far table c judged side message (Some (Sends sender sent)) r = implied_goes table c judged side message r
+message_far table c judged side message (Some (Replies replier n)) r = front_goes judged table c (other side) r
+message_far table c judged side message (Some (Receives at n)) r = same_goes judged table c r
+message_far table c judged side message (Some (Loses at n)) r = same_goes judged table c r
+message_far table c judged side message (Some (Expires at name id)) r = same_goes judged table c r
+message_far table c judged side message (Some (Closes at name)) r = same_goes judged table c r
+message_far table c judged side message (Some Quiet) r = same_goes judged table c r
+message_far table c judged side message (Some (Tells at m)) r = same_goes judged table c r
+message_far table c judged side message None r = same_goes judged table c r
 
-  pub stands_closes : (x : Closing) (name : HalfName) (p q : Progress) → Stands p → half_closes table x name p ≡ Ok q → Stands q
-  stands_closes x name =
-      let fault = fault_at (HiddenRefused faults.CannotClose) x.entry in
-      goes_where (half_closes table x name) (happens table c (Closes x.side name) (HiddenRefused faults.CannotClose) x.entry)
-      (half_closes_is true judged table c x name)
-      (λ r next is. step_goes judged table c (Closes x.side name) r next refl (λ items none. none) (some_ok (stepped table (Closes x.side name) r) fault next is))
+sending_far : (table : Table) (c : Certificate) (judged : Option Side) (side : Side) (message : Message) (r : Replay)
+    → GoesOn judged table c r (sending_so_far judged table c side message r)
+sending_far table c judged side message r = by (is_judged judged side)
+  where
+    event : Option Event
+    event = sending_by c (next_entry r) (Sent side message) (tied judged c r)
 
-  pub stands_expires : (x : Expiry) (invocation : HalfName × ℤ) (p q : Progress) → Stands p → invocation_ends table x invocation p ≡ Ok q → Stands q
-  stands_expires x invocation =
-      let fault = fault_at (HiddenRefused faults.CannotExpire) x.entry in
-      let event = Expires x.side invocation.0 invocation.1 in
-      goes_where (invocation_ends table x invocation) (happens table c event (HiddenRefused faults.CannotExpire) x.entry)
-      (invocation_ends_is true judged table c x invocation)
-      (λ r next is. step_goes judged table c event r next refl (λ items none. none) (some_ok (stepped table event r) fault next is))
+    by : (b : Bool) → GoesOn judged table c r (cond b (message_so_far table c side message event r) r)
+    by true = message_far table c judged side message event r
+    by false = same_goes judged table c r
 
-  pub stands_closing : (entries : List Outline) (since : ℕ) (x : Closing) (p q : Progress) → Stands p → closing_kept table entries since x p ≡ Ok q → Stands q
-  stands_closing entries since x p q s is =
-      let found = then_ok (ok_or (half_closed entries since x) (fault_at FateRange x.entry)) (λ name. half_closes table x name p) q is in
-      stands_closes x found.0 p q s found.2
+closed_goes : (table : Table) (c : Certificate) (side : Side) (mark : ℕ) (names : List HalfName) (r next : Replay)
+    → closed_at_mark table side mark names r ≡ Ok next → GoesOn (Some side) table c r next
+closed_goes table c side mark names r next is =
+    let found = closed_leads side table mark names r next is in (
+      found.steps,
+      found.extends,
+      found.sent ∙ append-nil r.world.sent,
+      closed_keeps (Some side) table c (TellsSo (Some side) table c) (tells_kept (Some side) table c) side mark names r next is,
+    )
 
-  pub stands_expiry : (entries : List Outline) (since : ℕ) (x : Expiry) (p q : Progress) → Stands p → expiry_kept table entries since x p ≡ Ok q → Stands q
-  stands_expiry entries since x p q s is =
-      let found = then_ok (ok_or (invocation_ended entries since x) (fault_at FateRange x.entry)) (λ invocation. invocation_ends table x invocation p) q is in
-      stands_expires x found.0 p q s found.2
+mark_far : (table : Table) (c : Certificate) (judged : Option Side) (r : Replay) → GoesOn judged table c r (mark_so_far judged table c r)
+mark_far table c judged r = by judged (is_nothing (tied judged c r))
+  where
+    quiet : (who : Option Side) → GoesOn who table c r (quiet_so_far who table c r)
+    quiet None = last_goes table c None r
+    quiet (Some side) =
+        let halves = open_halves (end_at side r.world) in
+        let mark = next_entry r in
+        or_goes (Some side) table c r (halves_so_far table side mark halves r) (closed_at_mark table side mark halves r) (lost_last (Some side) c)
+        (as_far_goes (Some side) table c (λ name. closed_at_mark table side mark (name ∷ [])) (λ name. closed_goes table c side mark (name ∷ [])) halves r)
+        (λ closed is. goes_then (Some side) table c r closed (lost_last (Some side) c closed) (closed_goes table c side mark halves r closed is)
+        (last_goes table c (Some side) closed))
 
-  pub stands_closings : (entries : List Outline) (since : ℕ) (xs : List Closing) (p q : Progress) → Stands p
-      → closings_kept table entries since xs p ≡ Ok q → Stands q
-  stands_closings entries since [] p q s is = same_stands p q s is
-  stands_closings entries since (x ∷ xs) p q s is =
-      let found = then_ok (closing_kept table entries since x p) (closings_kept table entries since xs) q is in
-      stands_closings entries since xs found.0 q (stands_closing entries since x p found.0 s found.1) found.2
+    by : (who : Option Side) (b : Bool) → GoesOn who table c r (cond b (quiet_so_far who table c r) r)
+    by who true = quiet who
+    by who false = same_goes who table c r
 
-  pub stands_expiries : (entries : List Outline) (since : ℕ) (xs : List Expiry) (p q : Progress) → Stands p
-      → expiries_kept table entries since xs p ≡ Ok q → Stands q
-  stands_expiries entries since [] p q s is = same_stands p q s is
-  stands_expiries entries since (x ∷ xs) p q s is =
-      let found = then_ok (expiry_kept table entries since x p) (expiries_kept table entries since xs) q is in
-      stands_expiries entries since xs found.0 q (stands_expiry entries since x p found.0 s found.1) found.2
+-- Behind the gap it goes on.
+behind_goes : (table : Table) (c : Certificate) (judged : Option Side) (so : Bool) (on : Replay → Replay) (r : Replay)
+    → ((next : Replay) → GoesOn judged table c next (on next))
+    → GoesOn judged table c r (cond so (behind_or (gap_by judged table c r) (gap_so_far judged table c r) on) r)
+behind_goes table c judged false on r then = same_goes judged table c r
+behind_goes table c judged true on r then =
+    or_goes judged table c r (gap_so_far judged table c r) (gap_by judged table c r) on (gap_far table c judged r)
+    (λ next is. goes_then judged table c r next (on next) (gap_goes table c judged r next is) (then next))
 
-  -- What is lost at the front of a channel.
-  pub stands_front : (sender : Side) (p : Progress) → is_heard judged sender ≡ true → Stands p → Stands (front_lost judged sender p)
-  stands_front sender p so =
-      goes_always (front_lost judged sender) (lost_from_front c sender) (λ r. front_is true judged c sender r so)
-      (front_goes judged table c sender) p
-
-  pub stands_received : (sender : Side) (number : ℕ) (p q : Progress) → is_heard judged sender ≡ true → Stands p
-      → message_received judged table sender number p ≡ Ok q → Stands q
-  stands_received sender number p q so =
-      goes_where (message_received judged table sender number) (received judged table c sender number)
-      (λ r. delivered_is true judged table c sender number r so) (received_goes table c judged sender number) p q
-
-  stands_delivery : (number : ℕ) (o : Option Side) (p q : Progress) → ((sender : Side) → o ≡ Some sender → is_heard judged sender ≡ true) → Stands p
-      → delivery_kept judged table number o p ≡ Ok q → Stands q
-  stands_delivery number None p q so s is = same_stands p q s is
-  stands_delivery number (Some sender) p q so s is = stands_received sender number p q (so sender refl) s is
-
-  pub stands_deliveries : (entries : List Outline) (numbers : List ℕ) (p q : Progress) → Stands p
-      → deliveries_kept judged table entries numbers p ≡ Ok q → Stands q
-  stands_deliveries entries [] p q s is = same_stands p q s is
-  stands_deliveries entries (number ∷ numbers) p q s is =
-      let from = heard_from judged (slice_get entries number) in
-      let found = then_ok (delivery_kept judged table number from p) (deliveries_kept judged table entries numbers) q is in
-      stands_deliveries entries numbers found.0 q
-      (stands_delivery number from p found.0 (heard_is judged (slice_get entries number)) s found.1) found.2
-
-  pub stands_gap : (certificate : Certificate) (entries : List Outline) (since : ℕ) (p q : Progress) → Stands p
-      → gap_kept judged table certificate entries since p ≡ Ok q → Stands q
-  stands_gap certificate entries since p q s is =
-      let closings : List Closing = closings_judged judged (filter (λ x. x.gap == length entries) certificate.close) in
-      let expiries : List Expiry = expiries_judged judged (filter (λ x. x.gap == length entries) certificate.expire) in
-      let due = due_in (length entries) 0 certificate.fates in
-      let b = then_ok (closings_kept table entries since closings p >>= expiries_kept table entries since expiries)
-      (deliveries_kept judged table entries due) q is in
-      let a = then_ok (closings_kept table entries since closings p) (expiries_kept table entries since expiries) b.0 b.1 in
-      stands_deliveries entries due b.0 q
-      (stands_expiries entries since expiries a.0 b.0 (stands_closings entries since closings p a.0 s a.1) a.2) b.2
-
-  -- ---- a message
-
-  stands_tried : (side : Side) (name : HalfName) (id : ℤ) (p : Progress) → Stands p → Stands (end_tried table side name id p)
-  stands_tried side name id =
-      goes_always (end_tried table side name id) (λ r. or_same r (stepped table (Expires side name id) r))
-      (one_implied true table judged c side name id)
-      (λ r. tried_goes judged table c (Expires side name id) r (stepped table (Expires side name id) r) refl (λ items none. none) refl)
-
-  stands_each : (side : Side) (name : HalfName) (ids : List ℤ) (p : Progress) → Stands p → Stands (ids_ended table side name ids p)
-  stands_each side name [] p s = s
-  stands_each side name (id ∷ ids) p s = stands_each side name ids (end_tried table side name id p) (stands_tried side name id p s)
-
-  -- Invocations that end unseen before a message is sent.
-  pub stands_ended : (side : Side) (half : Option HalfName) (ids : List ℤ) (p : Progress) → Stands p → Stands (ids_ended_over table side half ids p)
-  stands_ended side None ids p s = s
-  stands_ended side (Some name) ids p s = stands_each side name ids p s
-
-  -- ---- a mark
-
-  -- One half closes before it,
-  pub stands_half : (side : Side) (number : ℕ) (name : HalfName) (p q : Progress) → Stands p
-      → end_moved side (Closes side name) (fault_at NotQuiet number) p (close table (seat_at side p).end name) ≡ Ok q → Stands q
-  stands_half side number name =
-      let fault = fault_at NotQuiet number in
-      goes_where (λ p. end_moved side (Closes side name) fault p (close table (seat_at side p).end name))
-      (λ r. ok_or (stepped table (Closes side name) r) fault)
-      (λ r. ap (λ (e : End). end_moved side (Closes side name) fault (kept r) (close table e name)) (end_kept true judged c side r)
-      ∙ end_is true judged c side (Closes side name) fault r (close table (end_at side r.world) name) (λ at. refl))
-      (λ r next is. step_goes judged table c (Closes side name) r next refl (λ items none. none) (some_ok (stepped table (Closes side name) r) fault next is))
-
-  -- one after the other.
-  pub stands_shut : (side : Side) (number : ℕ) (names : List HalfName) (p q : Progress) → Stands p
-      → halves_shut side table number names p ≡ Ok q → Stands q
-  stands_shut side number [] p q s is = same_stands p q s is
-  stands_shut side number (name ∷ more) p q s is =
-      let found = then_ok (end_moved side (Closes side name) (fault_at NotQuiet number) p (close table (seat_at side p).end name))
-      (halves_shut side table number more) q is in
-      stands_shut side number more found.0 q (stands_half side number name p found.0 s found.1) found.2
-
-  -- What is lost last.
-  pub stands_last : (p : Progress) → Stands p → Stands (last_lost judged p)
-  stands_last = goes_always (last_lost judged) (lost_last judged c) (last_is true judged c) (last_goes table c judged)
-
--- What comes to the peer of an end that is judged comes from one that is heard.
-pub judged_heard : (judged : Option Side) (side : Side) → is_judged judged side ≡ true → is_heard judged (other side) ≡ true
-judged_heard None side so = refl
-judged_heard (Some sides.A) sides.A so = refl
-judged_heard (Some sides.A) sides.B so = cc
-judged_heard (Some sides.B) sides.A so = cc
-judged_heard (Some sides.B) sides.B so = refl
+-- A replay that is refused is one that goes on, as far as it goes.
+pub next_goes : (table : Table) (c : Certificate) (judged : Option Side) (entries : List (Result Item Reason)) (r : Replay)
+    → GoesOn judged table c r (next_so_far judged table c entries r)
+next_goes table c judged [] r = behind_goes table c judged (next_entry r == length c.fates) (lost_last judged c) r (last_goes table c judged)
+next_goes table c judged (Err reason ∷ more) r = same_goes judged table c r
+next_goes table c judged (Ok item ∷ more) r = by (slice_get c.fates (next_entry r)) item
+  where
+    by : (o : Option Fate) (item : Item) → GoesOn judged table c r (fated_so_far judged table c o item r)
+    by None item = same_goes judged table c r
+    by (Some fate) (Sent sender message) =
+        behind_goes table c judged (is_alone judged sender || not (is_overtaking sender fate c.fates r.world.sent))
+        (sending_so_far judged table c sender message) r (sending_far table c judged sender message)
+    by (Some fate) Item.Quiet =
+        behind_goes table c judged (is_gap (next_entry r + 1) fate) (mark_so_far judged table c) r (mark_far table c judged)

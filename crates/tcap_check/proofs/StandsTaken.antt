@@ -1,34 +1,42 @@
 -- What is kept of entries that were taken stands for them.
-use Rattle.std.proofs.Common.{◌≡◌, ◌≤◌, ◌<◌, ◌+◌, ℕ, true, List, [], ◌∷◌, ◌++◌, map, length, take, None, Result, Ok, Err, IfSome, refl, sym, ap, subst, ◌∙◌, append-nil, append_assoc}
+use Rattle.std.proofs.Common.{◌≡◌, arith, ◌<◌, ◌+◌, ℕ, true, List, [], ◌∷◌, ◌++◌, map, length, drop, take, Some, None, Result, Ok, Err, IfSome, refl, sym, ap, ap₂, subst, ◌∙◌, append-nil, append_assoc}
+use Rattle.std.proofs.lemmas.List.{take_all}
 use Rattle.std.specs.Prelude.{◌≢◌, Option, ok_or, slice_get}
 use Rattle.tcap_record.specs.declared.entry.End.{End as Side}
 use Rattle.tcap_record.specs.declared.entry.Entry.{Entry}
+use Rattle.tcap_record.specs.Ends.{other}
 use Rattle.tcap_end.specs.Step.{◌>>◌}
 use Rattle.tcap_end.specs.Table.{Table}
 use Rattle.tcap_end.proofs.AnsweringLaws.{some_ok, then_ok}
 use Rattle.tcap_model.specs.declared.reason.Reason.{Reason}
 use Rattle.tcap_model.specs.declared.reason.Reason.TheVariants.{FateCount, Memory}
 use Rattle.tcap_model.specs.Entries.{AreItems, item_of}
-use Rattle.tcap_model.specs.World.{Item, empty}
-use Rattle.tcap_model.specs.Run.{Event, played}
-use Rattle.tcap_model.proofs.RunLaws.{played_on}
+use Rattle.tcap_model.specs.World.{Item}
+use Rattle.tcap_certificate.specs.declared.certificate.Fate.{Fate}
 use Rattle.tcap_certificate.specs.declared.fault.CheckFault.{CheckFault}
+use Rattle.tcap_check.specs.declared.outline.Outline.{Outline}
 use Rattle.tcap_check.specs.declared.progress.Progress.{Progress}
 use Rattle.tcap_check.specs.declared.replaying.Replaying.{Replaying}
 use Rattle.tcap_check.specs.declared.step.Step.{Step}
 use Rattle.tcap_certificate.specs.Certificate.{Certificate}
-use Rattle.tcap_check.specs.Checking.{Kept, TookListed, gap_before, kept_next, kept_of, map_ok, taken, taken_from, taken_next}
-use Rattle.tcap_certificate.specs.Follows.{FatesFit}
+use Rattle.tcap_check.specs.Checking.{Kept, TookListed, gap_before, kept_next, kept_of, map_ok, progress_of, taken, taken_from, taken_next, tied_now}
+use Rattle.tcap_certificate.specs.Follows.{FatesFit, taken_by}
+use Rattle.tcap_check.specs.Hearing.{told_among}
+use Rattle.tcap_check.specs.Left.{IsListing, end_left, entry_left, gap_left, mark_left}
 use Rattle.tcap_check.specs.Ready.{IsSameBesideProgress, checking_of, kept_in}
-use Rattle.tcap_certificate.specs.Replayed.{Replay, certificate_fits, entry_by, fates_fit, fault_at, next_entry, nothing_replayed}
-use Rattle.tcap_check.specs.Stands.{DiscardsSo, UnlessMemory, IsSoFar, StandsAmong, StandsFor, StopsSo}
+use Rattle.tcap_certificate.specs.Replayed.{Replay, certificate_fits, entry_by, fates_fit, fault_at, gap_by, is_gap, next_entry, nothing_replayed}
+use Rattle.tcap_check.specs.SoFar.{next_so_far}
+use Rattle.tcap_check.specs.Stands.{IsListed, IsSoFar, StandsAmong, UnlessMemory, stopped_at}
 use Rattle.tcap_check.specs.Told.{Told, told_of}
 use Rattle.tcap_check.proofs.CheckerLaws.{checking, took_err}
 use Rattle.tcap_check.proofs.DiscardReasons.{taken_tells}
-use Rattle.tcap_check.proofs.PendingLaws.{SendsSoFar}
+use Rattle.tcap_check.proofs.HearingLaws.{left_behind}
+use Rattle.tcap_check.proofs.KeptGaps.{gap_is}
+use Rattle.tcap_check.proofs.KeptLeft.{end_far, entry_far}
+use Rattle.tcap_check.proofs.PendingLaws.{SendsSoFar, runs_on}
 use Rattle.tcap_check.proofs.ReasonLaws.{entry_stands, first_ok, nothing_stands}
 use Rattle.tcap_check.proofs.ReplayGaps.{fates_ok}
-use Rattle.tcap_check.proofs.StandsLaws.{stands_gap}
+use Rattle.tcap_check.proofs.StandsLaws.{next_goes}
 
 -- Behind entries more what was replayed stands for these too.
 more_stand : (judged : Option Side) (table : Table) (c : Certificate) (front entries : List Entry) (r next : Replay)
@@ -58,30 +66,55 @@ taken_stands judged table c entries r is =
     (fates_ok (length c.fates) 0 c.fates (first_ok (fates_fit (length c.fates) 0 c.fates) _ fits)) (nothing_stands judged table c)
     (ap (λ (o : Result (Unit {0}) CheckFault). o >> goes) (sym fits) ∙ is)
 
--- What is kept of them stands for what was replayed.
-took_stands : (judged : Option Side) (table : Table) (c : Certificate) (k : Kept) (entries : List Entry)
+-- What is kept of them is what is kept of their replay.
+took_replay : (judged : Option Side) (table : Table) (c : Certificate) (k : Kept) (entries : List Entry)
     → TookListed true (checking judged table c None k) (map item_of entries)
-    → (r : Replay) × (taken judged table c (map item_of entries) ≡ Ok r) × StandsFor table c judged r k.progress
-took_stands judged table c k entries took = by (taken judged table c (map item_of entries)) refl took
+    → (r : Replay) × (taken judged table c (map item_of entries) ≡ Ok r) × (kept_of true judged c r ≡ k)
+took_replay judged table c k entries took = by (taken judged table c (map item_of entries)) refl took
   where
     by : (o : Result Replay CheckFault) → taken judged table c (map item_of entries) ≡ o
         → (let a : Result Kept CheckFault = Ok k in a) ≡ map_ok (kept_of true judged c) o
-        → (r : Replay) × (taken judged table c (map item_of entries) ≡ Ok r) × StandsFor table c judged r k.progress
+        → (r : Replay) × (taken judged table c (map item_of entries) ≡ Ok r) × (kept_of true judged c r ≡ k)
     by (Err fault) at same = cc
-    by (Ok r) at same =
-        let is : k ≡ kept_of true judged c r = cc in (
-          r,
-          at,
-          record {
-            replay = r;
-            kept = ap (λ (x : Kept). x.progress) (sym is);
-            more = [];
-            events = sym (append-nil r.events);
-            plays = refl;
-            sent = refl;
-            tells = λ so. so;
-          },
-        )
+    by (Ok r) at same = let is : k ≡ kept_of true judged c r = cc in (r, at, sym is)
+
+-- Steps of a replay are listed, and still are after a gap.
+pub listed_kept : (judged : Option Side) (c : Certificate) (r : Replay) (p : Progress) → p ≡ progress_of true judged c r → IsListing p
+listed_kept judged c r p is none =
+    let told : Told = record { events = r.events; discards = r.discards } in
+    some_or_none p.steps told (sym (ap (λ (x : Progress). x.steps) is)) none
+  where
+    some_or_none : (o : Option Told) (x : Told) → Some x ≡ o → o ≡ None → ⊥
+    some_or_none (Some y) x is none = cc
+    some_or_none None x is none = cc
+
+pub listed_behind : (x : Replaying) (q : Progress) → IsListed x → gap_before x.judged x.table.now x.certificate.now (kept_in x) ≡ Ok q → IsListing q
+listed_behind x q (r, same) is =
+    by (gap_by x.judged x.table.now x.certificate.now r)
+    (sym (gap_is true x.judged x.table.now x.certificate.now r) ∙ ap (gap_before x.judged x.table.now x.certificate.now) same ∙ is)
+  where
+    by : (o : Result Replay CheckFault) → map_ok (progress_of true x.judged x.certificate.now) o ≡ Ok q → IsListing q
+    by (Err fault) e = cc
+    by (Ok next) e = let at : q ≡ progress_of true x.judged x.certificate.now next = cc in listed_kept x.judged x.certificate.now next q at
+
+-- The messages that the next entry takes depend on the entries alone.
+tied_alike : (judged : Option Side) (c : Certificate) (k l : Kept) → k.entries ≡ l.entries → tied_now judged c k ≡ tied_now judged c l
+tied_alike None c k l same = ap (λ (es : List Outline). taken_by (length es) 0 c.fates) same
+tied_alike (Some judged) c k l same = ap (λ (es : List Outline). told_among (other judged) es (taken_by (length es) 0 c.fates)) same
+
+-- What is left of a quiet mark after its gap.
+pub mark_after : (x y : Replaying) (fate : Fate) → IsSameBesideProgress x y → slice_get x.certificate.now.fates (length x.entries.items) ≡ Some fate
+    → is_gap (length x.entries.items + 1) fate ≡ true → gap_before x.judged x.table.now x.certificate.now (kept_in x) ≡ Ok y.progress
+    → mark_left y.judged y.table.now (length y.entries.items) (tied_now y.judged y.certificate.now (kept_in y)) y.progress
+    ≡ entry_left x.judged x.table.now x.certificate.now (Ok Item.Quiet) (kept_in x)
+mark_after x y fate same has is passed =
+    let count = length x.entries.items in
+    let on = mark_left x.judged x.table.now count (tied_now x.judged x.certificate.now (kept_in x)) in
+    rw (has, is, same.judged, same.table, same.certificate)
+    (ap₂ (λ (n : ℕ) (takes : List ℕ). mark_left x.judged x.table.now n takes y.progress) (ap (λ (es : _). length es.items) same.entries)
+    (tied_alike x.judged x.certificate.now (kept_in y) (kept_in x) (ap (λ (es : _). es.items) same.entries))
+    ∙ sym (left_behind (gap_before x.judged x.table.now x.certificate.now (kept_in x))
+    (gap_left x.judged x.table.now x.certificate.now x.entries.items x.since x.progress) y.progress on passed))
 
 -- An entry that is refused is not replayed.
 pub refused_next : (x : Replaying) (entry : Result Item Reason) (fault : CheckFault)
@@ -106,46 +139,62 @@ pub record GoesAlike (x y : Replaying) : Type 0 where
   pub table : y.table ≡ x.table
   pub certificate : y.certificate ≡ x.certificate
 
--- So it is behind so many entries, where the next is not replayed,
-pub among_taken : (x y : Replaying) (entries : List Entry) (count : ℕ) → GoesAlike x y → count ≤ length entries
+-- So it is where the next entry is refused,
+pub among_refused : (x y : Replaying) (entries : List Entry) (count : ℕ) (entry : Entry) (fault : CheckFault) (left : Progress) → GoesAlike x y
+    → count < length entries → drop count entries ≡ entry ∷ drop (count + 1) entries
     → TookListed true (checking_of y) (map item_of (take count entries))
-    → (count < length entries
-    → (fault : CheckFault) × (taken y.judged y.table.now y.certificate.now (map item_of (take (count + 1) entries)) ≡ Err fault))
-    → Among x entries y.progress
-among_taken x y entries count alike within took no_more =
-    let so = took_stands y.judged y.table.now y.certificate.now (kept_in y) (take count entries) took in
+    → taken y.judged y.table.now y.certificate.now (map item_of (take (count + 1) entries)) ≡ Err fault
+    → (IsListed y → left ≡ entry_left y.judged y.table.now y.certificate.now (item_of entry) (kept_in y)) → Among x entries left
+among_refused x y entries count entry fault left alike less next took refused leaves =
+    let judged = y.judged in
+    let table = y.table.now in
+    let c = y.certificate.now in
+    let so = took_replay judged table c (kept_in y) (take count entries) took in
     rw (sym alike.judged, sym alike.table, sym alike.certificate)
-    record { count = count; goes = record { within = within; front = so.0; takes = so.1; no_more = no_more }; stands = so.2 }
-
--- and behind what leaves standing what stood.
-pub among_then : (x y : Replaying) (entries : List Entry) (left : Progress) → GoesAlike x y → Among x entries y.progress
-    → ((c : Certificate) (start : Replay) → StandsFor y.table.now c y.judged start y.progress → StandsFor y.table.now c y.judged start left)
-    → Among x entries left
-among_then x y entries left alike among leaves =
     record {
-      count = among.count;
-      goes = among.goes;
-      stands =
-          rw (sym alike.judged, sym alike.table)
-          (leaves x.certificate.now among.goes.front (rw (alike.judged, alike.table) among.stands));
+      count = count;
+      goes = record { within = omega (arith, less); front = so.0; takes = so.1; no_more = λ there. (fault, refused) };
+      stands = leaves (so.0, so.2) ∙ ap (entry_left judged table c (item_of entry)) (sym so.2)
+          ∙ entry_far judged table c (item_of entry) (map item_of (drop (count + 1) entries)) so.0
+          ∙ ap (λ (es : List Entry). progress_of true judged c (next_so_far judged table c (map item_of es) so.0)) (sym next);
     }
 
--- whatever is answered.
-pub among_ends : (x y : Replaying) (entries : List Entry) (o : Result (Unit {0}) CheckFault) (left : Progress) → GoesAlike x y
-    → Among x entries y.progress
-    → ((c : Certificate) (start : Replay) → StandsFor y.table.now c y.judged start y.progress
-    → UnlessMemory o (StandsFor y.table.now c y.judged start left)) → UnlessMemory o (Among x entries left)
-among_ends x y entries (Ok done) left alike among leaves = among_then x y entries left alike among leaves
-among_ends x y entries (Err fault) left alike among leaves =
-    λ other. among_then x y entries left alike among (λ c start s. leaves c start s other)
+none_behind : (entries : List Entry) → drop (length entries) entries ≡ []
+none_behind [] = refl
+none_behind (entry ∷ entries) = none_behind entries
 
--- What is refused behind a gap leaves standing what stood before the gap.
-pub behind_gap : (x y : Replaying) (left : Progress) (fault : CheckFault) → IsSameBesideProgress x y
-    → gap_before x.judged x.table.now x.certificate.now (kept_in x) ≡ Ok y.progress
-    → StopsSo y.table.now y.judged y.progress (Err fault) left → StopsSo x.table.now x.judged x.progress (Err fault) left
-behind_gap x y left fault same is stops c start s other =
-    rw (sym same.judged, sym same.table) (stops c start
-    (rw (same.judged, same.table) (stands_gap x.table.now c x.judged start x.certificate.now x.entries.items x.since x.progress y.progress s is)) other)
+-- and behind the last of them.
+pub among_ends : (x y : Replaying) (entries : List Entry) (o : Result (Unit {0}) CheckFault) (left : Progress) → GoesAlike x y
+    → TookListed true (checking_of y) (map item_of entries)
+    → UnlessMemory o (left ≡ end_left y.judged y.table.now y.certificate.now (kept_in y)) → UnlessMemory o (Among x entries left)
+among_ends x y entries o left alike took leaves = by o leaves
+  where
+    so : (r : Replay) × (taken y.judged y.table.now y.certificate.now (map item_of entries) ≡ Ok r) × (kept_of true y.judged y.certificate.now r ≡ kept_in y)
+    so = took_replay y.judged y.table.now y.certificate.now (kept_in y) entries took
+
+    all : take (length entries) entries ≡ entries
+    all = take_all (length entries) entries (omega arith)
+
+    here : left ≡ end_left y.judged y.table.now y.certificate.now (kept_in y) → Among x entries left
+    here is =
+        rw (sym alike.judged, sym alike.table, sym alike.certificate)
+        record {
+          count = length entries;
+          goes = record {
+            within = omega arith;
+            front = so.0;
+            takes = ap (λ (es : List Entry). taken y.judged y.table.now y.certificate.now (map item_of es)) all ∙ so.1;
+            no_more = λ there. absurd (omega (arith, there));
+          };
+          stands = is ∙ ap (end_left y.judged y.table.now y.certificate.now) (sym so.2) ∙ end_far y.judged y.table.now y.certificate.now so.0
+              ∙ ap (λ (es : List Entry). progress_of true y.judged y.certificate.now (next_so_far y.judged y.table.now y.certificate.now (map item_of es) so.0))
+              (sym (none_behind entries));
+        }
+
+    by : (o : Result (Unit {0}) CheckFault) → UnlessMemory o (left ≡ end_left y.judged y.table.now y.certificate.now (kept_in y))
+        → UnlessMemory o (Among x entries left)
+    by (Ok done) is = here is
+    by (Err fault) is = λ other. here (is other)
 
 -- What does not run out of memory.
 pub in_memory : (o : Result (Unit {0}) CheckFault) (P : Type 0) → UnlessMemory o P → o ≢ Err (fault_at Memory 0) → P
@@ -154,30 +203,28 @@ in_memory (Err fault) P so other = so (λ is. other (ap (λ (f : CheckFault). le
 
 -- ---- a run so far
 
--- What stands for steps behind the first of the entries is a run that sends these, and its ends are those behind it.
+-- What is kept of entries as far as their replay goes is of a run that sends the first of them, and its ends are those behind it.
 stands_so_far : (table : Table) (c : Certificate) (judged : Option Side) (entries : List Entry) (p : Progress) (steps : List Step)
     → StandsAmong table c judged entries p → IfSome p.steps (λ told. told_of steps ≡ told)
     → IsSoFar judged table c entries steps p.a.end p.b.end
 stands_so_far table c judged entries p steps among tell =
-    let s = among.stands in
-    let r = s.replay in
     let front = among.goes.front in
+    let left = stopped_at judged table c entries among.count front in
+    let on = next_goes table c judged (map item_of (drop among.count entries)) front in
     let first = taken_stands judged table c (take among.count entries) front among.goes.takes in
-    let told : told_of steps ≡ record { events = r.events; discards = r.discards } =
-    subst (λ (x : Progress). IfSome x.steps (λ (t : Told). told_of steps ≡ t)) (sym s.kept) tell in
     record {
       count = among.count;
       goes = among.goes;
-      more = s.more;
-      steps_are = ap (λ (t : Told). t.events) told ∙ s.events;
-      world = r.world;
-      leads = ap (λ (t : Told). played table t.events empty) told ∙ ap (λ (x : List Event). played table x empty) s.events
-          ∙ played_on table front.events s.more empty front.world first.runs ∙ s.plays;
-      sends = subst (AreItems (take among.count entries)) (sym s.sent) first.are;
-      discards = subst (λ (t : Told). DiscardsSo judged table c t.events t.discards) (sym told)
-          (s.tells (taken_tells judged table c (map item_of (take among.count entries)) front among.goes.takes)).1;
-      a_is = ap (λ (x : Progress). x.a.end) s.kept;
-      b_is = ap (λ (x : Progress). x.b.end) s.kept;
+      left = left;
+      left_is = refl;
+      told = subst (λ (x : Progress). IfSome x.steps (λ (t : Told). told_of steps ≡ t)) among.stands tell;
+      more = on.0;
+      begins = on.1.events;
+      leads = runs_on table front left on.0 first.runs on.1;
+      sends = subst (AreItems (take among.count entries)) (sym on.2) first.are;
+      discards = (on.3 (taken_tells judged table c (map item_of (take among.count entries)) front among.goes.takes)).1;
+      a_is = sym (ap (λ (x : Progress). x.a.end) among.stands);
+      b_is = sym (ap (λ (x : Progress). x.b.end) among.stands);
     }
 
 -- A replay of a certificate for a table, from its making on: what is kept of it is a run so far.

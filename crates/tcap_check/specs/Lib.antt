@@ -9,5 +9,8 @@ pub mod Checking
 pub mod Buckets
 pub mod Plan
 pub mod Ready
+pub mod SoFar
+pub mod Left
 pub mod Stands
+pub mod WorkedSoFar
 pub mod Hearing

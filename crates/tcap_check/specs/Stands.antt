@@ -1,5 +1,5 @@
 -- What a replay whose steps are listed leaves, whatever a call answers: a run so far.
-use Rattle.std.specs.Prelude.{◌≡◌, ◌≢◌, ◌≤◌, ◌<◌, ◌+◌, ◌++◌, ℕ, true, length, map, take, List, Option, None, Result, Ok, Err, Some, IfOk, IfSome, Contains, slice_get}
+use Rattle.std.specs.Prelude.{◌≡◌, ◌≢◌, ◌≤◌, ◌<◌, ◌+◌, ◌++◌, ℕ, true, length, drop, map, take, List, Option, None, Result, Ok, Err, Some, IfOk, IfSome, Contains, slice_get}
 use Rattle.std.specs.List.{AllByRecursion}
 use Rattle.tcap_msg.specs.declared.message.Message.{Message}
 use Rattle.tcap_record.specs.declared.entry.End.{End as Side}
@@ -12,17 +12,20 @@ use Rattle.tcap_end.specs.Table.{Table}
 use Rattle.tcap_model.specs.declared.reason.Reason.{Reason}
 use Rattle.tcap_model.specs.declared.reason.Reason.TheVariants.{Memory, SendRefused}
 use Rattle.tcap_model.specs.Entries.{AreItems, item_of}
-use Rattle.tcap_model.specs.Run.{Event, Loses, Runs, played}
-use Rattle.tcap_model.specs.World.{Item, Sent, World}
+use Rattle.tcap_model.specs.Run.{Event, Loses, Runs}
+use Rattle.tcap_model.specs.World.{Item, Sent}
 use Rattle.tcap_certificate.specs.declared.certificate.Fate.TheVariants.{Lost}
 use Rattle.tcap_certificate.specs.declared.fault.CheckFault.{CheckFault}
 use Rattle.tcap_check.specs.declared.progress.Progress.{Progress}
 use Rattle.tcap_check.specs.declared.step.Step.{Step}
 use Rattle.tcap_certificate.specs.Certificate.{Certificate}
 use Rattle.tcap_check.specs.Progress.{seat_at}
-use Rattle.tcap_check.specs.Checking.{map_ok, progress_of, taken}
+use Rattle.tcap_check.specs.Checking.{kept_of, map_ok, progress_of, taken}
 use Rattle.tcap_check.specs.AloneGiven.{IsGivenTo}
 use Rattle.tcap_check.specs.Given.{IsAt}
+use Rattle.tcap_check.specs.Ready.{kept_in}
+use Rattle.tcap_check.specs.SoFar.{next_so_far}
+use Rattle.tcap_check.specs.declared.replaying.Replaying.{Replaying}
 use Rattle.tcap_certificate.specs.Replayed.{Replay, discards_by, fault_at, is_heard, replayed_by}
 use Rattle.tcap_check.specs.Told.{IsDiscarded, IsTold, MayAllBeDiscarded, discards_of, events_of, told_of}
 
@@ -42,26 +45,14 @@ DiscardsSo judged table c events discards = AllByRecursion (λ x. IsDiscardOf ju
 abbrev pub TellsSo : Option Side → Table → Certificate → Replay → Type 0
 TellsSo judged table c r = Runs table r.events r.world × DiscardsSo judged table c r.events r.discards
 
--- What is kept is what a replay keeps whose steps are listed; from the start, steps that send nothing lead to that replay. If what the start
--- tells of its losses is so, so is what the replay tells.
-pub record StandsFor (table : Table) (c : Certificate) (judged : Option Side) (start : Replay) (p : Progress) : Type 0 where
-  pub replay : Replay
-  pub kept : progress_of true judged c replay ≡ p
-  pub more : List Event
-  pub events : replay.events ≡ start.events ++ more
-  pub plays : played table more start.world ≡ Some replay.world
-  pub sent : replay.world.sent ≡ start.world.sent
-  pub tells : TellsSo judged table c start → TellsSo judged table c replay
+-- What is kept is what is kept of a replay whose steps are listed.
+abbrev pub IsListed : Replaying → Type 0
+IsListed x = (r : Replay) × (kept_of true x.judged x.certificate.now r ≡ kept_in x)
 
 -- where a call is refused, and not for want of memory
 abbrev pub IfRefused : Result (Unit {0}) CheckFault → Type 0 → Type 0
 IfRefused (Ok done) P = Unit {0}
 IfRefused (Err fault) P = fault ≢ fault_at Memory 0 → P
-
--- If what is kept before a call stands for steps behind a start, and the call is refused, memory aside, what it leaves does too.
-abbrev pub StopsSo : Table → Option Side → Progress → Result (Unit {0}) CheckFault → Progress → Type 0
-StopsSo table judged before result left = (c : Certificate) (start : Replay) → StandsFor table c judged start before
-    → IfRefused result (StandsFor table c judged start left)
 
 -- the reason why an end refuses to send a message, where it does
 abbrev pub refusal_to_send : Reason → Option EndFault
@@ -93,11 +84,15 @@ pub record GoesTo (judged : Option Side) (table : Table) (c : Certificate) (entr
   pub takes : taken judged table c (map item_of (take count entries)) ≡ Ok front
   pub no_more : count < length entries → (fault : CheckFault) × (taken judged table c (map item_of (take (count + 1) entries)) ≡ Err fault)
 
--- What is kept stands for the replay of the entries as far as it goes, and steps behind it.
+-- the replay of the entries as far as it goes: of those that are taken, and of the next as far as that goes
+abbrev pub stopped_at : Option Side → Table → Certificate → List Entry → ℕ → Replay → Replay
+stopped_at judged table c entries count front = next_so_far judged table c (map item_of (drop count entries)) front
+
+-- What is kept is what is kept of it.
 pub record StandsAmong (table : Table) (c : Certificate) (judged : Option Side) (entries : List Entry) (p : Progress) : Type 0 where
   pub count : ℕ
   pub goes : GoesTo judged table c entries count
-  pub stands : StandsFor table c judged goes.front p
+  pub stands : p ≡ progress_of true judged c (stopped_at judged table c entries count goes.front)
 
 -- ---- what a caller has of it
 
@@ -134,16 +129,18 @@ EndsListed judged table c entries result p = (steps : List Step) → p.steps ≡
     → IsAnswered judged table c entries (map_ok (λ done. steps) result)
 
 -- The steps are a run from the empty world, as far as a replay goes: those of the entries that it takes, which are the first ones, and
--- more that send nothing. The run sends the entries that are taken, and nothing else. What is told of its losses is so. The ends are those
--- behind it.
+-- those of the next entry, or of the end, up to the first that may not happen. The run sends the entries that are taken, and nothing else.
+-- What is told of its losses is so. The ends are those after it.
 pub record IsSoFar (judged : Option Side) (table : Table) (c : Certificate) (entries : List Entry) (steps : List Step) (a b : End) : Type 0 where
   pub count : ℕ
   pub goes : GoesTo judged table c entries count
+  pub left : Replay
+  pub left_is : left ≡ stopped_at judged table c entries count goes.front
+  pub told : told_of steps ≡ record { events = left.events; discards = left.discards }
   pub more : List Event
-  pub steps_are : events_of steps ≡ goes.front.events ++ more
-  pub world : World
-  pub leads : Runs table (events_of steps) world
-  pub sends : AreItems (take count entries) world.sent
-  pub discards : DiscardsSo judged table c (events_of steps) (discards_of steps)
-  pub a_is : world.a ≡ a
-  pub b_is : world.b ≡ b
+  pub begins : left.events ≡ goes.front.events ++ more
+  pub leads : Runs table left.events left.world
+  pub sends : AreItems (take count entries) left.world.sent
+  pub discards : DiscardsSo judged table c left.events left.discards
+  pub a_is : left.world.a ≡ a
+  pub b_is : left.world.b ≡ b

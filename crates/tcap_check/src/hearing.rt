@@ -5,8 +5,8 @@ ghost use Rattle.tcap_record.specs.Ends.{other};
 ghost use Rattle.tcap_check.specs.Hearing.{Hears, deliveries_kept, first_heard, first_received, gap_kept, heard_from, is_heard, is_told, message_received};
 ghost use Rattle.tcap_check.specs.Hearing.{told_among};
 ghost use Rattle.tcap_check.specs.Plan.{IsPlan};
-ghost use Rattle.tcap_check.specs.Stands.{StopsSo};
-ghost use Rattle.tcap_check.specs.Progress.{GrewBy, HasNoMore, YieldsInMemory, load, seat_at, unheard_load};
+ghost use Rattle.tcap_check.specs.Left.{Leaves, deliveries_left, gap_left};
+ghost use Rattle.tcap_check.specs.Progress.{GrewBy, HasNoMore, YieldsInMemory, front_lost, load, seat_at, unheard_load};
 
 use crate::outline::Outline;
 use crate::plan::Plan;
@@ -105,7 +105,7 @@ impl<'r> Progress<'r> {
         requires count { self.old.unheard + 1 < 2 ^ 64 }
         ensures delivered { YieldsInMemory (first_received judged table.now sender number (seat_at sender self.old).waiting self.old)
             result self.new }
-        ensures stops { StopsSo table.now judged self.old result self.new }
+        ensures left { Leaves self.old result self.new }
     {
         let refused = match sender {
             End::A => hear(&mut self.b.end, table, &self.a.waiting, number)?,
@@ -128,7 +128,6 @@ impl<'r> Progress<'r> {
     }
 
     /// The message of that number from an end is delivered, behind what is lost before it.
-    #[tactic(auto, using(crate::proofs::StandsLaws::stands_front))]
     fn deliver(
         &mut self,
         table: &Table,
@@ -140,7 +139,7 @@ impl<'r> Progress<'r> {
         requires room { load self.old + 1 < 2 ^ 128 }
         requires count { unheard_load self.old + 1 < 2 ^ 64 }
         ensures delivered { YieldsInMemory (message_received judged table.now sender number self.old) result self.new }
-        ensures stops { StopsSo table.now judged self.old result self.new }
+        ensures left { Leaves (front_lost judged sender self.old) result self.new }
         ensures grows { OnOk result (HasNoMore self.old self.new) }
     {
         self.lose_front(judged, sender)?;
@@ -148,7 +147,6 @@ impl<'r> Progress<'r> {
     }
 
     /// The messages among these entries that come to an end that is judged are delivered, in the order of their numbers.
-    #[tactic(auto, using(crate::proofs::StandsLaws::heard_is, crate::proofs::StandsLaws::stands_received))]
     fn deliver_all(
         &mut self,
         table: &Table,
@@ -159,7 +157,7 @@ impl<'r> Progress<'r> {
         requires room { load self.old + 1 < 2 ^ 128 }
         requires count { unheard_load self.old + 1 < 2 ^ 64 }
         ensures delivered { YieldsInMemory (deliveries_kept judged table.now entries.now numbers.now self.old) result self.new }
-        ensures stops { StopsSo table.now judged self.old result self.new }
+        ensures left { Leaves (deliveries_left judged table.now entries.now numbers.now self.old) result self.new }
         ensures grows { OnOk result (HasNoMore self.old self.new) }
     {
         for number in numbers {
@@ -172,7 +170,6 @@ impl<'r> Progress<'r> {
 
     /// What happens in the gap before the next entry: the closings and the expiries of the ends that are judged, and the deliveries to
     /// them.
-    #[tactic(auto, using(crate::proofs::StandsLaws::stands_closings, crate::proofs::StandsLaws::stands_expiries))]
     pub(crate) fn pass_gap(
         &mut self,
         table: &Table,
@@ -188,7 +185,7 @@ impl<'r> Progress<'r> {
         requires room { load self.old < 2 ^ 127 }
         requires count { unheard_load self.old < 2 ^ 63 }
         ensures passed { YieldsInMemory (gap_kept judged table.now certificate.now entries.now since self.old) result self.new }
-        ensures stops { StopsSo table.now judged self.old result self.new }
+        ensures left { Leaves (gap_left judged table.now certificate.now entries.now since self.old) result self.new }
         ensures grows { OnOk result (GrewBy (2 ^ 66) 0 self.old self.new) }
     {
         let gap = entries.len();

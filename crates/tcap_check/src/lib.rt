@@ -19,6 +19,7 @@ mod sending;
 mod step;
 mod steps;
 mod taking;
+pub mod worked_so_far;
 
 pub use buckets::Buckets;
 pub use checker::{Checker, Report};

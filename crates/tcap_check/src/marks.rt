@@ -1,14 +1,12 @@
 //! What a checker does at a quiet mark (Q.774 3.2 and 3.3).
 
-ghost use Rattle.std.specs.Prelude.{◌≡◌, ◌<◌, ◌+◌, ◌^◌, length, None, Option, OnOk, Some};
+ghost use Rattle.std.specs.Prelude.{◌≡◌, ◌<◌, ◌+◌, ◌^◌, length, None, OnOk, Some};
 ghost use Rattle.tcap_end.specs.Hidden.{close};
 ghost use Rattle.tcap_model.specs.Run.{Closes};
 ghost use Rattle.tcap_check.specs.Hearing.{alone_marked, halves_closed, halves_quieted, halves_shut, mark_taken};
 ghost use Rattle.tcap_check.specs.Progress.{GrewBy, Yields, YieldsInMemory, end_moved, load, quiet_kept, seat_at, unheard_load};
-ghost use Rattle.tcap_record.specs.declared.entry.End.{End as Side};
-ghost use Rattle.tcap_end.specs.Table.{Table as Operations};
 ghost use Rattle.tcap_certificate.specs.Replayed.{fault_at};
-ghost use Rattle.tcap_check.specs.Stands.{StopsSo};
+ghost use Rattle.tcap_check.specs.Left.{IsListing, Leaves, halves_left, mark_left, quiet_left};
 ghost use Rattle.tcap_model.specs.declared.reason.Reason.TheVariants.{NotQuiet};
 
 use crate::progress::{OUT_OF_MEMORY, Progress, copy_name};
@@ -68,7 +66,7 @@ impl Progress<'_> {
         requires room { self.old.moves + 1 < 2 ^ 128 }
         ensures closed { YieldsInMemory (end_moved «side» (Closes «side» name) (fault_at NotQuiet number) self.old
             (close table.now (seat_at «side» self.old).end name)) result self.new }
-        ensures stops { (judged : Option Side) → StopsSo table.now judged self.old result self.new }
+        ensures left { Leaves self.old result self.new }
         ensures grows { OnOk result (self.new.moves ≡ self.old.moves + 1) }
     {
         let own = copy_name(&name);
@@ -84,7 +82,6 @@ impl Progress<'_> {
     }
 
     /// Halves of an end close unseen, one after the other, before the mark of that number.
-    #[tactic(auto, using(crate::proofs::StandsLaws::stands_half))]
     fn close_each(
         &mut self,
         table: &Table,
@@ -94,7 +91,7 @@ impl Progress<'_> {
     ) -> Result<(), CheckFault>
         requires room { self.old.moves + length names.now < 2 ^ 128 }
         ensures closed { YieldsInMemory (halves_shut side table.now number names.now self.old) result self.new }
-        ensures stops { (judged : Option Side) → StopsSo table.now judged self.old result self.new }
+        ensures left { Leaves (halves_left side table.now number names.now self.old) result self.new }
     {
         for name in names {
             self.close_half(table, side, copy_name(name), number)?;
@@ -106,7 +103,7 @@ impl Progress<'_> {
     fn be_quiet(&mut self, number: u64) -> Result<(), CheckFault>
         requires room { self.old.moves + 1 < 2 ^ 128 }
         ensures quiet { YieldsInMemory (quiet_kept number self.old) result self.new }
-        ensures stops { (table : Operations) → (judged : Option Side) → StopsSo table judged self.old result self.new }
+        ensures left { Leaves self.old result self.new }
         ensures grows { OnOk result (GrewBy 1 0 self.old self.new) }
     {
         let nothing = self.a.waiting.is_empty() && self.b.waiting.is_empty();
@@ -123,7 +120,7 @@ impl Progress<'_> {
 
     /// A quiet mark where one end alone is judged and steps are listed: its open halves close one after the other, so that it is known
     /// which of them may not.
-    #[tactic(auto, using(crate::proofs::KeptGrowth::shut_grows, crate::proofs::StandsLaws::stands_shut, crate::proofs::StandsLaws::stands_last))]
+    #[tactic(auto, using(crate::proofs::KeptGrowth::shut_grows))]
     fn mark_listed(
         &mut self,
         alloc: Global,
@@ -134,7 +131,7 @@ impl Progress<'_> {
         requires room { load self.old < 2 ^ 126 }
         requires count { unheard_load self.old < 2 ^ 63 }
         ensures taken { YieldsInMemory (alone_marked alone table.now number self.old) result self.new }
-        ensures stops { StopsSo table.now (Some «alone») self.old result self.new }
+        ensures left { Leaves (quiet_left (Some «alone») table.now number self.old) result self.new }
         ensures grows { OnOk result (GrewBy (2 ^ 66) 0 self.old self.new) }
     {
         let Ok(names) = self.seat(alone).end.open_halves(alloc) else {
@@ -158,7 +155,7 @@ impl Progress<'_> {
         requires room { load self.old < 2 ^ 126 }
         requires count { unheard_load self.old < 2 ^ 63 }
         ensures taken { YieldsInMemory (mark_taken judged table.now number takes.now self.old) result self.new }
-        ensures stops { StopsSo table.now judged self.old result self.new }
+        ensures left { IsListing self.old → Leaves (mark_left judged table.now number takes.now self.old) result self.new }
         ensures grows { OnOk result (GrewBy (2 ^ 66) 0 self.old self.new) }
     {
         if !takes.is_empty() {

@@ -9,7 +9,7 @@ ghost use Rattle.tcap_certificate.specs.Replayed.{closings_judged, expiries_judg
 ghost use Rattle.tcap_check.specs.Progress.{IsMemory, YieldsInMemory, closing_kept, closings_kept, count_kept, discard_told, empty_seat};
 ghost use Rattle.tcap_check.specs.Progress.{expiries_kept, expiry_kept, half_closes, invocation_ends, nothing_kept, seat_at, with_told};
 ghost use Rattle.tcap_record.specs.declared.entry.End.{End as Side};
-ghost use Rattle.tcap_check.specs.Stands.{StopsSo};
+ghost use Rattle.tcap_check.specs.Left.{Leaves, closings_left, expiries_left};
 ghost use Rattle.tcap_check.specs.Told.{discard_of, event_of, told_if, told_of};
 
 use crate::held::Held;
@@ -181,7 +181,7 @@ impl<'r> Progress<'r> {
     fn close(&mut self, table: &Table, x: &Closing, name: HalfName) -> Result<(), CheckFault>
         requires room { self.old.moves + 1 < 2 ^ 128 }
         ensures closed { YieldsInMemory (half_closes table.now x.now name self.old) result self.new }
-        ensures stops { (judged : Option Side) → StopsSo table.now judged self.old result self.new }
+        ensures left { Leaves self.old result self.new }
     {
         let own = copy_name(&name);
         let closed = match x.side {
@@ -208,7 +208,7 @@ impl<'r> Progress<'r> {
     ) -> Result<(), CheckFault>
         requires room { self.old.moves + 1 < 2 ^ 128 }
         ensures ended { YieldsInMemory (invocation_ends table.now x.now (name, id) self.old) result self.new }
-        ensures stops { (judged : Option Side) → StopsSo table.now judged self.old result self.new }
+        ensures left { Leaves self.old result self.new }
     {
         let own = copy_name(&name);
         let ended = match x.side {
@@ -235,7 +235,7 @@ impl<'r> Progress<'r> {
     ) -> Result<(), CheckFault>
         requires room { self.old.moves + 1 < 2 ^ 128 }
         ensures closed { YieldsInMemory (closing_kept table.now entries.now since x.now self.old) result self.new }
-        ensures stops { (judged : Option Side) → StopsSo table.now judged self.old result self.new }
+        ensures left { Leaves self.old result self.new }
         ensures grows { OnOk result (self.new.moves ≡ self.old.moves + 1) }
     {
         let Some(name) = half_closed(entries, since, x) else {
@@ -257,7 +257,7 @@ impl<'r> Progress<'r> {
     ) -> Result<(), CheckFault>
         requires room { self.old.moves + 1 < 2 ^ 128 }
         ensures ended { YieldsInMemory (expiry_kept table.now entries.now since x.now self.old) result self.new }
-        ensures stops { (judged : Option Side) → StopsSo table.now judged self.old result self.new }
+        ensures left { Leaves self.old result self.new }
         ensures grows { OnOk result (self.new.moves ≡ self.old.moves + 1) }
     {
         let Some((name, id)) = invocation_ended(entries, since, x) else {
@@ -271,7 +271,7 @@ impl<'r> Progress<'r> {
 
     /// Closes halves of the ends that are judged unseen, in the order in which they are listed. What is listed of a peer that is not is
     /// passed over.
-    #[tactic(auto, using(crate::proofs::HearingLaws::closes_first, crate::proofs::HearingLaws::closes_none, crate::proofs::StandsLaws::stands_closing))]
+    #[tactic(auto, using(crate::proofs::HearingLaws::closes_first, crate::proofs::HearingLaws::closes_none))]
     pub(crate) fn close_all(
         &mut self,
         table: &Table,
@@ -283,7 +283,7 @@ impl<'r> Progress<'r> {
         requires room { self.old.moves + length closings.now < 2 ^ 128 }
         ensures closed { YieldsInMemory (closings_kept table.now entries.now since (closings_judged judged closings.now) self.old) result
             self.new }
-        ensures stops { StopsSo table.now judged self.old result self.new }
+        ensures left { Leaves (closings_left table.now entries.now since (closings_judged judged closings.now) self.old) result self.new }
     {
         for x in closings {
             if is_judged(judged, x.side) {
@@ -295,7 +295,7 @@ impl<'r> Progress<'r> {
 
     /// Ends invocations of the ends that are judged unseen, in the order in which they are listed. What is listed of a peer that is not
     /// is passed over.
-    #[tactic(auto, using(crate::proofs::HearingLaws::ends_first, crate::proofs::HearingLaws::ends_none, crate::proofs::StandsLaws::stands_expiry))]
+    #[tactic(auto, using(crate::proofs::HearingLaws::ends_first, crate::proofs::HearingLaws::ends_none))]
     pub(crate) fn expire_all(
         &mut self,
         table: &Table,
@@ -307,7 +307,7 @@ impl<'r> Progress<'r> {
         requires room { self.old.moves + length expiries.now < 2 ^ 128 }
         ensures ended { YieldsInMemory (expiries_kept table.now entries.now since (expiries_judged judged expiries.now) self.old) result
             self.new }
-        ensures stops { StopsSo table.now judged self.old result self.new }
+        ensures left { Leaves (expiries_left table.now entries.now since (expiries_judged judged expiries.now) self.old) result self.new }
     {
         for x in expiries {
             if is_judged(judged, x.side) {

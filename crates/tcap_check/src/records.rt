@@ -14,7 +14,8 @@ ghost use Rattle.tcap_certificate.specs.Replayed.{fault_at, replay_by, replayed_
 ghost use Rattle.tcap_check.specs.Checking.{Took, TookListed, answer_of, kept_next, map_ok, reported};
 ghost use Rattle.tcap_check.specs.Progress.{YieldsInMemory};
 ghost use Rattle.tcap_check.specs.Ready.{IsReady, checking_of, kept_in};
-ghost use Rattle.tcap_check.specs.Stands.{UnlessMemory, ShowsAmong, ShowsItem, StandsAmong, StopsSo};
+ghost use Rattle.tcap_check.specs.Stands.{IfRefused, IsListed, ShowsAmong, ShowsItem, StandsAmong};
+ghost use Rattle.tcap_check.specs.Left.{Leaves, entry_left};
 ghost use Rattle.tcap_check.specs.declared.checker.Report.{Report as Reported};
 
 use crate::checker::{Checker, Report};
@@ -55,7 +56,8 @@ impl<'r> Replaying<'_, 'r> {
         requires ready { IsReady self.old }
         ensures taken { YieldsInMemory (kept_next self.old.judged self.old.table.now self.old.certificate.now
             (item_of entry.now) (kept_in self.old)) result (kept_in self.new) }
-        ensures stops { StopsSo self.old.table.now self.old.judged self.old.progress result self.new.progress }
+        ensures left { IsListed self.old → Leaves (entry_left self.old.judged self.old.table.now self.old.certificate.now (item_of entry.now)
+            (kept_in self.old)) result self.new.progress }
         ensures shows { ShowsItem self.old.table.now (length self.old.entries.items) (item_of entry.now) result self.new.progress }
         ensures ready { OnOk result (IsReady self.new) }
         ensures judged { self.new.judged ≡ self.old.judged }
@@ -78,7 +80,7 @@ impl<'r> Replaying<'_, 'r> {
         ensures refused { (listed : Bool) (f : Refusal) → TookListed listed (checking_of self.old) [] → result ≡ Err f
             → f ≢ fault_at reasons.Memory 0 → replay_by self.old.judged self.old.table.now self.old.certificate.now
             (map item_of «record».now.entries.items) ≡ Err f }
-        ensures so_far { TookListed true (checking_of self.old) [] → UnlessMemory result (StandsAmong self.old.table.now self.old.certificate.now
+        ensures so_far { TookListed true (checking_of self.old) [] → IfRefused result (StandsAmong self.old.table.now self.old.certificate.now
             self.old.judged «record».now.entries.items self.new.progress) }
         ensures shows { TookListed true (checking_of self.old) [] → ShowsAmong self.old.table.now «record».now.entries.items result
             self.new.progress }

@@ -7,13 +7,13 @@ ghost use Rattle.tcap_model.specs.declared.reason.Reason.TheVariants as reasons;
 ghost use Rattle.tcap_model.specs.World.{Item, Sent};
 ghost use Rattle.tcap_check.specs.Outlines.{outline_of};
 ghost use Rattle.tcap_check.specs.Progress.{GrewBy, YieldsInMemory, load, overtakes, seat_at, unheard_load};
-ghost use Rattle.tcap_certificate.specs.Replayed.{Replay, certificate_fits, discards_by, fault_at, is_gap, run_by};
+ghost use Rattle.tcap_certificate.specs.Replayed.{certificate_fits, discards_by, fault_at, is_gap, run_by};
 ghost use Rattle.tcap_check.specs.Told.{discards_of, events_of};
 ghost use Rattle.tcap_check.specs.Checking.{TookListed, gap_before, is_alone, kept_ended, kept_next, map_ok, reading, reported, tied_now};
 ghost use Rattle.tcap_check.specs.Hearing.{mark_taken, message_taken};
 ghost use Rattle.tcap_check.specs.Plan.{IsPlan, flag_by};
-ghost use Rattle.tcap_certificate.specs.Certificate.{Certificate as Certified};
-ghost use Rattle.tcap_check.specs.Stands.{UnlessMemory, ShowsSend, StandsFor, StopsSo};
+ghost use Rattle.tcap_check.specs.Left.{IsListing, Leaves, end_left, entry_left, gap_left, mark_left, taken_left};
+ghost use Rattle.tcap_check.specs.Stands.{IsListed, ShowsSend, UnlessMemory};
 ghost use Rattle.tcap_check.specs.Ready.{IsReady, IsSameBesideEntries, IsSameBesideProgress, checking_of, kept_in};
 
 use crate::checker::Report;
@@ -135,7 +135,8 @@ impl<'a, 'r> Replaying<'a, 'r> {
         requires ready { IsReady self.old }
         ensures passed { YieldsInMemory (gap_before self.old.judged self.old.table.now self.old.certificate.now
             (kept_in self.old)) result self.new.progress }
-        ensures stops { StopsSo self.old.table.now self.old.judged self.old.progress result self.new.progress }
+        ensures left { Leaves (gap_left self.old.judged self.old.table.now self.old.certificate.now self.old.entries.items self.old.since
+            self.old.progress) result self.new.progress }
         ensures grows { OnOk result (GrewBy (2 ^ 66) 0 self.old.progress self.new.progress) }
         ensures others { IsSameBesideProgress self.old self.new }
     {
@@ -192,7 +193,8 @@ impl<'a, 'r> Replaying<'a, 'r> {
         ensures taken { YieldsInMemory (message_taken self.old.judged self.old.table.now side fate (length self.old.entries.items)
             (M.meaning message.now) (tied_now self.old.judged self.old.certificate.now (kept_in self.old)) self.old.progress) result
             self.new.progress }
-        ensures stops { StopsSo self.old.table.now self.old.judged self.old.progress result self.new.progress }
+        ensures left { Leaves (taken_left self.old.judged self.old.table.now side (M.meaning message.now)
+            (tied_now self.old.judged self.old.certificate.now (kept_in self.old)) self.old.progress) result self.new.progress }
         ensures shows { ShowsSend self.old.table.now side (length self.old.entries.items) (M.meaning message.now) result self.new.progress }
         ensures grows { OnOk result (GrewBy (2 ^ 65) 1 self.old.progress self.new.progress) }
         ensures others { IsSameBesideProgress self.old self.new }
@@ -213,7 +215,7 @@ impl<'a, 'r> Replaying<'a, 'r> {
     }
 
     /// The next entry is a message that an end sent; it is lent, where it outlives the replay.
-    #[tactic(auto, using(crate::proofs::StandsLaws::stands_gap, crate::proofs::SendShows::gap_shows))]
+    #[tactic(auto, using(crate::proofs::SendShows::gap_shows))]
     fn take_message<M: MessageParts>(
         &mut self,
         side: End,
@@ -224,7 +226,8 @@ impl<'a, 'r> Replaying<'a, 'r> {
         requires same { IfSome lent (λ lent. lent.now ≡ M.meaning message.now) }
         ensures taken { YieldsInMemory (kept_next self.old.judged self.old.table.now self.old.certificate.now
             (Ok (Sent side (M.meaning message.now))) (kept_in self.old)) result (kept_in self.new) }
-        ensures stops { StopsSo self.old.table.now self.old.judged self.old.progress result self.new.progress }
+        ensures left { Leaves (entry_left self.old.judged self.old.table.now self.old.certificate.now (Ok (Sent side (M.meaning message.now)))
+            (kept_in self.old)) result self.new.progress }
         ensures shows { ShowsSend self.old.table.now side (length self.old.entries.items) (M.meaning message.now) result self.new.progress }
         ensures ready { OnOk result (IsReady self.new) }
         ensures judged { self.new.judged ≡ self.old.judged }
@@ -245,7 +248,8 @@ impl<'a, 'r> Replaying<'a, 'r> {
         requires ready { IsReady self.old }
         ensures taken { YieldsInMemory (kept_next self.old.judged self.old.table.now self.old.certificate.now
             (Ok (Sent side message.now)) (kept_in self.old)) result (kept_in self.new) }
-        ensures stops { StopsSo self.old.table.now self.old.judged self.old.progress result self.new.progress }
+        ensures left { Leaves (entry_left self.old.judged self.old.table.now self.old.certificate.now (Ok (Sent side message.now)) (kept_in self.old))
+            result self.new.progress }
         ensures shows { ShowsSend self.old.table.now side (length self.old.entries.items) message.now result self.new.progress }
         ensures ready { OnOk result (IsReady self.new) }
         ensures judged { self.new.judged ≡ self.old.judged }
@@ -264,7 +268,8 @@ impl<'a, 'r> Replaying<'a, 'r> {
         requires count { unheard_load self.old.progress < 2 ^ 63 }
         ensures quiet { YieldsInMemory (mark_taken self.old.judged self.old.table.now (length self.old.entries.items)
             (tied_now self.old.judged self.old.certificate.now (kept_in self.old)) self.old.progress) result self.new.progress }
-        ensures stops { StopsSo self.old.table.now self.old.judged self.old.progress result self.new.progress }
+        ensures left { IsListing self.old.progress → Leaves (mark_left self.old.judged self.old.table.now (length self.old.entries.items)
+            (tied_now self.old.judged self.old.certificate.now (kept_in self.old)) self.old.progress) result self.new.progress }
         ensures grows { OnOk result (GrewBy (2 ^ 66) 0 self.old.progress self.new.progress) }
         ensures others { IsSameBesideProgress self.old self.new }
     {
@@ -285,7 +290,8 @@ impl<'a, 'r> Replaying<'a, 'r> {
         requires ready { IsReady self.old }
         ensures taken { YieldsInMemory (kept_next self.old.judged self.old.table.now self.old.certificate.now
             (Ok Item.Quiet) (kept_in self.old)) result (kept_in self.new) }
-        ensures stops { StopsSo self.old.table.now self.old.judged self.old.progress result self.new.progress }
+        ensures left { IsListed self.old → Leaves (entry_left self.old.judged self.old.table.now self.old.certificate.now (Ok Item.Quiet)
+            (kept_in self.old)) result self.new.progress }
         ensures ready { OnOk result (IsReady self.new) }
         ensures judged { self.new.judged ≡ self.old.judged }
         ensures table { self.new.table ≡ self.old.table }
@@ -333,13 +339,12 @@ impl<'a, 'r> Replaying<'a, 'r> {
     }
 
     /// No entry is left: the last gap, and the loss of what is still on its way.
-    #[tactic(auto, using(crate::proofs::StandsLaws::stands_gap, crate::proofs::StandsLaws::stands_last))]
     pub(crate) fn end(&mut self) -> Result<(), CheckFault>
         requires ready { IsReady self.old }
         ensures ended { YieldsInMemory (kept_ended self.old.judged self.old.table.now self.old.certificate.now (kept_in self.old)) result
             self.new.progress }
-        ensures left { (c : Certified) (start : Replay) → StandsFor self.old.table.now c self.old.judged start self.old.progress
-            → UnlessMemory result (StandsFor self.old.table.now c self.old.judged start self.new.progress) }
+        ensures left { UnlessMemory result (self.new.progress
+            ≡ end_left self.old.judged self.old.table.now self.old.certificate.now (kept_in self.old)) }
     {
         if self.entries.len() != self.certificate.fates().len() {
             return Err(self.refusal(Reason::FateCount));

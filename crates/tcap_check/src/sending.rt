@@ -1,6 +1,6 @@
 //! What a checker does where an end sends a message, or its provider answers one (Q.774 3.2 and 3.3).
 
-ghost use Rattle.std.specs.Prelude.{◌≡◌, ◌<◌, ◌≤◌, ◌+◌, ◌^◌, [], ◌∷◌, Err, Option, true, length, filter_map, IfOk, IfSome, OnErr, OnOk};
+ghost use Rattle.std.specs.Prelude.{◌≡◌, ◌<◌, ◌≤◌, ◌+◌, ◌^◌, [], ◌∷◌, Err, length, filter_map, IfOk, IfSome, OnErr, OnOk};
 ghost use Rattle.tcap_parts.specs.Meaning.{component_of};
 ghost use Rattle.tcap_msg.specs.Parts.{components_in};
 ghost use Rattle.tcap_end.specs.Step.{AnswersInMemory};
@@ -8,14 +8,13 @@ ghost use Rattle.tcap_end.specs.Message.{send};
 ghost use Rattle.tcap_record.specs.Ends.{other};
 ghost use Rattle.tcap_model.specs.declared.reason.Reason.TheVariants.{Memory};
 ghost use Rattle.tcap_certificate.specs.Follows.{invoke_id, invoking_half};
-ghost use Rattle.tcap_check.specs.Progress.{GrewBy, IsAsMany, IsMemory, YieldsInMemory, end_tried, first_answered, first_may_be_answered};
+ghost use Rattle.tcap_check.specs.Progress.{GrewBy, IsAsMany, IsMemory, YieldsInMemory, end_tried, first_answered, first_may_be_answered, front_lost};
 ghost use Rattle.tcap_check.specs.Progress.{ids_ended_over, invoked_ended, load, may_be_answered, message_kept, overtakes, reply_kept};
 ghost use Rattle.tcap_check.specs.Progress.{seat_at, seat_with, send_kept, sending, sent_by, time_or_zero, unheard_load, with_seat};
 ghost use Rattle.tcap_check.specs.Progress.{with_seat_end, with_told};
-ghost use Rattle.tcap_record.specs.declared.entry.End.{End as Side};
-ghost use Rattle.tcap_end.specs.Table.{Table as Operations};
-ghost use Rattle.tcap_certificate.specs.Replayed.{fault_at, is_heard};
-ghost use Rattle.tcap_check.specs.Stands.{ShowsSend, StopsSo};
+ghost use Rattle.tcap_certificate.specs.Replayed.{fault_at};
+ghost use Rattle.tcap_check.specs.Left.{Leaves, implied_left, message_left};
+ghost use Rattle.tcap_check.specs.Stands.{ShowsSend};
 
 use crate::held::Held;
 use crate::progress::{OUT_OF_MEMORY, Progress, Seat, Waiting, copy_name};
@@ -290,7 +289,7 @@ impl<'r> Progress<'r> {
         requires same { IfSome lent (λ lent. lent.now ≡ M.meaning message.now) }
         ensures sent { YieldsInMemory (send_kept table.now side fate number (M.meaning message.now) self.old) result
             self.new }
-        ensures stops { (judged : Option Side) → StopsSo table.now judged self.old result self.new }
+        ensures left { Leaves (implied_left table.now side (M.meaning message.now) self.old) result self.new }
         ensures shows { ShowsSend table.now side number (M.meaning message.now) result self.new }
         ensures grows { OnOk result (GrewBy (2 ^ 65) 1 self.old self.new) }
     {
@@ -302,7 +301,6 @@ impl<'r> Progress<'r> {
     }
 
     /// An end sends a message, once each earlier invocation ended whose ID it invokes anew.
-    #[tactic(auto, using(crate::proofs::StandsLaws::stands_ended))]
     fn send_anew<M: MessageParts>(
         &mut self,
         alloc: Global,
@@ -317,7 +315,7 @@ impl<'r> Progress<'r> {
         requires same { IfSome lent (λ lent. lent.now ≡ M.meaning message.now) }
         ensures sent { YieldsInMemory (send_kept table.now side fate number (M.meaning message.now) self.old) result
             self.new }
-        ensures stops { (judged : Option Side) → StopsSo table.now judged self.old result self.new }
+        ensures left { Leaves (implied_left table.now side (M.meaning message.now) self.old) result self.new }
         ensures shows { ShowsSend table.now side number (M.meaning message.now) result self.new }
         ensures grows { OnOk result (GrewBy (2 ^ 65) 1 self.old self.new) }
     {
@@ -364,7 +362,7 @@ impl<'r> Progress<'r> {
         requires same { IfSome lent (λ lent. lent.now ≡ A.meaning abort.now) }
         ensures answered { YieldsInMemory (first_answered side fate number (A.meaning abort.now) taken
             (seat_at (other side) self.old).waiting self.old) result self.new }
-        ensures stops { (table : Operations) → (judged : Option Side) → StopsSo table judged self.old result self.new }
+        ensures left { Leaves self.old result self.new }
     {
         if !self.may_answer(side, abort, taken) {
             return Err(CheckFault {
@@ -378,7 +376,6 @@ impl<'r> Progress<'r> {
     }
 
     /// The same, behind what is lost before it.
-    #[tactic(auto, using(crate::proofs::StandsLaws::stands_front))]
     fn answer<A: MessageParts>(
         &mut self,
         alloc: Global,
@@ -394,7 +391,7 @@ impl<'r> Progress<'r> {
         requires count { unheard_load self.old < 2 ^ 63 }
         requires same { IfSome lent (λ lent. lent.now ≡ A.meaning abort.now) }
         ensures answered { YieldsInMemory (reply_kept judged side fate number (A.meaning abort.now) taken self.old) result self.new }
-        ensures stops { (table : Operations) → is_heard judged (other side) ≡ true → StopsSo table judged self.old result self.new }
+        ensures left { Leaves (front_lost judged (other side) self.old) result self.new }
         ensures grows { OnOk result (GrewBy 2 1 self.old self.new) }
     {
         self.lose_front(judged, side.other())?;
@@ -421,7 +418,7 @@ impl<'r> Progress<'r> {
         requires same { IfSome lent (λ lent. lent.now ≡ M.meaning message.now) }
         ensures taken { YieldsInMemory (message_kept judged table.now side fate number (M.meaning message.now) taken.now self.old)
             result self.new }
-        ensures stops { is_heard judged (other side) ≡ true → StopsSo table.now judged self.old result self.new }
+        ensures left { Leaves (message_left judged table.now side (M.meaning message.now) taken.now self.old) result self.new }
         ensures shows { ShowsSend table.now side number (M.meaning message.now) result self.new }
         ensures grows { OnOk result (GrewBy (2 ^ 65) 1 self.old self.new) }
     {

@@ -1,10 +1,9 @@
 //! What a checker does with a message: an end that is judged sends it, or its provider, or its peer tells it (Q.774 3.2 and 3.3).
 
-ghost use Rattle.std.specs.Prelude.{◌≡◌, ◌<◌, ◌^◌, true, Option, IfSome, OnOk};
-ghost use Rattle.tcap_record.specs.declared.entry.End.{End as Side};
-ghost use Rattle.tcap_end.specs.Table.{Table as Operations};
-ghost use Rattle.tcap_check.specs.Stands.{ShowsSend, StopsSo};
-ghost use Rattle.tcap_check.specs.Hearing.{is_judged, message_taken, own_taken, told_taken};
+ghost use Rattle.std.specs.Prelude.{◌≡◌, ◌<◌, ◌^◌, IfSome, OnOk};
+ghost use Rattle.tcap_check.specs.Left.{Leaves, message_left, taken_left};
+ghost use Rattle.tcap_check.specs.Stands.{ShowsSend};
+ghost use Rattle.tcap_check.specs.Hearing.{message_taken, own_taken, told_taken};
 ghost use Rattle.tcap_check.specs.Progress.{GrewBy, YieldsInMemory, load, unheard_load};
 
 use crate::progress::{Progress, is_judged};
@@ -19,7 +18,7 @@ use tcap_record::End;
 impl<'r> Progress<'r> {
     /// A message with that number and fate that an end sends which is judged, or by which its provider answers the message that it
     /// takes. Where that end alone is judged it is lost at once, whatever its fate.
-    #[tactic(auto, using(crate::proofs::StandsLaws::judged_heard, crate::proofs::SendShows::memory_shows))]
+    #[tactic(auto, using(crate::proofs::SendShows::memory_shows))]
     fn take_own<M: MessageParts>(
         &mut self,
         alloc: Global,
@@ -37,7 +36,7 @@ impl<'r> Progress<'r> {
         requires same { IfSome lent (λ lent. lent.now ≡ M.meaning message.now) }
         ensures taken { YieldsInMemory (own_taken judged table.now side fate number (M.meaning message.now) takes.now self.old)
             result self.new }
-        ensures stops { is_judged judged side ≡ true → StopsSo table.now judged self.old result self.new }
+        ensures left { Leaves (message_left judged table.now side (M.meaning message.now) takes.now self.old) result self.new }
         ensures shows { ShowsSend table.now side number (M.meaning message.now) result self.new }
         ensures grows { OnOk result (GrewBy (2 ^ 65) 1 self.old self.new) }
     {
@@ -78,7 +77,7 @@ impl<'r> Progress<'r> {
         requires room { self.old.moves < 2 ^ 127 }
         requires same { IfSome lent (λ lent. lent.now ≡ M.meaning message.now) }
         ensures taken { YieldsInMemory (told_taken side fate number (M.meaning message.now) takes.now self.old) result self.new }
-        ensures stops { (table : Operations) → (judged : Option Side) → StopsSo table judged self.old result self.new }
+        ensures left { Leaves self.old result self.new }
         ensures grows { OnOk result (GrewBy (2 ^ 65) 1 self.old self.new) }
     {
         if !takes.is_empty() {
@@ -110,7 +109,7 @@ impl<'r> Progress<'r> {
         requires same { IfSome lent (λ lent. lent.now ≡ M.meaning message.now) }
         ensures taken { YieldsInMemory (message_taken judged table.now side fate number (M.meaning message.now) takes.now self.old)
             result self.new }
-        ensures stops { StopsSo table.now judged self.old result self.new }
+        ensures left { Leaves (taken_left judged table.now side (M.meaning message.now) takes.now self.old) result self.new }
         ensures shows { ShowsSend table.now side number (M.meaning message.now) result self.new }
         ensures grows { OnOk result (GrewBy (2 ^ 65) 1 self.old self.new) }
     {

@@ -6,3 +6,4 @@ pub mod SceneLaws
 pub mod AskedLaws
 pub mod TextLaws
 pub mod FindingLaws
+pub mod NamedLaws

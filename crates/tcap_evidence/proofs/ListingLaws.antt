@@ -8,7 +8,7 @@ use Rattle.tcap_msg.specs.declared.message.Message.{Message}
 use Rattle.tcap_msg.specs.Parts.{dialogue_in}
 use Rattle.tcap_end.specs.Dialogue.{is_response}
 use Rattle.tcap_evidence.specs.declared.sent.Sent.{Sent as SentEntry}
-use Rattle.tcap_evidence.specs.Numbered.{Numbered, entries_where, numbered_of}
+use Rattle.tcap_evidence.specs.Numbered.{Numbered, entries_where, inserted, numbered_of}
 use Rattle.tcap_evidence.specs.Scene.{since_first}
 
 -- what is made of what is left
@@ -109,3 +109,9 @@ module _ (test : Component → Bool) (number : ℕ) (cs : List ComponentView) (i
 -- these, where one has come; else those from the first on
 abbrev pub come_of : Bool → List Numbered → List Numbered
 come_of has_come sent = cond has_come sent (since_first (λ n. is_response (dialogue_in n.1)) sent)
+
+-- ---- in order
+
+-- these, and before them that one in its place, if it has not come
+abbrev pub placed : Bool → Numbered → List Numbered → List Numbered
+placed has_come n sent = cond has_come sent (inserted n sent)

@@ -1,6 +1,6 @@
 -- Messages with the numbers of their entries, since the last quiet mark; and the entries of those, or of the components in them,
 -- that pass a test.
-use Rattle.std.specs.Prelude.{ℕ, ◌+◌, List, [], ◌∷◌, ◌++◌, filter, flat_map, map, take, Bool, Option, Some, None, Result, Ok, Err, cond}
+use Rattle.std.specs.Prelude.{ℕ, ◌+◌, List, [], ◌∷◌, ◌++◌, filter, flat_map, map, take, Bool, Option, Some, None, Result, Ok, Err, cond, nat_lt}
 use Rattle.tcap_parts.specs.declared.component.Component.{Component}
 use Rattle.tcap_msg.specs.declared.message.Message.{Message}
 use Rattle.tcap_msg.specs.Parts.{components_in}
@@ -41,3 +41,13 @@ entries_where passes sent = map (λ s. s.0) (filter (λ s. passes s.1) sent)
 -- the entries of the components that pass a test, an entry as often as it has such a component
 abbrev pub entries_with : (Component → Bool) → List Numbered → List ℕ
 entries_with passes sent = flat_map (λ s. map (λ c. s.0) (filter passes (components_in s.1))) sent
+
+-- with a message before the first of these whose number is not lower
+abbrev pub inserted : Numbered → List Numbered → List Numbered
+inserted n [] = n ∷ []
+inserted n (k ∷ more) = cond (nat_lt k.0 n.0) (k ∷ inserted n more) (n ∷ k ∷ more)
+
+-- these by their numbers, if all but the first are
+abbrev pub in_order : List Numbered → List Numbered
+in_order [] = []
+in_order (n ∷ more) = inserted n more

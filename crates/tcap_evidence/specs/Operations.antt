@@ -19,7 +19,7 @@ use Rattle.tcap_refute.specs.Before.{is_invoke_id}
 use Rattle.tcap_faults.specs.declared.subject.Subject.{Subject}
 use Rattle.tcap_faults.specs.Subject.{subject_of}
 use Rattle.tcap_evidence.specs.declared.operations.Invocation.{Invocation}
-use Rattle.tcap_evidence.specs.Numbered.{Numbered}
+use Rattle.tcap_evidence.specs.Numbered.{Numbered, in_order}
 use Rattle.tcap_evidence.specs.Scene.{Scene, heard_by, invoked_by, there}
 use Rattle.tcap_evidence.specs.Evidence.{component_at, scene_of}
 
@@ -50,15 +50,15 @@ rejects_answer (Some (Reject id (problems.ReturnResult n))) = true
 rejects_answer (Some (Reject id (problems.ReturnError n))) = true
 rejects_answer c = false
 
--- The messages whose Invokes a kind compares by their operations or their links. F6 of an answer: those of the peer from there; F11,
+-- The messages, in order, whose Invokes a kind compares by their operations or their links. F6 of an answer: those of the peer from there; F11,
 -- F12, and F13 of a Reject of an Invoke: those that the half heard; F10, and F13 of a Reject of an answer: those that have the
 -- half's own invocations.
 abbrev pub compared : Scene → Kind → Option Component → List Numbered
 compared s kinds.WrongOperation c = cond (answers c) (there s) []
-compared s kinds.InvokeIdBusy c = invoked_by s s.how
-compared s kinds.BadLink c = heard_by s s.how
-compared s kinds.AnsweredAlready c = heard_by s s.how
-compared s kinds.RejectNotAllowed c = cond (rejects_answer c) (invoked_by s s.how) (heard_by s s.how)
+compared s kinds.InvokeIdBusy c = in_order (invoked_by s s.how)
+compared s kinds.BadLink c = in_order (heard_by s s.how)
+compared s kinds.AnsweredAlready c = in_order (heard_by s s.how)
+compared s kinds.RejectNotAllowed c = in_order (cond (rejects_answer c) (invoked_by s s.how) (heard_by s s.how))
 compared s kind c = []
 
 abbrev pub invocations_of : Scene → Kind → Option Component → List Invocation

@@ -28,7 +28,7 @@ use Rattle.tcap_faults.specs.declared.sort.Sort.{Sort}
 use Rattle.tcap_faults.specs.Tallied.{is_sort}
 use Rattle.tcap_evidence.specs.declared.what.What.{What}
 use Rattle.tcap_evidence.specs.declared.what.What.TheVariants as whats
-use Rattle.tcap_evidence.specs.Numbered.{Numbered, entries_where, entries_with}
+use Rattle.tcap_evidence.specs.Numbered.{Numbered, entries_where, entries_with, in_order}
 
 -- What is known of a message at fault.
 pub record Scene : Type 0 where
@@ -106,7 +106,7 @@ invoked_by s Begun = option_to_list (own_begin s) ++ told_there s
 invoked_by s Unanswered = option_to_list (own_begin s) ++ told_there s
 invoked_by s how = told_there s
 
--- ---- the entries that show it
+-- ---- the entries that show it, in order
 
 -- the entries of the components of the invoke ID, of that sort
 abbrev pub with_sort : Scene → Sort → List Numbered → List ℕ
@@ -154,8 +154,8 @@ shown s whats.Ended = entries_where (λ m. is_that s.to (ended_by m)) s.own
 shown s whats.Unknown = entries_where (λ m. is_that s.to (dtid_in m) && is_cause 1 (cause_in m)) s.own
 shown s whats.Refused = entries_where (λ m. is_that s.to (dtid_in m) && is_cause 4 (cause_in m)) s.own
 shown s (whats.There sort) = with_sort s sort (there s)
-shown s (whats.Heard sort) = with_sort s sort (heard_by s s.how)
+shown s (whats.Heard sort) = with_sort s sort (in_order (heard_by s s.how))
 shown s (whats.Before sort) = with_sort s sort (told_there s) ++ with_sort_in s sort s.earlier
 shown s (whats.Whole sort) = with_sort s sort (told_there s) ++ with_sort_in s sort s.all
-shown s (whats.Invoked sort) = with_sort s sort (invoked_by s s.how)
+shown s (whats.Invoked sort) = with_sort s sort (in_order (invoked_by s s.how))
 shown s whats.Open = entries_where (is_open_continue s) s.own

@@ -1,5 +1,5 @@
 -- Words for why nobody is blamed for an entry that is refuted, behind what it breaks.
-use Rattle.std.specs.Prelude.{ℕ, List, [], ◌∷◌, ◌++◌, Option, Some, None, codes}
+use Rattle.std.specs.Prelude.{◌≡◌, ◌<◌, ℕ, true, List, [], ◌∷◌, ◌++◌, map, slice_get, Option, Some, None, codes}
 use Rattle.std.specs.List.{flat_map}
 use Rattle.std.specs.Fmt.{decimal}
 use Rattle.hex.specs.Hex.{encode_lower}
@@ -8,17 +8,27 @@ use Rattle.tcap_record.specs.declared.entry.Entry.{Entry}
 use Rattle.tcap_record.specs.Ends.{letter}
 use Rattle.tcap_record.specs.Lines.{line_end}
 use Rattle.tcap_end.specs.Table.{Table}
+use Rattle.tcap_model.specs.Entries.{item_of}
+use Rattle.tcap_refute.specs.declared.kind.Refutation.{Refutation}
+use Rattle.tcap_refute.specs.Kind.{refuted}
 use Rattle.tcap_faults.specs.declared.why.Tangle.{Tangle}
 use Rattle.tcap_faults.specs.declared.why.Tangle.TheVariants.{TwoIds, BegunTwice, BothBegan, Guessed}
 use Rattle.tcap_faults.specs.declared.why.TangledId.{TangledId}
 use Rattle.tcap_faults.specs.declared.why.Unblamed.{Unblamed}
 use Rattle.tcap_faults.specs.declared.why.Unblamed.TheVariants.{UsedAgain, Tangled}
+use Rattle.tcap_faults.specs.Fault.{blamed}
 use Rattle.tcap_faults.specs.Unblamed.{unblamed_at}
 use Rattle.tcap_evidence.specs.declared.what.What.{What}
 use Rattle.tcap_evidence.specs.declared.what.What.TheVariants as whats
 use Rattle.tcap_evidence.specs.Evidence.{grounds_at}
 use Rattle.tcap_evidence.specs.Pairing.{paired_before}
-use Rattle.tcap_evidence.specs.Words.{entries_words, ground_line}
+use Rattle.tcap_evidence.specs.Words.{entries_words, ground_line, is_for}
+
+-- An entry of that end is refuted, and nobody is blamed for it: no end is blamed for it or for an entry before it.
+pub record IsUnblamed (table : Table) (side : Side) (entries : List Entry) (number : ℕ) : Type 0 where
+  pub of_end : is_for side (slice_get entries number) ≡ true
+  pub is_refuted : (r : Refutation) × (refuted table (map item_of entries) ≡ Some r) × (r.entry ≡ number)
+  pub none : (end : Side) (r : Refutation) → blamed table end entries ≡ Some r → number < r.entry
 
 -- where the IDs of a message stood before
 abbrev pub id_uses : List What

@@ -1,5 +1,5 @@
 -- Words for what a fault rests on: the lines that `explain` prints behind REFUTED and BLAMED.
-use Rattle.std.specs.Prelude.{ℕ, ℤ, ◌-◌, Bool, true, false, List, [], ◌∷◌, ◌++◌, slice_get, take, length, Option, Some, None, ◌&&◌, ◌||◌, not, cond, nat_lt, codes}
+use Rattle.std.specs.Prelude.{ℕ, ℤ, ◌-◌, Bool, true, false, List, [], ◌∷◌, ◌++◌, slice_get, take, length, Option, Some, None, is_none, ◌&&◌, ◌||◌, not, cond, nat_lt, codes}
 use Rattle.std.specs.List.{flat_map}
 use Rattle.std.specs.Fmt.{decimal, signed_decimal}
 use Rattle.hex.specs.Hex.{encode_lower}
@@ -28,6 +28,7 @@ use Rattle.tcap_faults.specs.declared.subject.Subject.{Subject}
 use Rattle.tcap_evidence.specs.declared.operations.Invocation.{Invocation}
 use Rattle.tcap_evidence.specs.declared.what.What.{What}
 use Rattle.tcap_evidence.specs.declared.what.What.TheVariants as whats
+use Rattle.tcap_faults.specs.Fault.{is_entry_of}
 use Rattle.tcap_faults.specs.Subject.{subject_of}
 use Rattle.tcap_evidence.specs.Evidence.{component_at, grounds_of, invoke_id_at}
 use Rattle.tcap_evidence.specs.Operations.{invocations_at}
@@ -52,6 +53,11 @@ kind_words kinds.WrongReply = codes "it is an Abort of the provider that answers
 kind_words kinds.OpenAtMark = codes "a transaction of its end is open at this quiet mark"
 
 -- ---- the entry
+
+-- whether an entry is that end's; a quiet mark, which no end sends, may be of either
+abbrev pub is_for : Side → Option Entry → Bool
+is_for side None = false
+is_for side (Some e) = is_none e.side || is_entry_of side e.side
 
 -- a number of a component, if there is one
 abbrev pub component_words : Option ℕ → List ℕ

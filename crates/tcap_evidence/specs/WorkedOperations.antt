@@ -63,6 +63,12 @@ of_a_link = (refl, refl)
 pub answered : found table (begins (invoke 45 ∷ []) ∷ ends (result ∷ result ∷ []) ∷ []) B 1 kinds.AnsweredAlready ≡ invoked 0 45 None ∷ []
 answered = refl
 
+-- F12: A's Continue came before its Begin, which the half heard first; the invocations are in the order of the entries
+pub in_order : found table
+    (Sent A (further (invoke 46)) ∷ begins (invoke 45 ∷ []) ∷ answers [] ∷ ends (result ∷ result ∷ result ∷ []) ∷ [])
+    B 3 kinds.AnsweredAlready ≡ invoked 0 46 None ∷ invoked 1 45 None ∷ []
+in_order = refl
+
 -- F13: two Rejects of one link; and two of one Return Result, with the own invocation that it answers
 pub rejected : (found table
     (begins (invoke 50 ∷ []) ∷ answers (linked_to 1 ∷ []) ∷ Sent A (further (rejects_link 5)) ∷ Sent A (further (rejects_link 7)) ∷ [])

@@ -14,7 +14,7 @@ ghost use Rattle.tcap_faults.specs.Noted.{invoke_has, reject_has, result_has};
 ghost use Rattle.tcap_faults.specs.Tallied.{is_of_class, is_sort};
 ghost use Rattle.tcap_evidence.specs.Listing.{passes};
 ghost use Rattle.tcap_evidence.specs.Marked.{ended_to};
-ghost use Rattle.tcap_evidence.specs.Numbered.{entries_where, entries_with, numbered_of};
+ghost use Rattle.tcap_evidence.specs.Numbered.{entries_where, entries_with, in_order, numbered_of};
 ghost use Rattle.tcap_evidence.specs.Scene.{is_that, since_first};
 
 use crate::sent::Sent;
@@ -296,6 +296,28 @@ pub(crate) fn since_response<'a>(
         }
     }
     Ok(kept)
+}
+
+/// These messages in the order of their entries, if all but the first are.
+pub(crate) fn in_order<'a>(alloc: Global, sent: &[Sent<'a>]) -> Result<Vec<Sent<'a>>, AllocError>
+    ensures { IfOk result (λ v. numbered_of v.items ≡ in_order (numbered_of sent.now)) }
+{
+    let mut ordered = Vec::new(alloc);
+    let [first, more @ ..] = sent else {
+        return Ok(ordered);
+    };
+    let mut has_come = false;
+    for one in more {
+        if !has_come && first.number <= one.number {
+            ordered.push(*first)?;
+            has_come = true;
+        }
+        ordered.push(*one)?;
+    }
+    if !has_come {
+        ordered.push(*first)?;
+    }
+    Ok(ordered)
 }
 
 /// Appends an entry as often as one of these components is of that invoke ID and that sort.

@@ -8,14 +8,14 @@ ghost use Rattle.tcap_record.specs.declared.entry.End.{End as Side};
 ghost use Rattle.tcap_model.specs.World.{Item};
 ghost use Rattle.tcap_evidence.specs.Kept.{IsScene, scene_by};
 ghost use Rattle.tcap_evidence.specs.Marked.{is_of_mark};
-ghost use Rattle.tcap_evidence.specs.Numbered.{numbered_of};
+ghost use Rattle.tcap_evidence.specs.Numbered.{in_order, numbered_of};
 ghost use Rattle.tcap_evidence.specs.Operations.{invocations_in, invocations_of};
 ghost use Rattle.tcap_evidence.specs.Scene.{Scene as Known, heard_by, invoked_by, own_begin, own_id, shown, to_half, told_there, with_sort, with_sort_in};
 ghost use Rattle.tcap_faults.specs.declared.how.How.TheVariants as hows;
 ghost use Rattle.tcap_evidence.specs.declared.what.What.TheVariants as whats;
 
 use crate::listing::{
-    Test, entries_where, entries_with, first_where, push_sorted, push_where, sent_where,
+    Test, entries_where, entries_with, first_where, in_order, push_sorted, push_where, sent_where,
     since_response,
 };
 use crate::operations::{Invocation, invocations_in, is_answer, rejects_answer};
@@ -162,8 +162,8 @@ impl<'a> Scene<'a> {
         }
     }
 
-    /// What the half heard.
-    fn heard(&self, alloc: Global) -> Result<Vec<Sent<'a>>, AllocError>
+    /// What the half heard, in the order in which it heard it.
+    fn heard_first(&self, alloc: Global) -> Result<Vec<Sent<'a>>, AllocError>
         ensures { (s : Known) → IsScene s self.now → IfOk result (λ v. numbered_of v.items ≡ heard_by s s.how) }
     {
         match self.how {
@@ -171,6 +171,13 @@ impl<'a> Scene<'a> {
             How::Begun => self.heard_begun(alloc),
             How::Unanswered | How::Nowhere => Ok(Vec::new(alloc)),
         }
+    }
+
+    /// What the half heard, in the order of the entries.
+    fn heard(&self, alloc: Global) -> Result<Vec<Sent<'a>>, AllocError>
+        ensures { (s : Known) → IsScene s self.now → IfOk result (λ v. numbered_of v.items ≡ in_order (heard_by s s.how)) }
+    {
+        in_order(alloc, &self.heard_first(alloc)?)
     }
 
     /// The half's own Begin, where it began by sending one.
@@ -184,13 +191,13 @@ impl<'a> Scene<'a> {
         }
     }
 
-    /// What has the half's own invocations.
+    /// What has the half's own invocations, in the order of the entries.
     fn invoked(&self, alloc: Global) -> Result<Vec<Sent<'a>>, AllocError>
-        ensures { (s : Known) → IsScene s self.now → IfOk result (λ v. numbered_of v.items ≡ invoked_by s s.how) }
+        ensures { (s : Known) → IsScene s self.now → IfOk result (λ v. numbered_of v.items ≡ in_order (invoked_by s s.how)) }
     {
         let mut invoked = list_of(alloc, self.sent_begin())?;
         push_where(&mut invoked, &self.told, Test::Any)?;
-        Ok(invoked)
+        in_order(alloc, &invoked)
     }
 
     /// The entries of the components of the invoke ID, of that sort, in these messages.

@@ -1,13 +1,13 @@
 //! The lines that say what a fault rests on.
 
-ghost use Rattle.std.specs.Prelude.{◌≡◌, ◌++◌, OnOk, codes, map, option_map, slice_get};
+ghost use Rattle.std.specs.Prelude.{◌≡◌, ◌++◌, OnOk, true, codes, map, option_map, slice_get};
 ghost use Rattle.std.specs.List.{flat_map};
 ghost use Rattle.std.specs.String.{string_bytes};
 ghost use Rattle.tcap_parts.specs.Meaning.{component_of};
 ghost use Rattle.tcap_msg.specs.Parts.{dtid_in};
 ghost use Rattle.tcap_record.specs.Ends.{letter};
 ghost use Rattle.tcap_record.specs.Lines.{head_text, line_end};
-ghost use Rattle.tcap_evidence.specs.Words.{component_shown, component_words, doubt_lines, entries_words, entry_line, evidence_text, fault_text, ground_line, half_line, how_words, id_words, lacks, mark_line, message_text, more_words, number_behind, own_words, sorted, sorted_in, told_text, what_words};
+ghost use Rattle.tcap_evidence.specs.Words.{component_shown, component_words, doubt_lines, entries_words, entry_line, evidence_text, fault_text, ground_line, half_line, how_words, id_words, is_for, lacks, mark_line, message_text, more_words, number_behind, own_words, sorted, sorted_in, told_text, what_words};
 
 use crate::finding::{Evidence, Ground, component_at, entry_at, find_evidence};
 use crate::operation_lines::push_invocations;
@@ -361,9 +361,9 @@ pub fn push_evidence(
     push_invocations(text, table, found.id, &found.invocations)
 }
 
-/// Appends in words what the fault of an end rests on: the entry of a record that is named for it, as `refute` or `blame` name it, and
-/// the entries that show it. It is given whether its kind was asked of one end alone, as `blame` does. `AllocError` where memory ran
-/// out: a part of the lines may have been appended.
+/// Appends in words what the fault of an end rests on: the entry of a record that is named for it, as `refute` or `blame` name it, which
+/// has to be that end's or a quiet mark, and the entries that show it. It is given whether its kind was asked of one end alone, as
+/// `blame` does. `AllocError` where memory ran out: a part of the lines may have been appended.
 pub fn push_why(
     alloc: Global,
     text: &mut String,
@@ -373,6 +373,7 @@ pub fn push_why(
     at: Refutation,
     of_one: bool,
 ) -> Result<(), AllocError>
+    requires of_end { is_for end (slice_get «record».now.entries.items at.entry) ≡ true }
     ensures { OnOk result (string_bytes text.new ≡ string_bytes text.old
         ++ told_text of_one table.now end «record».now.entries.items at) }
 {

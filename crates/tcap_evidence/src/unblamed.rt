@@ -3,7 +3,7 @@
 ghost use Rattle.std.specs.Prelude.{◌≡◌, ◌++◌, Some, OnOk};
 ghost use Rattle.std.specs.String.{string_bytes};
 ghost use Rattle.tcap_faults.specs.declared.why.Unblamed.TheVariants.{Tangled};
-ghost use Rattle.tcap_evidence.specs.Unblamed.{again_text, id_lines, spelling_words, tangle_words, tangled_line, tangled_text, unblamed_text, unblamed_words};
+ghost use Rattle.tcap_evidence.specs.Unblamed.{IsUnblamed, again_text, id_lines, spelling_words, tangle_words, tangled_line, tangled_text, unblamed_text, unblamed_words};
 
 use crate::finding::grounds_for;
 use crate::pairing::paired_before;
@@ -105,10 +105,10 @@ fn push_tangled(
     push_id_uses(alloc, text, record, table, end, number)
 }
 
-/// Appends why nobody is blamed for the entry of that number, which is refuted, and of that end: it used an own ID again, or its
-/// message goes over tangled IDs, the first of which is named, with the entries that begin it and those in which it stands with IDs of the
-/// other end; or it is a Reject of what a stack may read otherwise. `AllocError` where memory ran out: a part of the lines may have been
-/// appended.
+/// Appends why nobody is blamed for the entry of that number, which has to be that end's and refuted, with no end blamed for it or for an
+/// entry before it: the end used an own ID again, or the message goes over tangled IDs, the first of which is named, with the entries that
+/// begin it and those in which it stands with IDs of the other end; or it is a Reject of what a stack may read otherwise. `AllocError`
+/// where memory ran out: a part of the lines may have been appended.
 pub fn push_unblamed(
     alloc: Global,
     text: &mut String,
@@ -117,6 +117,7 @@ pub fn push_unblamed(
     end: End,
     number: u64,
 ) -> Result<(), AllocError>
+    requires unblamed { IsUnblamed table.now end «record».now.entries.items number }
     ensures { OnOk result (string_bytes text.new ≡ string_bytes text.old
         ++ unblamed_text table.now end «record».now.entries.items number) }
 {

@@ -1,6 +1,7 @@
-//! Codes that stand as texts of digits, and may be meant as numbers.
+//! Codes that stand as texts of digits, and may be meant as numbers; and linked codes of operations that a table lacks.
 
 use crate::table_faults::is_global;
+use crate::table_rows::order_of;
 use serde_json::Value;
 use std::alloc::{AllocError, Global};
 
@@ -85,6 +86,59 @@ fn push_place(
         Some(number) => write!(text, "table {number}, row {row}: "),
         None => write!(text, "row {row}: "),
     }
+}
+
+/// The first linked code that no row of a table has, with the number of the row that lists it.
+fn unlisted_in(alloc: Global, rows: &[Value]) -> Result<Option<(usize, &Value)>, AllocError> {
+    let order = order_of(alloc, rows)?;
+    for (row, value) in rows.iter().enumerate() {
+        let Some(linked) = value.get("linked").and_then(Value::as_array) else {
+            continue;
+        };
+        for code in linked {
+            if !order.has(alloc, code)? {
+                return Ok(Some((row, code)));
+            }
+        }
+    }
+    Ok(None)
+}
+
+/// Appends a line for the first linked code that no row of a table has; the table has that number where it is one of a book.
+fn push_unlisted_in(
+    alloc: Global,
+    text: &mut String,
+    path: Option<&str>,
+    number: Option<usize>,
+    table: &Value,
+) -> Result<(), AllocError> {
+    let Some(rows) = table.get("operations").and_then(Value::as_array) else {
+        return Ok(());
+    };
+    let Some((row, code)) = unlisted_in(alloc, rows)? else {
+        return Ok(());
+    };
+    push_place(text, path, number, row)?;
+    text.push_str("\"linked\":[")?;
+    text.push_str(&code.to_string(alloc)?)?;
+    text.push_str("] is the code of no row\n")
+}
+
+/// Appends a line for each table, of a book or alone, that lists a linked code which no row of it has: for the first such code. A line has
+/// the path, where one is told.
+pub(crate) fn push_unlisted(
+    alloc: Global,
+    text: &mut String,
+    path: Option<&str>,
+    value: &Value,
+) -> Result<(), AllocError> {
+    let Some(tables) = value.get("tables").and_then(Value::as_array) else {
+        return push_unlisted_in(alloc, text, path, None, value);
+    };
+    for (number, table) in tables.iter().enumerate() {
+        push_unlisted_in(alloc, text, path, Some(number), table)?;
+    }
+    Ok(())
 }
 
 /// Appends a line for each row of a table that has such a code; the table has that number where it is one of a book.

@@ -11,9 +11,22 @@ use tcap_parts::CodeView;
 
 /// The rows of a table in the order of their codes: the local ones by their numbers, then the global ones by their octets.
 #[derive(Drop)]
-struct Order {
+pub(crate) struct Order {
     locals: BTreeMap<i32, usize>,
     globals: BTreeMap<Vec<u8>, usize>,
+}
+
+impl Order {
+    /// Whether a row has that code; also where it is none.
+    pub(crate) fn has(&self, alloc: Global, code: &Value) -> Result<bool, AllocError> {
+        if let Some(local) = local_of(code) {
+            return Ok(self.locals.contains_key(&local));
+        }
+        match global_of(alloc, code)? {
+            Some(octets) => Ok(self.globals.contains_key(&octets)),
+            None => Ok(true),
+        }
+    }
 }
 
 /// The number of a local code.
@@ -55,7 +68,7 @@ fn push_linked(alloc: Global, text: &mut String, codes: &[Value]) -> Result<(), 
 }
 
 /// The numbers of the rows, by their codes.
-fn order_of(alloc: Global, rows: &[Value]) -> Result<Order, AllocError> {
+pub(crate) fn order_of(alloc: Global, rows: &[Value]) -> Result<Order, AllocError> {
     let mut order = Order {
         locals: BTreeMap::new(alloc),
         globals: BTreeMap::new(alloc),

@@ -6,13 +6,13 @@ ghost use Rattle.tcap_ber.specs.Device.{one_more};
 ghost use Rattle.tcap_explain.specs.Tables.{IsTableText};
 ghost use Rattle.tcap_lines.specs.declared.status.Status.{Status};
 
-use crate::code_hints::push_code_hints;
+use crate::code_hints::{push_code_hints, push_unlisted};
 use crate::table_faults::push_book_fault;
 use crate::table_rows::push_book;
 use serde_json::Value;
 use std::alloc::{AllocError, Global};
 use tcap_ber::{Failed, Read, Write};
-use tcap_books::{Book, BookFault};
+use tcap_books::{Book, BookFault, CLASH};
 use tcap_end::TableReason;
 use tcap_lines::{MEMORY_LINE, Status, WriteFailed};
 use tcap_record::{FeedReason, PIECE_LEN, push_fault};
@@ -67,6 +67,17 @@ fn value_of(alloc: Global, octets: &[u8]) -> Result<Option<Value>, AllocError> {
     }
 }
 
+/// Appends which two tables of a book have the same context, if two have, and answers how the run ends.
+fn push_clash(text: &mut String, book: &Book) -> Result<Status, AllocError> {
+    let Some(pair) = book.clash() else {
+        return Ok(Status::Fine);
+    };
+    write!(text, "error: {CLASH}: ")?;
+    book.push_pair(text, pair)?;
+    text.push_str("\n")?;
+    Ok(Status::Fault)
+}
+
 /// Appends the lines of a book, or those of its fault, and what is told beside them, and answers how the run ends.
 #[tactic(auto, using(crate::proofs::TableLaws::text_of_book))]
 fn push_text(
@@ -85,8 +96,9 @@ fn push_text(
         Ok(book) => {
             if let Some(value) = &value {
                 push_book(alloc, text, &book, value)?;
+                push_unlisted(alloc, hints, None, value)?;
             }
-            Ok(Status::Fine)
+            push_clash(hints, &book)
         }
         Err(BookFault::Memory) => Err(AllocError),
         Err(fault) => {
@@ -124,8 +136,9 @@ fn push_read(
 
 /// Prints the rows of the operation table, or of the book of them, that `reader` tells, one line each in the order of the codes; or
 /// the line of its fault, as the other runs print it, and behind it what is wrong in words. `faults` is told of codes that may be
-/// meant as numbers; that it fails is not said. The status says whether a line of fault was printed. Where memory runs out, only
-/// its line is printed. `WriteFailed` where `writer` failed in this call.
+/// meant as numbers, of linked codes that no row has, and of two tables with one context; that it fails is not said. The status says
+/// whether a line of fault was printed, or two tables have one context. Where memory runs out, only its line is printed. `WriteFailed`
+/// where `writer` failed in this call.
 pub fn run_table<R: Read, W: Write, F: Write>(
     alloc: Global,
     reader: &mut R,
@@ -151,7 +164,8 @@ pub fn run_table<R: Read, W: Write, F: Write>(
     Ok(status)
 }
 
-/// Appends the lines of the codes of a text of JSON that may be meant as numbers; of a text that is no JSON nothing.
+/// Appends the lines of the codes of a text of JSON that may be meant as numbers, and of linked codes that no row has; of a text that
+/// is no JSON nothing.
 fn push_codes(
     alloc: Global,
     text: &mut String,
@@ -159,13 +173,17 @@ fn push_codes(
     octets: &[u8],
 ) -> Result<(), AllocError> {
     match value_of(alloc, octets)? {
-        Some(value) => push_code_hints(alloc, text, Some(path), &value),
+        Some(value) => {
+            push_code_hints(alloc, text, Some(path), &value)?;
+            push_unlisted(alloc, text, Some(path), &value)
+        }
         None => Ok(()),
     }
 }
 
-/// Writes which codes of an operation table, or of a book of them, may be meant as numbers: the lines that `run_table` tells of them, each
-/// with that path; where there are none, or memory runs out, nothing. `WriteFailed` where the writer failed in this call.
+/// Writes which codes of an operation table, or of a book of them, may be meant as numbers, and which linked codes no row has: the
+/// lines that `run_table` tells of them, each with that path; where there are none, or memory runs out, nothing. `WriteFailed` where
+/// the writer failed in this call.
 pub fn write_code_hints<W: Write>(
     alloc: Global,
     path: &str,

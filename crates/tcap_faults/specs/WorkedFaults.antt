@@ -1,5 +1,5 @@
--- What a worked record says of its ends: the entry that is blamed, and all its kinds.
-use Rattle.std.specs.Prelude.{◌≡◌, ℕ, ◌+◌, List, [], ◌∷◌, ◌++◌, map, filter, ◌&&◌, cond, not, Option, Some, None}
+-- Worked records: which entry of each end is blamed, and all kinds of that entry. tests/cases/faults.json has 270 more, judged by the program.
+use Rattle.std.specs.Prelude.{◌≡◌, ℕ, ◌+◌, List, [], ◌∷◌, ◌++◌, map, filter, ◌&&◌, cond, not, Option, Some, None, pos, true, refl}
 use Rattle.std.specs.List.{find}
 use Rattle.tcap_msg.specs.declared.message.Message.{Message}
 use Rattle.tcap_record.specs.declared.entry.End.{End as Side}
@@ -14,6 +14,13 @@ use Rattle.tcap_refute.specs.Kind.{kind_number}
 use Rattle.tcap_refute.specs.FirstKinds.{first_kinds}
 use Rattle.tcap_faults.specs.Fault.{blamed, further_kinds, is_fault, is_open_at_mark}
 use Rattle.tcap_faults.specs.UsedAgain.{has_used_again}
+use Rattle.tcap_parts.specs.declared.code.Code.TheVariants.{Local}
+use Rattle.tcap_parts.specs.declared.component.Component.TheVariants.{Invoke, ReturnResult, Reject}
+use Rattle.tcap_parts.specs.declared.dialogue.Dialogue.TheVariants as dialogues
+use Rattle.tcap_parts.specs.declared.problem.Problem.TheVariants as problems
+use Rattle.tcap_msg.specs.declared.message.AbortReason.TheVariants as aborts
+use Rattle.tcap_msg.specs.declared.message.Message.TheVariants.{Begin, Continue, End as EndMessage, Abort}
+use Rattle.tcap_refute.specs.WorkedTables.{all_expire}
 
 -- ---- what is blamed
 
@@ -62,3 +69,82 @@ IsBlamedOf table items side blaming =
 -- That is blamed of A, and that of B.
 abbrev pub IsBlamed : Table → List Item → Blaming → Blaming → Type 0
 IsBlamed table items of_a of_b = IsBlamedOf table items A of_a × IsBlamedOf table items B of_b
+
+-- ---- worked records
+
+-- F8: A goes on with a half that it began, before the peer's Continue came to it.
+pub wrong_half : IsBlamed all_expire
+    (Sent A (Begin (1 ∷ []) None None)
+    ∷ Sent B (Begin (7 ∷ []) None None)
+    ∷ Sent A (Continue (1 ∷ []) (7 ∷ []) None None) ∷ [])
+    (Blamed 2 (8 ∷ []))
+    Unblamed
+wrong_half = ((refl, (refl, refl)), (refl, tt))
+
+-- After the peer's Continue it may.
+pub right_half : IsBlamed all_expire
+    (Sent A (Begin (1 ∷ []) None None)
+    ∷ Sent B (Continue (7 ∷ []) (1 ∷ []) None None)
+    ∷ Sent A (Continue (1 ∷ []) (7 ∷ []) None None) ∷ [])
+    Unblamed
+    Unblamed
+right_half = ((refl, tt), (refl, tt))
+
+-- F9: A does not answer a dialogue request.
+pub wrong_dialogue : IsBlamed all_expire
+    (Sent B (Begin (7 ∷ []) (Some (dialogues.Request (4 ∷ 0 ∷ 0 ∷ 1 ∷ 0 ∷ 19 ∷ 2 ∷ []) None)) None)
+    ∷ Sent A (Continue (1 ∷ []) (7 ∷ []) None None) ∷ [])
+    (Blamed 1 (9 ∷ []))
+    Unblamed
+wrong_dialogue = ((refl, (refl, refl)), (refl, tt))
+
+-- F10: one invoke ID twice in a Begin.
+pub invoke_id_busy : IsBlamed all_expire
+    (Sent A (Begin (1 ∷ []) None (Some (Invoke (pos 1) None (Local (pos 45)) None ∷ Invoke (pos 1) None (Local (pos 46)) None ∷ []))) ∷ [])
+    (Blamed 0 (10 ∷ []))
+    Unblamed
+invoke_id_busy = ((refl, (refl, refl)), (refl, tt))
+
+-- F11: a linked ID in a Begin.
+pub bad_link : IsBlamed all_expire
+    (Sent A (Begin (1 ∷ []) None (Some (Invoke (pos 1) (Some (pos 1)) (Local (pos 48)) None ∷ []))) ∷ [])
+    (Blamed 0 (11 ∷ []))
+    Unblamed
+bad_link = ((refl, (refl, refl)), (refl, tt))
+
+-- F12: A answers one invocation twice.
+pub answered_already : IsBlamed all_expire
+    (Sent B (Begin (7 ∷ []) None (Some (Invoke (pos 1) None (Local (pos 45)) None ∷ [])))
+    ∷ Sent A (EndMessage (7 ∷ []) None (Some (ReturnResult true (pos 1) None ∷ ReturnResult true (pos 1) None ∷ []))) ∷ [])
+    (Blamed 1 (12 ∷ []))
+    Unblamed
+answered_already = ((refl, (refl, refl)), (refl, tt))
+
+-- F13: A rejects one result twice.
+pub reject_not_allowed : IsBlamed all_expire
+    (Sent A (Begin (1 ∷ []) None (Some (Invoke (pos 1) None (Local (pos 45)) None ∷ [])))
+    ∷ Sent B (Continue (7 ∷ []) (1 ∷ []) None (Some (ReturnResult true (pos 1) None ∷ [])))
+    ∷ Sent A (Continue (1 ∷ []) (7 ∷ []) None (Some (Reject (Some (pos 1)) (problems.ReturnResult 2) ∷ [])))
+    ∷ Sent A (EndMessage (7 ∷ []) None (Some (Reject (Some (pos 1)) (problems.ReturnResult 0) ∷ []))) ∷ [])
+    (Blamed 3 (13 ∷ []))
+    Unblamed
+reject_not_allowed = ((refl, (refl, refl)), (refl, tt))
+
+-- F14: A answers a Continue to an open half as if its transaction were unknown.
+pub wrong_reply : IsBlamed all_expire
+    (Sent B (Begin (7 ∷ []) None None)
+    ∷ Sent A (Continue (1 ∷ []) (7 ∷ []) None None)
+    ∷ Sent B (Continue (7 ∷ []) (1 ∷ []) None None)
+    ∷ Sent A (Abort (7 ∷ []) (Some (aborts.Cause 1))) ∷ [])
+    (Blamed 3 (14 ∷ []))
+    Unblamed
+wrong_reply = ((refl, (refl, refl)), (refl, tt))
+
+-- F15: A quiet mark comes while A has an open half.
+pub open_at_mark : IsBlamed all_expire
+    (Sent B (Begin (7 ∷ []) None None)
+    ∷ Sent A (Continue (1 ∷ []) (7 ∷ []) None None)
+    ∷ Item.Quiet ∷ [])
+    (Blamed 2 (15 ∷ []))
+    Unblamed
+open_at_mark = ((refl, (refl, refl)), (refl, tt))

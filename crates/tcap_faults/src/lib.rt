@@ -11,7 +11,6 @@ mod components;
 mod dialogues;
 mod effects;
 mod facts;
-pub mod fault_rows;
 mod found;
 mod found_link;
 mod half;

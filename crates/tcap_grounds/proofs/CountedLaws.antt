@@ -26,10 +26,11 @@ use Rattle.tcap_faults.specs.Subject.{subject}
 use Rattle.tcap_faults.specs.Tallied.{is_sort}
 use Rattle.tcap_faults.proofs.FewSums.{count_invokes}
 use Rattle.tcap_evidence.specs.Evidence.{scene_of}
-use Rattle.tcap_evidence.specs.Numbered.{Numbered, entries_where}
+use Rattle.tcap_evidence.specs.Numbered.{Numbered, entries_where, in_order}
 use Rattle.tcap_evidence.specs.Scene.{Scene, heard_by, invoked_by, is_that, there, told_there, with_sort, with_sort_in}
 use Rattle.tcap_grounds.specs.Shown.{AreAllThere, AreCounted, SortsAre, items_before, scene_at}
 use Rattle.tcap_grounds.proofs.NumberedLists.{where_counted, with_counted}
+use Rattle.tcap_grounds.proofs.OrderLaws.{in_order_counted}
 use Rattle.tcap_grounds.proofs.SceneLists.{IsOver, IsTo, heard_are, invoked_are, there_are, told_are, told_of}
 use Rattle.tcap_grounds.proofs.SentBefore.{messages, sent_are}
 
@@ -68,13 +69,15 @@ module _ (s : Scene) (invoke : ℤ) (is : s.id ≡ Some invoke) (sort : Sort) wh
     counted m all over = record {
       there = counted_in (there s)
           ∙ ap (λ (ms : List Message). count is_so (components_of ms)) (there_are side items id s of);
-      heard = counted_in (heard_by s s.how) ∙ ap (count is_so) (heard_are side items id s of over);
+      heard = counted_in (in_order (heard_by s s.how)) ∙ in_order_counted is_so (heard_by s s.how)
+          ∙ ap (count is_so) (heard_are side items id s of over);
       before = told_and_itself s.earlier;
       half_before = λ some. half_and_itself some s.earlier;
       whole = rw all (told_and_itself (components_in m));
       half_whole = λ some. rw all (half_and_itself some (components_in m));
       invoked = λ some.
-          counted_in (invoked_by s s.how) ∙ ap (count is_so) (invoked_are side items id s of over some);
+          counted_in (in_order (invoked_by s s.how)) ∙ in_order_counted is_so (invoked_by s s.how)
+          ∙ ap (count is_so) (invoked_are side items id s of over some);
     }
 
 -- ---- the sorts

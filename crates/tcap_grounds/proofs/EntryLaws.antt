@@ -16,11 +16,12 @@ use Rattle.tcap_faults.specs.Told.{is_cause}
 use Rattle.tcap_faults.specs.declared.sort.Sort.{Sort}
 use Rattle.tcap_evidence.specs.declared.what.What.{What}
 use Rattle.tcap_evidence.specs.declared.what.What.TheVariants as whats
-use Rattle.tcap_evidence.specs.Numbered.{Numbered, entries_where, sent_before}
+use Rattle.tcap_evidence.specs.Numbered.{Numbered, entries_where, in_order, sent_before}
 use Rattle.tcap_evidence.specs.Scene.{Scene, heard_by, invoked_by, is_open_continue, is_that, own_id, shown, there, told_there, went_elsewhere, with_sort, with_sort_in}
 use Rattle.tcap_grounds.specs.Shown.{AreSame, IsEntryOf, IsItself, IsSentBefore, IsShown}
 use Rattle.tcap_grounds.proofs.NumberedLists.{where_is}
 use Rattle.tcap_grounds.proofs.MessageTests.{cause_is, end_is, form_is, one_is}
+use Rattle.tcap_grounds.proofs.OrderLaws.{in_order_is}
 use Rattle.tcap_grounds.proofs.SentBefore.{was_sent}
 use Rattle.tcap_grounds.proofs.SuchLaws.{heard_is, invoked_is, itself_is, open_is, sorted_is, there_is, told_is, went_is}
 
@@ -124,13 +125,14 @@ module _ (entries : List Entry) (s : Scene) (own : s.own ≡ sent_before s.side 
       let (m, among, sorted) = sorted_is s sort (there s) n has in
       let (sent, from) = there_is s n m among in (m, peer_at n m sent, (from, sorted))
   is_shown (whats.Heard sort) n has =
-      let (m, among, sorted) = sorted_is s sort (heard_by s s.how) n has in
-      let (inside, heard) = heard_is s s.how n m among in
+      let (m, among, sorted) = sorted_is s sort (in_order (heard_by s s.how)) n has in
+      let (inside, heard) = heard_is s s.how n m (in_order_is (heard_by s s.how) (n, m) among) in
       let (sent, from) = there_is s n m inside in (m, peer_at n m sent, (from, heard, sorted))
   is_shown (whats.Before sort) n has = told_or_itself sort s.earlier n has
   is_shown (whats.Whole sort) n has = told_or_itself sort s.all n has
   is_shown (whats.Invoked sort) n has =
-      let (m, among, sorted) = sorted_is s sort (invoked_by s s.how) n has in
-      let (sent, invoked) = invoked_is s s.how n m among in (m, own_at n m sent, (invoked, sorted))
+      let (m, among, sorted) = sorted_is s sort (in_order (invoked_by s s.how)) n has in
+      let (sent, invoked) = invoked_is s s.how n m (in_order_is (invoked_by s s.how) (n, m) among) in
+      (m, own_at n m sent, (invoked, sorted))
   is_shown whats.Open n has =
       let (m, sent, still) = of_own (is_open_continue s) n has in (m, sent, open_is s m still)

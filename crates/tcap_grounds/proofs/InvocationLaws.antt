@@ -32,11 +32,12 @@ use Rattle.tcap_evidence.specs.declared.what.What.{What}
 use Rattle.tcap_evidence.specs.declared.what.What.TheVariants as whats
 use Rattle.tcap_evidence.specs.Evidence.{component_at, scene_of}
 use Rattle.tcap_grounds.specs.Given.{IsInvoke, invokes_listed}
-use Rattle.tcap_evidence.specs.Numbered.{Numbered, entries_with, sent_before}
+use Rattle.tcap_evidence.specs.Numbered.{Numbered, entries_with, in_order, sent_before}
 use Rattle.tcap_evidence.specs.Operations.{answers, compared, invocation_in, invocations_at, invocations_in, invocations_of, rejects_answer}
 use Rattle.tcap_evidence.specs.Scene.{Scene, heard_by, invoked_by, shown, there, with_sort}
 use Rattle.tcap_grounds.specs.Shown.{component_with, items_before, scene_at}
 use Rattle.tcap_evidence.specs.Words.{sender_of}
+use Rattle.tcap_grounds.proofs.OrderLaws.{in_order_is}
 use Rattle.tcap_grounds.proofs.SentBefore.{was_sent}
 use Rattle.tcap_grounds.proofs.SuchLaws.{heard_is, invoked_is, there_is}
 
@@ -149,8 +150,8 @@ module _ (s : Scene) where
   abbrev IsOf : What → List Numbered → Type 0
   IsOf what sent =
       (whats.There (sorts.Invokes Any) ≡ what) × (sent ≡ there s)
-      ⊎ (whats.Heard (sorts.Invokes Any) ≡ what) × (sent ≡ heard_by s s.how)
-      ⊎ (whats.Invoked (sorts.Invokes Any) ≡ what) × (sent ≡ invoked_by s s.how)
+      ⊎ (whats.Heard (sorts.Invokes Any) ≡ what) × (sent ≡ in_order (heard_by s s.how))
+      ⊎ (whats.Invoked (sorts.Invokes Any) ≡ what) × (sent ≡ in_order (invoked_by s s.how))
 
   is_of : (kind : Kind) (c : Option Component) (what : What) → invokes_listed kind c ≡ Some what
       → IsOf what (compared s kind c)
@@ -165,15 +166,15 @@ module _ (s : Scene) where
   is_of kinds.RejectNotAllowed c what is = by (rejects_answer c) is
     where
       by : (b : Bool) → Some (cond b (whats.Invoked (sorts.Invokes Any)) (whats.Heard (sorts.Invokes Any))) ≡ Some what
-          → IsOf what (cond b (invoked_by s s.how) (heard_by s s.how))
+          → IsOf what (in_order (cond b (invoked_by s s.how) (heard_by s s.how)))
       by true is = inr (inr (let it : whats.Invoked (sorts.Invokes Any) ≡ what = cc in it, refl))
       by false is = inr (inl (let it : whats.Heard (sorts.Invokes Any) ≡ what = cc in it, refl))
   is_of kind c what is = cc
 
   given_are : (what : What) (sent : List Numbered) → IsOf what sent → entries_of (invocations_in s.id sent) ≡ shown s what
   given_are what sent (inl (is, of)) = rw (of, ← is) (listed_in (there s))
-  given_are what sent (inr (inl (is, of))) = rw (of, ← is) (listed_in (heard_by s s.how))
-  given_are what sent (inr (inr (is, of))) = rw (of, ← is) (listed_in (invoked_by s s.how))
+  given_are what sent (inr (inl (is, of))) = rw (of, ← is) (listed_in (in_order (heard_by s s.how)))
+  given_are what sent (inr (inr (is, of))) = rw (of, ← is) (listed_in (in_order (invoked_by s s.how)))
 
   no_list : (kind : Kind) (c : Option Component) → invokes_listed kind c ≡ None → invocations_of s kind c ≡ []
   no_list kinds.WrongOperation c is = by (answers c) is
@@ -210,14 +211,18 @@ module _ (s : Scene) where
         rw (← is) (invoke_of (other s.side) (there s) i f
         (subst (λ (ns : List Numbered). Contains ns (i.entry, f.message)) peer (there_is s i.entry f.message f.among).0))
     each_is what sent (inr (inl (is, of))) i has =
-        let f : IsFound (heard_by s s.how) s.id i = found s.id (heard_by s s.how) i (rw of at has) in
-        let inside = (heard_is s s.how i.entry f.message f.among).0 in
-        rw (← is) (invoke_of (other s.side) (heard_by s s.how) i f
+        let heard = in_order (heard_by s s.how) in
+        let f : IsFound heard s.id i = found s.id heard i (rw of at has) in
+        let among = in_order_is (heard_by s s.how) (i.entry, f.message) f.among in
+        let inside = (heard_is s s.how i.entry f.message among).0 in
+        rw (← is) (invoke_of (other s.side) heard i f
         (subst (λ (ns : List Numbered). Contains ns (i.entry, f.message)) peer (there_is s i.entry f.message inside).0))
     each_is what sent (inr (inr (is, of))) i has =
-        let f : IsFound (invoked_by s s.how) s.id i = found s.id (invoked_by s s.how) i (rw of at has) in
-        rw (← is) (invoke_of s.side (invoked_by s s.how) i f
-        (subst (λ (ns : List Numbered). Contains ns (i.entry, f.message)) own (invoked_is s s.how i.entry f.message f.among).0))
+        let invoked = in_order (invoked_by s s.how) in
+        let f : IsFound invoked s.id i = found s.id invoked i (rw of at has) in
+        let among = in_order_is (invoked_by s s.how) (i.entry, f.message) f.among in
+        rw (← is) (invoke_of s.side invoked i f
+        (subst (λ (ns : List Numbered). Contains ns (i.entry, f.message)) own (invoked_is s s.how i.entry f.message among).0))
 
 -- ---- of an entry
 

@@ -1,5 +1,6 @@
 pub mod SentBefore
 pub mod NumberedLists
+pub mod OrderLaws
 pub mod SceneLists
 pub mod CountedLaws
 pub mod MessageTests
@@ -23,6 +24,7 @@ pub mod ListedLaws
 pub mod GroundLaws
 pub mod GivenLaws
 pub mod InvocationLaws
+pub mod AscendingLaws
 pub mod EntryPlaces
 pub mod PairedLaws
 pub mod PairedEntries

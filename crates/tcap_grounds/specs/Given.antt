@@ -1,6 +1,6 @@
--- What is given for a kind: each list of which the laws say something where a message has it, and the invocations. Of F8 the list of the
+-- What is given for a kind: each list of which the laws say something where a message has it, in order, and the invocations. Of F8 the list of the
 -- end's Begins with an AARQ is not given, though `ShowsWrongHalf` speaks of it.
-use Rattle.std.specs.Prelude.{◌≡◌, ℕ, ℤ, ⊤, List, [], ◌∷◌, Contains, Option, Some, None, ◌==◌, cond}
+use Rattle.std.specs.Prelude.{◌≡◌, ◌≤◌, ℕ, ℤ, ⊤, List, [], ◌∷◌, Contains, Option, Some, None, ◌==◌, cond}
 use Rattle.tcap_parts.specs.declared.component.Component.{Component}
 use Rattle.tcap_parts.specs.declared.component.Component.TheVariants.{Invoke, ReturnResult, ReturnError, Reject}
 use Rattle.tcap_parts.specs.declared.problem.Problem.TheVariants as problems
@@ -26,6 +26,11 @@ use Rattle.tcap_grounds.specs.Shown.{IsSentBefore}
 abbrev pub AreGiven : Scene → List (What × List ℕ) → List What → Type 0
 AreGiven s grounds [] = ⊤
 AreGiven s grounds (what ∷ more) = Contains grounds (what, shown s what) × AreGiven s grounds more
+
+-- No number is lower than one before it.
+abbrev pub IsAscending : List ℕ → Type 0
+IsAscending [] = ⊤
+IsAscending (n ∷ more) = ((k : ℕ) → Contains more k → n ≤ k) × IsAscending more
 
 -- ---- of which lists the laws speak
 

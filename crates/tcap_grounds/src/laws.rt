@@ -25,7 +25,7 @@ ghost use Rattle.tcap_evidence.specs.declared.what.What.{What};
 ghost use Rattle.tcap_evidence.specs.declared.what.What.TheVariants as whats;
 ghost use Rattle.tcap_grounds.specs.ComponentsShown.{ShowsAnswered, ShowsBadLink, ShowsBusy, ShowsRejected, ShowsUnasked, ShowsWrongOperation};
 ghost use Rattle.tcap_evidence.specs.Evidence.{grounds_of, mark_scene, scene_of};
-ghost use Rattle.tcap_grounds.specs.Given.{AreGiven, IsInvoke, invokes_listed, spoken_of};
+ghost use Rattle.tcap_grounds.specs.Given.{AreGiven, IsAscending, IsInvoke, invokes_listed, spoken_of};
 ghost use Rattle.tcap_grounds.specs.HalvesShown.{ShowsMisplaced, ShowsWrongDialogue, ShowsWrongHalf, ShowsWrongReply};
 ghost use Rattle.tcap_evidence.specs.Operations.{invocations_at};
 ghost use Rattle.tcap_evidence.specs.Pairing.{paired_before, partner_in};
@@ -144,6 +144,14 @@ pub fn lists_are_given()
     ensures mark { (of_one : Bool) (table : Table) (side : Side) (entries : List Entry) (r : Refutation)
         → slice_get (map item_of entries) r.entry ≡ Some (Ok Item.Quiet)
         → AreGiven (mark_scene table side entries r.entry) (grounds_of of_one table side entries r) (whats.Open ∷ []) }
+{}
+
+/// Each list of entries is in order, and so are the entries of the invocations: no number is lower than one before it.
+pub fn lists_ascend()
+    ensures grounds { (of_one : Bool) (table : Table) (side : Side) (entries : List Entry) (r : Refutation) (what : What)
+        (numbers : List ℕ) → Contains (grounds_of of_one table side entries r) (what, numbers) → IsAscending numbers }
+    ensures invocations { (of_one : Bool) (table : Table) (side : Side) (entries : List Entry) (r : Refutation)
+        → IsAscending (map (λ i. i.entry) (invocations_at of_one table side entries r)) }
 {}
 
 /// The invocations that are given have the entries, in their order, that the list of Invokes has of the messages which the kind compares:

@@ -1,12 +1,11 @@
 -- What is said of both ends, and what was written of it.
-use Rattle.std.proofs.Common.{◌≡◌, ◌&&◌, ℕ, Bool, true, false, List, [], ◌∷◌, cond, refl, sym, ap, ap₂, subst, ◌∙◌, ◌⊎◌, inl, inr}
+use Rattle.std.proofs.Common.{◌≡◌, ◌&&◌, ℕ, Bool, true, false, List, [], ◌∷◌, ◌++◌, length, cond, refl, sym, ap, ap₂, subst, ◌∙◌, ◌⊎◌, inl, inr}
 use Rattle.std.specs.Prelude.{◌||◌, IfOk, Option, Some, None, Result, Ok, Err}
 use Rattle.std.specs.Io.KnownBytes.{Appends}
 use Rattle.tcap_record.specs.declared.entry.End.{End as Side}
 use Rattle.tcap_record.specs.declared.entry.End.TheVariants as sides
 use Rattle.tcap_record.specs.declared.entry.Entry.{Entry}
 use Rattle.tcap_record.specs.declared.fault.FeedFault.{FeedFault}
-use Rattle.tcap_record.specs.Framed.{FramedFrom}
 use Rattle.tcap_end.specs.Table.{Table}
 use Rattle.tcap_model.specs.Entries.{AreItems, IsItem}
 use Rattle.tcap_model.specs.Run.{IsLawful, IsLawfulFor}
@@ -22,26 +21,17 @@ use Rattle.tcap_judge.specs.declared.outcome.Outcome.TheVariants.{Lawful, Lawful
 use Rattle.tcap_lines.specs.declared.status.Status.{Status}
 use Rattle.tcap_lines.specs.declared.status.Status.TheVariants as statuses
 use Rattle.tcap_lines.specs.declared.status.WriteFailed.{WriteFailed}
-use Rattle.tcap_judge.specs.Outcome.{outcome_status}
-use Rattle.tcap_judge.specs.Judged.{AreLawful, IsShown}
+use Rattle.tcap_judge.specs.Outcome.{outcome_line, outcome_status}
+use Rattle.tcap_judge.specs.Judged.{AreLawful, AreLawfulUnheard, IsShown, MayBeSent, MayBeSentUnheard, replayed_by}
 use Rattle.tcap_judge.specs.Checked.{Device, ReadsRecord, ReadsTable, out_of_memory}
-use Rattle.tcap_judge.specs.LawfulRecord.{TellsLawful}
-use Rattle.tcap_judge.specs.Verdict.{record_verdict}
-use Rattle.tcap_judge.specs.Blamed.{AreFound, GivesBlame, GivesBlameWith, IsBlamed, IsFound, PrintsBlame, SaysLines, blame_status, ends_of, finding, finding_by, is_blamed, is_lawful, record_ends, unblamed_status}
-use Rattle.tcap_judge.proofs.LawfulLaws.{fine_fault, spells_items, table_fault, table_text}
+use Rattle.tcap_judge.specs.Verdict.{named_by, proposed_by, record_verdict, verdict}
+use Rattle.tcap_judge.specs.EachEnd.{AreBlamed}
+use Rattle.tcap_judge.specs.Blamed.{AreFound, FindsLawfulEnds, GivesBlame, GivesBlameWith, IsBlamed, IsFound, PrintsBlame, SaysLines, blame_status, ends_lines, ends_of, finding, is_blamed, is_lawful, joint_record_verdict, joint_verdict, lines_behind, record_ends, unblamed_status, verdict_by_ends}
+use Rattle.tcap_judge.proofs.LawfulLaws.{IsFineOf, fine_fault, finds, found_said as found_by_verdict, table_fault}
+use Rattle.tcap_judge.proofs.SpellsNothingLaws.{spells_nothing}
+use Rattle.tcap_judge.proofs.VerdictLaws.{between, verdict_is}
 
 -- ---- the ends
-
--- an end that is said to be lawful may have sent its part
-pub found_by_shown : (side : Side) (table : Table) (entries : List Entry) (count : ℕ) (outcome : Outcome)
-    → IsShown (Some side) table entries outcome → IsFound side table entries (finding_by count outcome)
-found_by_shown side table entries count (LawfulFor all unheard) (items, are, (events, w, runs, sent, keeps, left, lost)) =
-    (items, are, (events, (w, runs, sent), keeps))
-found_by_shown side table entries count (Lawful all) shown = tt
-found_by_shown side table entries count (NotShown fault) shown = tt
-found_by_shown side table entries count (Refuted r) shown = tt
-found_by_shown side table entries count (Undecided fault) shown = tt
-found_by_shown side table entries count (Faulty number place) shown = tt
 
 -- entries are one list of items
 same_item : (entry : Entry) (x y : Item) → IsItem entry x → IsItem entry y → x ≡ y
@@ -70,11 +60,22 @@ both_lawful whole table entries (xs, are, by_a) (ys, same, by_b) =
     let is = same_items entries ys xs same are in
     (xs, are, whole table xs by_a (subst (λ (items : List Item). IsLawfulFor sides.B items table) is by_b))
 
+-- However many are unheard, the items may be sent.
+pub without_unheard : (judged : Option Side) (items : List Item) (table : Table) (unheard : ℕ)
+    → MayBeSentUnheard judged items table unheard → MayBeSent judged items table
+without_unheard None items table unheard sent = sent
+without_unheard (Some side) items table unheard (events, w, runs, same, keeps, left, lost) = (events, (w, runs, same), keeps)
+
+pub are_lawful : (judged : Option Side) (table : Table) (entries : List Entry) (unheard : ℕ)
+    → AreLawfulUnheard judged table entries unheard → AreLawful judged table entries
+are_lawful judged table entries unheard (items, are, sent) = (items, are, without_unheard judged items table unheard sent)
+
 pub are_found : BothMayHaveSent → (table : Table) (entries : List Entry) (a b : Finding)
     → IsFound sides.A table entries a → IsFound sides.B table entries b
     → is_lawful a && is_lawful b ≡ true → AreLawful None table entries
 are_found whole table entries (findings.Lawful count unheard) (findings.Lawful all more) by_a by_b both =
-    both_lawful whole table entries by_a by_b
+    both_lawful whole table entries (are_lawful (Some sides.A) table entries unheard by_a)
+    (are_lawful (Some sides.B) table entries more by_b)
 are_found whole table entries (findings.Lawful count unheard) (findings.Blamed r) by_a by_b both = cc
 are_found whole table entries (findings.Lawful count unheard) (findings.NotBlamed all) by_a by_b both = cc
 are_found whole table entries (findings.Blamed r) b by_a by_b both = cc
@@ -96,6 +97,28 @@ ends_found whole table entries a b a_is b_is by_a by_b = (
   },
 )
 
+-- ---- the verdict on both ends, joined with those on each
+
+shown_by_ends : (table : Table) (entries : List Entry) (count : ℕ) (ends : Ends) (outcome : Outcome)
+    → IsShown None table entries outcome → AreFound table entries ends
+    → IsShown None table entries (verdict_by_ends count ends outcome)
+shown_by_ends table entries count ends outcome shown found = by (is_lawful ends.a && is_lawful ends.b) refl
+  where
+    by : (both : Bool) → (is_lawful ends.a && is_lawful ends.b) ≡ both → IsShown None table entries (cond both (Lawful count) outcome)
+    by true is = found.both is
+    by false is = shown
+
+pub are_blamed : (table : Table) (entries : List Entry) (outcome : Outcome) (ends : Ends) (count : ℕ) (said : Outcome)
+    → count ≡ length entries → said ≡ verdict_by_ends count ends outcome → outcome ≡ verdict table entries
+    → IsShown None table entries outcome → ends ≡ ends_of table entries → AreFound table entries ends
+    → AreBlamed table entries said (Some ends)
+are_blamed table entries outcome ends count said count_is said_is outcome_is shown ends_are found = (
+  said_is ∙ ap₂ (verdict_by_ends count) ends_are outcome_is
+      ∙ ap (λ (n : ℕ). verdict_by_ends n (ends_of table entries) (verdict table entries)) count_is,
+  subst (IsShown None table entries) (sym said_is) (shown_by_ends table entries count ends outcome shown found),
+  (ends, refl, ends_are, found),
+)
+
 -- ---- the record
 
 -- all that is known of what is blamed is that it is at fault
@@ -106,7 +129,7 @@ BlamesRightly = (table : Table) (side : Side) (entries : List Entry) (r : Refuta
 -- what is said of a record that was read
 pub gives_blame : BlamesRightly → (table : Table) (d : Device) (entries : List Entry) (end : Result (Unit {0}) FeedFault)
     (outcome : Outcome) (ends : Option Ends) → ReadsRecord d entries end
-    → outcome ≡ record_verdict None table entries end → IsShown None table entries outcome
+    → outcome ≡ joint_record_verdict None table entries end → IsShown None table entries outcome
     → ends ≡ record_ends table entries end → ((said : Ends) → ends ≡ Some said → AreFound table entries said)
     → GivesBlame table d outcome ends
 gives_blame rightly table d entries end outcome ends reads says shown ends_are found = inr (record {
@@ -117,6 +140,8 @@ gives_blame rightly table d entries end outcome ends reads says shown ends_are f
   shown = shown;
   ends_are = ends_are;
   at_fault = λ side r is. rightly table side entries r is;
+  spells_nothing = λ side r is kind.
+      spells_nothing (Some side) table entries reads.told reads.is_read.rest r reads.is_read.framed (rightly table side entries r is) kind;
   found = found;
 })
 
@@ -155,17 +180,10 @@ prints_blame entries table outcome ends taken taken' (Ok status) judged said = r
 }
 prints_blame entries table outcome ends taken taken' (Err failed) judged said = tt
 
--- Where a run is fine, so is the verdict, or both ends are lawful.
-abbrev pub IsFineBy : Outcome → Option Ends → Type 0
-IsFineBy outcome ends = (outcome_status outcome ≡ statuses.Fine)
-    ⊎ ((said : Ends) × (ends ≡ Some said) × (is_lawful said.a && is_lawful said.b ≡ true))
-
-fine_choice : (blames both : Bool) (status : Status)
-    → cond blames statuses.Refuted (cond both statuses.Fine status) ≡ statuses.Fine
-    → (status ≡ statuses.Fine) ⊎ (both ≡ true)
-fine_choice true both status fine = let bad : statuses.Refuted ≡ statuses.Fine = fine in cc
-fine_choice false true status fine = inr refl
-fine_choice false false status fine = inl fine
+-- Where a run is fine, so is the verdict.
+fine_choice : (blames : Bool) (status : Status) → cond blames statuses.Refuted status ≡ statuses.Fine → status ≡ statuses.Fine
+fine_choice true status fine = let bad : statuses.Refuted ≡ statuses.Fine = fine in cc
+fine_choice false status fine = fine
 
 fine_unblamed : (outcome : Outcome) → unblamed_status outcome ≡ statuses.Fine → outcome_status outcome ≡ statuses.Fine
 fine_unblamed (Lawful count) fine = fine
@@ -175,89 +193,70 @@ fine_unblamed (Refuted r) fine = let bad : statuses.NotShown ≡ statuses.Fine =
 fine_unblamed (Undecided fault) fine = fine
 fine_unblamed (Faulty number place) fine = fine
 
-fine_by : (outcome : Outcome) (ends : Option Ends) → blame_status ends outcome ≡ statuses.Fine → IsFineBy outcome ends
-fine_by outcome None fine = inl fine
-fine_by outcome (Some said) fine =
-    elim (fine_choice (is_blamed said.a || is_blamed said.b) (is_lawful said.a && is_lawful said.b)
-    (unblamed_status outcome) fine) [
-      | inl ended ↦ inl (fine_unblamed outcome ended)
-      | inr both ↦ inr (said, refl, both)
-    ]
-
-shown_verdict : (table : Table) (entries : List Entry) (outcome : Outcome) → IsShown None table entries outcome
-    → outcome_status outcome ≡ statuses.Fine → AreLawful None table entries
-shown_verdict table entries (Lawful count) shown fine = shown
-shown_verdict table entries (LawfulFor count unheard) shown fine = shown
-shown_verdict table entries (NotShown fault) shown fine = let bad : statuses.NotShown ≡ statuses.Fine = fine in cc
-shown_verdict table entries (Refuted r) shown fine = let bad : statuses.Refuted ≡ statuses.Fine = fine in cc
-shown_verdict table entries (Undecided fault) shown fine = let bad : statuses.NotShown ≡ statuses.Fine = fine in cc
-shown_verdict table entries (Faulty number place) shown fine = let bad : statuses.Fault ≡ statuses.Fine = fine in cc
-
--- entries that are all that was told, and lawful
-tells_of : (entries table : Device) (operations : Table) (read : List Entry) (end : Unit {0})
-    → ReadsRecord entries read (Ok end) → ReadsTable table (Ok operations) → AreLawful None operations read
-    → TellsLawful entries table
-tells_of entries table operations read end reads given (items, are, run) =
-    let text = table_text table operations given in
-    let framed = subst (FramedFrom 0 read reads.told) reads.is_read.ends reads.is_read.framed in
-    record {
-      octets = reads.told;
-      text = text.0;
-      operations = operations;
-      items = items;
-      moves = run.0;
-      tells = (reads.tells, reads.ended);
-      tells_table = text.1;
-      is_table = text.2;
-      spells = spells_items 0 read items reads.told framed are;
-      lawful = run.1;
-    }
-
--- no end is lawful where nothing is said of any
-none_said : (outcome : Outcome) (ends : Option Ends) → ends ≡ None → IsFineBy outcome ends
+fine_by : (outcome : Outcome) (ends : Option Ends) → blame_status ends outcome ≡ statuses.Fine
     → outcome_status outcome ≡ statuses.Fine
-none_said outcome ends none (inl fine) = fine
-none_said outcome ends none (inr (said, is, both)) = let bad : Some said ≡ None = sym is ∙ none in cc
-
-by_end : (entries table : Device) (operations : Table) (outcome : Outcome) (ends : Option Ends) (read : List Entry)
-    (end : Result (Unit {0}) FeedFault) → ReadsRecord entries read end → ReadsTable table (Ok operations)
-    → outcome ≡ record_verdict None operations read end → IsShown None operations read outcome
-    → ends ≡ record_ends operations read end → ((said : Ends) → ends ≡ Some said → AreFound operations read said)
-    → IsFineBy outcome ends → TellsLawful entries table
-by_end entries table operations outcome ends read (Err fault) reads given says shown none found fine =
-    absurd (fine_fault outcome (record_verdict None operations read (Err fault)) says refl
-    (none_said outcome ends none fine))
-by_end entries table operations outcome ends read (Ok end) reads given says shown are found (inl fine) =
-    tells_of entries table operations read end reads given (shown_verdict operations read outcome shown fine)
-by_end entries table operations outcome ends read (Ok end) reads given says shown are found (inr (said, is, both)) =
-    tells_of entries table operations read end reads given ((found said is).both both)
-
-by_record : (entries table : Device) (operations : Table) (outcome : Outcome) (ends : Option Ends)
-    → ReadsTable table (Ok operations) → GivesBlame operations entries outcome ends → IsFineBy outcome ends
-    → TellsLawful entries table
-by_record entries table operations outcome ends given (inl memory) fine =
-    absurd (fine_fault outcome out_of_memory memory.0 refl (none_said outcome ends memory.1 fine))
-by_record entries table operations outcome ends given (inr says) fine =
-    by_end entries table operations outcome ends says.entries says.end says.reads given says.says says.shown says.ends_are
-    says.found fine
-
-by_table : (given : Result Table Outcome) (entries table : Device) (outcome : Outcome) (ends : Option Ends)
-    → ReadsTable table given → GivesBlameWith given entries outcome ends → IsFineBy outcome ends
-    → TellsLawful entries table
-by_table (Err said) entries table outcome ends reads gives fine =
-    absurd (fine_fault outcome said gives.0 (table_fault table said reads) (none_said outcome ends gives.1 fine))
-by_table (Ok operations) entries table outcome ends reads gives fine =
-    by_record entries table operations outcome ends reads gives fine
+fine_by outcome None fine = fine
+fine_by outcome (Some said) fine =
+    fine_unblamed outcome (fine_choice (is_blamed said.a || is_blamed said.b) (unblamed_status outcome) fine)
 
 fine_lines : (outcome : Outcome) (ends : Option Ends) (text : List ℕ) (status : Status)
-    → SaysLines outcome ends text status → status ≡ statuses.Fine → IsFineBy outcome ends
-fine_lines outcome ends text status (inl said) fine = fine_by outcome ends (sym said.1 ∙ fine)
+    → SaysLines outcome ends text status → status ≡ statuses.Fine
+    → (outcome_status outcome ≡ statuses.Fine) × (text ≡ outcome_line outcome ++ lines_behind ends)
+fine_lines outcome ends text status (inl said) fine = (fine_by outcome ends (sym said.1 ∙ fine), said.0)
 fine_lines outcome ends text status (inr said) fine = let bad : statuses.Fault ≡ statuses.Fine = sym said.1 ∙ fine in cc
 
+-- A fine joint verdict counts the entries.
+joint_fine : (table : Table) (entries : List Entry) → IsFineOf None (length entries) (joint_verdict None table entries)
+joint_fine table entries = by (is_lawful (finding table entries sides.A) && is_lawful (finding table entries sides.B))
+  where
+    by : (both : Bool) → IsFineOf None (length entries) (cond both (Lawful (length entries)) (verdict table entries))
+    by true = λ fine. (0, refl)
+    by false =
+        verdict_is None (length entries) (named_by None table entries)
+        (replayed_by None table (proposed_by None entries) entries)
+
+by_end : (entries table : Device) (operations : Table) (taken taken' : Option (List ℕ)) (outcome : Outcome) (ends : Option Ends)
+    (read : List Entry) (end : Result (Unit {0}) FeedFault) → ReadsRecord entries read end → ReadsTable table (Ok operations)
+    → outcome ≡ joint_record_verdict None operations read end → IsShown None operations read outcome
+    → ends ≡ record_ends operations read end → outcome_status outcome ≡ statuses.Fine
+    → Appends taken taken' (outcome_line outcome ++ lines_behind ends) → FindsLawfulEnds entries table taken taken'
+by_end entries table operations taken taken' outcome ends read (Err fault) reads given says shown are fine line =
+    absurd (fine_fault outcome (record_verdict None operations read (Err fault)) says refl fine)
+by_end entries table operations taken taken' outcome ends read (Ok end) reads given says shown are fine line =
+    let lines = subst (λ (said : Option Ends). Appends taken taken' (outcome_line outcome ++ lines_behind said)) are line in
+    let (there, before, rest) = between taken taken' (outcome_line outcome) (ends_lines (ends_of operations read)) lines in (
+      there,
+      ends_of operations read,
+      finds None entries table operations taken there outcome given
+          (found_by_verdict None operations entries outcome (joint_verdict None operations read) read end reads (joint_fine operations read)
+          says shown fine) before,
+      rest,
+    )
+
+by_record : (entries table : Device) (operations : Table) (taken taken' : Option (List ℕ)) (outcome : Outcome) (ends : Option Ends)
+    → ReadsTable table (Ok operations) → GivesBlame operations entries outcome ends → outcome_status outcome ≡ statuses.Fine
+    → Appends taken taken' (outcome_line outcome ++ lines_behind ends) → FindsLawfulEnds entries table taken taken'
+by_record entries table operations taken taken' outcome ends given (inl memory) fine line =
+    absurd (fine_fault outcome out_of_memory memory.0 refl fine)
+by_record entries table operations taken taken' outcome ends given (inr says) fine line =
+    by_end entries table operations taken taken' outcome ends says.entries says.end says.reads given says.says says.shown
+    says.ends_are fine line
+
+by_table : (given : Result Table Outcome) (entries table : Device) (taken taken' : Option (List ℕ)) (outcome : Outcome)
+    (ends : Option Ends) → ReadsTable table given → GivesBlameWith given entries outcome ends
+    → outcome_status outcome ≡ statuses.Fine → Appends taken taken' (outcome_line outcome ++ lines_behind ends)
+    → FindsLawfulEnds entries table taken taken'
+by_table (Err said) entries table taken taken' outcome ends reads gives fine line =
+    absurd (fine_fault outcome said gives.0 (table_fault table said reads) fine)
+by_table (Ok operations) entries table taken taken' outcome ends reads gives fine line =
+    by_record entries table operations taken taken' outcome ends reads gives fine line
+
 -- where a run is fine, the record is lawful
-pub fine_blame : (entries table : Device) (taken taken' : Option (List ℕ)) (result : Result Status WriteFailed)
-    → IfOk result (PrintsBlame entries table taken taken') → result ≡ Ok statuses.Fine → TellsLawful entries table
-fine_blame entries table taken taken' (Err failed) prints fine = cc
-fine_blame entries table taken taken' (Ok status) prints fine =
-    by_table prints.judged.0 entries table prints.outcome prints.ends prints.judged.1 prints.judged.2
-    (fine_lines prints.outcome prints.ends prints.text status prints.says cc)
+pub lawful_blame : (entries table : Device) (taken taken' : Option (List ℕ)) (result : Result Status WriteFailed)
+    → IfOk result (PrintsBlame entries table taken taken') → result ≡ Ok statuses.Fine → FindsLawfulEnds entries table taken taken'
+lawful_blame entries table taken taken' (Err failed) prints fine = cc
+lawful_blame entries table taken taken' (Ok status) prints fine =
+    let is_fine : status ≡ statuses.Fine = cc in
+    let (ended, is) = fine_lines prints.outcome prints.ends prints.text status prints.says is_fine in
+    by_table prints.judged.0 entries table taken taken' prints.outcome prints.ends prints.judged.1 prints.judged.2 ended
+    (subst (Appends taken taken') is prints.takes)

@@ -25,7 +25,7 @@ use Rattle.tcap_search.specs.Proposed.{proposed_for}
 use Rattle.tcap_judge.specs.Blamed.{IsFound, finding, finding_by, items_before}
 use Rattle.tcap_judge.specs.declared.finding.Finding.TheVariants as findings
 use Rattle.tcap_judge.specs.EachEnd.{lost_by, lost_of}
-use Rattle.tcap_judge.specs.Judged.{AreLawful, lawful_by}
+use Rattle.tcap_judge.specs.Judged.{AreLawfulUnheard, lawful_by}
 use Rattle.tcap_judge.specs.Verdict.{verdict_by}
 
 -- ---- nothing is blamed
@@ -89,20 +89,20 @@ lost_are side n (By r ∷ fates) (entry ∷ entries) (item ∷ items) are =
 pub found_alike : IsNeverGiven → (side : Side) (table : Table) (c : Certificate) (entries : List Entry)
     → (events : List Event) × (replayed_by None table c entries ≡ Ok events) → c ≡ proposed_for side entries
     → (count unheard : ℕ) → count ≡ length entries → unheard ≡ lost_of (other side) c.fates entries
-    → (findings.Lawful count unheard ≡ finding table entries side) × AreLawful (Some side) table entries
+    → (findings.Lawful count unheard ≡ finding table entries side) × AreLawfulUnheard (Some side) table entries unheard
 found_alike never side table c entries (events, is) alike count lost count_is lost_is =
     let both = gives table c entries events is in
     let (own, given, losses, none) = both_give side table c entries both.items events both.are is in
     let mine = gives_for side table c entries own given in
-    let unheard : unheard_of side own ≡ lost_of (other side) c.fates entries =
+    let unheard_is : unheard_of side own ≡ lost_of (other side) c.fates entries =
     unheard_are_lost side own ∙ ap length losses ∙ lost_are (other side) 0 c.fates entries both.items both.are in
     let proposed : replayed_by (Some side) table (proposed_for side entries) entries ≡ Ok own =
     subst (λ (d : Certificate). replayed_by (Some side) table d entries ≡ Ok own) alike given in (
       ap₂ findings.Lawful count_is lost_is
           ∙ sym (ap₂ (λ named replay. finding_by (items_before (map item_of entries)) (verdict_by (Some side) (length entries) named replay))
           (none_blamed never side table c entries own given) proposed
-          ∙ ap (λ (k : ℕ). findings.Lawful (length entries) k) unheard),
-      (mine.items, mine.are, (own, mine.run, mine.keeps)),
+          ∙ ap (λ (k : ℕ). findings.Lawful (length entries) k) unheard_is),
+      (mine.items, mine.are, (own, mine.run.0, mine.run.1, mine.run.2, mine.keeps, mine.left, unheard_is ∙ sym lost_is)),
     )
 
 -- no entry is left

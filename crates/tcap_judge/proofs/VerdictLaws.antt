@@ -26,6 +26,7 @@ use Rattle.tcap_judge.specs.Judged.{IsShown, lawful_by, replayed_by, said_lawful
 use Rattle.tcap_judge.specs.Checked.{Device, ReadsRecord, ReadsTable, out_of_memory}
 use Rattle.tcap_judge.specs.Verdict.{FindsFault, FindsLawfulThen, GivesVerdict, GivesVerdictWith, IsAtFaultBy, IsCertificateLine, IsJudged, PrintsVerdict, certificate_line, named_by, proposed_by, record_verdict, verdict_by}
 use Rattle.tcap_judge.proofs.LawfulLaws.{IsFineOf, IsFoundBy, fine_fault, finds, found_said, lawful_is, no_fault, table_fault, table_text}
+use Rattle.tcap_judge.proofs.SpellsNothingLaws.{spells_nothing}
 
 -- ---- what was said, by how the run ended
 
@@ -46,7 +47,7 @@ refuted_is (Faulty number place) ended = let bad : statuses.Fault ≡ statuses.R
 
 -- ---- the record
 
-verdict_is : (judged : Option Side) (count : ℕ) (named : Option Refutation) (replay : Result (List Event) CheckFault)
+pub verdict_is : (judged : Option Side) (count : ℕ) (named : Option Refutation) (replay : Result (List Event) CheckFault)
     → IsFineOf judged count (verdict_by judged count named replay)
 verdict_is judged count (Some r) replay fine = let bad : statuses.Refuted ≡ statuses.Fine = fine in cc
 verdict_is judged count None (Ok events) fine = lawful_is judged count events fine
@@ -130,7 +131,7 @@ refuted_record judged table with_certificate d r behind (inr says) =
 -- ---- both
 
 -- the octets before and behind what was written in between
-between : (old new : Option (List ℕ)) (front back : List ℕ) → Appends old new (front ++ back)
+pub between : (old new : Option (List ℕ)) (front back : List ℕ) → Appends old new (front ++ back)
     → (there : Option (List ℕ)) × Appends old there front × Appends there new back
 between None new front back all = (None, tt, tt)
 between (Some x) None front back all = absurd all
@@ -183,6 +184,9 @@ refuted_table judged rightly (Ok operations) with_certificate entries table take
       is_table = text.2;
       is_read = named.reads.is_read;
       at_fault = rightly operations named.entries r named.named;
+      spells_nothing = λ is.
+          spells_nothing judged operations named.entries named.reads.told named.reads.is_read.rest r named.reads.is_read.framed
+          (rightly operations named.entries r named.named) is;
       line = subst (Appends taken taken') (ap (λ (x : List ℕ). refuted_line r ++ x) none ∙ append-nil (refuted_line r)) line;
     }
 

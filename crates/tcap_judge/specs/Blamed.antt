@@ -1,6 +1,6 @@
 -- What a run says of who is at fault: the verdict on the record, and then of each end whether an entry is blamed on it, and
 -- whether it may have sent its part.
-use Rattle.std.specs.Prelude.{◌≡◌, ℕ, ◌⊎◌, ◌+◌, Bool, true, false, List, [], ◌∷◌, ◌++◌, map, nat_lt, cond, ◌&&◌, ◌||◌, Option, Some, None, Result, Ok, Err, codes}
+use Rattle.std.specs.Prelude.{◌≡◌, ℕ, ◌⊎◌, ◌+◌, Bool, true, false, List, [], ◌∷◌, ◌++◌, length, map, nat_lt, cond, ◌&&◌, ◌||◌, Option, Some, None, Result, Ok, Err, codes}
 use Rattle.std.specs.Fmt.{decimal}
 use Rattle.std.specs.Io.KnownBytes.{Appends}
 use Rattle.tcap_record.specs.declared.entry.End.{End as Side}
@@ -13,6 +13,7 @@ use Rattle.tcap_end.specs.Table.{Table}
 use Rattle.tcap_model.specs.World.{Item}
 use Rattle.tcap_model.specs.declared.reason.Reason.{Reason}
 use Rattle.tcap_model.specs.Entries.{item_of}
+use Rattle.tcap_refute.specs.declared.kind.Kind.TheVariants as kinds
 use Rattle.tcap_refute.specs.declared.kind.Refutation.{Refutation}
 use Rattle.tcap_refute.specs.Kind.{kind_number}
 use Rattle.tcap_faults.specs.AtFault.{IsAtFaultOf}
@@ -21,14 +22,15 @@ use Rattle.tcap_judge.specs.declared.finding.Ends.{Ends}
 use Rattle.tcap_judge.specs.declared.finding.Finding.{Finding}
 use Rattle.tcap_judge.specs.declared.finding.Finding.TheVariants as findings
 use Rattle.tcap_judge.specs.declared.outcome.Outcome.{Outcome}
-use Rattle.tcap_judge.specs.declared.outcome.Outcome.TheVariants.{LawfulFor, Refuted}
+use Rattle.tcap_judge.specs.declared.outcome.Outcome.TheVariants.{Lawful, LawfulFor, Refuted}
 use Rattle.tcap_lines.specs.declared.status.Status.{Status}
 use Rattle.tcap_lines.specs.declared.status.Status.TheVariants as statuses
 use Rattle.tcap_judge.specs.Outcome.{outcome_line, outcome_status}
 use Rattle.tcap_lines.specs.Shown.{memory_line}
-use Rattle.tcap_judge.specs.Judged.{AreLawful, IsShown}
+use Rattle.tcap_judge.specs.Judged.{AreLawful, AreLawfulUnheard, IsShown}
 use Rattle.tcap_judge.specs.Checked.{Device, IsUntouched, ReadsRecord, ReadsTable, out_of_memory}
-use Rattle.tcap_judge.specs.Verdict.{record_verdict, verdict_for}
+use Rattle.tcap_judge.specs.LawfulRecord.{FindsLawful}
+use Rattle.tcap_judge.specs.Verdict.{SpellsNothing, record_verdict, verdict, verdict_for}
 
 -- ---- what is said of an end
 
@@ -59,6 +61,23 @@ is_lawful said = false
 abbrev pub ends_of : Table → List Entry → Ends
 ends_of table entries = record { a = finding table entries sides.A; b = finding table entries sides.B }
 
+-- ---- the verdict on the record, by those on its ends
+
+-- That so many entries are lawful, if each end by itself may have sent its part: two lawful ends may have sent them then
+-- (`blame_is_whole` of tcap_model). Else that verdict.
+abbrev pub verdict_by_ends : ℕ → Ends → Outcome → Outcome
+verdict_by_ends count ends outcome = cond (is_lawful ends.a && is_lawful ends.b) (Lawful count) outcome
+
+-- the verdict on both ends, by that on both together and those on each; or the verdict on one end alone
+abbrev pub joint_verdict : Option Side → Table → List Entry → Outcome
+joint_verdict None table entries = verdict_by_ends (length entries) (ends_of table entries) (verdict table entries)
+joint_verdict (Some side) table entries = verdict_for side table entries
+
+-- the verdict on entries and the end after them: the fault of the end, else that verdict
+abbrev pub joint_record_verdict : Option Side → Table → List Entry → Result (Unit {0}) FeedFault → Outcome
+joint_record_verdict judged table entries (Ok end) = joint_verdict judged table entries
+joint_record_verdict judged table entries (Err fault) = record_verdict judged table entries (Err fault)
+
 -- ---- lines
 
 -- an entry is blamed on it, or it may have sent its part of so many, or of so many none is blamed
@@ -88,9 +107,10 @@ abbrev pub record_ends : Table → List Entry → Result (Unit {0}) FeedFault �
 record_ends table entries (Ok end) = Some (ends_of table entries)
 record_ends table entries (Err fault) = None
 
--- Where an end is said to be lawful, it may have sent its part; where both are, two lawful ends may have sent the record.
+-- If an end is called lawful, it may have sent its part, by a run in which so many messages of its peer are unheard. If
+-- both are, two lawful ends may have sent the record.
 abbrev pub IsFound : Side → Table → List Entry → Finding → Type 0
-IsFound side table entries (findings.Lawful count unheard) = AreLawful (Some side) table entries
+IsFound side table entries (findings.Lawful count unheard) = AreLawfulUnheard (Some side) table entries unheard
 IsFound side table entries said = Unit {0}
 
 pub record AreFound (table : Table) (entries : List Entry) (ends : Ends) : Type 0 where
@@ -98,18 +118,21 @@ pub record AreFound (table : Table) (entries : List Entry) (ends : Ends) : Type 
   pub b : IsFound sides.B table entries ends.b
   pub both : is_lawful ends.a && is_lawful ends.b ≡ true → AreLawful None table entries
 
--- What the reader told is entries and the end behind them; what is said is the verdict on them, and is so, and
--- behind it what is said of both ends. What is blamed on an end is at fault: it is no message, or no run in which this end keeps the
--- rules has it there, whatever its peer sends and whatever follows.
+-- What the reader returned is entries and the end after them. The outcome is the verdict on both ends, and holds; and
+-- the findings are those on each end. An entry that is blamed on an end is at fault: it is no message, or no run in which
+-- this end keeps the rules has it there, whatever its peer sends and whatever follows. If its kind is F1, it spells no
+-- message.
 pub record SaysBlame (table : Table) (d : Device) (outcome : Outcome) (ends : Option Ends) : Type 0 where
   pub entries : List Entry
   pub end : Result (Unit {0}) FeedFault
   pub reads : ReadsRecord d entries end
-  pub says : outcome ≡ record_verdict None table entries end
+  pub says : outcome ≡ joint_record_verdict None table entries end
   pub shown : IsShown None table entries outcome
   pub ends_are : ends ≡ record_ends table entries end
   pub at_fault : (side : Side) (r : Refutation) → blamed table side entries ≡ Some r
       → IsAtFaultOf table side entries r
+  pub spells_nothing : (side : Side) (r : Refutation) → blamed table side entries ≡ Some r → r.kind ≡ kinds.BadMessage
+      → SpellsNothing entries r.entry reads.told
   pub found : (said : Ends) → ends ≡ Some said → AreFound table entries said
 
 -- That is so, or memory ran out.
@@ -136,13 +159,11 @@ abbrev pub unblamed_status : Outcome → Status
 unblamed_status (Refuted r) = statuses.NotShown
 unblamed_status outcome = outcome_status outcome
 
--- That of an entry at fault only where one is blamed on an end; that of a lawful record, where both ends are lawful; and else
--- that of the outcome, where nobody is blamed.
+-- That of an entry at fault only if one is blamed on an end, and else that of the outcome of which nobody is blamed.
 abbrev pub blame_status : Option Ends → Outcome → Status
 blame_status None outcome = outcome_status outcome
 blame_status (Some ends) outcome =
-    cond (is_blamed ends.a || is_blamed ends.b) statuses.Refuted
-    (cond (is_lawful ends.a && is_lawful ends.b) statuses.Fine (unblamed_status outcome))
+    cond (is_blamed ends.a || is_blamed ends.b) statuses.Refuted (unblamed_status outcome)
 
 -- The text is the line of the outcome and what stands behind it, or says that memory ran out.
 abbrev pub SaysLines : Outcome → Option Ends → List ℕ → Status → Type 0
@@ -159,3 +180,10 @@ pub record PrintsBlame (entries table : Device) (taken taken' : Option (List ℕ
   pub judged : IsBlamed entries table outcome ends
   pub says : SaysLines outcome ends text status
   pub takes : Appends taken taken' text
+
+-- ---- what the lines say
+
+-- The writer took the line that says that the record is lawful, as it is, and after it the lines of both ends.
+abbrev pub FindsLawfulEnds : Device → Device → Option (List ℕ) → Option (List ℕ) → Type 0
+FindsLawfulEnds entries table taken taken' = (there : Option (List ℕ)) × (ends : Ends)
+    × FindsLawful entries table taken there × Appends there taken' (ends_lines ends)

@@ -8,9 +8,8 @@ use Rattle.tcap_end.specs.Table.{Table}
 use Rattle.tcap_search.specs.Lines.{is_end}
 use Rattle.tcap_judge.specs.declared.finding.Ends.{Ends}
 use Rattle.tcap_judge.specs.declared.outcome.Outcome.{Outcome}
-use Rattle.tcap_judge.specs.Blamed.{AreFound, ends_of}
+use Rattle.tcap_judge.specs.Blamed.{AreFound, ends_of, joint_verdict}
 use Rattle.tcap_judge.specs.Judged.{IsShown}
-use Rattle.tcap_judge.specs.Verdict.{verdict}
 
 -- 1 where the entry is of that end and lost, else 0
 abbrev pub lost_by : Side → Fate → Option Side → ℕ
@@ -21,7 +20,7 @@ abbrev pub lost_of : Side → List Fate → List Entry → ℕ
 lost_of side (fate ∷ fates) (entry ∷ entries) = lost_by side fate entry.side + lost_of side fates entries
 lost_of side _ _ = 0
 
--- the verdict on entries, which is so, and what is said of both ends
+-- the verdict on both ends, which holds, and the finding on each end
 abbrev pub AreBlamed : Table → List Entry → Outcome → Option Ends → Type 0
-AreBlamed table entries outcome ends = (outcome ≡ verdict table entries) × IsShown None table entries outcome
+AreBlamed table entries outcome ends = (outcome ≡ joint_verdict None table entries) × IsShown None table entries outcome
     × ((said : Ends) × (ends ≡ Some said) × (said ≡ ends_of table entries) × AreFound table entries said)

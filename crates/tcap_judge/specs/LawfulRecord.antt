@@ -63,16 +63,3 @@ pub record FindsLawfulFor (side : Side) (entries table : Device) (taken taken' :
 abbrev pub FindsLawfulBy : Option Side → Device → Device → Option (List ℕ) → Option (List ℕ) → Type 0
 FindsLawfulBy None entries table taken taken' = FindsLawful entries table taken taken'
 FindsLawfulBy (Some side) entries table taken taken' = FindsLawfulFor side entries table taken taken'
-
--- What `FindsLawful` says of the readers alone, whatever was written.
-pub record TellsLawful (entries table : Device) : Type 0 where
-  pub octets : List ℕ
-  pub text : List ℕ
-  pub operations : Table
-  pub items : List Item
-  pub moves : ℕ
-  pub tells : TellsAll entries octets
-  pub tells_table : TellsAll table text
-  pub is_table : IsTableOf text (Ok operations)
-  pub spells : SpellsRecord items octets
-  pub lawful : IsLawful items operations moves

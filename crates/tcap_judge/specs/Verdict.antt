@@ -1,6 +1,6 @@
 -- What a run says of a record without a certificate, for both ends or for one alone: refuted, lawful by the certificate
 -- that is proposed, or neither.
-use Rattle.std.specs.Prelude.{◌≡◌, ℕ, ◌⊎◌, Bool, true, false, List, [], ◌++◌, length, map, Option, Some, None, Result, Ok, Err}
+use Rattle.std.specs.Prelude.{◌≡◌, ℕ, ◌⊎◌, Bool, true, false, List, [], ◌++◌, length, map, slice_get, Option, Some, None, Result, Ok, Err}
 use Rattle.std.specs.Io.KnownBytes.{Appends}
 use Rattle.serde_json.specs.Written.{compact_text}
 use Rattle.tcap_record.specs.declared.entry.End.{End as Side}
@@ -16,10 +16,11 @@ use Rattle.tcap_certificate.specs.Certificate.{Certificate}
 use Rattle.tcap_certificate_text.specs.CertificateText.{certificate_data}
 use Rattle.tcap_model.specs.Entries.{item_of}
 use Rattle.tcap_model.specs.Run.{Event}
+use Rattle.tcap_refute.specs.declared.kind.Kind.TheVariants as kinds
 use Rattle.tcap_refute.specs.declared.kind.Refutation.{Refutation}
 use Rattle.tcap_refute.specs.Kind.{refuted}
 use Rattle.tcap_refute.specs.Unsendable.{IsAtFault}
-use Rattle.tcap_faults.specs.AtFault.{IsAtFaultOf}
+use Rattle.tcap_faults.specs.AtFault.{HasNoMessage, IsAtFaultOf}
 use Rattle.tcap_faults.specs.Fault.{blamed}
 use Rattle.tcap_search.specs.Proposed.{proposed, proposed_for}
 use Rattle.tcap_judge.specs.declared.outcome.Outcome.{Outcome}
@@ -156,8 +157,18 @@ abbrev pub IsAtFaultBy : Option Side → Table → List Entry → Refutation →
 IsAtFaultBy None table entries r = IsAtFault table (map item_of entries) r
 IsAtFaultBy (Some side) table entries r = IsAtFaultOf table side entries r
 
+-- At the offset of the entry of that number, the octets have, after the octet of its end, an element that spells no
+-- message.
+pub record SpellsNothing (read : List Entry) (number : ℕ) (octets : List ℕ) : Type 0 where
+  pub entry : Entry
+  pub side : Side
+  pub there : slice_get read number ≡ Some entry
+  pub side_is : entry.side ≡ Some side
+  pub none : HasNoMessage side entry.place octets
+
 -- One reader told the octets of a record and the other the text of an operation table, both up to their ends; of the
--- entries that the octets are, one is at fault; and what the writer took is the line that names it.
+-- entries that the octets are, one is at fault, and if its kind is F1, it spells no message; and what the writer took is
+-- the line that names it.
 pub record FindsFault (judged : Option Side) (entries table : Device) (taken taken' : Option (List ℕ)) : Type 0 where
   pub octets : List ℕ
   pub text : List ℕ
@@ -169,4 +180,5 @@ pub record FindsFault (judged : Option Side) (entries table : Device) (taken tak
   pub is_table : IsTableOf text (Ok operations)
   pub is_read : IsReadAs read (Ok tt) octets
   pub at_fault : IsAtFaultBy judged operations read refutation
+  pub spells_nothing : refutation.kind ≡ kinds.BadMessage → SpellsNothing read refutation.entry octets
   pub line : Appends taken taken' (refuted_line refutation)

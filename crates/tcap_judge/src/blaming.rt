@@ -12,9 +12,11 @@ ghost use Rattle.tcap_refute.specs.Kind.{refuted};
 ghost use Rattle.tcap_faults.specs.Fault.{blamed};
 ghost use Rattle.tcap_search.specs.Found.{or_both};
 ghost use Rattle.tcap_search.specs.Proposed.{proposed, proposed_for};
-ghost use Rattle.tcap_judge.specs.Blamed.{AreFound, GivesBlame, IsBlamed, IsFound, PrintsBlame, SaysLines, ends_of, finding, lines_behind};
+ghost use Rattle.tcap_judge.specs.Blamed.{AreFound, FindsLawfulEnds, GivesBlame, IsBlamed, IsFound, PrintsBlame, SaysLines, ends_of, finding, lines_behind};
 ghost use Rattle.tcap_judge.specs.EachEnd.{AreBlamed};
+ghost use Rattle.tcap_judge.specs.Judged.{IsShown};
 ghost use Rattle.tcap_judge.specs.Outcome.{outcome_line};
+ghost use Rattle.tcap_judge.specs.Verdict.{verdict};
 
 use crate::each_end::{find_alike, find_lawful, find_with, items_before};
 use crate::finding::{Ends, Finding, blame_status};
@@ -181,6 +183,20 @@ fn find_other_ends(
     })
 }
 
+/// Joins the verdict on both ends together with the findings on each: the record is lawful, if each end by itself is.
+fn joined(read: &Record, table: &Table, outcome: Outcome, ends: Ends) -> Blame
+    requires verdict { outcome ≡ verdict table.now read.now.entries.items }
+    requires shown { IsShown None table.now read.now.entries.items outcome }
+    requires ends { ends ≡ ends_of table.now read.now.entries.items }
+    requires found { AreFound table.now read.now.entries.items ends }
+    ensures { AreBlamed table.now read.now.entries.items result.outcome result.ends }
+{
+    Blame {
+        outcome: ends.joint_verdict(read.entries.len(), outcome),
+        ends: Some(ends),
+    }
+}
+
 /// What is said of a record that is not refuted, and of its ends: one search proposes for all three.
 fn blame_by_search(alloc: Global, read: &Record, table: &Table) -> Result<Blame, AllocError>
     requires few { length read.now.entries.items ≤ 100000 }
@@ -191,15 +207,15 @@ fn blame_by_search(alloc: Global, read: &Record, table: &Table) -> Result<Blame,
         return Err(AllocError);
     };
     match replay(alloc, read, table, &proposals.both, None) {
-        Ok(outcome) => Ok(Blame {
-            outcome,
-            ends: Some(find_lawful_ends(alloc, read, table, &proposals)?),
-        }),
+        Ok(outcome) => {
+            let ends = find_lawful_ends(alloc, read, table, &proposals)?;
+            Ok(joined(read, table, outcome, ends))
+        }
         Err(fault) if matches!(fault.reason, Reason::Memory) => Err(AllocError),
-        Err(fault) => Ok(Blame {
-            outcome: Outcome::Undecided(fault),
-            ends: Some(find_other_ends(alloc, read, table, &proposals)?),
-        }),
+        Err(fault) => {
+            let ends = find_other_ends(alloc, read, table, &proposals)?;
+            Ok(joined(read, table, Outcome::Undecided(fault), ends))
+        }
     }
 }
 
@@ -210,10 +226,10 @@ pub fn blame_record(alloc: Global, read: &Record, table: &Table) -> Result<Blame
     ensures { IfOk result (λ said. AreBlamed table.now read.now.entries.items said.outcome said.ends) }
 {
     match refute(alloc, read, table) {
-        Ok(Some(refutation)) => Ok(Blame {
-            outcome: Outcome::Refuted(refutation),
-            ends: Some(find_both(alloc, read, table)?),
-        }),
+        Ok(Some(refutation)) => {
+            let ends = find_both(alloc, read, table)?;
+            Ok(joined(read, table, Outcome::Refuted(refutation), ends))
+        }
         Ok(None) => blame_by_search(alloc, read, table),
         Err(_) => Err(AllocError),
     }
@@ -294,14 +310,19 @@ fn write_said<W: Write>(alloc: Global, said: &Blame, writer: &mut W) -> Result<S
     }
 }
 
-/// Judges the record that `entries` tells by the operation table that `table` tells, and writes the line of `judge`;
-/// and behind it, where the record and the table have no fault, a line for each end: `BLAMED END ENTRY KIND`, its
-/// lowest entry, or quiet mark, that no run has in which this end keeps the rules, whatever its peer sends, as far as
-/// fifteen kinds tell (Q.771, Q.773, Q.774), with the lowest kind; or `LAWFUL END COUNT unheard COUNT`, as `run_judge_end`
-/// says it of this end; or `NOT BLAMED END COUNT`, COUNT being how many entries stand before the first that is no message,
-/// or how many there are. What is blamed stands first, the lower entry before the other; else A stands before B. The
-/// status is that of REFUTED where an entry is blamed on an end, that of LAWFUL where both ends are, that of UNDECIDED where an
-/// entry is refuted and blamed on nobody, else that of the line of `judge`. All that grows has grown before the first octet is written. `WriteFailed` where the writer failed.
+/// Judges the record that `entries` returns by the operation table that `table` returns, and writes the line of `judge`,
+/// or `LAWFUL COUNT` if each end by itself is lawful: two lawful ends may have sent the record then. If the record and
+/// the table have no fault, it then writes a line for each end: `BLAMED END ENTRY KIND`, its lowest entry, or quiet
+/// mark, that no run has in which this end keeps the rules, whatever its peer sends, as far as fifteen kinds show
+/// (Q.771, Q.773, Q.774), with the lowest kind; or `LAWFUL END COUNT unheard COUNT`, as `run_judge_end` finds it; or
+/// `NOT BLAMED END COUNT`, with the number of entries before the first that is no message, or of all. What is blamed
+/// comes first, the lower entry before the other; else A comes before B. The status is that of REFUTED if an entry is
+/// blamed on an end, that of UNDECIDED if an entry is refuted and blamed on nobody, else that of the first line. All
+/// that grows has grown before the first octet is written.
+///
+/// # Errors
+///
+/// `WriteFailed` if the writer failed.
 pub fn run_blame<R: Read, T: Read, W: Write>(
     alloc: Global,
     entries: &mut R,
@@ -321,6 +342,20 @@ pub fn run_blame<R: Read, T: Read, W: Write>(
           failed_after = T.failures table.new;
         })
         (W.taken writer.old) (W.taken writer.new)) }
+    ensures lawful { result ≡ Ok Status.Fine
+        → FindsLawfulEnds (record {
+          before = R.untold entries.old;
+          after = R.untold entries.new;
+          failed_before = R.failures entries.old;
+          failed_after = R.failures entries.new;
+        })
+        (record {
+          before = T.untold table.old;
+          after = T.untold table.new;
+          failed_before = T.failures table.old;
+          failed_after = T.failures table.new;
+        })
+        (W.taken writer.old) (W.taken writer.new) }
     ensures counts { OnOk result (W.failures writer.new ≡ W.failures writer.old) }
     ensures failed { OnErr result (W.failures writer.new ≡ one_more (W.failures writer.old)) }
 {

@@ -1,9 +1,9 @@
 //! What is said of each end of a record, and the lines of it.
 
-ghost use Rattle.std.specs.Prelude.{◌≡◌, ◌++◌, Some, OnOk};
+ghost use Rattle.std.specs.Prelude.{◌≡◌, ◌&&◌, ◌++◌, Some, OnOk};
 ghost use Rattle.std.specs.String.{string_bytes};
 ghost use Rattle.tcap_record.specs.Ends.{letter};
-ghost use Rattle.tcap_judge.specs.Blamed.{blame_status, ends_lines, finding_by, finding_line, is_blamed, is_lawful, stands_behind, unblamed_status};
+ghost use Rattle.tcap_judge.specs.Blamed.{blame_status, ends_lines, finding_by, finding_line, is_blamed, is_lawful, stands_behind, unblamed_status, verdict_by_ends};
 
 use crate::outcome::Outcome;
 use std::alloc::AllocError;
@@ -121,22 +121,39 @@ impl Ends {
         }
     }
 
+    /// Returns whether each end by itself may have sent its part. Then two lawful ends may have sent the record.
+    pub fn are_lawful(self) -> bool
+        ensures { result ≡ (is_lawful self.a && is_lawful self.b) }
+    {
+        self.a.is_lawful() && self.b.is_lawful()
+    }
+
+    /// Returns the verdict on a record of so many entries: that it is lawful, if each end by itself is; else that verdict
+    /// on both.
+    pub(crate) fn joint_verdict(self, count: usize, outcome: Outcome) -> Outcome
+        ensures { result ≡ verdict_by_ends count self outcome }
+    {
+        if self.are_lawful() {
+            Outcome::Lawful(count)
+        } else {
+            outcome
+        }
+    }
+
     /// How a run ends that says this behind that outcome.
     fn status(self, outcome: Outcome) -> Status
         ensures { result ≡ blame_status (Some self) outcome }
     {
         if self.a.is_blamed() || self.b.is_blamed() {
             Status::Refuted
-        } else if self.a.is_lawful() && self.b.is_lawful() {
-            Status::Fine
         } else {
             unblamed_status(outcome)
         }
     }
 }
 
-/// How a run ends that says this: with the status of an entry at fault only where one is blamed on an end; with that of a lawful
-/// record where both ends are; and else with that of the outcome, where an entry that is refuted is blamed on nobody.
+/// Returns the status of a run with this outcome and these findings: that of an entry at fault only if one is blamed on
+/// an end. An entry that is refuted and blamed on nobody has that of UNDECIDED; else the outcome decides.
 pub fn blame_status(ends: Option<Ends>, outcome: Outcome) -> Status
     ensures { result ≡ blame_status ends outcome }
 {

@@ -1,4 +1,4 @@
-//! The frame of a page, made of the files in page/. tools/page.py writes this file.
+//! The frame of a page, made of the files in page/. dev/page.py writes this file.
 
 /// What stands before the objects of JSON: the style, the script and the places that it fills.
 pub const FRAME_HEAD: &str = r##"<!doctype html>

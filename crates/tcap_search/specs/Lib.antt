@@ -1,14 +1,4 @@
 pub mod Aborts
-pub mod AloneRows0
-pub mod AloneRows1
-pub mod AloneRows2
-pub mod AloneRows3
-pub mod AloneRows4
-pub mod AloneRows5
-pub mod AloneRows6
-pub mod AloneRows7
-pub mod AloneRows8
-pub mod AloneRows9
 pub mod ByInvocation
 pub mod Candidates
 pub mod Due

@@ -2,7 +2,6 @@
 //! Nothing of it is believed: `tcap_check` replays it.
 #![tactic(auto)]
 
-pub mod alone_rows;
 mod by_invocation;
 mod candidates;
 mod closings;

@@ -15,13 +15,14 @@ use Rattle.tcap_faults.specs.Fault.{blamed}
 use Rattle.tcap_judge.specs.declared.finding.Finding.{Finding}
 use Rattle.tcap_judge.specs.declared.finding.Finding.TheVariants.{Blamed, Lawful, NotBlamed}
 use Rattle.tcap_judge.specs.Blamed.{IsFound, finding, finding_by, items_before}
-use Rattle.tcap_judge.specs.Judged.{AreLawful, replayed_by}
+use Rattle.tcap_judge.specs.Judged.{AreLawfulUnheard, replayed_by}
 use Rattle.tcap_judge.specs.Verdict.{proposed_by, verdict_by}
+use Rattle.tcap_judge.proofs.BlamedLaws.{are_lawful}
 use Rattle.tcap_traces.specs.declared.said.Circumstances.{Circumstances}
 use Rattle.tcap_traces.specs.declared.said.Doubt.{Doubt}
 use Rattle.tcap_traces.specs.declared.said.Said.{Said}
 use Rattle.tcap_traces.specs.declared.said.Said.TheVariants as saids
-use Rattle.tcap_traces.specs.Shown.{IsFoundBefore, IsSo, MayHaveSent}
+use Rattle.tcap_traces.specs.Shown.{IsFoundBefore, IsSo, MayHaveSentUnheard}
 use Rattle.tcap_traces.specs.Verdict.{doubt_of, fails, found_before, is_of, no_message_at, passes, said_before, said_by}
 use Rattle.tcap_traces.proofs.JudgingLaws.{counted, number_in, or_before, or_behind}
 
@@ -46,16 +47,17 @@ named_is table entries side =
 -- ---- what is said
 
 module _ (table : Table) (c : Circumstances) (entries : List Entry) (side : Side) where
-  passes_so : (under_way early_mark cut unsure over : Bool) (unheard : ℕ) → MayHaveSent side table entries
+  passes_so : (under_way early_mark cut unsure over : Bool) (unheard : ℕ)
+      → MayHaveSentUnheard side table entries unheard
       → IsSo side table entries
       (cond under_way saids.UnderWay
       (cond early_mark saids.EarlyMark
       (cond cut saids.TooLong (cond unsure saids.UnsureTable (cond over saids.Open (saids.Pass unheard))))))
-  passes_so true early_mark cut unsure over unheard may = may
-  passes_so false true cut unsure over unheard may = may
-  passes_so false false true unsure over unheard may = may
-  passes_so false false false true over unheard may = may
-  passes_so false false false false true unheard may = may
+  passes_so true early_mark cut unsure over unheard may = (unheard, may)
+  passes_so false true cut unsure over unheard may = (unheard, may)
+  passes_so false false true unsure over unheard may = (unheard, may)
+  passes_so false false false true over unheard may = (unheard, may)
+  passes_so false false false false true unheard may = (unheard, may)
   passes_so false false false false false unheard may = may
 
   fails_so : (r : Refutation) (doubt : Option Doubt) → IsAtFaultOf table side entries r
@@ -64,9 +66,9 @@ module _ (table : Table) (c : Circumstances) (entries : List Entry) (side : Side
   fails_so r (Some doubt) at_fault = at_fault
 
   behind_so : (number unheard : ℕ) (own : Bool) → list_any (is_of side) (drop number entries) ≡ own
-      → AreLawful (Some side) table (take number entries)
+      → AreLawfulUnheard (Some side) table (take number entries) unheard
       → IsSo side table entries (cond own (saids.Behind number) (passes c unheard))
-  behind_so number unheard true is lawful = lawful
+  behind_so number unheard true is lawful = are_lawful (Some side) table (take number entries) unheard lawful
   behind_so number unheard false is lawful = passes_so c.under_way c.early_mark c.cut c.unsure c.open unheard (inr (number, lawful, is))
 
   before_so : (number : ℕ) (earlier : Option Finding) → IsFoundBefore side table entries (Some number) earlier

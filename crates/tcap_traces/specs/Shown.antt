@@ -10,22 +10,27 @@ use Rattle.tcap_model.specs.Run.{IsLawfulFor}
 use Rattle.tcap_faults.specs.AtFault.{IsAtFaultOf}
 use Rattle.tcap_judge.specs.declared.finding.Finding.{Finding}
 use Rattle.tcap_judge.specs.Blamed.{IsFound}
-use Rattle.tcap_judge.specs.Judged.{AreLawful}
+use Rattle.tcap_judge.specs.Judged.{AreLawful, AreLawfulUnheard}
 use Rattle.tcap_traces.specs.declared.said.Said.{Said}
 use Rattle.tcap_traces.specs.declared.said.Said.TheVariants as saids
 use Rattle.tcap_traces.specs.Verdict.{is_of}
 
--- The end keeps the rules in a run whose sent list is the entries; or is the entries before one, where none of that one and those
--- behind it is of this end.
-abbrev pub MayHaveSent : Side → Table → List Entry → Type 0
-MayHaveSent side table entries = AreLawful (Some side) table entries
-    ⊎ ((number : ℕ) × AreLawful (Some side) table (take number entries)
+-- The end keeps the rules in a run in which so many messages of its peer are unheard, and whose sent list is the
+-- entries, or the entries before one, if none from that one on is of this end.
+abbrev pub MayHaveSentUnheard : Side → Table → List Entry → ℕ → Type 0
+MayHaveSentUnheard side table entries unheard = AreLawfulUnheard (Some side) table entries unheard
+    ⊎ ((number : ℕ) × AreLawfulUnheard (Some side) table (take number entries) unheard
     × (list_any (is_of side) (drop number entries) ≡ false))
 
--- The entry that is named is at fault, of this end, whatever its peer sent and whatever follows. Where it passes, or would, if the
--- dialogue were whole from its Begin on, and over, and the table its own, it may have sent its part.
+-- It does so with some number of them unheard.
+abbrev pub MayHaveSent : Side → Table → List Entry → Type 0
+MayHaveSent side table entries = (unheard : ℕ) × MayHaveSentUnheard side table entries unheard
+
+-- The entry that is named is at fault, of this end, whatever its peer sent and whatever follows. If it passes, it may
+-- have sent its part, with so many messages of its peer unheard. If it would pass, were the dialogue whole from its Begin
+-- on, and over, and the table its own, it may have, with some number of them unheard.
 abbrev pub IsSo : Side → Table → List Entry → Said → Type 0
-IsSo side table entries (saids.Pass unheard) = MayHaveSent side table entries
+IsSo side table entries (saids.Pass unheard) = MayHaveSentUnheard side table entries unheard
 IsSo side table entries (saids.Fail r) = IsAtFaultOf table side entries r
 IsSo side table entries (saids.Doubtful r doubt) = IsAtFaultOf table side entries r
 IsSo side table entries saids.Undecided = Unit {0}

@@ -1,2 +1,3 @@
 mod Results
 mod MarkLaws
+mod PromptLaws

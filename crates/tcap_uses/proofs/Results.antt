@@ -1,6 +1,8 @@
 -- What an answer says.
-use Rattle.std.proofs.Common.{ap}
-use Rattle.std.specs.Prelude.{◌≡◌, ℕ, Result, Ok}
+use Rattle.std.proofs.Common.{◌++◌, List, None, Some, sym, ap, ◌∙◌}
+use Rattle.std.proofs.lemmas.List.{append-nil}
+use Rattle.std.specs.Io.KnownBytes.{Consumes, IsAtEnd}
+use Rattle.std.specs.Prelude.{◌≡◌, ℕ, Option, Result, Ok}
 use Rattle.tcap_ber.specs.declared.fault.Fault.{Fault}
 
 -- what reading answers
@@ -13,3 +15,10 @@ same_answer x y e = cc
 
 pub same_value : {A : Type 0} (x y : A) (m n : ℕ) → read_as (x, m) ≡ read_as (y, n) → y ≡ x
 same_value {A} x y m n e = ap (λ (answer : A × ℕ). answer.0) (same_answer (x, m) (y, n) e)
+
+-- what a reader of known octets told up to its end is all of them
+pub told_all : (whole told : List ℕ) (after : Option (List ℕ)) → Consumes (Some whole) after told → IsAtEnd after
+    → told ≡ whole
+told_all whole told None consumes at = absurd consumes
+told_all whole told (Some left) consumes at =
+    sym (consumes ∙ ap (λ (x : List ℕ). told ++ x) at ∙ append-nil told)

@@ -1,6 +1,6 @@
-ghost use Rattle.std.specs.Prelude.{◌≡◌, true, IfOk};
+ghost use Rattle.std.specs.Prelude.{◌≡◌, true, IfOk, slice_get};
 ghost use Rattle.std.specs.String.{string_bytes};
-ghost use Rattle.tcap_evidence.specs.Words.{told_text};
+ghost use Rattle.tcap_evidence.specs.Words.{is_for, told_text};
 
 use std::alloc::{AllocError, Global};
 use tcap_end::Table;
@@ -16,6 +16,7 @@ pub fn told_fault(
     end: End,
     named: Refutation,
 ) -> Result<String, AllocError>
+    requires { is_for end (slice_get «record».now.entries.items named.entry) ≡ true }
     ensures { IfOk result (λ text. string_bytes text ≡ told_text true table.now end «record».now.entries.items named) }
 {
     let mut text = String::new(alloc);

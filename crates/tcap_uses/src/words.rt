@@ -1,7 +1,7 @@
 use std::alloc::Global;
 use tcap_words::request;
 
-/// The exit status of the program where its words ask for nothing that it does; `None` where they ask for something.
+/// Returns the exit status if the words are no request, and `None` if they are one.
 pub fn status_of_words(alloc: Global, words: &[&str]) -> Option<u8> {
     match request(alloc, words) {
         Ok(_) => None,

@@ -1,1 +1,3 @@
 mod LawfulRuns
+mod IndentedLaws
+mod NamedEnds

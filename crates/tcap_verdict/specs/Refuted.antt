@@ -58,6 +58,16 @@ both_text table entries shown ends = cond (stands_behind ends.a ends.b)
     (end_text table entries shown sides.B ends.b ++ end_text table entries shown sides.A ends.a)
     (end_text table entries shown sides.A ends.a ++ end_text table entries shown sides.B ends.b)
 
+-- the findings on both ends, if both are judged
+abbrev pub ends_asked : Option Side → Table → List Entry → Option Ends
+ends_asked None table entries = Some (ends_of table entries)
+ends_asked (Some side) table entries = None
+
+-- their lines, and why
+abbrev pub asked_text : Table → List Entry → Option Ends → List ℕ
+asked_text table entries None = []
+asked_text table entries (Some ends) = both_text table entries None ends
+
 -- whether an end is blamed, for that entry or one before it
 abbrev pub is_blamed_by : ℕ → Finding → Bool
 is_blamed_by number (findings.Blamed r) = nat_le r.entry number

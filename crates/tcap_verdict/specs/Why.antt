@@ -1,11 +1,13 @@
--- What is said of a record, and why: behind the line of a record that is lawful stand the lines of the run that the certificate
--- gives.
+-- The verdict on a record, and why: after the line of a record that is lawful, the lines of the run that the certificate
+-- gives, or of the runs of both ends.
 use Rattle.std.specs.Prelude.{◌≡◌, ℕ, ◌⊎◌, List, [], ◌++◌, map, Option, Some, None, Result, Ok, Err}
 use Rattle.std.specs.Io.KnownBytes.{Appends}
 use Rattle.tcap_record.specs.declared.entry.End.{End as Side}
+use Rattle.tcap_record.specs.declared.entry.End.TheVariants as sides
 use Rattle.tcap_record.specs.declared.entry.Entry.{Entry}
 use Rattle.tcap_record.specs.declared.fault.FeedFault.{FeedFault}
 use Rattle.tcap_end.specs.Table.{Table}
+use Rattle.tcap_certificate.specs.declared.fault.CheckFault.{CheckFault}
 use Rattle.tcap_certificate.specs.Certificate.{Certificate}
 use Rattle.tcap_check.specs.declared.step.Step.{Step}
 use Rattle.tcap_certificate.specs.Replayed.{discards_by}
@@ -17,10 +19,12 @@ use Rattle.tcap_lines.specs.declared.status.Status.{Status}
 use Rattle.tcap_judge.specs.Judged.{IsShown, replayed_by}
 use Rattle.tcap_judge.specs.Outcome.{SaysWith}
 use Rattle.tcap_judge.specs.Checked.{Device, IsUntouched, ReadsCertificate, ReadsRecord, ReadsTable, out_of_memory, record_says}
-use Rattle.tcap_judge.specs.Verdict.{proposed_by, record_verdict}
-use Rattle.tcap_judge.specs.Blamed.{ends_of}
+use Rattle.tcap_judge.specs.Verdict.{proposed_by}
+use Rattle.tcap_judge.specs.declared.finding.Ends.{Ends}
+use Rattle.tcap_judge.specs.Blamed.{finding, finding_line, joint_record_verdict}
 use Rattle.tcap_verdict.specs.Faults.{IsFaultBehind}
-use Rattle.tcap_verdict.specs.Refuted.{both_text, refuted_lines}
+use Rattle.tcap_verdict.specs.Indented.{indented}
+use Rattle.tcap_verdict.specs.Refuted.{asked_text, ends_asked, refuted_lines}
 use Rattle.tcap_verdict.specs.StepLines.{run_lines}
 
 -- The certificate gives a run for these entries, of both ends or of the one that is judged, and these are the lines of its steps:
@@ -29,32 +33,45 @@ abbrev pub AreLines : Option Side → Table → Certificate → List Entry → L
 AreLines judged table c entries lines = (steps : List Step) × (replayed_by judged table c entries ≡ Ok (events_of steps))
     × (discards_by judged table c (map item_of entries) ≡ Ok (discards_of steps)) × (lines ≡ run_lines judged steps)
 
--- Where both ends are judged, what is said of each of them stands last.
-abbrev pub EndsWithEnds : Option Side → Table → List Entry → List ℕ → Type 0
-EndsWithEnds None table entries behind =
-    (front : List ℕ) × (behind ≡ front ++ both_text table entries None (ends_of table entries))
-EndsWithEnds (Some side) table entries behind = Unit {0}
+-- Lines that begin with two blanks, and then the findings on these ends, and why.
+abbrev pub EndsWithEnds : Table → List Entry → Option Ends → List ℕ → Type 0
+EndsWithEnds table entries ends behind = (lines : List ℕ) × (behind ≡ indented lines ++ asked_text table entries ends)
 
--- Where what is said is that the entries are lawful, the lines behind it are those of the run; where an entry is refuted, what it
--- breaks and the entries that show it; where neither is shown, what is said of each end stands last; and where it is a fault, that
--- which says of which file.
+-- the line of an end, and the lines of the run that the certificate which is proposed for it gives
+abbrev pub AreLinesOf : Table → List Entry → Side → List ℕ → Type 0
+AreLinesOf table entries side text = (lines : List ℕ) × (text ≡ finding_line side (finding table entries side) ++ lines)
+    × AreLines (Some side) table (proposed_by (Some side) entries) entries lines
+
+-- those of A, and then those of B
+abbrev pub AreLinesOfBoth : Table → List Entry → List ℕ → Type 0
+AreLinesOfBoth table entries text =
+    (a b : List ℕ) × (text ≡ a ++ b) × AreLinesOf table entries sides.A a × AreLinesOf table entries sides.B b
+
+-- That certificate gives no run of both ends for these entries, and these are the lines of each end, and of its run.
+abbrev pub AreLinesOfEnds : Table → Certificate → List Entry → List ℕ → Type 0
+AreLinesOfEnds table c entries text =
+    ((fault : CheckFault) × (replayed_by None table c entries ≡ Err fault)) × AreLinesOfBoth table entries text
+
+-- If the entries are called lawful, the lines are those of the run, or of the runs of both ends. If an entry is refuted,
+-- they say what it breaks and which entries show it. If neither is shown, they are indented lines, and then the findings
+-- on each end, if both are judged. If a file has a fault, they say which file.
 abbrev pub IsWhy : Option Side → Table → Certificate → List Entry → Outcome → List ℕ → Type 0
-IsWhy judged table c entries (Lawful count) behind = AreLines judged table c entries behind
+IsWhy judged table c entries (Lawful count) behind = AreLines judged table c entries behind ⊎ AreLinesOfEnds table c entries behind
 IsWhy judged table c entries (LawfulFor count unheard) behind = AreLines judged table c entries behind
 IsWhy judged table c entries (Faulty number place) behind = IsFaultBehind (Faulty number place) behind
 IsWhy judged table c entries (Refuted r) behind = behind ≡ refuted_lines judged table entries r
-IsWhy judged table c entries (Undecided fault) behind = EndsWithEnds judged table entries behind
-IsWhy judged table c entries (NotShown fault) behind = EndsWithEnds judged table entries behind
+IsWhy judged table c entries (Undecided fault) behind = EndsWithEnds table entries (ends_asked judged table entries) behind
+IsWhy judged table c entries (NotShown fault) behind = EndsWithEnds table entries (ends_asked judged table entries) behind
 
 -- ---- without a certificate: by the one that is proposed
 
--- What the reader told is entries and the end behind them, what is said is the verdict on them, and is so, and behind its line
--- stands why.
+-- What the reader returned is entries and the end after them. The outcome is the verdict on them, joined with those on
+-- each end if both are judged; it holds, and the lines after it say why.
 pub record SaysWhy (judged : Option Side) (table : Table) (d : Device) (outcome : Outcome) (behind : List ℕ) : Type 0 where
   pub entries : List Entry
   pub end : Result (Unit {0}) FeedFault
   pub reads : ReadsRecord d entries end
-  pub says : outcome ≡ record_verdict judged table entries end
+  pub says : outcome ≡ joint_record_verdict judged table entries end
   pub shown : IsShown judged table entries outcome
   pub why : IsWhy judged table (proposed_by judged entries) entries outcome behind
 

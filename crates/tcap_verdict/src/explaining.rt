@@ -1,26 +1,24 @@
 //! What is said of a record, and why.
 
-ghost use Rattle.std.specs.Prelude.{◌≡◌, ◌⊎◌, ◌≤◌, [], ℕ, List, None, Some, Ok, Err, IfOk, OnOk, OnErr, length, map};
+ghost use Rattle.std.specs.Prelude.{◌≡◌, ◌⊎◌, ◌≤◌, ◌&&◌, [], ℕ, List, true, false, None, Some, Ok, Err, IfOk, IfSome, OnOk, OnErr, length};
 ghost use Rattle.std.specs.String.{string_bytes};
 ghost use Rattle.tcap_ber.specs.Device.{one_more};
 ghost use Rattle.tcap_certificate.specs.Unheard.{unheard_of};
-ghost use Rattle.tcap_check.specs.Checking.{map_ok};
-ghost use Rattle.tcap_certificate.specs.Replayed.{discards_by};
-ghost use Rattle.tcap_check.specs.Stands.{answered};
-ghost use Rattle.tcap_judge.specs.declared.outcome.Outcome.TheVariants.{Refuted};
+ghost use Rattle.tcap_judge.specs.declared.outcome.Outcome.TheVariants.{Lawful, Refuted, Undecided};
 ghost use Rattle.tcap_judge.specs.Checked.{out_of_memory, replay_says};
 ghost use Rattle.tcap_judge.specs.Judged.{IsShown, lawful_by, replayed_by};
 ghost use Rattle.tcap_judge.specs.Verdict.{named_by, proposed_by, verdict_of};
-ghost use Rattle.tcap_check.specs.Told.{discards_of, events_of};
-ghost use Rattle.tcap_model.specs.Entries.{item_of};
+ghost use Rattle.tcap_judge.specs.Blamed.{ends_of, is_lawful, joint_verdict};
+ghost use Rattle.tcap_check.specs.Told.{events_of};
 ghost use Rattle.tcap_verdict.specs.Faults.{IsFaultBehind};
 ghost use Rattle.tcap_verdict.specs.StepLines.{run_lines};
 ghost use Rattle.tcap_verdict.specs.Refuted.{refuted_lines};
-ghost use Rattle.tcap_verdict.specs.Why.{EndsWithEnds, Explains, ExplainsBy, GivesWhy, GivesWhyBy, IsExplained, IsExplainedBy, IsWhy};
+ghost use Rattle.tcap_verdict.specs.Why.{AreLinesOfBoth, EndsWithEnds, Explains, ExplainsBy, GivesWhy, GivesWhyBy, IsExplained, IsExplainedBy, IsWhy};
 
 use crate::chart::Chart;
 use crate::faults::fault_text;
-use crate::refuted::refuted_text;
+use crate::refuted::{ends_asked, refuted_text};
+use crate::runs::{lawful_ends_text, run_so_far};
 use crate::step_lines::{is_lost_from, push_steps};
 use crate::stops::stop_text;
 use std::alloc::{AllocError, Global};
@@ -28,7 +26,7 @@ use tcap_ber::{Read, Write};
 use tcap_check::{Certificate, CheckFault, Partial, Step, run_until};
 use tcap_end::Table;
 use tcap_judge::{
-    OUT_OF_MEMORY, Outcome, named, propose, read_certificate, read_table, write_outcome,
+    Ends, OUT_OF_MEMORY, Outcome, named, propose, read_certificate, read_table, write_outcome,
 };
 use tcap_lines::{Status, WriteFailed};
 use tcap_record::{End, Record, read_record};
@@ -80,25 +78,6 @@ impl Why {
             Err(AllocError) => Why::alone(alloc, outcome),
         }
     }
-}
-
-/// The run that a certificate gives for a record, as far as it goes, of both ends or of the one that is judged, and why it gives none,
-/// where it gives none.
-fn run_so_far(
-    alloc: Global,
-    read: &Record,
-    table: &Table,
-    certificate: &Certificate,
-    judged: Option<End>,
-) -> Result<Partial, AllocError>
-    ensures exact { IfOk result (λ run. map_ok events_of (answered run.refused run.steps.items)
-        ≡ replayed_by judged table.now certificate.now read.now.entries.items) }
-    ensures lawful { IfOk result (λ run. IfOk (answered run.refused run.steps.items) (λ steps. IsShown judged table.now
-        read.now.entries.items (lawful_by judged (length read.now.entries.items) (events_of steps)))) }
-    ensures discards { IfOk result (λ run. map_ok discards_of (answered run.refused run.steps.items)
-        ≡ discards_by judged table.now certificate.now (map item_of read.now.entries.items)) }
-{
-    run_until(alloc, read, table, certificate, judged)
 }
 
 /// How many of its peer's messages an end is taken not to have received in a run.
@@ -168,8 +147,71 @@ fn explain_run(
     })
 }
 
-/// What is said of a record for which the certificate gives no run, and where its run stops. The ends of the run may be changed.
+/// Explains an outcome of a record for which the certificate gives no run: where its run stops, and the findings on
+/// these ends. The ends of the run may be changed.
 fn explain_stop(
+    alloc: Global,
+    read: &Record,
+    table: &Table,
+    certificate: &Certificate,
+    asked: Asked,
+    ends: Option<Ends>,
+    run: &mut Partial,
+    fault: CheckFault,
+    outcome: Outcome,
+) -> Result<Why, AllocError>
+    requires found { IfSome ends (λ both. both ≡ ends_of table.now read.now.entries.items) }
+    ensures { IfOk result (λ why. (why.outcome ≡ outcome)
+        × EndsWithEnds table.now read.now.entries.items ends (string_bytes why.behind)) }
+{
+    let behind = stop_text(alloc, read, table, certificate, ends, fault, run)?;
+    let chart = chart_of(alloc, read, asked, outcome, &behind, &run.steps)?;
+    Ok(Why {
+        outcome,
+        behind,
+        chart,
+    })
+}
+
+/// Explains that a record is lawful, of which each end by itself is, by the run that shows it for each: two lawful ends
+/// may have sent it then.
+fn explain_ends(
+    alloc: Global,
+    read: &Record,
+    table: &Table,
+    asked: Asked,
+    ends: Ends,
+) -> Result<Why, AllocError>
+    requires few { length read.now.entries.items ≤ 100000 }
+    requires ends { ends ≡ ends_of table.now read.now.entries.items }
+    requires lawful { (is_lawful ends.a && is_lawful ends.b) ≡ true }
+    ensures outcome { IfOk result (λ why. why.outcome ≡ Lawful (length read.now.entries.items)) }
+    ensures behind { IfOk result (λ why. AreLinesOfBoth table.now read.now.entries.items (string_bytes why.behind)) }
+{
+    let behind = lawful_ends_text(alloc, read, table, ends)?;
+    let outcome = Outcome::Lawful(read.entries.len());
+    let chart = chart_of(alloc, read, asked, outcome, &behind, &[])?;
+    Ok(Why {
+        outcome,
+        behind,
+        chart,
+    })
+}
+
+/// Returns these ends, if each by itself is lawful.
+fn lawful_both(ends: Option<Ends>) -> Option<Ends>
+    ensures some { IfSome result (λ both. (ends ≡ Some both) × ((is_lawful both.a && is_lawful both.b) ≡ true)) }
+    ensures none { result ≡ None → IfSome ends (λ both. (is_lawful both.a && is_lawful both.b) ≡ false) }
+{
+    match ends {
+        Some(both) if both.are_lawful() => Some(both),
+        _ => None,
+    }
+}
+
+/// Explains the verdict on a record of which no entry is named, and for which the certificate that is proposed gives no
+/// run: that it is lawful, if each of its ends by itself is; else where the run stops.
+fn explain_other(
     alloc: Global,
     read: &Record,
     table: &Table,
@@ -177,19 +219,30 @@ fn explain_stop(
     asked: Asked,
     run: &mut Partial,
     fault: CheckFault,
-    outcome: Outcome,
 ) -> Result<Why, AllocError>
     requires few { length read.now.entries.items ≤ 100000 }
-    ensures { IfOk result (λ why. (why.outcome ≡ outcome)
-        × EndsWithEnds asked.judged table.now read.now.entries.items (string_bytes why.behind)) }
+    requires verdict { verdict_of asked.judged table.now read.now.entries.items ≡ Undecided fault }
+    requires refused { replayed_by asked.judged table.now certificate.now read.now.entries.items ≡ Err fault }
+    ensures { IfOk result (λ why. (why.outcome ≡ joint_verdict asked.judged table.now read.now.entries.items)
+        × IsShown asked.judged table.now read.now.entries.items why.outcome
+        × IsWhy asked.judged table.now certificate.now read.now.entries.items why.outcome (string_bytes why.behind)) }
 {
-    let behind = stop_text(alloc, read, table, certificate, asked.judged, fault, run)?;
-    let chart = chart_of(alloc, read, asked, outcome, &behind, &run.steps)?;
-    Ok(Why {
-        outcome,
-        behind,
-        chart,
-    })
+    let outcome = Outcome::Undecided(fault);
+    let ends = ends_asked(alloc, read, table, asked.judged)?;
+    match lawful_both(ends) {
+        Some(both) => explain_ends(alloc, read, table, asked, both),
+        None => explain_stop(
+            alloc,
+            read,
+            table,
+            certificate,
+            asked,
+            ends,
+            run,
+            fault,
+            outcome,
+        ),
+    }
 }
 
 /// That an entry is at fault, and why. The certificate that is proposed is needed for the chart alone.
@@ -200,6 +253,7 @@ fn explain_refuted(
     asked: Asked,
     refutation: Refutation,
 ) -> Result<Why, AllocError>
+    requires named { named_by asked.judged table.now read.now.entries.items ≡ Some refutation }
     requires few { length read.now.entries.items ≤ 100000 }
     ensures { IfOk result (λ why. (why.outcome ≡ Refuted refutation)
         × (string_bytes why.behind ≡ refuted_lines asked.judged table.now read.now.entries.items refutation)) }
@@ -229,7 +283,7 @@ fn explain_by_search(
 ) -> Result<Why, AllocError>
     requires few { length read.now.entries.items ≤ 100000 }
     requires sound { named_by asked.judged table.now read.now.entries.items ≡ None }
-    ensures { IfOk result (λ why. (why.outcome ≡ verdict_of asked.judged table.now read.now.entries.items)
+    ensures { IfOk result (λ why. (why.outcome ≡ joint_verdict asked.judged table.now read.now.entries.items)
         × IsShown asked.judged table.now read.now.entries.items why.outcome
         × IsWhy asked.judged table.now (proposed_by asked.judged read.now.entries.items) read.now.entries.items why.outcome
         (string_bytes why.behind)) }
@@ -238,19 +292,7 @@ fn explain_by_search(
     let mut run = run_so_far(alloc, read, table, &certificate, asked.judged)?;
     match run.refused {
         None => explain_run(alloc, read, &run.steps, asked),
-        Some(fault) => {
-            let outcome = Outcome::Undecided(fault);
-            explain_stop(
-                alloc,
-                read,
-                table,
-                &certificate,
-                asked,
-                &mut run,
-                fault,
-                outcome,
-            )
-        }
+        Some(fault) => explain_other(alloc, read, table, &certificate, asked, &mut run, fault),
     }
 }
 
@@ -262,7 +304,7 @@ fn explain_verdict(
     asked: Asked,
 ) -> Result<Why, AllocError>
     requires few { length read.now.entries.items ≤ 100000 }
-    ensures { IfOk result (λ why. (why.outcome ≡ verdict_of asked.judged table.now read.now.entries.items)
+    ensures { IfOk result (λ why. (why.outcome ≡ joint_verdict asked.judged table.now read.now.entries.items)
         × IsShown asked.judged table.now read.now.entries.items why.outcome
         × IsWhy asked.judged table.now (proposed_by asked.judged read.now.entries.items) read.now.entries.items why.outcome
         (string_bytes why.behind)) }
@@ -292,12 +334,14 @@ fn explain_replay(
         None => explain_run(alloc, read, &run.steps, asked),
         Some(fault) => {
             let outcome = Outcome::NotShown(fault);
+            let ends = ends_asked(alloc, read, table, asked.judged)?;
             explain_stop(
                 alloc,
                 read,
                 table,
                 certificate,
                 asked,
+                ends,
                 &mut run,
                 fault,
                 outcome,
@@ -411,13 +455,18 @@ fn explain_all<R: Read, T: Read, C: Read>(
     }
 }
 
-/// Judges the record that `entries` tells by the operation table that `table` tells, of one end alone or, where none is named,
-/// of both, and writes the line of `judge`, and behind it why: of a record that is lawful, the run that shows it, step by step
-/// (Q.774 3.2 and 3.3); where an entry is at fault, what it does and on which entries that rests; else where the run stops, and
-/// what the end knows there. Behind REFUTED and UNDECIDED stands, where both ends are judged, what `blame` says of each, and
-/// why. The status is that of `judge`. `chart` becomes the chart of the run, a page of HTML, where one is asked for and the record, the
-/// table and the certificate have no fault, and else empty. All memory is taken before the first octet is written; where it runs
-/// out, `FAULT 99 0` is the only line. `WriteFailed` where the writer failed.
+/// Judges the record that `entries` returns by the operation table that `table` returns, one end alone or, if none is
+/// named, both. It writes the line of `judge`, or that the record is lawful if each end by itself is, and then why: for a
+/// record that is lawful, the run that shows it, step by step (Q.774 3.2 and 3.3), or else the run of each end; if an
+/// entry is at fault, what it does and on which entries that rests; else where the run stops, and what the end knows
+/// there. After REFUTED and UNDECIDED, if both ends are judged, it writes what `blame` finds of each, and why. The status
+/// is that of the first line. `chart` becomes the chart of the run, a page of HTML, if one is asked for and the record,
+/// the table and the certificate have no fault, and else empty. All memory is taken before the first octet is written;
+/// if it runs out, `FAULT 99 0` is the only line.
+///
+/// # Errors
+///
+/// `WriteFailed` if the writer failed.
 pub fn run_explain<R: Read, T: Read, W: Write>(
     alloc: Global,
     entries: &mut R,

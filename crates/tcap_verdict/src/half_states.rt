@@ -104,7 +104,7 @@ fn push_answers(text: &mut String, answers: &[bool]) -> Result<(), AllocError> {
 
 /// Appends what a half has under an invoke ID.
 fn push_under(alloc: Global, text: &mut String, half: &OpenHalf, id: i8) -> Result<(), AllocError> {
-    write!(text, "      before this message, under {id}: ")?;
+    write!(text, "    before this message, under {id}: ")?;
     push_own(text, half, id)?;
     let codes = half.received(alloc, id)?;
     push_codes(text, &codes)?;
@@ -129,7 +129,6 @@ pub(crate) fn push_component_state(
     half: Option<&OpenHalf>,
     component: ComponentView,
 ) -> Result<(), AllocError> {
-    text.push_str("  ")?;
     push_component(text, component)?;
     let Some(half) = half else {
         return Ok(());
@@ -151,7 +150,6 @@ pub(crate) fn push_half_state(
     state: &EndState,
     name: &HalfName,
 ) -> Result<(), AllocError> {
-    text.push_str("  ")?;
     text.push_str(letter(end))?;
     match state.open_half(name) {
         Some(half) => {

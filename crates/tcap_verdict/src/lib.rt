@@ -6,9 +6,11 @@ mod chart;
 mod explaining;
 mod faults;
 mod half_states;
+mod indenting;
 mod reasons;
 mod refusing;
 mod refuted;
+mod runs;
 mod step_lines;
 mod stops;
 

@@ -1,9 +1,15 @@
 //! Why an entry is refuted, and what is said of each end.
 
-ghost use Rattle.std.specs.Prelude.{◌≡◌, ◌++◌, ◌≤◌, None, length, IfOk, OnOk};
+ghost use Rattle.std.specs.Prelude.{◌≡◌, ◌++◌, ◌≤◌, Some, None, length, map, IfOk, IfSome, OnOk};
 ghost use Rattle.std.specs.String.{string_bytes};
-ghost use Rattle.tcap_judge.specs.Blamed.{ends_of};
-ghost use Rattle.tcap_verdict.specs.Refuted.{behind_text, both_text, end_text, is_blamed_by, is_shown, none_found_words, refuted_lines, sender_at, unblamed_lines, unblamed_words, unread_words};
+ghost use Rattle.tcap_model.specs.Entries.{item_of};
+ghost use Rattle.tcap_refute.specs.declared.kind.Refutation.{Refutation};
+ghost use Rattle.tcap_refute.specs.Kind.{refuted};
+ghost use Rattle.tcap_faults.specs.Fault.{blamed};
+ghost use Rattle.tcap_judge.specs.Blamed.{AreFound, ends_of};
+ghost use Rattle.tcap_judge.specs.declared.finding.Finding.TheVariants as findings;
+ghost use Rattle.tcap_judge.specs.Verdict.{named_by};
+ghost use Rattle.tcap_verdict.specs.Refuted.{asked_text, behind_text, both_text, end_text, ends_asked, is_blamed_by, is_shown, none_found_words, refuted_lines, sender_at, unblamed_lines, unblamed_words, unread_words};
 
 use std::alloc::{AllocError, Global};
 use tcap_end::Table;
@@ -78,6 +84,7 @@ fn push_behind(
     finding: Finding,
     shown: Option<Refutation>,
 ) -> Result<(), AllocError>
+    requires named { (r : Refutation) → finding ≡ findings.Blamed r → blamed table.now end read.now.entries.items ≡ Some r }
     ensures { OnOk result (string_bytes text.new
         ≡ string_bytes text.old ++ behind_text table.now read.now.entries.items shown end finding) }
 {
@@ -103,6 +110,7 @@ fn push_end(
     finding: Finding,
     shown: Option<Refutation>,
 ) -> Result<(), AllocError>
+    requires named { (r : Refutation) → finding ≡ findings.Blamed r → blamed table.now end read.now.entries.items ≡ Some r }
     ensures { OnOk result (string_bytes text.new
         ≡ string_bytes text.old ++ end_text table.now read.now.entries.items shown end finding) }
 {
@@ -119,6 +127,7 @@ fn push_both(
     ends: Ends,
     shown: Option<Refutation>,
 ) -> Result<(), AllocError>
+    requires found { ends ≡ ends_of table.now read.now.entries.items }
     ensures { OnOk result (string_bytes text.new
         ≡ string_bytes text.old ++ both_text table.now read.now.entries.items shown ends) }
 {
@@ -131,19 +140,39 @@ fn push_both(
     }
 }
 
-/// Appends what `blame` says of both ends, and why.
-pub(crate) fn push_ends(
+/// Returns what `blame` finds of both ends, if both are judged.
+pub(crate) fn ends_asked(
+    alloc: Global,
+    read: &Record,
+    table: &Table,
+    judged: Option<End>,
+) -> Result<Option<Ends>, AllocError>
+    requires few { length read.now.entries.items ≤ 100000 }
+    ensures asked { IfOk result (λ ends. ends ≡ ends_asked judged table.now read.now.entries.items) }
+    ensures each { IfOk result (λ ends. IfSome ends (λ both. both ≡ ends_of table.now read.now.entries.items)) }
+    ensures found { IfOk result (λ ends. IfSome ends (AreFound table.now read.now.entries.items)) }
+{
+    match judged {
+        None => Ok(Some(find_both(alloc, read, table)?)),
+        Some(_) => Ok(None),
+    }
+}
+
+/// Appends these findings, and why.
+pub(crate) fn push_asked(
     alloc: Global,
     text: &mut String,
     read: &Record,
     table: &Table,
+    ends: Option<Ends>,
 ) -> Result<(), AllocError>
-    requires few { length read.now.entries.items ≤ 100000 }
-    ensures { OnOk result (string_bytes text.new ≡ string_bytes text.old
-        ++ both_text table.now read.now.entries.items None (ends_of table.now read.now.entries.items)) }
+    requires found { IfSome ends (λ both. both ≡ ends_of table.now read.now.entries.items) }
+    ensures { OnOk result (string_bytes text.new ≡ string_bytes text.old ++ asked_text table.now read.now.entries.items ends) }
 {
-    let ends = find_both(alloc, read, table)?;
-    push_both(alloc, text, read, table, ends, None)
+    match ends {
+        Some(ends) => push_both(alloc, text, read, table, ends, None),
+        None => Ok(()),
+    }
 }
 
 /// Whether an end is blamed, for that entry or one before it.
@@ -163,12 +192,16 @@ fn push_where_unblamed(
     read: &Record,
     table: &Table,
     end: End,
-    number: u64,
+    refutation: Refutation,
     ends: Ends,
 ) -> Result<(), AllocError>
+    requires refuted { refuted table.now (map item_of read.now.entries.items) ≡ Some refutation }
+    requires sent { end ≡ sender_at read.now.entries.items refutation.entry }
+    requires found { ends ≡ ends_of table.now read.now.entries.items }
     ensures { OnOk result (string_bytes text.new
-        ≡ string_bytes text.old ++ unblamed_lines table.now end read.now.entries.items number ends) }
+        ≡ string_bytes text.old ++ unblamed_lines table.now end read.now.entries.items refutation.entry ends) }
 {
+    let number = refutation.entry;
     if is_blamed_by(ends.a, number) || is_blamed_by(ends.b, number) {
         return Ok(());
     }
@@ -183,6 +216,7 @@ fn push_refuted(
     table: &Table,
     refutation: Refutation,
 ) -> Result<(), AllocError>
+    requires refuted { refuted table.now (map item_of read.now.entries.items) ≡ Some refutation }
     requires few { length read.now.entries.items ≤ 100000 }
     ensures { OnOk result (string_bytes text.new
         ≡ string_bytes text.old ++ refuted_lines None table.now read.now.entries.items refutation) }
@@ -190,7 +224,7 @@ fn push_refuted(
     let end = sender_of(read, refutation.entry);
     push_why(alloc, text, read, table, end, refutation, false)?;
     let ends = find_both(alloc, read, table)?;
-    push_where_unblamed(alloc, text, read, table, end, refutation.entry, ends)?;
+    push_where_unblamed(alloc, text, read, table, end, refutation, ends)?;
     push_both(alloc, text, read, table, ends, Some(refutation))
 }
 
@@ -202,6 +236,7 @@ pub(crate) fn refuted_text(
     judged: Option<End>,
     refutation: Refutation,
 ) -> Result<String, AllocError>
+    requires named { named_by judged table.now read.now.entries.items ≡ Some refutation }
     requires few { length read.now.entries.items ≤ 100000 }
     ensures { IfOk result (λ text. string_bytes text ≡ refuted_lines judged table.now read.now.entries.items refutation) }
 {

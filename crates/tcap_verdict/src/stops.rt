@@ -1,21 +1,24 @@
 //! Why a certificate shows nothing: the reason, the entry, and what the end knows there.
 
-ghost use Rattle.std.specs.Prelude.{◌≤◌, length, IfOk};
+ghost use Rattle.std.specs.Prelude.{◌≡◌, IfOk, IfSome};
 ghost use Rattle.std.specs.String.{string_bytes};
+ghost use Rattle.tcap_judge.specs.Blamed.{ends_of};
 ghost use Rattle.tcap_verdict.specs.Why.{EndsWithEnds};
 
 use crate::half_states::{push_component_state, push_half_state};
+use crate::indenting::push_indented;
 use crate::reasons::{fault_words, reason_words};
 use crate::refusing::{MANY, is_of_component, refused_component};
-use crate::refuted::push_ends;
+use crate::refuted::push_asked;
 use crate::step_lines::letter;
 use std::alloc::{AllocError, Global};
 use tcap_ber::Fault;
 use tcap_check::{Certificate, CheckFault, Fate, Partial, Reason};
 use tcap_end::{EndFault, EndState, HalfName, Table};
+use tcap_judge::Ends;
 use tcap_msg::{Kind, Message, MessageParts};
 use tcap_parts::ComponentView;
-use tcap_record::{Body, End, Entry, Record, push_view};
+use tcap_record::{Body, End, Record, push_view};
 
 /// How many halves, or numbers, are told.
 const MOST: usize = 8;
@@ -42,8 +45,8 @@ fn push_words(text: &mut String, words: (&str, &str)) -> Result<(), AllocError> 
 fn push_reason(text: &mut String, reason: Reason) -> Result<(), AllocError> {
     text.push_str(match reason {
         Reason::BadReply | Reason::SendRefused(_) | Reason::HiddenRefused(_) | Reason::NotQuiet =>
-            "  why: in the run that the certificate says, ",
-        _ => "  why: ",
+            "why: in the run that the certificate says, ",
+        _ => "why: ",
     })?;
     push_words(text, reason_words(reason))?;
     if let Reason::SendRefused(fault) | Reason::HiddenRefused(fault) = reason {
@@ -55,9 +58,9 @@ fn push_reason(text: &mut String, reason: Reason) -> Result<(), AllocError> {
 
 /// Appends what is to be known of octets that are no message.
 fn push_bad(text: &mut String, fault: Fault) -> Result<(), AllocError> {
-    text.push_str("  `tcapjudge show --why RECORD` says what is wrong with them\n")?;
+    text.push_str("`tcapjudge show --why RECORD` says what is wrong with them\n")?;
     if is_limit(fault.reason.number()) {
-        text.push_str("  it is a limit of this profile: no end is blamed for it\n")?;
+        text.push_str("it is a limit of this profile: no end is blamed for it\n")?;
     }
     Ok(())
 }
@@ -65,23 +68,6 @@ fn push_bad(text: &mut String, fault: Fault) -> Result<(), AllocError> {
 /// Whether octets are refused for that reason by a limit of this profile alone.
 fn is_limit(number: u8) -> bool {
     matches!(number, 2..=4 | 12 | 13 | 16..=18)
-}
-
-/// Appends the lines of an entry, each begun by two blanks.
-fn push_entry(
-    alloc: Global,
-    text: &mut String,
-    number: usize,
-    entry: &Entry,
-) -> Result<(), AllocError> {
-    let mut lines = String::new(alloc);
-    push_view(&mut lines, number, &entry.view())?;
-    for line in lines.lines() {
-        text.push_str("  ")?;
-        text.push_str(line)?;
-        text.push_str("\n")?;
-    }
-    Ok(())
 }
 
 /// The name of the half over which a message is sent: by its own ID where the end knows that, or of a Begin; else by its peer's.
@@ -145,9 +131,7 @@ fn push_refused(
     message: &Message,
 ) -> Result<(), AllocError> {
     if message.count() > MANY {
-        return text.push_str(
-            "  it has over 64 components: which one is refused is not looked for\n",
-        );
+        return text.push_str("it has over 64 components: which one is refused is not looked for\n");
     }
     let all = words_of_components(alloc, state, name, message)?;
     let Some(place) = refused_component(alloc, state, table, message)? else {
@@ -156,7 +140,7 @@ fn push_refused(
     let Some(words) = all.get(place) else {
         return Ok(());
     };
-    writeln!(text, "  component {place} is what it refuses:")?;
+    writeln!(text, "component {place} is what it refuses:")?;
     text.push_str(words)
 }
 
@@ -173,7 +157,7 @@ fn push_refusal(text: &mut String, refused: Result<(), EndFault>) -> Result<(), 
     match refused {
         Ok(()) => Ok(()),
         Err(fault) => {
-            text.push_str("  it can't receive it: ")?;
+            text.push_str("it can't receive it: ")?;
             push_words(text, fault_words(fault))?;
             text.push_str("\n")
         }
@@ -207,7 +191,7 @@ fn push_sender(
     }
     if is_left_to_user(message, fault) {
         text.push_str(
-            "  a Unidirectional carries Invokes alone here; a Reject in one is left to the user, and blamed on nobody\n",
+            "a Unidirectional carries Invokes alone here; a Reject in one is left to the user, and blamed on nobody\n",
         )?;
     }
     if is_of_component(fault) {
@@ -242,9 +226,9 @@ fn is_tied(stop: &Stop) -> bool {
 /// Appends which messages the certificate ties to the entry.
 fn push_tied(text: &mut String, stop: &Stop, is_answer: bool) -> Result<(), AllocError> {
     text.push_str(if is_answer {
-        "  it is a provider's answer, and the messages that the certificate says it answers are"
+        "it is a provider's answer, and the messages that the certificate says it answers are"
     } else {
-        "  it is no provider's answer, but the certificate says that it answers"
+        "it is no provider's answer, but the certificate says that it answers"
     })?;
     let mut found = 0;
     for (number, fate) in stop.certificate.fates().iter().enumerate() {
@@ -260,15 +244,15 @@ fn push_tied(text: &mut String, stop: &Stop, is_answer: bool) -> Result<(), Allo
 }
 
 /// Appends the entry behind a gap.
-fn push_behind(alloc: Global, text: &mut String, stop: &Stop, gap: u32) -> Result<(), AllocError> {
+fn push_behind(text: &mut String, stop: &Stop, gap: u32) -> Result<(), AllocError> {
     match stop.read.entries.get(gap as usize) {
-        Some(entry) => push_entry(alloc, text, gap as usize, entry),
-        None => text.push_str("  no entry is behind it\n"),
+        Some(entry) => push_view(text, gap as usize, &entry.view()),
+        None => text.push_str("no entry is behind it\n"),
     }
 }
 
 /// Appends what the certificate lists of the entry, the first of it, each with the entry before which it stands.
-fn push_listed(alloc: Global, text: &mut String, stop: &Stop) -> Result<(), AllocError> {
+fn push_listed(text: &mut String, stop: &Stop) -> Result<(), AllocError> {
     let mut found = 0;
     for x in stop.certificate.closings() {
         if u64::from(x.entry) == stop.fault.entry && found < MOST {
@@ -276,9 +260,9 @@ fn push_listed(alloc: Global, text: &mut String, stop: &Stop) -> Result<(), Allo
             let (end, gap) = (letter(x.side), x.gap);
             writeln!(
                 text,
-                "  listed: before entry {gap} {end}'s half of its transaction closes unseen"
+                "listed: before entry {gap} {end}'s half of its transaction closes unseen"
             )?;
-            push_behind(alloc, text, stop, gap)?;
+            push_behind(text, stop, gap)?;
         }
     }
     for x in stop.certificate.expiries() {
@@ -287,9 +271,9 @@ fn push_listed(alloc: Global, text: &mut String, stop: &Stop) -> Result<(), Allo
             let (end, gap, component) = (letter(x.side), x.gap, x.component);
             writeln!(
                 text,
-                "  listed: before entry {gap} {end}'s invocation of its component {component} ends unseen"
+                "listed: before entry {gap} {end}'s invocation of its component {component} ends unseen"
             )?;
-            push_behind(alloc, text, stop, gap)?;
+            push_behind(text, stop, gap)?;
         }
     }
     Ok(())
@@ -305,7 +289,7 @@ fn push_open(
     let names = state.open_halves(alloc)?;
     for (number, name) in names.iter().enumerate() {
         if number >= MOST {
-            return text.push_str("  ..\n");
+            return text.push_str("..\n");
         }
         push_half_state(text, end, state, name)?;
     }
@@ -328,7 +312,7 @@ fn push_known(
         Reason::BadReply if message.cause().is_some() => push_tied(text, stop, true),
         Reason::BadReply if is_tied(stop) => push_tied(text, stop, false),
         Reason::BadReply => push_receiver(text, run, stop.table, sender.other(), message),
-        Reason::HiddenRefused(_) => push_listed(alloc, text, stop),
+        Reason::HiddenRefused(_) => push_listed(text, stop),
         _ => Ok(()),
     }
 }
@@ -343,7 +327,7 @@ fn push_stop(
     let fault = stop.fault;
     push_reason(text, fault.reason)?;
     if let Some(entry) = stop.read.entries.get(fault.entry as usize) {
-        push_entry(alloc, text, fault.entry as usize, entry)?;
+        push_view(text, fault.entry as usize, &entry.view())?;
         if let (Some(sender), Body::Good(message)) = (entry.side, &entry.body) {
             push_known(alloc, text, stop, run, sender, message)?;
         }
@@ -356,24 +340,24 @@ fn push_stop(
         push_bad(text, fault)?;
     }
     if !matches!(fault.reason, Reason::BadMessage(_) | Reason::NoItem) {
-        text.push_str("  another certificate may show more: this says nothing of an end\n")?;
+        text.push_str("another certificate may show more: this says nothing of an end\n")?;
     }
     Ok(())
 }
 
-/// The lines behind that of a record of which the certificate shows nothing: where its run stops, and, where both ends are judged, what
-/// is said of each. The ends of the run may be changed; its steps are not.
+/// Returns the lines that explain a record of which the certificate shows nothing: where its run stops, each line with
+/// two blanks before it, and then the findings on these ends. The ends of the run may be changed; its steps are not.
 pub(crate) fn stop_text(
     alloc: Global,
     read: &Record,
     table: &Table,
     certificate: &Certificate,
-    judged: Option<End>,
+    ends: Option<Ends>,
     fault: CheckFault,
     run: &mut Partial,
 ) -> Result<String, AllocError>
-    requires few { length read.now.entries.items ≤ 100000 }
-    ensures { IfOk result (λ text. EndsWithEnds judged table.now read.now.entries.items (string_bytes text)) }
+    requires found { IfSome ends (λ both. both ≡ ends_of table.now read.now.entries.items) }
+    ensures { IfOk result (λ text. EndsWithEnds table.now read.now.entries.items ends (string_bytes text)) }
 {
     let stop = Stop {
         read,
@@ -381,13 +365,10 @@ pub(crate) fn stop_text(
         certificate,
         fault,
     };
+    let mut lines = String::new(alloc);
+    push_stop(alloc, &mut lines, &stop, run)?;
     let mut text = String::new(alloc);
-    push_stop(alloc, &mut text, &stop, run)?;
-    match judged {
-        Some(_) => Ok(text),
-        None => {
-            push_ends(alloc, &mut text, read, table)?;
-            Ok(text)
-        }
-    }
+    push_indented(&mut text, &lines)?;
+    push_asked(alloc, &mut text, read, table, ends)?;
+    Ok(text)
 }

@@ -7,16 +7,4 @@ pub mod PlacelessFaults
 pub mod PlacelessCommands
 pub mod Tool
 pub mod Needed
-pub mod Paths
-pub mod Only
-pub mod Requests
 pub mod Matches
-pub mod Cases
-pub mod JudgeCases
-pub mod ExplainCases
-pub mod BlameCases
-pub mod EndCases
-pub mod JudgeEndCases
-pub mod FlagCases
-pub mod TraceCases
-pub mod TestCases

@@ -18,9 +18,11 @@ use Rattle.tcap_words.specs.Tests.{values_of}
 use Rattle.tcap_words.specs.Words.{Asks, Explains, Tested, blamed_paths, checked_paths, end_value, explained_paths, is_ids_word, is_letter, is_number, is_set, judged_paths, named_with, named_with_flag, named_with_flags, named_with_paths, named_with_traces, named_with_two, path_text, shown_path, tested}
 use Rattle.tcap_words.specs.declared.asked.Request.{Request}
 use Rattle.tcap_words.specs.declared.asked.Request.TheVariants.{Show, Pack, Check, CheckEnd, Judge, JudgeEnd, Explain, Blame, Table, Test}
-use Rattle.tcap_words.proofs.Only.{some_same}
 use Rattle.tcap_words.proofs.Tool.{IsKnown, fused, named}
 use Rattle.tcap_words.proofs.Needed.{needed_there}
+
+some_same : {X : Type 0} (a b : X) → Some a ≡ Some b → a ≡ b
+some_same a b e = cc
 
 two_parts : {X Y : Type 0} (o : Option (X × Y)) (x : X) (y : Y) → Some x ≡ option_map (λ p. p.0) o
     → Some y ≡ option_map (λ p. p.1) o → o ≡ Some (x, y)

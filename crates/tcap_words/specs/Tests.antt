@@ -93,18 +93,3 @@ requested t = record {
   progress = t.progress;
   traces = texts t.traces.items;
 }
-
--- what is asked where nothing but traces is given
-abbrev pub only_traces : List Text → Tested
-only_traces paths = record {
-  side = None;
-  tables = [];
-  ids = codes "again";
-  complete = false;
-  linger = 10000;
-  json = None;
-  junit = None;
-  html = None;
-  progress = false;
-  traces = paths;
-}

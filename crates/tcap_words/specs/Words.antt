@@ -1,6 +1,6 @@
 -- What the words of the command line of `tcapjudge` ask for.
-use Rattle.std.specs.Prelude.{◌≡◌, ◌≢◌, ◌==◌, Bool, true, false, not, List, [], ◌∷◌, ℕ, Option, Some, None, codes, option_and_then, option_map, if◌then◌else◌}
-use Rattle.std.specs.List.{list_all, list_any}
+use Rattle.std.specs.Prelude.{◌≡◌, ◌≢◌, Bool, true, false, List, [], ◌∷◌, ℕ, Option, Some, None, codes, option_and_then, option_map, if◌then◌else◌}
+use Rattle.std.specs.List.{list_any}
 use Rattle.std.specs.Str.{bytes_eq}
 use Rattle.clap.specs.Words.{Kinds, IsAmong, Row, Text, first_of, kind_of, subcommand_of}
 use Rattle.clap.specs.declared.error.kind.ErrorKind.{ErrorKind}
@@ -10,7 +10,7 @@ use Rattle.tcap_record.specs.declared.entry.End.{End as Side}
 use Rattle.tcap_record.specs.declared.entry.End.TheVariants as sides
 use Rattle.tcap_record.specs.Ends.{letter}
 use Rattle.tcap_words.specs.CommandLine.{tool}
-pub use Rattle.tcap_words.specs.Tests.{Tested, is_ids_word, is_number, is_set, number_of, only_traces, path_text, requested, tested}
+pub use Rattle.tcap_words.specs.Tests.{Tested, is_ids_word, is_number, is_set, number_of, path_text, requested, tested}
 use Rattle.tcap_words.specs.declared.asked.Request.{Request}
 use Rattle.tcap_words.specs.declared.asked.Request.TheVariants.{Show, Pack, Check, CheckEnd, Judge, JudgeEnd, Explain, Blame, Table, Test}
 use Rattle.tcap_words.specs.declared.words.WordsFault.{WordsFault}
@@ -101,38 +101,6 @@ Asks words (Table table) = named_with (codes "TABLE") words ≡ Some (codes "tab
 Asks words (Test test) =
     (named_with_traces words ≡ Some (codes "test", requested test)) × ((requested test).traces ≢ [])
 
--- to show what this path names, with these flags
-abbrev pub IsShow : Option Text → Bool → Bool → Request → Type 0
-IsShow text b d (Show path with_reasons of_lines) = (path_text path ≡ text) × (with_reasons ≡ b) × (of_lines ≡ d)
-IsShow text b d _ = ⊥
-
--- to pack what this path names
-abbrev pub IsPack : Option Text → Request → Type 0
-IsPack text (Pack path) = path_text path ≡ text
-IsPack text _ = ⊥
-
--- to replay a certificate: the record, the table and the certificate that these paths name
-abbrev pub IsCheck : Text → Text → Text → Request → Type 0
-IsCheck x y z (Check taken table cert) = (taken.now ≡ x) × (table.now ≡ y) × (cert.now ≡ z)
-IsCheck x y z _ = ⊥
-
--- to replay a certificate for the messages of this end alone
-abbrev pub IsCheckEnd : Side → Text → Text → Text → Request → Type 0
-IsCheckEnd side x y z (CheckEnd judged taken table cert) =
-    (judged ≡ side) × (taken.now ≡ x) × (table.now ≡ y) × (cert.now ≡ z)
-IsCheckEnd side x y z _ = ⊥
-
--- to judge: the record and the table that these paths name, with the certificate or without
-abbrev pub IsJudge : Text → Text → Bool → Request → Type 0
-IsJudge x y b (Judge taken table with_certificate) = (taken.now ≡ x) × (table.now ≡ y) × (with_certificate ≡ b)
-IsJudge x y b _ = ⊥
-
--- to judge this end alone
-abbrev pub IsJudgeEnd : Side → Text → Text → Bool → Request → Type 0
-IsJudgeEnd side x y b (JudgeEnd judged taken table with_certificate) =
-    (judged ≡ side) × (taken.now ≡ x) × (table.now ≡ y) × (with_certificate ≡ b)
-IsJudgeEnd side x y b _ = ⊥
-
 -- to explain, with the values that the arguments have
 abbrev pub Explains : (Text → Option Text) → Request → Type 0
 Explains value (Explain taken table cert side chart) =
@@ -140,37 +108,6 @@ Explains value (Explain taken table cert side chart) =
     × (path_text cert ≡ value (codes "CERT")) × (option_map letter side ≡ value (codes "end"))
     × (path_text chart ≡ value (codes "chart"))
 Explains value _ = ⊥
-
--- to explain: the record and the table that these paths name, with this certificate, this end and this file for a chart,
--- where there are some
-abbrev pub IsExplain : Text → Text → Option Text → Option Side → Option Text → Request → Type 0
-IsExplain x y z side file (Explain taken table cert judged chart) =
-    (taken.now ≡ x) × (table.now ≡ y) × (path_text cert ≡ z) × (judged ≡ side) × (path_text chart ≡ file)
-IsExplain x y z side file _ = ⊥
-
--- to say which end is at fault: the record and the table that these paths name
-abbrev pub IsBlame : Text → Text → Request → Type 0
-IsBlame x y (Blame taken table) = (taken.now ≡ x) × (table.now ≡ y)
-IsBlame x y _ = ⊥
-
--- to print the rows of what this path names
-abbrev pub IsTable : Option Text → Request → Type 0
-IsTable text (Table path) = path_text path ≡ text
-IsTable text _ = ⊥
-
--- to judge the dialogues of traces, where that is asked of them
-abbrev pub IsTest : Tested → Request → Type 0
-IsTest asked (Test test) = requested test ≡ asked
-IsTest asked _ = ⊥
-
--- the word begins with a hyphen (45), so that it may be no path
-abbrev pub begins_with_hyphen : Text → Bool
-begins_with_hyphen [] = false
-begins_with_hyphen (x ∷ xs) = x == 45
-
--- none of the words does
-abbrev pub are_plain : List Text → Bool
-are_plain = list_all (λ word. not (begins_with_hyphen word))
 
 -- the word is the letter of an end
 abbrev pub is_letter : Text → Bool

@@ -12,6 +12,9 @@ ghost use Rattle.tcap_words.specs.CommandLine.{placeless, placeless_rule, placel
 use clap::{Arg, ArgAction, Command, value_parser};
 use std::alloc::{AllocError, Global};
 
+/// The version, and the kit that proved the program. dev/unproved.py puts `not proved` in its place in a copy of this file.
+static VERSION: &str = "0.1.0 (proved, rattle-kit-13f logic dac8208d650f15bf)";
+
 /// What the exit statuses mean.
 static STATUSES: &str = "Exit statuses:
   0  nothing is wrong: LAWFUL, or all was printed or packed
@@ -332,7 +335,7 @@ pub(crate) fn command<'a>(alloc: Global) -> Result<Command<'a>, AllocError>
     let test = test_command(alloc)?;
     Command::new(alloc, "tcapjudge")
         .about("Judges records of TCAP messages")
-        .version("0.1.0")
+        .version(VERSION)
         .subcommand_required(true)
         .after_help(STATUSES)
         .subcommand(show)?

@@ -1,17 +1,14 @@
 //! What the words of the command line ask for.
 
-ghost use Rattle.std.specs.Prelude.{◌≡◌, ◌∷◌, [], IfErr, IfOk, IfSome, IsErrAnd, List, MatchResult, None, Some, codes, false};
+ghost use Rattle.std.specs.Prelude.{◌≡◌, [], IfErr, IfOk, IfSome, List, MatchResult, None, Some, codes};
 ghost use Rattle.std.specs.Prelude.{is_some, option_map, true};
 ghost use Rattle.clap.specs.Words.{fault_of, first_value, found_of, takes};
-ghost use Rattle.clap.specs.Walk.{Text, rows_of, texts};
-ghost use Rattle.clap.specs.declared.error.kind.ErrorKind.TheVariants.{DisplayVersion, InvalidValue, MissingRequiredArgument, ValueValidation};
+ghost use Rattle.clap.specs.Walk.{rows_of, texts};
 ghost use Rattle.tcap_record.specs.declared.entry.End.{End as Side};
 ghost use Rattle.tcap_record.specs.Ends.{letter};
 ghost use Rattle.tcap_words.specs.CommandLine.{ids_word, tool};
 ghost use Rattle.tcap_words.specs.Tests.{ids_value, linger_value, values_of};
-ghost use Rattle.tcap_words.specs.Words.{Asks, Becomes, Explains, IsBlame, IsCheck, IsCheckEnd, IsExplain, IsFaultOf, IsJudge};
-ghost use Rattle.tcap_words.specs.Words.{IsJudgeEnd, IsMemory, IsPack, IsShow, IsTable, IsTest, are_plain, begins_with_hyphen};
-ghost use Rattle.tcap_words.specs.Words.{is_letter, is_printed, only_traces};
+ghost use Rattle.tcap_words.specs.Words.{Asks, Becomes, Explains, IsFaultOf, IsMemory, is_letter, is_printed};
 ghost use Rattle.tcap_words.specs.Words.{is_ids_word, is_number, is_set, number_of, requested, tested, words_status};
 ghost use Rattle.tcap_words.specs.declared.asked.Request.TheVariants as asked;
 
@@ -283,8 +280,12 @@ fn explain_request<'a>(found: &ArgMatches<'a>) -> Request<'a>
     }
 }
 
-/// What `words` ask for, as clap reads them.
-fn parsed_request<'a>(alloc: Global, words: &'a [&'a str]) -> Result<Request<'a>, WordsFault>
+/// Reads the words of the command line, the program's name first, as a request.
+///
+/// # Errors
+///
+/// `WordsFault::Words` if the words are wrong, or ask for help or the version; `WordsFault::Memory` if memory runs out.
+pub fn request<'a>(alloc: Global, words: &'a [&'a str]) -> Result<Request<'a>, WordsFault>
     ensures asks { IfOk result (Asks (texts words.entry.now)) }
     ensures taken { takes tool (texts words.entry.now) ≡ true → IfErr result IsMemory }
     ensures faults { MatchResult result (λ _. fault_of tool (texts words.entry.now) ≡ [])
@@ -325,156 +326,4 @@ fn parsed_request<'a>(alloc: Global, words: &'a [&'a str]) -> Result<Request<'a>
         "test" => Ok(Request::Test(test_request(alloc, found)?)),
         _ => unreachable!(),
     }
-}
-
-/// What `words` ask for: the program's name, and then the words behind it.
-pub fn request<'a>(alloc: Global, words: &'a [&'a str]) -> Result<Request<'a>, WordsFault>
-    ensures asks { IfOk result (Asks (texts words.entry.now)) }
-    ensures taken { takes tool (texts words.entry.now) ≡ true → IfErr result IsMemory }
-    ensures show { (program : Text) → texts words.entry.now ≡ program ∷ codes "show" ∷ []
-        → MatchResult result (IsShow None false false) IsMemory }
-    ensures show_path { (program path : Text)
-        → texts words.entry.now ≡ program ∷ codes "show" ∷ path ∷ []
-        → begins_with_hyphen path ≡ false → MatchResult result (IsShow (Some path) false false) IsMemory }
-    ensures show_why { (program path : Text)
-        → texts words.entry.now ≡ program ∷ codes "show" ∷ codes "--why" ∷ path ∷ []
-        → begins_with_hyphen path ≡ false → MatchResult result (IsShow (Some path) true false) IsMemory }
-    ensures show_lines { (program path : Text)
-        → texts words.entry.now ≡ program ∷ codes "show" ∷ codes "--lines" ∷ path ∷ []
-        → begins_with_hyphen path ≡ false → MatchResult result (IsShow (Some path) false true) IsMemory }
-    ensures show_why_lines { (program path : Text)
-        → texts words.entry.now ≡ program ∷ codes "show" ∷ codes "--why" ∷ codes "--lines" ∷ path ∷ []
-        → begins_with_hyphen path ≡ false → MatchResult result (IsShow (Some path) true true) IsMemory }
-    ensures pack { (program : Text) → texts words.entry.now ≡ program ∷ codes "pack" ∷ []
-        → MatchResult result (IsPack None) IsMemory }
-    ensures pack_path { (program path : Text)
-        → texts words.entry.now ≡ program ∷ codes "pack" ∷ path ∷ []
-        → begins_with_hyphen path ≡ false → MatchResult result (IsPack (Some path)) IsMemory }
-    ensures check_paths { (program x y z : Text)
-        → texts words.entry.now ≡ program ∷ codes "check" ∷ x ∷ y ∷ z ∷ []
-        → begins_with_hyphen x ≡ false → begins_with_hyphen y ≡ false → begins_with_hyphen z ≡ false
-        → MatchResult result (IsCheck x y z) IsMemory }
-    ensures check_alone { (program : Text) → texts words.entry.now ≡ program ∷ codes "check" ∷ []
-        → IsErrAnd result (IsFaultOf (MissingRequiredArgument ∷ [])) }
-    ensures check_one { (program x : Text)
-        → texts words.entry.now ≡ program ∷ codes "check" ∷ x ∷ []
-        → begins_with_hyphen x ≡ false → IsErrAnd result (IsFaultOf (MissingRequiredArgument ∷ [])) }
-    ensures check_two { (program x y : Text)
-        → texts words.entry.now ≡ program ∷ codes "check" ∷ x ∷ y ∷ []
-        → begins_with_hyphen x ≡ false → begins_with_hyphen y ≡ false
-        → IsErrAnd result (IsFaultOf (MissingRequiredArgument ∷ [])) }
-    ensures check_end { (program x y z : Text) (side : Side)
-        → texts words.entry.now ≡ program ∷ codes "check" ∷ codes "--end" ∷ letter side ∷ x ∷ y ∷ z ∷ []
-        → begins_with_hyphen x ≡ false → begins_with_hyphen y ≡ false → begins_with_hyphen z ≡ false
-        → MatchResult result (IsCheckEnd side x y z) IsMemory }
-    ensures check_end_wrong { (program word x y z : Text)
-        → texts words.entry.now ≡ program ∷ codes "check" ∷ codes "--end" ∷ word ∷ x ∷ y ∷ z ∷ []
-        → begins_with_hyphen word ≡ false → is_letter word ≡ false → begins_with_hyphen x ≡ false
-        → IsErrAnd result (IsFaultOf (InvalidValue ∷ [])) }
-    ensures judge_paths { (program x y : Text)
-        → texts words.entry.now ≡ program ∷ codes "judge" ∷ x ∷ y ∷ []
-        → begins_with_hyphen x ≡ false → begins_with_hyphen y ≡ false
-        → MatchResult result (IsJudge x y false) IsMemory }
-    ensures judge_cert { (program x y : Text)
-        → texts words.entry.now ≡ program ∷ codes "judge" ∷ x ∷ y ∷ codes "--cert" ∷ []
-        → begins_with_hyphen x ≡ false → begins_with_hyphen y ≡ false
-        → MatchResult result (IsJudge x y true) IsMemory }
-    ensures judge_end { (program x y : Text) (side : Side)
-        → texts words.entry.now ≡ program ∷ codes "judge" ∷ codes "--end" ∷ letter side ∷ x ∷ y ∷ []
-        → begins_with_hyphen x ≡ false → begins_with_hyphen y ≡ false
-        → MatchResult result (IsJudgeEnd side x y false) IsMemory }
-    ensures judge_end_cert { (program x y : Text) (side : Side)
-        → texts words.entry.now
-        ≡ program ∷ codes "judge" ∷ codes "--end" ∷ letter side ∷ x ∷ y ∷ codes "--cert" ∷ []
-        → begins_with_hyphen x ≡ false → begins_with_hyphen y ≡ false
-        → MatchResult result (IsJudgeEnd side x y true) IsMemory }
-    ensures judge_end_wrong { (program word x y : Text)
-        → texts words.entry.now ≡ program ∷ codes "judge" ∷ codes "--end" ∷ word ∷ x ∷ y ∷ []
-        → begins_with_hyphen word ≡ false → is_letter word ≡ false → begins_with_hyphen x ≡ false
-        → IsErrAnd result (IsFaultOf (InvalidValue ∷ [])) }
-    ensures judge_alone { (program : Text) → texts words.entry.now ≡ program ∷ codes "judge" ∷ []
-        → IsErrAnd result (IsFaultOf (MissingRequiredArgument ∷ [])) }
-    ensures judge_one { (program x : Text)
-        → texts words.entry.now ≡ program ∷ codes "judge" ∷ x ∷ []
-        → begins_with_hyphen x ≡ false → IsErrAnd result (IsFaultOf (MissingRequiredArgument ∷ [])) }
-    ensures explain_paths { (program x y : Text)
-        → texts words.entry.now ≡ program ∷ codes "explain" ∷ x ∷ y ∷ []
-        → begins_with_hyphen x ≡ false → begins_with_hyphen y ≡ false
-        → MatchResult result (IsExplain x y None None None) IsMemory }
-    ensures explain_cert { (program x y z : Text)
-        → texts words.entry.now ≡ program ∷ codes "explain" ∷ x ∷ y ∷ z ∷ []
-        → begins_with_hyphen x ≡ false → begins_with_hyphen y ≡ false → begins_with_hyphen z ≡ false
-        → MatchResult result (IsExplain x y (Some z) None None) IsMemory }
-    ensures explain_chart { (program x y file : Text)
-        → texts words.entry.now ≡ program ∷ codes "explain" ∷ x ∷ y ∷ codes "--chart" ∷ file ∷ []
-        → begins_with_hyphen x ≡ false → begins_with_hyphen y ≡ false → begins_with_hyphen file ≡ false
-        → MatchResult result (IsExplain x y None None (Some file)) IsMemory }
-    ensures explain_end { (program x y : Text) (side : Side)
-        → texts words.entry.now ≡ program ∷ codes "explain" ∷ codes "--end" ∷ letter side ∷ x ∷ y ∷ []
-        → begins_with_hyphen x ≡ false → begins_with_hyphen y ≡ false
-        → MatchResult result (IsExplain x y None (Some side) None) IsMemory }
-    ensures explain_end_wrong { (program word x y : Text)
-        → texts words.entry.now ≡ program ∷ codes "explain" ∷ codes "--end" ∷ word ∷ x ∷ y ∷ []
-        → begins_with_hyphen word ≡ false → is_letter word ≡ false → begins_with_hyphen x ≡ false
-        → IsErrAnd result (IsFaultOf (InvalidValue ∷ [])) }
-    ensures explain_alone { (program : Text) → texts words.entry.now ≡ program ∷ codes "explain" ∷ []
-        → IsErrAnd result (IsFaultOf (MissingRequiredArgument ∷ [])) }
-    ensures explain_one { (program x : Text)
-        → texts words.entry.now ≡ program ∷ codes "explain" ∷ x ∷ []
-        → begins_with_hyphen x ≡ false → IsErrAnd result (IsFaultOf (MissingRequiredArgument ∷ [])) }
-    ensures blame_paths { (program x y : Text)
-        → texts words.entry.now ≡ program ∷ codes "blame" ∷ x ∷ y ∷ []
-        → begins_with_hyphen x ≡ false → begins_with_hyphen y ≡ false
-        → MatchResult result (IsBlame x y) IsMemory }
-    ensures blame_alone { (program : Text) → texts words.entry.now ≡ program ∷ codes "blame" ∷ []
-        → IsErrAnd result (IsFaultOf (MissingRequiredArgument ∷ [])) }
-    ensures blame_one { (program x : Text)
-        → texts words.entry.now ≡ program ∷ codes "blame" ∷ x ∷ []
-        → begins_with_hyphen x ≡ false → IsErrAnd result (IsFaultOf (MissingRequiredArgument ∷ [])) }
-    ensures table_path { (program path : Text)
-        → texts words.entry.now ≡ program ∷ codes "table" ∷ path ∷ []
-        → begins_with_hyphen path ≡ false → MatchResult result (IsTable (Some path)) IsMemory }
-    ensures table_alone { (program : Text) → texts words.entry.now ≡ program ∷ codes "table" ∷ []
-        → MatchResult result (IsTable None) IsMemory }
-    ensures test_traces { (program x : Text) (rest : List Text)
-        → texts words.entry.now ≡ program ∷ codes "test" ∷ x ∷ rest → are_plain (x ∷ rest) ≡ true
-        → MatchResult result (IsTest (only_traces (x ∷ rest))) IsMemory }
-    ensures test_input { (program : Text) → texts words.entry.now ≡ program ∷ codes "test" ∷ codes "-" ∷ []
-        → MatchResult result (IsTest (only_traces (codes "-" ∷ []))) IsMemory }
-    ensures test_all { (program t u n f g h x y : Text) (side : Side) (ids : Ids)
-        → texts words.entry.now ≡ program ∷ codes "test" ∷ codes "--of" ∷ letter side ∷ codes "--table" ∷ t
-        ∷ codes "--table" ∷ u ∷ codes "--ids" ∷ ids_word ids ∷ codes "--complete" ∷ codes "--linger" ∷ n
-        ∷ codes "--json" ∷ f ∷ codes "--junit" ∷ g ∷ codes "--html" ∷ h ∷ codes "--progress" ∷ x ∷ y ∷ []
-        → are_plain (t ∷ u ∷ n ∷ f ∷ g ∷ h ∷ x ∷ y ∷ []) ≡ true → is_number n ≡ true
-        → MatchResult result (IsTest (record (only_traces (x ∷ y ∷ [])) {
-          side = Some (letter side);
-          tables = t ∷ u ∷ [];
-          ids = ids_word ids;
-          complete = true;
-          linger = number_of n;
-          json = Some f;
-          junit = Some g;
-          html = Some h;
-          progress = true;
-        })) IsMemory }
-    ensures test_of_wrong { (program word x : Text)
-        → texts words.entry.now ≡ program ∷ codes "test" ∷ codes "--of" ∷ word ∷ x ∷ []
-        → begins_with_hyphen word ≡ false → begins_with_hyphen x ≡ false → is_letter word ≡ false
-        → IsErrAnd result (IsFaultOf (InvalidValue ∷ [])) }
-    ensures test_ids_wrong { (program word x : Text)
-        → texts words.entry.now ≡ program ∷ codes "test" ∷ codes "--ids" ∷ word ∷ x ∷ []
-        → begins_with_hyphen word ≡ false → begins_with_hyphen x ≡ false → is_ids_word word ≡ false
-        → IsErrAnd result (IsFaultOf (InvalidValue ∷ [])) }
-    ensures test_linger_wrong { (program word x : Text)
-        → texts words.entry.now ≡ program ∷ codes "test" ∷ codes "--linger" ∷ word ∷ x ∷ []
-        → begins_with_hyphen word ≡ false → begins_with_hyphen x ≡ false → is_number word ≡ false
-        → IsErrAnd result (IsFaultOf (ValueValidation ∷ [])) }
-    ensures test_alone { (program : Text) → texts words.entry.now ≡ program ∷ codes "test" ∷ []
-        → IsErrAnd result (IsFaultOf (MissingRequiredArgument ∷ [])) }
-    ensures version { (program : Text) → texts words.entry.now ≡ program ∷ codes "--version" ∷ []
-        → IsErrAnd result (IsFaultOf (DisplayVersion ∷ [])) }
-    ensures faults { MatchResult result (λ _. fault_of tool (texts words.entry.now) ≡ [])
-        (IsFaultOf (fault_of tool (texts words.entry.now))) }
-{
-    parsed_request(alloc, words)
 }

@@ -9,11 +9,12 @@ ghost use Rattle.tcapjudge.specs.Tested.{AreCounted, IsStatus, IsWorst};
 use crate::opening::{is_folder, tell_codes, tell_text};
 use crate::outputs::{INPUT, Outputs, stand_ins};
 use crate::writing::{Output, Sink, tell_unprinted};
+use std::alloc::AllocError;
 use std::fmt::Display;
 use std::time::Instant;
 use std::{fs, io};
 use tcap_ber::{Counted, Read, Write};
-use tcap_books::{AMBIGUOUS, Book, CARRIED_BOOK};
+use tcap_books::{AMBIGUOUS, Book, CARRIED_BOOK, CLASH};
 use tcap_dialogues::Reuse;
 use tcap_explain::Role;
 use tcap_report::{Asked, Junit, Lines, Page, Sinks, Stop, Sum, Watch, run_trace, tell_unread};
@@ -69,6 +70,9 @@ struct Tables {
     refused: Option<String>,
 }
 
+/// The name of the carried book in messages.
+const CARRIED: &str = "the book that the program carries";
+
 /// The text of a book without operations.
 const NO_OPERATIONS: &str = "{\"operations\":[]}";
 
@@ -89,39 +93,121 @@ fn tables_of(rt: &HostRuntime, paths: &[&str]) -> Result<Tables, Stop> {
     }
 }
 
+/// Tables that were given, with the files that they are from.
+#[derive(Drop)]
+struct Given {
+    /// All tables, those of the first file first.
+    book: Book,
+    /// The number of the first table of each file.
+    firsts: Vec<usize>,
+}
+
+impl Given {
+    /// Holds the tables of the first file.
+    fn new(rt: &HostRuntime, book: Book) -> Result<Given, AllocError> {
+        let mut firsts = Vec::new(rt.alloc());
+        firsts.push(0)?;
+        Ok(Given { book, firsts })
+    }
+
+    /// Adds the tables of the next file.
+    fn add(&mut self, book: Book) -> Result<(), AllocError> {
+        self.firsts.push(self.book.tables().len())?;
+        self.book.add(book)
+    }
+
+    /// Returns the number of the file of the table with this number, and the table's number in that file.
+    fn place_of(&self, number: usize) -> (usize, usize) {
+        let mut found = (0, number);
+        for (file, first) in self.firsts.iter().enumerate() {
+            if *first <= number {
+                found = (file, number - *first);
+            }
+        }
+        found
+    }
+
+    /// Appends the number and the name of a table, and the path of its file. The paths are those of all files.
+    fn push_table(
+        &self,
+        text: &mut String,
+        paths: &[&str],
+        number: usize,
+    ) -> Result<(), AllocError> {
+        let (file, place) = self.place_of(number);
+        if let (Some(table), Some(path)) = (self.book.tables().get(number), paths.get(file)) {
+            table.push_words(text, place)?;
+            text.push_str(" of ")?;
+            text.push_str(*path)?;
+        }
+        Ok(())
+    }
+
+    /// Returns a text that names the two tables that have the same context. The paths are those of all files.
+    fn clash_words(
+        &self,
+        rt: &HostRuntime,
+        paths: &[&str],
+        pair: (usize, usize),
+    ) -> Result<String, AllocError> {
+        let mut text = String::new(rt.alloc());
+        let (first, second) = pair;
+        text.push_str(CLASH)?;
+        text.push_str(": ")?;
+        self.push_table(&mut text, paths, first)?;
+        text.push_str(" and ")?;
+        self.push_table(&mut text, paths, second)?;
+        Ok(text)
+    }
+}
+
+/// Reads the book of the file with this path. Returns what is wrong with it, which standard error says too.
+fn read_path(rt: &HostRuntime, path: &str) -> Result<Result<Book, String>, Stop> {
+    let octets = match fs::read(rt, path) {
+        Ok(octets) => octets,
+        Err(error) => return Ok(Err(told_fault(rt, Some(path), &error)?)),
+    };
+    let read = read_book(rt, path, &octets)?;
+    if read.is_ok() {
+        tell_codes(rt, path, &octets);
+    }
+    Ok(read)
+}
+
 /// Reads the books of those paths as one book; if there is no path, the book that the program carries. Returns what is
 /// wrong with a table, which standard error says too.
 fn book_of(rt: &HostRuntime, paths: &[&str]) -> Result<Result<Book, String>, Stop> {
-    let mut all = None;
-    for path in paths {
-        let octets = match fs::read(rt, *path) {
-            Ok(octets) => octets,
-            Err(error) => return Ok(Err(told_fault(rt, Some(*path), &error)?)),
-        };
-        let book = match read_book(rt, *path, &octets)? {
-            Ok(book) => book,
-            Err(why) => return Ok(Err(why)),
-        };
-        tell_codes(rt, *path, &octets);
-        all = match all {
-            None => Some(book),
-            Some(mut books) => {
-                Book::add(&mut books, book)?;
-                Some(books)
-            }
-        };
-    }
-    let Some(book) = all else {
-        return read_book(
-            rt,
-            "the book that the program carries",
-            CARRIED_BOOK.as_bytes(),
-        );
+    let [first, others @ ..] = paths else {
+        return read_book(rt, CARRIED, CARRIED_BOOK.as_bytes());
     };
-    if book.is_ambiguous() {
+    let mut given = match read_path(rt, *first)? {
+        Ok(book) => Given::new(rt, book)?,
+        Err(why) => return Ok(Err(why)),
+    };
+    for path in others {
+        match read_path(rt, *path)? {
+            Ok(book) => given.add(book)?,
+            Err(why) => return Ok(Err(why)),
+        }
+    }
+    clear_book(rt, paths, given)
+}
+
+/// Returns the given tables, which are those of the files with these paths, as a book, if each dialogue has at most one
+/// table in it. Else returns why, which standard error says too.
+fn clear_book(
+    rt: &HostRuntime,
+    paths: &[&str],
+    given: Given,
+) -> Result<Result<Book, String>, Stop> {
+    if given.book.is_ambiguous() {
         return Ok(Err(told_fault(rt, None, &AMBIGUOUS)?));
     }
-    Ok(Ok(book))
+    if let Some(pair) = given.book.clash() {
+        let why = given.clash_words(rt, paths, pair)?;
+        return Ok(Err(told_fault(rt, None, &why)?));
+    }
+    Ok(Ok(given.book))
 }
 
 /// Reads the book of that text. Returns what is wrong with it, which standard error says too.

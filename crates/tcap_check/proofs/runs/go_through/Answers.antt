@@ -28,7 +28,7 @@ returns-clause-so_far c = λ start.
     let kept = c.in_ok-take_all.ensures in
     let alike : GoesAlike c.args.replaying.now c.take_all.new.self = record { judged = kept.judged; table = kept.table; certificate = kept.certificate } in
     among_ends c.args.replaying.now c.take_all.new.self c.args.record.now.entries.items c.end.result c.end.new.self.progress
-    alike (kept.so_far start) c.end.ensures.left
+    alike (kept.took true start) c.end.ensures.left
 
 pub returns-clause-shows : goal.returns-clause-shows
 returns-clause-shows c = λ start.

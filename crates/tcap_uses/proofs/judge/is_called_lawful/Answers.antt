@@ -1,6 +1,5 @@
-use Rattle.std.proofs.Common.{◌≡◌, ◌++◌, ℕ, List, Ok, Option, Some, None, refl, sym, ap, subst, ◌∙◌}
-use Rattle.std.proofs.lemmas.List.{append-nil}
-use Rattle.std.specs.Io.KnownBytes.{Consumes, IsAtEnd}
+use Rattle.std.proofs.Common.{◌≡◌, ℕ, List, Ok, Option, Some, refl, ap, subst}
+use Rattle.std.specs.Io.KnownBytes.{Consumes}
 use Rattle.tcap_end.specs.Table.{Table}
 use Rattle.tcap_end.specs.TableText.{IsTableOf}
 use Rattle.tcap_model.specs.World.{Item}
@@ -9,15 +8,9 @@ use Rattle.tcap_lines.specs.declared.status.Status.{Status}
 use Rattle.tcap_lines.specs.declared.status.Status.TheVariants.{Fine}
 use Rattle.tcap_judge.specs.Checked.{Device}
 use Rattle.tcap_judge.specs.LawfulRecord.{FindsLawful, SpellsRecord}
+use Rattle.tcap_uses.proofs.Results.{told_all}
 use Rattle.tcap_uses.proofs.judge.is_called_lawful.Goals.{in-Fine, in_default}
 use Rattle.tcap_uses.proofs.judge.is_called_lawful.Goals as goal
-
--- what a reader of known octets told up to its end is all of them
-told_all : (whole told : List ℕ) (after : Option (List ℕ)) → Consumes (Some whole) after told → IsAtEnd after
-    → told ≡ whole
-told_all whole told None consumes at = absurd consumes
-told_all whole told (Some left) consumes at =
-    sym (consumes ∙ ap (λ (x : List ℕ). told ++ x) at ∙ append-nil told)
 
 -- the same of both readers
 known_lawful : (entries table : Device) (taken taken' : Option (List ℕ)) (octets text : List ℕ)

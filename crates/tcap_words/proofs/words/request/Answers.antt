@@ -1,245 +1,317 @@
-use Rattle.std.proofs.Common.{Some, None, true, false, [], ◌∷◌, codes}
-use Rattle.clap.specs.Walk.{texts}
-use Rattle.tcap_words.specs.Words.{only_traces}
-use Rattle.tcap_words.proofs.Requests.{blame_asked, check_asked, check_end_asked, explain_asked, judge_asked, judge_end_asked, pack_asked, refused_by, show_asked, table_asked, test_asked}
-use Rattle.tcap_words.proofs.Cases.{check_alone_missing, check_named, check_no_end, check_one_missing, check_taken, check_two_missing, long_version, pack_named, pack_path_named, pack_path_taken, pack_taken, show_named, show_path_named, show_path_taken, show_taken}
-use Rattle.tcap_words.proofs.BlameCases.{blame_alone_missing, blame_named, blame_one_missing, blame_taken}
-use Rattle.tcap_words.proofs.ExplainCases.{explain_alone_missing, explain_cert_named, explain_cert_no_end, explain_cert_taken, explain_chart_named, explain_chart_no_end, explain_chart_taken, explain_end_named, explain_end_refused, explain_end_taken, explain_end_value, explain_named, explain_no_end, explain_one_missing, explain_taken}
-use Rattle.tcap_words.proofs.FlagCases.{show_lines_named, show_lines_taken, show_why_lines_named, show_why_lines_taken, show_why_named, show_why_taken, table_alone_named, table_alone_taken, table_named, table_taken}
-use Rattle.tcap_words.proofs.JudgeCases.{judge_alone_missing, judge_cert_named, judge_cert_no_end, judge_cert_taken, judge_named, judge_no_end, judge_one_missing, judge_taken}
-use Rattle.tcap_words.proofs.EndCases.{check_end_named, check_end_refused, check_end_taken, check_end_value}
-use Rattle.tcap_words.proofs.JudgeEndCases.{judge_end_cert_named, judge_end_cert_taken, judge_end_cert_value, judge_end_named, judge_end_refused, judge_end_taken, judge_end_value}
-use Rattle.tcap_words.proofs.TestCases.{all_asked, all_named, all_taken, ids_refused, linger_refused, of_refused}
-use Rattle.tcap_words.proofs.TraceCases.{input_named, input_taken, plain_parts, test_alone_missing, traces_named, traces_taken}
-use Rattle.clap.specs.declared.error.kind.ErrorKind.TheVariants.{DisplayVersion, InvalidValue, MissingRequiredArgument, ValueValidation}
+use Rattle.std.proofs.Common.{◌≡◌, ◌∙◌, [], ap, subst, sym, List, codes, true}
+use Rattle.std.proofs.lemmas.Result.{err_from_is_err_and}
+use Rattle.clap.specs.Words.{App, app_of, fault_of, is_simple, is_simple_and_free, takes}
+use Rattle.clap.specs.Kinds.{HasKind}
+use Rattle.clap.specs.Walk.{Text, texts}
+use Rattle.clap.specs.Matches.{found_of, subcommand_name_of}
+use Rattle.clap.specs.Simple.{HasMatchesOf, subcommand_of, subcommand_rows_of}
+use Rattle.clap.specs.declared.builder.command.Command.{Command}
+use Rattle.clap.specs.declared.parser.matches.ArgMatches.{ArgMatches}
+use Rattle.tcap_words.specs.CommandLine.{placeless, tool}
+use Rattle.tcap_words.proofs.Matches.{asked_of, blame_asked_of, blame_there, check_asked_of, check_made, check_there, end_named, explain_asked_of, explain_there, has_name, judge_asked_of, judge_made, judge_there, no_name, other_name, show_asked_of, test_asked_of, test_there}
+use Rattle.tcap_words.proofs.PlacelessCommands.{fault_of_same, simple_and_free_same, simple_same, subcommand_same, takes_same}
+use Rattle.tcap_words.proofs.Tool.{IsKnown, as_fault, became_memory, tool_simple, tool_is_simple}
 use Rattle.tcap_words.proofs.words.request.Goals as goal
 
-pub returns-clause-show : goal.returns-clause-show
-returns-clause-show c program is =
-    show_asked (texts c.args.words.now) _ c.parsed_request.result is (show_taken program)
-    c.parsed_request.ensures.asks c.parsed_request.ensures.taken None false false (show_named program)
+pub returns-in_err-matches-clause-taken : goal.returns-in_err-matches-clause-taken
+returns-in_err-matches-clause-taken c taken =
+    let p = err_from_is_err_and c.from_residual-in_err-matches.result c.from_residual-in_err-matches.ensures.1 in
+    rw p.1 (became_memory c.in_err-matches.field-0.0 p.0
+    (c.in_err-matches.ensures.passes (sym (takes_same (app_of c.in_ok-command.command) (texts c.args.words.now))
+    ∙ ap (λ (a : App). takes a (texts c.args.words.now)) c.in_ok-command.ensures ∙ taken)) p.2)
 
-pub returns-clause-show_path : goal.returns-clause-show_path
-returns-clause-show_path c program path is plain =
-    show_asked (texts c.args.words.now) _ c.parsed_request.result is (show_path_taken program path plain)
-    c.parsed_request.ensures.asks c.parsed_request.ensures.taken (Some path) false false (show_path_named program path plain)
+pub returns-in_err-matches-clause-faults : goal.returns-in_err-matches-clause-faults
+returns-in_err-matches-clause-faults c =
+    let p = err_from_is_err_and c.from_residual-in_err-matches.result c.from_residual-in_err-matches.ensures.1 in
+    let e = c.in_err-matches.field-0.0 in
+    let app = app_of c.in_ok-command.command in
+    let has = c.in_err-matches.ensures.kinds
+    (sym (simple_and_free_same app) ∙ ap is_simple_and_free c.in_ok-command.ensures ∙ tool_simple) in
+    rw p.1 (as_fault (fault_of tool (texts c.args.words.now)) e p.0
+    (subst (λ (a : App). HasKind (fault_of a (texts c.args.words.now)) e) c.in_ok-command.ensures
+    (subst (λ ks. HasKind ks e) (sym (fault_of_same app (texts c.args.words.now))) has)) p.2)
 
-pub returns-clause-show_why : goal.returns-clause-show_why
-returns-clause-show_why c program path is plain =
-    show_asked (texts c.args.words.now) _ c.parsed_request.result is (show_why_taken path plain program)
-    c.parsed_request.ensures.asks c.parsed_request.ensures.taken (Some path) true false (show_why_named path plain program)
+-- a parse with no fault of the command, as one of the tool
+clear : (command : Command) (words : List Text) → placeless (app_of command) ≡ tool
+    → (is_simple_and_free (app_of command) ≡ true → fault_of (app_of command) words ≡ []) → fault_of tool words ≡ []
+clear command words is none =
+    ap (λ (a : App). fault_of a words) (sym is) ∙ fault_of_same (app_of command) words
+    ∙ none (sym (simple_and_free_same (app_of command)) ∙ ap is_simple_and_free is ∙ tool_simple)
 
-pub returns-clause-show_lines : goal.returns-clause-show_lines
-returns-clause-show_lines c program path is plain =
-    show_asked (texts c.args.words.now) _ c.parsed_request.result is (show_lines_taken path plain program)
-    c.parsed_request.ensures.asks c.parsed_request.ensures.taken (Some path) false true (show_lines_named path plain program)
+rows : (command : Command) (words : List Text) (m : ArgMatches) → placeless (app_of command) ≡ tool
+    → HasMatchesOf (app_of command) words m
+    → subcommand_rows_of m ≡ subcommand_of tool words
+rows command words m is has =
+    (has (sym (simple_same (app_of command)) ∙ ap is_simple is ∙ tool_is_simple)).1
+    ∙ sym (subcommand_same (app_of command) words) ∙ ap (λ (a : App). subcommand_of a words) is
 
-pub returns-clause-show_why_lines : goal.returns-clause-show_why_lines
-returns-clause-show_why_lines c program path is plain =
-    show_asked (texts c.args.words.now) _ c.parsed_request.result is (show_why_lines_taken path plain program)
-    c.parsed_request.ensures.asks c.parsed_request.ensures.taken (Some path) true true (show_why_lines_named path plain program)
+known : (command : Command) (words : List Text) (m : ArgMatches) → placeless (app_of command) ≡ tool
+    → HasMatchesOf (app_of command) words m
+    → (is_simple_and_free (app_of command) ≡ true → fault_of (app_of command) words ≡ []) → IsKnown (subcommand_name_of m)
+known command words m is has none = has_name m words (rows command words m is has) (clear command words is none)
 
-pub returns-clause-pack : goal.returns-clause-pack
-returns-clause-pack c program is =
-    pack_asked (texts c.args.words.now) _ c.parsed_request.result is (pack_taken program)
-    c.parsed_request.ensures.asks c.parsed_request.ensures.taken None (pack_named program)
+pub unreachable-requires : goal.unreachable-requires
+unreachable-requires c =
+    let met = c.in_ok-matches.ensures in
+    no_name _ (known c.in_ok-command.command (texts c.args.words.now) c.in_ok-matches.matches c.in_ok-command.ensures met.matches
+    met.kinds)
+    c.in_default.ensures.name
 
-pub returns-clause-pack_path : goal.returns-clause-pack_path
-returns-clause-pack_path c program path is plain =
-    pack_asked (texts c.args.words.now) _ c.parsed_request.result is (pack_path_taken program path plain)
-    c.parsed_request.ensures.asks c.parsed_request.ensures.taken (Some path) (pack_path_named program path plain)
+pub unreachable-requires-in_default-name : goal.unreachable-requires-in_default-name
+unreachable-requires-in_default-name c =
+    let met = c.in_ok-matches.ensures in
+    other_name _ c.in-Some.name.now
+    (known c.in_ok-command.command (texts c.args.words.now) c.in_ok-matches.matches c.in_ok-command.ensures met.matches met.kinds)
+    c.in-Some.ensures.name c.in_default-name.not-show c.in_default-name.not-pack c.in_default-name.not-check
+    c.in_default-name.not-judge c.in_default-name.not-explain c.in_default-name.not-blame c.in_default-name.not-table
+    c.in_default-name.not-test
 
-pub returns-clause-check_paths : goal.returns-clause-check_paths
-returns-clause-check_paths c program x y z is plain_x plain_y plain_z =
-    check_asked (texts c.args.words.now) _ c.parsed_request.result is (check_taken program x y z plain_x plain_y plain_z)
-    c.parsed_request.ensures.asks c.parsed_request.ensures.taken x y z (check_named program x y z plain_x plain_y plain_z)
-    (check_no_end program x y z plain_x plain_y plain_z)
+pub returns-in-show-clause-asks : goal.returns-in-show-clause-asks
+returns-in-show-clause-asks c =
+    let words = texts c.args.words.now in
+    let m = c.in_ok-matches.matches in
+    show_asked_of m words c.in-Some.name.now (found_of c.in-Some.found.now) c.get_str-path.result
+    c.is_set-with_reasons.result c.is_set-of_lines.result
+    (rows c.in_ok-command.command words m c.in_ok-command.ensures c.in_ok-matches.ensures.matches)
+    c.in-Some.ensures.name c.in-Some.ensures.rows c.in-show.is c.get_str-path.ensures c.is_set-with_reasons.ensures
+    c.is_set-of_lines.ensures
 
-pub returns-clause-check_alone : goal.returns-clause-check_alone
-returns-clause-check_alone c program is =
-    refused_by (texts c.args.words.now) _ MissingRequiredArgument c.parsed_request.result is (check_alone_missing program)
-    c.parsed_request.ensures.faults
+pub returns-in-pack-clause-asks : goal.returns-in-pack-clause-asks
+returns-in-pack-clause-asks c =
+    let words = texts c.args.words.now in
+    let m = c.in_ok-matches.matches in
+    asked_of m words (codes "LINES") c.in-Some.name.now (codes "pack") (found_of c.in-Some.found.now) c.get_str.result
+    (rows c.in_ok-command.command words m c.in_ok-command.ensures c.in_ok-matches.ensures.matches)
+    c.in-Some.ensures.name c.in-Some.ensures.rows c.in-pack.is c.get_str.ensures
 
-pub returns-clause-check_one : goal.returns-clause-check_one
-returns-clause-check_one c program x is plain_x =
-    refused_by (texts c.args.words.now) _ MissingRequiredArgument c.parsed_request.result is (check_one_missing program x plain_x)
-    c.parsed_request.ensures.faults
+pub returns-in-show-clause-faults : goal.returns-in-show-clause-faults
+returns-in-show-clause-faults c =
+    clear c.in_ok-command.command (texts c.args.words.now) c.in_ok-command.ensures c.in_ok-matches.ensures.kinds
 
-pub returns-clause-check_two : goal.returns-clause-check_two
-returns-clause-check_two c program x y is plain_x plain_y =
-    refused_by (texts c.args.words.now) _ MissingRequiredArgument c.parsed_request.result is
-    (check_two_missing program x y plain_x plain_y)
-    c.parsed_request.ensures.faults
+pub returns-in-pack-clause-faults : goal.returns-in-pack-clause-faults
+returns-in-pack-clause-faults c =
+    clear c.in_ok-command.command (texts c.args.words.now) c.in_ok-command.ensures c.in_ok-matches.ensures.kinds
 
-pub returns-clause-check_end : goal.returns-clause-check_end
-returns-clause-check_end c program x y z side is plain_x plain_y plain_z =
-    check_end_asked (texts c.args.words.now) _ c.parsed_request.result is
-    (check_end_taken side x y z plain_x plain_y plain_z program)
-    c.parsed_request.ensures.asks c.parsed_request.ensures.taken side x y z
-    (check_end_named side x y z plain_x plain_y plain_z program)
-    (check_end_value side x y z plain_x plain_y plain_z program)
+pub returns-in-check-clause-faults : goal.returns-in-check-clause-faults
+returns-in-check-clause-faults c =
+    clear c.in_ok-command.command (texts c.args.words.now) c.in_ok-command.ensures c.in_ok-matches.ensures.kinds
 
-pub returns-clause-check_end_wrong : goal.returns-clause-check_end_wrong
-returns-clause-check_end_wrong c program word x y z is plain other plain_x =
-    refused_by (texts c.args.words.now) _ InvalidValue c.parsed_request.result is
-    (check_end_refused word x y z plain other plain_x program) c.parsed_request.ensures.faults
+pub needed-record-requires : goal.needed-record-requires
+needed-record-requires c =
+    let words = texts c.args.words.now in
+    let m = c.in_ok-matches.matches in
+    (check_there m words c.in-Some.name.now (found_of c.in-Some.found.now)
+    (rows c.in_ok-command.command words m c.in_ok-command.ensures c.in_ok-matches.ensures.matches)
+    (clear c.in_ok-command.command words c.in_ok-command.ensures c.in_ok-matches.ensures.kinds)
+    c.in-Some.ensures.name c.in-Some.ensures.rows c.in-check.is).0
 
-pub returns-clause-judge_paths : goal.returns-clause-judge_paths
-returns-clause-judge_paths c program x y is plain_x plain_y =
-    judge_asked (texts c.args.words.now) _ c.parsed_request.result is (judge_taken program x y plain_x plain_y)
-    c.parsed_request.ensures.asks c.parsed_request.ensures.taken x y false (judge_named program x y plain_x plain_y)
-    (judge_no_end program x y plain_x plain_y)
+pub needed-table-requires : goal.needed-table-requires
+needed-table-requires c =
+    let words = texts c.args.words.now in
+    let m = c.in_ok-matches.matches in
+    (check_there m words c.in-Some.name.now (found_of c.in-Some.found.now)
+    (rows c.in_ok-command.command words m c.in_ok-command.ensures c.in_ok-matches.ensures.matches)
+    (clear c.in_ok-command.command words c.in_ok-command.ensures c.in_ok-matches.ensures.kinds)
+    c.in-Some.ensures.name c.in-Some.ensures.rows c.in-check.is).1
 
-pub returns-clause-judge_cert : goal.returns-clause-judge_cert
-returns-clause-judge_cert c program x y is plain_x plain_y =
-    judge_asked (texts c.args.words.now) _ c.parsed_request.result is (judge_cert_taken program x y plain_x plain_y)
-    c.parsed_request.ensures.asks c.parsed_request.ensures.taken x y true (judge_cert_named program x y plain_x plain_y)
-    (judge_cert_no_end program x y plain_x plain_y)
+pub needed-cert-requires : goal.needed-cert-requires
+needed-cert-requires c =
+    let words = texts c.args.words.now in
+    let m = c.in_ok-matches.matches in
+    (check_there m words c.in-Some.name.now (found_of c.in-Some.found.now)
+    (rows c.in_ok-command.command words m c.in_ok-command.ensures c.in_ok-matches.ensures.matches)
+    (clear c.in_ok-command.command words c.in_ok-command.ensures c.in_ok-matches.ensures.kinds)
+    c.in-Some.ensures.name c.in-Some.ensures.rows c.in-check.is).2
 
-pub returns-clause-judge_end : goal.returns-clause-judge_end
-returns-clause-judge_end c program x y side is plain_x plain_y =
-    judge_end_asked (texts c.args.words.now) _ c.parsed_request.result is
-    (judge_end_taken side x y plain_x plain_y program)
-    c.parsed_request.ensures.asks c.parsed_request.ensures.taken side x y false
-    (judge_end_named side x y plain_x plain_y program) (judge_end_value side x y plain_x plain_y program)
+pub end_given-requires : goal.end_given-requires
+end_given-requires c =
+    let words = texts c.args.words.now in
+    let m = c.in_ok-matches.matches in
+    (check_there m words c.in-Some.name.now (found_of c.in-Some.found.now)
+    (rows c.in_ok-command.command words m c.in_ok-command.ensures c.in_ok-matches.ensures.matches)
+    (clear c.in_ok-command.command words c.in_ok-command.ensures c.in_ok-matches.ensures.kinds)
+    c.in-Some.ensures.name c.in-Some.ensures.rows c.in-check.is).3
 
-pub returns-clause-judge_end_cert : goal.returns-clause-judge_end_cert
-returns-clause-judge_end_cert c program x y side is plain_x plain_y =
-    judge_end_asked (texts c.args.words.now) _ c.parsed_request.result is
-    (judge_end_cert_taken side x y plain_x plain_y program)
-    c.parsed_request.ensures.asks c.parsed_request.ensures.taken side x y true
-    (judge_end_cert_named side x y plain_x plain_y program) (judge_end_cert_value side x y plain_x plain_y program)
+pub returns-in-check-clause-asks : goal.returns-in-check-clause-asks
+returns-in-check-clause-asks c =
+    let words = texts c.args.words.now in
+    let m = c.in_ok-matches.matches in
+    let f = found_of c.in-Some.found.now in
+    let same = rows c.in_ok-command.command words m c.in_ok-command.ensures c.in_ok-matches.ensures.matches in
+    check_made words c.end_given.result c.needed-record.result c.needed-table.result c.needed-cert.result
+    c.check_request.result
+    (check_asked_of m words c.in-Some.name.now f c.needed-record.result.now c.needed-table.result.now
+    c.needed-cert.result.now same c.in-Some.ensures.name c.in-Some.ensures.rows c.in-check.is c.needed-record.ensures
+    c.needed-table.ensures c.needed-cert.ensures)
+    (end_named m words c.in-Some.name.now (codes "check") f c.end_given.result same c.in-Some.ensures.name
+    c.in-Some.ensures.rows c.in-check.is c.end_given.ensures)
+    c.check_request.ensures.both c.check_request.ensures.one
 
-pub returns-clause-judge_end_wrong : goal.returns-clause-judge_end_wrong
-returns-clause-judge_end_wrong c program word x y is plain other plain_x =
-    refused_by (texts c.args.words.now) _ InvalidValue c.parsed_request.result is
-    (judge_end_refused word x y plain other plain_x program) c.parsed_request.ensures.faults
+pub returns-in-judge-clause-faults : goal.returns-in-judge-clause-faults
+returns-in-judge-clause-faults c =
+    clear c.in_ok-command.command (texts c.args.words.now) c.in_ok-command.ensures c.in_ok-matches.ensures.kinds
 
-pub returns-clause-judge_alone : goal.returns-clause-judge_alone
-returns-clause-judge_alone c program is =
-    refused_by (texts c.args.words.now) _ MissingRequiredArgument c.parsed_request.result is (judge_alone_missing program)
-    c.parsed_request.ensures.faults
+pub needed-record-requires-in-judge : goal.needed-record-requires-in-judge
+needed-record-requires-in-judge c =
+    let words = texts c.args.words.now in
+    let m = c.in_ok-matches.matches in
+    (judge_there m words c.in-Some.name.now (found_of c.in-Some.found.now)
+    (rows c.in_ok-command.command words m c.in_ok-command.ensures c.in_ok-matches.ensures.matches)
+    (clear c.in_ok-command.command words c.in_ok-command.ensures c.in_ok-matches.ensures.kinds)
+    c.in-Some.ensures.name c.in-Some.ensures.rows c.in-judge.is).0
 
-pub returns-clause-judge_one : goal.returns-clause-judge_one
-returns-clause-judge_one c program x is plain_x =
-    refused_by (texts c.args.words.now) _ MissingRequiredArgument c.parsed_request.result is
-    (judge_one_missing program x plain_x) c.parsed_request.ensures.faults
+pub needed-table-requires-in-judge : goal.needed-table-requires-in-judge
+needed-table-requires-in-judge c =
+    let words = texts c.args.words.now in
+    let m = c.in_ok-matches.matches in
+    (judge_there m words c.in-Some.name.now (found_of c.in-Some.found.now)
+    (rows c.in_ok-command.command words m c.in_ok-command.ensures c.in_ok-matches.ensures.matches)
+    (clear c.in_ok-command.command words c.in_ok-command.ensures c.in_ok-matches.ensures.kinds)
+    c.in-Some.ensures.name c.in-Some.ensures.rows c.in-judge.is).1
 
-pub returns-clause-explain_paths : goal.returns-clause-explain_paths
-returns-clause-explain_paths c program x y is plain_x plain_y =
-    explain_asked (texts c.args.words.now) _ c.parsed_request.result is (explain_taken x y plain_x plain_y program)
-    c.parsed_request.ensures.asks c.parsed_request.ensures.taken x y None None None
-    (explain_named x y plain_x plain_y program) (explain_no_end x y plain_x plain_y program)
+pub end_given-requires-in-judge : goal.end_given-requires-in-judge
+end_given-requires-in-judge c =
+    let words = texts c.args.words.now in
+    let m = c.in_ok-matches.matches in
+    (judge_there m words c.in-Some.name.now (found_of c.in-Some.found.now)
+    (rows c.in_ok-command.command words m c.in_ok-command.ensures c.in_ok-matches.ensures.matches)
+    (clear c.in_ok-command.command words c.in_ok-command.ensures c.in_ok-matches.ensures.kinds)
+    c.in-Some.ensures.name c.in-Some.ensures.rows c.in-judge.is).2
 
-pub returns-clause-explain_cert : goal.returns-clause-explain_cert
-returns-clause-explain_cert c program x y z is plain_x plain_y plain_z =
-    explain_asked (texts c.args.words.now) _ c.parsed_request.result is
-    (explain_cert_taken x y plain_x plain_y z plain_z program)
-    c.parsed_request.ensures.asks c.parsed_request.ensures.taken x y (Some z) None None
-    (explain_cert_named x y plain_x plain_y z plain_z program) (explain_cert_no_end x y plain_x plain_y z plain_z program)
+pub returns-in-judge-clause-asks : goal.returns-in-judge-clause-asks
+returns-in-judge-clause-asks c =
+    let words = texts c.args.words.now in
+    let m = c.in_ok-matches.matches in
+    let f = found_of c.in-Some.found.now in
+    let same = rows c.in_ok-command.command words m c.in_ok-command.ensures c.in_ok-matches.ensures.matches in
+    judge_made words c.end_given-in-judge.result c.needed-record-in-judge.result c.needed-table-in-judge.result
+    c.is_set-with_certificate.result c.judge_request.result
+    (judge_asked_of m words c.in-Some.name.now f c.needed-record-in-judge.result.now
+    c.needed-table-in-judge.result.now c.is_set-with_certificate.result same c.in-Some.ensures.name c.in-Some.ensures.rows c.in-judge.is
+    c.needed-record-in-judge.ensures c.needed-table-in-judge.ensures c.is_set-with_certificate.ensures)
+    (end_named m words c.in-Some.name.now (codes "judge") f c.end_given-in-judge.result same c.in-Some.ensures.name
+    c.in-Some.ensures.rows c.in-judge.is c.end_given-in-judge.ensures)
+    c.judge_request.ensures.both c.judge_request.ensures.one
 
-pub returns-clause-explain_chart : goal.returns-clause-explain_chart
-returns-clause-explain_chart c program x y file is plain_x plain_y plain_file =
-    explain_asked (texts c.args.words.now) _ c.parsed_request.result is
-    (explain_chart_taken x y plain_x plain_y file plain_file program)
-    c.parsed_request.ensures.asks c.parsed_request.ensures.taken x y None None (Some file)
-    (explain_chart_named x y plain_x plain_y file plain_file program)
-    (explain_chart_no_end x y plain_x plain_y file plain_file program)
+pub returns-in-explain-clause-faults : goal.returns-in-explain-clause-faults
+returns-in-explain-clause-faults c =
+    clear c.in_ok-command.command (texts c.args.words.now) c.in_ok-command.ensures c.in_ok-matches.ensures.kinds
 
-pub returns-clause-explain_end : goal.returns-clause-explain_end
-returns-clause-explain_end c program x y side is plain_x plain_y =
-    explain_asked (texts c.args.words.now) _ c.parsed_request.result is
-    (explain_end_taken side x y plain_x plain_y program)
-    c.parsed_request.ensures.asks c.parsed_request.ensures.taken x y None (Some side) None
-    (explain_end_named side x y plain_x plain_y program) (explain_end_value side x y plain_x plain_y program)
+pub explain_request-requires-clause-entries : goal.explain_request-requires-clause-entries
+explain_request-requires-clause-entries c =
+    let words = texts c.args.words.now in
+    let m = c.in_ok-matches.matches in
+    (explain_there m words c.in-Some.name.now (found_of c.in-Some.found.now)
+    (rows c.in_ok-command.command words m c.in_ok-command.ensures c.in_ok-matches.ensures.matches)
+    (clear c.in_ok-command.command words c.in_ok-command.ensures c.in_ok-matches.ensures.kinds)
+    c.in-Some.ensures.name c.in-Some.ensures.rows c.in-explain.is).0
 
-pub returns-clause-explain_end_wrong : goal.returns-clause-explain_end_wrong
-returns-clause-explain_end_wrong c program word x y is plain other plain_x =
-    refused_by (texts c.args.words.now) _ InvalidValue c.parsed_request.result is
-    (explain_end_refused word x y plain other plain_x program) c.parsed_request.ensures.faults
+pub explain_request-requires-clause-table : goal.explain_request-requires-clause-table
+explain_request-requires-clause-table c =
+    let words = texts c.args.words.now in
+    let m = c.in_ok-matches.matches in
+    (explain_there m words c.in-Some.name.now (found_of c.in-Some.found.now)
+    (rows c.in_ok-command.command words m c.in_ok-command.ensures c.in_ok-matches.ensures.matches)
+    (clear c.in_ok-command.command words c.in_ok-command.ensures c.in_ok-matches.ensures.kinds)
+    c.in-Some.ensures.name c.in-Some.ensures.rows c.in-explain.is).1
 
-pub returns-clause-explain_alone : goal.returns-clause-explain_alone
-returns-clause-explain_alone c program is =
-    refused_by (texts c.args.words.now) _ MissingRequiredArgument c.parsed_request.result is (explain_alone_missing program)
-    c.parsed_request.ensures.faults
+pub explain_request-requires-clause-letters : goal.explain_request-requires-clause-letters
+explain_request-requires-clause-letters c =
+    let words = texts c.args.words.now in
+    let m = c.in_ok-matches.matches in
+    (explain_there m words c.in-Some.name.now (found_of c.in-Some.found.now)
+    (rows c.in_ok-command.command words m c.in_ok-command.ensures c.in_ok-matches.ensures.matches)
+    (clear c.in_ok-command.command words c.in_ok-command.ensures c.in_ok-matches.ensures.kinds)
+    c.in-Some.ensures.name c.in-Some.ensures.rows c.in-explain.is).2
 
-pub returns-clause-explain_one : goal.returns-clause-explain_one
-returns-clause-explain_one c program x is plain_x =
-    refused_by (texts c.args.words.now) _ MissingRequiredArgument c.parsed_request.result is
-    (explain_one_missing program x plain_x) c.parsed_request.ensures.faults
+pub returns-in-explain-clause-asks : goal.returns-in-explain-clause-asks
+returns-in-explain-clause-asks c =
+    let words = texts c.args.words.now in
+    let m = c.in_ok-matches.matches in
+    explain_asked_of m words c.in-Some.name.now (found_of c.in-Some.found.now) c.explain_request.result
+    (rows c.in_ok-command.command words m c.in_ok-command.ensures c.in_ok-matches.ensures.matches)
+    c.in-Some.ensures.name c.in-Some.ensures.rows c.in-explain.is c.explain_request.ensures
 
-pub returns-clause-blame_paths : goal.returns-clause-blame_paths
-returns-clause-blame_paths c program x y is plain_x plain_y =
-    blame_asked (texts c.args.words.now) _ c.parsed_request.result is (blame_taken program x y plain_x plain_y)
-    c.parsed_request.ensures.asks c.parsed_request.ensures.taken x y (blame_named program x y plain_x plain_y)
+pub returns-in-blame-clause-faults : goal.returns-in-blame-clause-faults
+returns-in-blame-clause-faults c =
+    clear c.in_ok-command.command (texts c.args.words.now) c.in_ok-command.ensures c.in_ok-matches.ensures.kinds
 
-pub returns-clause-blame_alone : goal.returns-clause-blame_alone
-returns-clause-blame_alone c program is =
-    refused_by (texts c.args.words.now) _ MissingRequiredArgument c.parsed_request.result is (blame_alone_missing program)
-    c.parsed_request.ensures.faults
+pub needed-record-requires-in-blame : goal.needed-record-requires-in-blame
+needed-record-requires-in-blame c =
+    let words = texts c.args.words.now in
+    let m = c.in_ok-matches.matches in
+    (blame_there m words c.in-Some.name.now (found_of c.in-Some.found.now)
+    (rows c.in_ok-command.command words m c.in_ok-command.ensures c.in_ok-matches.ensures.matches)
+    (clear c.in_ok-command.command words c.in_ok-command.ensures c.in_ok-matches.ensures.kinds)
+    c.in-Some.ensures.name c.in-Some.ensures.rows c.in-blame.is).0
 
-pub returns-clause-blame_one : goal.returns-clause-blame_one
-returns-clause-blame_one c program x is plain_x =
-    refused_by (texts c.args.words.now) _ MissingRequiredArgument c.parsed_request.result is
-    (blame_one_missing program x plain_x) c.parsed_request.ensures.faults
+pub needed-table-requires-in-blame : goal.needed-table-requires-in-blame
+needed-table-requires-in-blame c =
+    let words = texts c.args.words.now in
+    let m = c.in_ok-matches.matches in
+    (blame_there m words c.in-Some.name.now (found_of c.in-Some.found.now)
+    (rows c.in_ok-command.command words m c.in_ok-command.ensures c.in_ok-matches.ensures.matches)
+    (clear c.in_ok-command.command words c.in_ok-command.ensures c.in_ok-matches.ensures.kinds)
+    c.in-Some.ensures.name c.in-Some.ensures.rows c.in-blame.is).1
 
-pub returns-clause-table_path : goal.returns-clause-table_path
-returns-clause-table_path c program path is plain =
-    table_asked (texts c.args.words.now) _ c.parsed_request.result is (table_taken path plain program)
-    c.parsed_request.ensures.asks c.parsed_request.ensures.taken (Some path) (table_named path plain program)
+pub returns-in-blame-clause-asks : goal.returns-in-blame-clause-asks
+returns-in-blame-clause-asks c =
+    let words = texts c.args.words.now in
+    let m = c.in_ok-matches.matches in
+    blame_asked_of m words c.in-Some.name.now (found_of c.in-Some.found.now) c.needed-record-in-blame.result.now
+    c.needed-table-in-blame.result.now
+    (rows c.in_ok-command.command words m c.in_ok-command.ensures c.in_ok-matches.ensures.matches)
+    c.in-Some.ensures.name c.in-Some.ensures.rows c.in-blame.is c.needed-record-in-blame.ensures
+    c.needed-table-in-blame.ensures
 
-pub returns-clause-table_alone : goal.returns-clause-table_alone
-returns-clause-table_alone c program is =
-    table_asked (texts c.args.words.now) _ c.parsed_request.result is (table_alone_taken program)
-    c.parsed_request.ensures.asks c.parsed_request.ensures.taken None (table_alone_named program)
+pub returns-in-table-clause-faults : goal.returns-in-table-clause-faults
+returns-in-table-clause-faults c =
+    clear c.in_ok-command.command (texts c.args.words.now) c.in_ok-command.ensures c.in_ok-matches.ensures.kinds
 
-pub returns-clause-version : goal.returns-clause-version
-returns-clause-version c program is =
-    refused_by (texts c.args.words.now) _ DisplayVersion c.parsed_request.result is (long_version program)
-    c.parsed_request.ensures.faults
+pub returns-in-table-clause-asks : goal.returns-in-table-clause-asks
+returns-in-table-clause-asks c =
+    let words = texts c.args.words.now in
+    let m = c.in_ok-matches.matches in
+    asked_of m words (codes "TABLE") c.in-Some.name.now (codes "table") (found_of c.in-Some.found.now) c.get_str-in-table.result
+    (rows c.in_ok-command.command words m c.in_ok-command.ensures c.in_ok-matches.ensures.matches)
+    c.in-Some.ensures.name c.in-Some.ensures.rows c.in-table.is c.get_str-in-table.ensures
 
-pub returns-clause-test_traces : goal.returns-clause-test_traces
-returns-clause-test_traces c program x rest is plain =
-    test_asked (texts c.args.words.now) _ c.parsed_request.result is (traces_taken x rest plain program)
-    c.parsed_request.ensures.asks c.parsed_request.ensures.taken (only_traces (x ∷ rest)) (traces_named x rest plain program)
+pub test_request-requires-clause-letters : goal.test_request-requires-clause-letters
+test_request-requires-clause-letters c =
+    let words = texts c.args.words.now in
+    let m = c.in_ok-matches.matches in
+    (test_there m words c.in-Some.name.now (found_of c.in-Some.found.now)
+    (rows c.in_ok-command.command words m c.in_ok-command.ensures c.in_ok-matches.ensures.matches)
+    (clear c.in_ok-command.command words c.in_ok-command.ensures c.in_ok-matches.ensures.kinds)
+    c.in-Some.ensures.name c.in-Some.ensures.rows c.in-test.is).0
 
-pub returns-clause-test_input : goal.returns-clause-test_input
-returns-clause-test_input c program is =
-    test_asked (texts c.args.words.now) _ c.parsed_request.result is (input_taken program)
-    c.parsed_request.ensures.asks c.parsed_request.ensures.taken (only_traces (codes "-" ∷ [])) (input_named program)
+pub test_request-requires-clause-ids : goal.test_request-requires-clause-ids
+test_request-requires-clause-ids c =
+    let words = texts c.args.words.now in
+    let m = c.in_ok-matches.matches in
+    (test_there m words c.in-Some.name.now (found_of c.in-Some.found.now)
+    (rows c.in_ok-command.command words m c.in_ok-command.ensures c.in_ok-matches.ensures.matches)
+    (clear c.in_ok-command.command words c.in_ok-command.ensures c.in_ok-matches.ensures.kinds)
+    c.in-Some.ensures.name c.in-Some.ensures.rows c.in-test.is).1
 
-pub returns-clause-test_all : goal.returns-clause-test_all
-returns-clause-test_all c program t u n f g h x y side ids is plain number =
-    let p = plain_parts t (u ∷ n ∷ f ∷ g ∷ h ∷ x ∷ y ∷ []) plain in
-    let q = plain_parts u (n ∷ f ∷ g ∷ h ∷ x ∷ y ∷ []) p.1 in
-    let r = plain_parts n (f ∷ g ∷ h ∷ x ∷ y ∷ []) q.1 in
-    let s = plain_parts f (g ∷ h ∷ x ∷ y ∷ []) r.1 in
-    let v = plain_parts g (h ∷ x ∷ y ∷ []) s.1 in
-    let o = plain_parts h (x ∷ y ∷ []) v.1 in
-    let w = plain_parts x (y ∷ []) o.1 in
-    let z = plain_parts y [] w.1 in
-    test_asked (texts c.args.words.now) _ c.parsed_request.result is
-    (all_taken side t u ids n f g h x y p.0 q.0 r.0 number s.0 v.0 o.0 w.0 z.0 program)
-    c.parsed_request.ensures.asks c.parsed_request.ensures.taken
-    (all_asked side t u ids n f g h x y p.0 q.0 r.0 number s.0 v.0 o.0 w.0 z.0)
-    (all_named side t u ids n f g h x y p.0 q.0 r.0 number s.0 v.0 o.0 w.0 z.0 program)
+pub test_request-requires-clause-numbers : goal.test_request-requires-clause-numbers
+test_request-requires-clause-numbers c =
+    let words = texts c.args.words.now in
+    let m = c.in_ok-matches.matches in
+    (test_there m words c.in-Some.name.now (found_of c.in-Some.found.now)
+    (rows c.in_ok-command.command words m c.in_ok-command.ensures c.in_ok-matches.ensures.matches)
+    (clear c.in_ok-command.command words c.in_ok-command.ensures c.in_ok-matches.ensures.kinds)
+    c.in-Some.ensures.name c.in-Some.ensures.rows c.in-test.is).2
 
-pub returns-clause-test_of_wrong : goal.returns-clause-test_of_wrong
-returns-clause-test_of_wrong c program word x is plain plain_x other =
-    refused_by (texts c.args.words.now) _ InvalidValue c.parsed_request.result is
-    (of_refused word x plain plain_x other program) c.parsed_request.ensures.faults
+pub returns-in-test-clause-faults : goal.returns-in-test-clause-faults
+returns-in-test-clause-faults c =
+    clear c.in_ok-command.command (texts c.args.words.now) c.in_ok-command.ensures c.in_ok-matches.ensures.kinds
 
-pub returns-clause-test_ids_wrong : goal.returns-clause-test_ids_wrong
-returns-clause-test_ids_wrong c program word x is plain plain_x other =
-    refused_by (texts c.args.words.now) _ InvalidValue c.parsed_request.result is
-    (ids_refused word x plain plain_x other program) c.parsed_request.ensures.faults
-
-pub returns-clause-test_linger_wrong : goal.returns-clause-test_linger_wrong
-returns-clause-test_linger_wrong c program word x is plain plain_x other =
-    refused_by (texts c.args.words.now) _ ValueValidation c.parsed_request.result is
-    (linger_refused word x plain plain_x other program) c.parsed_request.ensures.faults
-
-pub returns-clause-test_alone : goal.returns-clause-test_alone
-returns-clause-test_alone c program is =
-    refused_by (texts c.args.words.now) _ MissingRequiredArgument c.parsed_request.result is (test_alone_missing program)
-    c.parsed_request.ensures.faults
+pub returns-in-test-clause-asks : goal.returns-in-test-clause-asks
+returns-in-test-clause-asks c =
+    let words = texts c.args.words.now in
+    let m = c.in_ok-matches.matches in
+    test_asked_of m words c.in-Some.name.now (found_of c.in-Some.found.now) _
+    (rows c.in_ok-command.command words m c.in_ok-command.ensures c.in_ok-matches.ensures.matches)
+    (clear c.in_ok-command.command words c.in_ok-command.ensures c.in_ok-matches.ensures.kinds)
+    c.in-Some.ensures.name c.in-Some.ensures.rows c.in-test.is c.in_ok-test_request-in-test.ensures

@@ -1,8 +1,8 @@
 use Rattle.std.proofs.Common.{◌∷◌, ap, sym, drop, ◌+◌, ◌∙◌, arith}
 use Rattle.tcap_end.specs.Step.{◌>>=◌}
 use Rattle.tcap_check.specs.Hearing.{halves_shut}
-use Rattle.tcap_check.proofs.HearingLaws.{going_next}
-use Rattle.tcap_check.proofs.StandsLaws.{stands_half}
+use Rattle.tcap_check.specs.Left.{halves_left}
+use Rattle.tcap_check.proofs.HearingLaws.{going_next, left_behind, same_next}
 use Rattle.tcap_check.proofs.progress.Progress.close_each.Goals as goal
 
 pub loop-name-preserved : goal.loop-name-preserved
@@ -20,6 +20,8 @@ loop-name-preserved c =
           c.loop-name.invariant.going c.loop-name-test.true
           (ap (λ name. halves_shut side table number (name ∷ left) now) (sym (c.copy_name.ensures ∙ c.name-item.is))
           ∙ ap (λ o. o >>= halves_shut side table number left) c.in_ok-close_half.ensures.closed) (omega (arith, grows));
-      stands = λ judged certificate start s. stands_half table certificate judged start side number _ now next
-          (c.loop-name.invariant.stands judged certificate start s) c.in_ok-close_half.ensures.closed;
+      left = same_next (halves_left side table number) c.args.self.now names now next c.loop-name.name-index c.name-item.result
+          c.loop-name.invariant.left c.loop-name-test.true
+          (ap (λ name. halves_left side table number (name ∷ left) now) (sym (c.copy_name.ensures ∙ c.name-item.is))
+          ∙ left_behind _ now next (halves_left side table number left) c.in_ok-close_half.ensures.closed);
     }

@@ -1,4 +1,4 @@
-use Rattle.std.proofs.Common.{◌≡◌, arith, length, List, Option, Result, Err, sym, ap, ap₂, subst, ◌∙◌, map, take, drop, true, ◌++◌, ◌+◌}
+use Rattle.std.proofs.Common.{◌≡◌, arith, length, List, Option, Result, Err, sym, ap, ap₂, subst, ◌∙◌, map, take, drop, true, ◌∷◌, ◌++◌, ◌+◌}
 use Rattle.std.proofs.lemmas.Result.{err_from_is_err_and}
 use Rattle.tcap_record.specs.declared.entry.End.{End as Side}
 use Rattle.tcap_model.specs.declared.reason.Reason.{Reason}
@@ -12,7 +12,9 @@ use Rattle.tcap_check.proofs.RecordLaws.{refused_at, taken_at, took_more, whole_
 use Rattle.tcap_end.specs.Table.{Table}
 use Rattle.tcap_check.specs.Stands.{IsRefusedThere}
 use Rattle.tcap_check.proofs.SendShows.{next_shows}
-use Rattle.tcap_check.proofs.StandsTaken.{GoesAlike, among_taken, among_then, refused_next}
+use Rattle.tcap_check.proofs.StandsTaken.{GoesAlike, among_refused, refused_next}
+use Rattle.tcap_check.proofs.HearingLaws.{next_left}
+use Rattle.tcap_record.specs.declared.entry.Entry.{Entry}
 use Rattle.tcap_check.proofs.replaying.Replaying.take_all.Goals as goal
 
 pub returns-in_err-take_entry-clause-refused : goal.returns-in_err-take_entry-clause-refused
@@ -61,26 +63,18 @@ returns-in_err-take_entry-clause-so_far c =
     let next = taken_at all c.deref-entry-items.result.now i c.entry-item.result c.deref-entry-items.ensures.value
     c.loop-entry-test.true c.entry-item.is in
     let length_is = ap length c.deref-entry-items.ensures.value in
+    let left_is = ap (λ (x : List Entry). drop i x) (sym c.deref-entry-items.ensures.value)
+    ∙ next_left c.deref-entry-items.result.now i c.entry-item.result c.loop-entry-test.true
+    ∙ ap₂ (λ (e : Entry) (x : List Entry). e ∷ drop (i + 1) x) (sym c.entry-item.is) c.deref-entry-items.ensures.value in
     let less_is = c.loop-entry-test.true in
     let alike : GoesAlike c.args.self.now r = record { judged = kept.judged; table = kept.table; certificate = kept.certificate } in
     let p = err_from_is_err_and c.from_residual.result c.from_residual.ensures.1 in
     rw p.1 (λ start other.
     let refused = refused_next r (item_of c.entry-item.result) c.in_err-take_entry.field-0.0
     (c.in_err-take_entry.ensures.taken (λ is. other (p.2 ∙ is))) (map item_of (take i all)) (kept.took true start) in
-    among_then c.args.self.now r all c.take_entry.new.self.progress alike
-    (among_taken c.args.self.now r all i alike (omega (arith, length_is, less_is)) (kept.took true start)
-    (λ less. (c.in_err-take_entry.field-0.0, ap (λ x. taken r.judged r.table.now r.certificate.now x) next ∙ refused)))
-    (λ certificate start s. c.in_err-take_entry.ensures.stops certificate start s (λ is. other (p.2 ∙ is))))
-
-pub returns-clause-so_far : goal.returns-clause-so_far
-returns-clause-so_far c =
-    let kept = c.loop-entry.invariant in
-    let all = ap length c.deref-entry-items.ensures.value in
-    let past = c.loop-entry-test.false in
-    let within = c.loop-entry.auto.entry-index-end in
-    λ start. among_taken c.args.self.now c.loop-entry.self c.args.record.now.entries.items c.loop-entry.entry-index
-    (record { judged = kept.judged; table = kept.table; certificate = kept.certificate }) (omega (arith, all, within)) (kept.took true start)
-    (λ less. absurd (omega (arith, all, past, less)))
+    among_refused c.args.self.now r all i c.entry-item.result c.in_err-take_entry.field-0.0 c.take_entry.new.self.progress alike
+    (omega (arith, length_is, less_is)) left_is (kept.took true start) (ap (λ x. taken r.judged r.table.now r.certificate.now x) next ∙ refused)
+    (λ listed. c.in_err-take_entry.ensures.left listed (λ is. other (p.2 ∙ is))))
 
 pub returns-in_err-take_entry-clause-shows : goal.returns-in_err-take_entry-clause-shows
 returns-in_err-take_entry-clause-shows c =

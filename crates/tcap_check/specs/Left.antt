@@ -1,0 +1,115 @@
+-- What a call that is refused leaves of what is kept: how far the replay goes (`SoFar`), over what is kept.
+use Rattle.std.specs.Prelude.{◌≡◌, ◌≢◌, ℕ, ◌+◌, List, [], ◌∷◌, filter, filter_map, length, not, slice_get, Option, Some, None, Result, Ok, Err, ◌==◌, ◌||◌, cond}
+use Rattle.tcap_msg.specs.declared.message.AbortReason.TheVariants.{Cause}
+use Rattle.tcap_msg.specs.declared.message.Message.{Message}
+use Rattle.tcap_msg.specs.declared.message.Message.TheVariants.{Abort}
+use Rattle.tcap_msg.specs.Parts.{components_in}
+use Rattle.tcap_record.specs.declared.entry.End.{End as Side}
+use Rattle.tcap_record.specs.Ends.{other}
+use Rattle.tcap_end.specs.declared.half.HalfName.{HalfName}
+use Rattle.tcap_end.specs.Hidden.{close, open_halves}
+use Rattle.tcap_end.specs.Table.{Table}
+use Rattle.tcap_model.specs.declared.reason.Reason.{Reason}
+use Rattle.tcap_model.specs.declared.reason.Reason.TheVariants.{Memory, NotQuiet}
+use Rattle.tcap_model.specs.Run.{Closes}
+use Rattle.tcap_model.specs.World.{Item, Sent}
+use Rattle.tcap_certificate.specs.declared.certificate.Closing.{Closing}
+use Rattle.tcap_certificate.specs.declared.certificate.Expiry.{Expiry}
+use Rattle.tcap_certificate.specs.declared.certificate.Fate.{Fate}
+use Rattle.tcap_certificate.specs.declared.fault.CheckFault.{CheckFault}
+use Rattle.tcap_certificate.specs.Certificate.{Certificate}
+use Rattle.tcap_certificate.specs.Follows.{invoke_id, invoking_half}
+use Rattle.tcap_certificate.specs.Replayed.{closings_judged, expiries_judged, fault_at, is_gap, is_judged, is_nothing}
+use Rattle.tcap_check.specs.declared.outline.Outline.{Outline}
+use Rattle.tcap_check.specs.declared.progress.Progress.{Progress}
+use Rattle.tcap_check.specs.Checking.{Kept, gap_before, is_alone, tied_now}
+use Rattle.tcap_check.specs.Hearing.{delivery_kept, halves_shut, heard_from}
+use Rattle.tcap_check.specs.Progress.{closing_kept, closings_kept, due_in, end_moved, expiries_kept, expiry_kept, front_lost, ids_ended_over, last_lost, overtakes, seat_at}
+use Rattle.tcap_check.specs.SoFar.{as_far, behind_or}
+
+-- A call that is refused, and not for want of memory, leaves this.
+abbrev pub Leaves : Progress → Result (Unit {0}) CheckFault → Progress → Type 0
+Leaves this (Ok done) left = Unit {0}
+Leaves this (Err fault) left = fault ≢ fault_at Memory 0 → left ≡ this
+
+-- ---- a gap
+
+abbrev pub closings_left : Table → List Outline → ℕ → List Closing → Progress → Progress
+closings_left table entries since = as_far (closing_kept table entries since)
+
+abbrev pub expiries_left : Table → List Outline → ℕ → List Expiry → Progress → Progress
+expiries_left table entries since = as_far (expiry_kept table entries since)
+
+abbrev pub delivery_left : Option Side → Option Side → Progress → Progress
+delivery_left judged None p = p
+delivery_left judged (Some sender) p = front_lost judged sender p
+
+abbrev pub deliveries_left : Option Side → Table → List Outline → List ℕ → Progress → Progress
+deliveries_left judged table entries [] p = p
+deliveries_left judged table entries (number ∷ numbers) p =
+    behind_or (delivery_kept judged table number (heard_from judged (slice_get entries number)) p)
+    (delivery_left judged (heard_from judged (slice_get entries number)) p) (deliveries_left judged table entries numbers)
+
+abbrev pub gap_left : Option Side → Table → Certificate → List Outline → ℕ → Progress → Progress
+gap_left judged table c entries since p =
+    let closings : List Closing = closings_judged judged (filter (λ x. x.gap == length entries) c.close) in
+    let expiries : List Expiry = expiries_judged judged (filter (λ x. x.gap == length entries) c.expire) in
+    behind_or (closings_kept table entries since closings p) (closings_left table entries since closings p)
+    (λ closed. behind_or (expiries_kept table entries since expiries closed) (expiries_left table entries since expiries closed)
+    (deliveries_left judged table entries (due_in (length entries) 0 c.fates)))
+
+-- ---- an entry
+
+-- invocations that a message implies are ended
+abbrev pub implied_left : Table → Side → Message → Progress → Progress
+implied_left table side message p =
+    ids_ended_over table side (invoking_half message) (filter_map invoke_id (components_in message)) p
+
+abbrev pub message_left : Option Side → Table → Side → Message → List ℕ → Progress → Progress
+message_left judged table side (Abort dtid (Some (Cause cause))) (taken ∷ []) p = front_lost judged (other side) p
+message_left judged table side (Abort dtid (Some (Cause cause))) _ p = p
+message_left judged table side message [] p = implied_left table side message p
+message_left judged table side message (taken ∷ more) p = p
+
+abbrev pub taken_left : Option Side → Table → Side → Message → List ℕ → Progress → Progress
+taken_left judged table side message takes p = cond (is_judged judged side) (message_left judged table side message takes p) p
+
+abbrev pub halves_left : Side → Table → ℕ → List HalfName → Progress → Progress
+halves_left side table number =
+    as_far (λ name p. end_moved side (Closes side name) (fault_at NotQuiet number) p (close table (seat_at side p).end name))
+
+abbrev pub quiet_left : Option Side → Table → ℕ → Progress → Progress
+quiet_left None table number p = last_lost None p
+quiet_left (Some side) table number p =
+    behind_or (halves_shut side table number (open_halves (seat_at side p).end) p)
+    (halves_left side table number (open_halves (seat_at side p).end) p) (last_lost (Some side))
+
+-- if steps are listed: then the halves close one after the other
+abbrev pub mark_left : Option Side → Table → ℕ → List ℕ → Progress → Progress
+mark_left judged table number takes p = cond (is_nothing takes) (quiet_left judged table number p) p
+
+abbrev pub item_left : Option Side → Table → Certificate → Fate → Item → Kept → Progress
+item_left judged table c fate (Sent side message) k =
+    cond (is_alone judged side || not (overtakes fate (seat_at side k.progress)))
+    (behind_or (gap_before judged table c k) (gap_left judged table c k.entries k.since k.progress)
+    (taken_left judged table side message (tied_now judged c k))) k.progress
+item_left judged table c fate Item.Quiet k =
+    cond (is_gap (length k.entries + 1) fate)
+    (behind_or (gap_before judged table c k) (gap_left judged table c k.entries k.since k.progress)
+    (mark_left judged table (length k.entries) (tied_now judged c k))) k.progress
+
+abbrev pub fated_left : Option Side → Table → Certificate → Option Fate → Item → Kept → Progress
+fated_left judged table c None item k = k.progress
+fated_left judged table c (Some fate) item k = item_left judged table c fate item k
+
+abbrev pub entry_left : Option Side → Table → Certificate → Result Item Reason → Kept → Progress
+entry_left judged table c (Ok item) k = fated_left judged table c (slice_get c.fates (length k.entries)) item k
+entry_left judged table c (Err reason) k = k.progress
+
+abbrev pub end_left : Option Side → Table → Certificate → Kept → Progress
+end_left judged table c k = cond (length k.entries == length c.fates)
+    (behind_or (gap_before judged table c k) (gap_left judged table c k.entries k.since k.progress) (last_lost judged)) k.progress
+
+-- Steps are listed of what is kept.
+abbrev pub IsListing : Progress → Type 0
+IsListing p = p.steps ≡ None → ⊥

@@ -1,0 +1,10 @@
+-- With those that are left, and the first in its place among them, they are all.
+use Rattle.std.proofs.Common.{◌≡◌, ◌++◌, drop}
+use Rattle.tcap_evidence.specs.Numbered.{inserted, numbered_of}
+use Rattle.tcap_evidence.proofs.ListingLaws.{placed}
+use Rattle.tcap_evidence.proofs.listing.in_order.Given as goal
+
+abbrev pub invariant-loop-one : goal.invariant-loop-one
+invariant-loop-one l =
+    numbered_of l.ordered.items ++ placed l.has_come (l.first.number, l.first.message.now) (numbered_of (drop l.one-index l.more))
+    ≡ inserted (l.first.number, l.first.message.now) (numbered_of l.more)

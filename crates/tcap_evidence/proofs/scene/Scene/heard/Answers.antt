@@ -1,0 +1,9 @@
+use Rattle.std.proofs.Common.{ap, ◌∙◌}
+use Rattle.std.proofs.lemmas.Result.{IfOk-weaker}
+use Rattle.tcap_evidence.specs.Numbered.{in_order, numbered_of}
+use Rattle.tcap_evidence.proofs.scene.Scene.heard.Goals as goal
+
+pub returns : goal.returns
+returns c = λ s are.
+    IfOk-weaker c.in_order.result _ _
+    (λ v is. is ∙ ap in_order (ap numbered_of c.deref.ensures.value ∙ c.in_ok-heard_first.ensures s are)) c.in_order.ensures

@@ -1,0 +1,166 @@
+//! Components made by hand, from the words of a row.
+
+use crate::octets::octets_of;
+use std::alloc::Global;
+use tcap_ber::{ObjectId, Raw, Small};
+use tcap_parts::{Code, Component, Portion, Problem, ResultBody};
+
+/// How the portion of a message is made of its components: of these, by a copy, of what they lend, or of what the portion lends, by
+/// index or in order.
+#[derive(Clone, Copy)]
+pub(crate) enum Way {
+    Made,
+    Copied,
+    Lent,
+    LentByIndex,
+    LentInOrder,
+}
+
+/// Returns a small number from its decimal digits.
+pub(crate) fn small_of(text: &str) -> Option<Small> {
+    Small::new(text.parse::<u8>().ok()?)
+}
+
+/// Returns the OBJECT IDENTIFIER of these digits.
+pub(crate) fn object_of(alloc: Global, digits: &str) -> Option<ObjectId> {
+    ObjectId::new(alloc, &octets_of(alloc, digits)?).ok()?
+}
+
+/// Returns a local code from its decimal digits, or a global one from `g:` and hexadecimal digits, copied.
+fn code_of(alloc: Global, text: &str) -> Option<Code> {
+    let code = match text.strip_prefix("g:") {
+        Some(digits) => Code::Global(object_of(alloc, digits)?),
+        None => Code::Local(text.parse::<i32>().ok()?),
+    };
+    let copy = code.copy(alloc);
+    drop(code);
+    copy.ok()
+}
+
+/// Returns the parameter of these octets, a dash for none.
+fn parameter_of(alloc: Global, octets: &str) -> Option<Option<Raw>> {
+    if octets == "-" {
+        return Some(None);
+    }
+    Some(Some(Raw::new(alloc, &octets_of(alloc, octets)?).ok()??))
+}
+
+/// Returns the invoke ID of these digits, a dash for none.
+fn invoke_id_of(text: &str) -> Option<Option<i8>> {
+    if text == "-" {
+        return Some(None);
+    }
+    Some(Some(text.parse::<i8>().ok()?))
+}
+
+/// Returns the problem of this kind and this number.
+fn problem_of(kind: &str, number: &str) -> Option<Problem> {
+    let number = small_of(number)?;
+    match kind {
+        "general" => Some(Problem::General(number)),
+        "invoke" => Some(Problem::Invoke(number)),
+        "result" => Some(Problem::ReturnResult(number)),
+        "error" => Some(Problem::ReturnError(number)),
+        _ => None,
+    }
+}
+
+/// Returns what a Return Result carries, with this code and this parameter.
+fn body_of(alloc: Global, code: &str, parameter: &str) -> Option<ResultBody> {
+    let parameter = parameter_of(alloc, parameter)?;
+    let code = code_of(alloc, code)?;
+    Some(ResultBody { code, parameter })
+}
+
+/// Returns the component of these words: its kind, its invoke ID, and what this kind has.
+fn component_of(alloc: Global, words: &[&str]) -> Option<Component> {
+    let [kind, id, others @ ..] = words else {
+        return None;
+    };
+    let id = invoke_id_of(id)?;
+    match (*kind, id, others) {
+        ("invoke", Some(id), [linked, code, parameter]) => {
+            let linked = invoke_id_of(linked)?;
+            let ResultBody { code, parameter } = body_of(alloc, code, parameter)?;
+            Some(Component::Invoke {
+                id,
+                linked,
+                code,
+                parameter,
+            })
+        }
+        ("result" | "result not last", Some(id), []) => Some(Component::ReturnResult {
+            last: *kind == "result",
+            id,
+            body: None,
+        }),
+        ("result" | "result not last", Some(id), [code, parameter]) => {
+            Some(Component::ReturnResult {
+                last: *kind == "result",
+                id,
+                body: Some(body_of(alloc, code, parameter)?),
+            })
+        }
+        ("error", Some(id), [code, parameter]) => {
+            let ResultBody { code, parameter } = body_of(alloc, code, parameter)?;
+            Some(Component::ReturnError {
+                id,
+                code,
+                parameter,
+            })
+        }
+        ("reject", id, [kind, number]) => Some(Component::Reject {
+            id,
+            problem: problem_of(kind, number)?,
+        }),
+        _ => None,
+    }
+}
+
+/// Returns a portion with the components of this one, made in this way.
+fn portion_again(alloc: Global, portion: &Portion, way: Way) -> Option<Portion> {
+    let lent = portion.view();
+    let mut components = Vec::new(alloc);
+    match way {
+        Way::Made | Way::Copied => return portion.copy(alloc).ok(),
+        Way::Lent => {
+            for component in portion.items() {
+                components
+                    .push(component.view().to_component(alloc).ok()?)
+                    .ok()?;
+            }
+        }
+        Way::LentByIndex => {
+            for index in 0..lent.count() {
+                components
+                    .push(lent.component(index).to_component(alloc).ok()?)
+                    .ok()?;
+            }
+        }
+        Way::LentInOrder => {
+            for component in lent.components() {
+                components.push(component.to_component(alloc).ok()?).ok()?;
+            }
+        }
+    }
+    Portion::new(components)
+}
+
+/// Returns the portion of the components of a column, which have bars between them, a dash for none.
+pub(crate) fn portion_of(alloc: Global, column: &str, way: Way) -> Option<Option<Portion>> {
+    if column == "-" {
+        return Some(None);
+    }
+    let mut components = Vec::new(alloc);
+    for text in column.split('|') {
+        let words: Vec<&str> = text.split(',').collect(alloc).ok()?;
+        components.push(component_of(alloc, &words)?).ok()?;
+    }
+    let portion = Portion::new(components)?;
+    if matches!(way, Way::Made) {
+        return Some(Some(portion));
+    }
+    let again = portion_again(alloc, &portion, way);
+    drop(portion);
+    Some(Some(again?))
+}

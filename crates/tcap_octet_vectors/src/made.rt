@@ -1,0 +1,190 @@
+//! Messages made by hand, from the words of a row.
+
+use crate::answers::{counted, encoded_again, is_answered};
+use crate::components::{Way, object_of, portion_of, small_of};
+use crate::octets::octets_of;
+use std::alloc::Global;
+use tcap_ber::ObjectId;
+use tcap_msg::{AbortReason, Message, TransactionId};
+use tcap_parts::{Dialogue, Info, Portion, Source};
+
+/// Returns a message of this kind with these parts, `None` if it can't have them. It makes no Abort.
+pub(crate) fn message_of(
+    kind: &str,
+    (otid, dtid): (Option<TransactionId>, Option<TransactionId>),
+    dialogue: Option<Dialogue>,
+    components: Option<Portion>,
+) -> Option<Message> {
+    match (kind, otid, dtid, components) {
+        ("Unidirectional", None, None, Some(components)) => Some(Message::Unidirectional {
+            dialogue,
+            components,
+        }),
+        ("Begin", Some(otid), None, components) => Some(Message::Begin {
+            otid,
+            dialogue,
+            components,
+        }),
+        ("Continue", Some(otid), Some(dtid), components) => Some(Message::Continue {
+            otid,
+            dtid,
+            dialogue,
+            components,
+        }),
+        ("End", None, Some(dtid), components) => Some(Message::End {
+            dtid,
+            dialogue,
+            components,
+        }),
+        (_, _, _, components) => {
+            drop(dialogue);
+            drop(components);
+            None
+        }
+    }
+}
+
+/// Returns the transaction ID of these digits, a dash for none.
+fn id_of(alloc: Global, digits: &str) -> Option<Option<TransactionId>> {
+    if digits == "-" {
+        return Some(None);
+    }
+    Some(Some(TransactionId::new(&octets_of(alloc, digits)?)?))
+}
+
+/// Returns the user information of these octets, a dash for none.
+fn info_of(alloc: Global, octets: &str) -> Option<Option<Info>> {
+    if octets == "-" {
+        return Some(None);
+    }
+    Some(Some(Info::new(octets_of(alloc, octets)?)?))
+}
+
+/// Returns a dialogue response with this context and this user information; the words are its result, and the source and the number
+/// of its diagnostic.
+fn response_of(context: ObjectId, info: Option<Info>, words: &[&str]) -> Option<Dialogue> {
+    let [result, source, number] = words else {
+        return None;
+    };
+    let result = small_of(result)?;
+    let number = small_of(number)?;
+    let diagnostic = match *source {
+        "user" => Source::User(number),
+        "provider" => Source::Provider(number),
+        _ => return None,
+    };
+    Some(Dialogue::Response {
+        context,
+        result,
+        diagnostic,
+        info,
+    })
+}
+
+/// Returns the PDU of these words: its kind, its application context name, its user information, and what this kind has.
+fn pdu_of(alloc: Global, words: &[&str]) -> Option<Dialogue> {
+    let [kind, context, info, others @ ..] = words else {
+        return None;
+    };
+    let info = info_of(alloc, info)?;
+    if *kind == "abort" {
+        let source = small_of(others.first()?)?;
+        return Some(Dialogue::Abort { source, info });
+    }
+    let context = object_of(alloc, context)?;
+    match *kind {
+        "request" => Some(Dialogue::Request { context, info }),
+        "unidirectional" => Some(Dialogue::Uni { context, info }),
+        _ => response_of(context, info, others),
+    }
+}
+
+/// Returns the PDU of a column, lent and made again unless it is to be as it was made.
+fn dialogue_of(alloc: Global, column: &str, way: Way) -> Option<Dialogue> {
+    let words: Vec<&str> = column.split(',').collect(alloc).ok()?;
+    let dialogue = pdu_of(alloc, &words)?;
+    if matches!(way, Way::Made) {
+        return Some(dialogue);
+    }
+    let again = dialogue.view().to_dialogue(alloc);
+    drop(dialogue);
+    again.ok()
+}
+
+/// Returns the reason of an Abort, a cause or a PDU, lent and made again unless it is to be as it was made.
+fn reason_of(alloc: Global, column: &str, way: Way) -> Option<AbortReason> {
+    let reason = match small_of(column) {
+        Some(cause) => AbortReason::Cause(cause),
+        None => AbortReason::Dialogue(dialogue_of(alloc, column, way)?),
+    };
+    if matches!(way, Way::Made) {
+        return Some(reason);
+    }
+    let again = reason.view().to_reason(alloc);
+    drop(reason);
+    again.ok()
+}
+
+/// Makes the Abort of a row, and writes it.
+fn abort_made(
+    alloc: Global,
+    dtid: TransactionId,
+    reason: &str,
+    way: Way,
+) -> Option<(Option<usize>, Vec<u8>)> {
+    let reason = if reason == "-" {
+        None
+    } else {
+        Some(reason_of(alloc, reason, way)?)
+    };
+    counted(alloc, Message::Abort { dtid, reason })
+}
+
+/// Makes the message of a row, and writes it. The words are its dialogue portion and its components.
+fn made(
+    alloc: Global,
+    kind: &str,
+    ids: (Option<TransactionId>, Option<TransactionId>),
+    words: (&str, &str),
+    way: Way,
+) -> Option<(Option<usize>, Vec<u8>)> {
+    if kind == "Abort" {
+        return abort_made(alloc, ids.1?, words.0, way);
+    }
+    let components = portion_of(alloc, words.1, way)?;
+    let dialogue = if words.0 == "-" {
+        None
+    } else {
+        Some(dialogue_of(alloc, words.0, way)?)
+    };
+    counted(alloc, message_of(kind, ids, dialogue, components)?)
+}
+
+/// Looks at a row of `made`. The message is made in each way.
+pub(crate) fn is_made(alloc: Global, columns: &[&str]) -> Option<bool> {
+    let [kind, otid, dtid, dialogue, components, wanted] = columns else {
+        return None;
+    };
+    for way in [
+        Way::Made,
+        Way::Copied,
+        Way::Lent,
+        Way::LentByIndex,
+        Way::LentInOrder,
+    ] {
+        let ids = (id_of(alloc, otid)?, id_of(alloc, dtid)?);
+        let (len, octets) = made(alloc, kind, ids, (dialogue, components), way)?;
+        let is_wanted = if *wanted == "too long" {
+            len.is_none() && octets.is_empty()
+        } else {
+            len == Some(octets.len())
+                && octets == octets_of(alloc, wanted)?
+                && is_answered(alloc, &octets, Ok(octets.len()))?
+                && encoded_again(alloc, &octets)? == octets
+        };
+        if !is_wanted {
+            return Some(false);
+        }
+    }
+    Some(true)
+}

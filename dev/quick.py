@@ -1,0 +1,78 @@
+"""What `make quick` runs: each test of tests/ that needs the program and no proof, side by side, over the unproved program
+(dev/unproved.py). It prints what each counted, and after how many seconds; then what all that does not show, and the line
+`N passed, M failed`. The exit status is 0 where none failed.
+
+Each test works in folders of its own, so none is in another's way. tests/octets.py needs the program alone too, but runs it a
+hundred thousand times: it is left out."""
+
+import contextlib
+import os
+import signal
+import subprocess
+import sys
+import tempfile
+import time
+
+import gate
+import unproved
+
+# Random cases, for so many seconds: the first ones of this seed.
+FUZZ = ["60", "1"]
+NOT_SHOWN = """Left to `make test`: proofs, wrong bodies, the tests within the crates, the stored runs, the second compiler,
+the library for C, its example for TTCN-3, allocations that fail, and feeding while an entry is lent. What ran is not the
+proved program: it is optimised less, and nothing was proved of it or is checked as it runs. These tests say nothing about
+speed."""
+
+
+def begin(stack, name, words, env):
+    """Has a test run until it ends, or until the stack is closed. Returns the process and the file of what it prints."""
+    printed = stack.enter_context(tempfile.TemporaryFile())
+    how = {"stdin": subprocess.DEVNULL, "stdout": printed, "stderr": printed, "env": env}
+    # A test that is interrupted removes what it made.
+    return stack.enter_context(unproved.started([sys.executable, f"tests/{name}.py", *words], signal.SIGINT, **how)), printed
+
+
+def counts_of(status, printed):
+    """How many passed and failed of a test that ended with that status, and the lines that it printed else."""
+    printed.seek(0)
+    lines = [*printed]
+    counts = [line for line in lines if gate.COUNTS.fullmatch(line)]
+    # What ends without its counts has failed.
+    passed, failed = map(int, gate.COUNTS.fullmatch(counts[-1]).groups()) if counts else (0, 1)
+    return passed, max(failed, int(status != 0)), [line for line in lines if line not in counts]
+
+
+def run_all(env):
+    """Runs the tests, and prints of each what it counted. Returns how many passed and failed."""
+    start, both = time.monotonic(), [0, 0]
+    with contextlib.ExitStack() as stack:
+        running = {what: begin(stack, name, [], env) for name, what in gate.TESTS.items()}
+        running["random cases"] = begin(stack, "fuzz", FUZZ, env)
+        while running:
+            time.sleep(0.1)
+            for what in [what for what, (run, _) in running.items() if run.poll() is not None]:
+                run, printed = running.pop(what)
+                passed, failed, others = counts_of(run.returncode, printed)
+                both[0], both[1] = both[0] + passed, both[1] + failed
+                print(f"{time.monotonic() - start:6.0f} s  {what}: {passed} passed, {failed} failed", flush=True)
+                if failed or not passed or any(line.startswith(b"skipped") for line in others):
+                    sys.stdout.buffer.writelines(others)
+                    sys.stdout.flush()
+    return both
+
+
+def main():
+    unproved.machine.end_in_order()
+    start = time.monotonic()
+    unproved.program()
+    # By its link, since help names the program as it was called.
+    program = os.path.abspath(unproved.LINK)
+    print(f"{time.monotonic() - start:6.0f} s  the program is compiled, unproved: {unproved.PROGRAM}", flush=True)
+    passed, failed = run_all(os.environ | {"TCAPJUDGE": program})
+    print(NOT_SHOWN)
+    print(f"{passed} passed, {failed} failed", flush=True)
+    return int(failed != 0)
+
+
+if __name__ == "__main__":
+    sys.exit(main())

@@ -1,0 +1,61 @@
+"""Runs `tcapjudge blame` over each example of docs/RULES.md: the end of its last line, or at a quiet mark one end, is blamed for that line,
+with the kind of the heading that it comes after."""
+
+import re
+import subprocess
+import sys
+import tempfile
+
+from tested import PROGRAM
+
+PAGE, TABLE = "docs/RULES.md", "examples/operations.json"
+LASTING = '{"operations":[{"class":1,"code":45,"expires":false}]}'
+# A heading, and a row: what breaks the rule, a section, and the lines of an example.
+KIND, ROW = re.compile(r"^## (F\d+): "), re.compile(r"^\| (.*?) \| .*? \| (`.*`) \|$")
+
+
+def examples():
+    """Yields the kind, the words and the lines of each example."""
+    kind = None
+    with open(PAGE, encoding="utf-8") as file:
+        for line in file:
+            heading, row = KIND.match(line), ROW.match(line.rstrip("\n"))
+            kind = heading[1] if heading else kind
+            if row:
+                yield kind, row[1], re.findall(r"`([^`]*)`", row[2])
+
+
+def run(words, given=b""):
+    return subprocess.run([PROGRAM, *words], input=given, capture_output=True, check=False).stdout
+
+
+def is_blamed(kind, words, lines, folder):
+    """Returns whether the last line of an example is blamed as it has to be."""
+    record, table = f"{folder}/record", f"{folder}/table.json" if words.endswith("*") else TABLE
+    with open(record, "wb") as file:
+        file.write(run(["pack"], "".join(f"{line}\n" for line in lines).encode()))
+    end = "[AB]" if lines[-1] == "Q" else lines[-1][0]
+    return re.search(rf"^BLAMED {end} {len(lines) - 1} {kind}$", run(["blame", record, table]).decode(), re.MULTILINE)
+
+
+def main():
+    passed, failed, kinds = 0, 0, set()
+    with tempfile.TemporaryDirectory() as folder:
+        with open(f"{folder}/table.json", "w", encoding="utf-8") as file:
+            file.write(LASTING)
+        for kind, words, lines in examples():
+            kinds.add(kind)
+            if is_blamed(kind, words, lines, folder):
+                passed += 1
+            else:
+                failed += 1
+                print(f"{kind}: {words}: {lines}")
+    if kinds != {f"F{number}" for number in range(1, 16)}:
+        failed += 1
+        print(f"{PAGE} lacks a kind")
+    print(f"{passed} passed, {failed} failed")
+    return int(failed != 0)
+
+
+if __name__ == "__main__":
+    sys.exit(main())
