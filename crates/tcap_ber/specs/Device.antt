@@ -3,7 +3,6 @@ use Rattle.std.specs.Prelude.{◌≡◌, ℕ, ◌+◌, ◌-◌, ◌^◌, ◌≤�
 use Rattle.std.specs.Io.KnownBytes.{Appends, Consumes, Keeps}
 use Rattle.tcap_ber.specs.declared.device.Failed.{Failed}
 use Rattle.tcap_ber.specs.declared.counted.Counted.{Counted}
-use Rattle.tcap_ber.specs.declared.failing.Failing.{Failing}
 use Rattle.tcap_ber.specs.declared.unopened.Unopened.{Unopened}
 use Rattle.tcap_ber.specs.declared.to_end.ReadError.{ReadError}
 use Rattle.tcap_ber.specs.declared.to_end.ReadError.TheVariants.{Failed as DeviceFailed}
@@ -33,26 +32,9 @@ counted_inner device = device.inner
 abbrev pub counted_failures : {T : Type 0} → Counted T → ℕ
 counted_failures device = device.failures
 
--- the reader or writer in a `Failing`
-abbrev pub failing_inner : {T : Type 0} → Failing T → T
-failing_inner device = device.device.inner
-
--- how often a `Failing` failed
-abbrev pub failing_failures : {T : Type 0} → Failing T → ℕ
-failing_failures device = device.device.failures
-
 -- how often an `Unopened` was read from
 abbrev pub unopened_failures : Unopened → ℕ
 unopened_failures device = device.failures
-
--- how many octets go through a `Failing` before it fails; none is known once it has failed
-abbrev pub failing_left : {T : Type 0} → Failing T → Option ℕ
-failing_left device = device.left
-
--- n octets went through a `Failing`: no more than were left, and so many fewer are left
-abbrev pub Passes : Option ℕ → Option ℕ → ℕ → Type 0
-Passes None new n = new ≡ None
-Passes (Some left) new n = (n ≤ left) × (new ≡ Some (left - n))
 
 -- a reading to the end counts a failure exactly where the device failed, and none where memory ran out
 abbrev pub CountsReadFailure : ℕ → ℕ → Result (Unit {0}) ReadError → Type 0

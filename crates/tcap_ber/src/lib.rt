@@ -5,7 +5,6 @@
 mod counted;
 mod device;
 mod element;
-mod failing;
 mod fault;
 mod header;
 mod innermost;
@@ -24,7 +23,6 @@ mod window;
 pub use counted::Counted;
 pub use device::{Failed, Read, Write};
 pub use element::{Outer, Tag, Tlv, Window};
-pub use failing::Failing;
 pub use fault::{Fault, Reason};
 pub use header::CONTENT_LIMIT;
 pub use integers::{integer, octet_integer, small_integer};

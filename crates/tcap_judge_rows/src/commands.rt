@@ -2,9 +2,9 @@
 
 use crate::octets::{certificate_of, named, octets_of};
 use std::alloc::Global;
-use tcap_ber::Failing;
 use tcap_judge::{run_blame, run_check, run_judge};
 use tcap_lines::{Status, run_show};
+use tcap_msg_rows::Failing;
 
 /// A count of octets that no device reaches.
 pub(crate) const NEVER: usize = 1_000_000_000;

@@ -1,8 +1,10 @@
-//! Messages of each kind with what is wanted of them, and tables of text, which tests of several crates share.
+//! What the test vectors share: messages of each kind with what is expected of them, tables of text, and a device that fails in mid-stream.
 #![tactic(auto)]
 
+mod failing;
 mod tools;
 mod vectors;
 
+pub use failing::Failing;
 pub use tools::{Row, each_row, octets_of, text_of};
 pub use vectors::{VECTORS, vector};

@@ -3,7 +3,8 @@
 use std::alloc::Global;
 use std::io;
 use std::io::ErrorKind;
-use tcap_ber::{Counted, Failing, Read, ReadError, Write, read_to_end};
+use tcap_ber::{Counted, Read, ReadError, Write, read_to_end};
+use tcap_msg_rows::Failing;
 
 /// A device whose every second call is interrupted, and whose other calls move two octets at most. Each call fails if it is broken.
 #[derive(Drop)]

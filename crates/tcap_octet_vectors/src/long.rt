@@ -2,8 +2,9 @@
 
 use crate::octets::{fault_of, text_of};
 use std::alloc::Global;
-use tcap_ber::{Counted, Failing};
+use tcap_ber::Counted;
 use tcap_lines::run_show;
+use tcap_msg_rows::Failing;
 use tcap_record::{Feeder, PIECE_LEN, read_record};
 
 /// The count of octets that no writer reaches.

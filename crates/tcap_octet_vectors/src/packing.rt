@@ -2,8 +2,9 @@
 
 use crate::octets::text_of;
 use std::alloc::Global;
-use tcap_ber::{Counted, Failing};
+use tcap_ber::Counted;
 use tcap_lines::run_pack;
+use tcap_msg_rows::Failing;
 use tcap_record::{FeedFault, FeedReason, PackFault, pack};
 
 /// Looks at a row of `long lines`.

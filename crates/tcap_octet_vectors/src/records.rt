@@ -3,8 +3,9 @@
 use crate::answers::shown;
 use crate::octets::{octets_of, text_of};
 use std::alloc::Global;
-use tcap_ber::{Counted, Failing};
+use tcap_ber::Counted;
 use tcap_lines::run_show;
+use tcap_msg_rows::Failing;
 use tcap_record::{
     BodyView, End, Entry, EntryView, FeedFault, FeedReason, Feeder, Frames, Record, push_view,
     read_record, show,

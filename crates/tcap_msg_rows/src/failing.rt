@@ -2,18 +2,20 @@
 
 ghost use Rattle.std.specs.Prelude.{◌≡◌, ℕ, ◌<◌, ◌≤◌, ◌⊎◌, length, take, Some, None, IfOk, OnOk, OnErr, IsErr};
 ghost use Rattle.std.specs.Io.KnownBytes.{Appends, IsAtEnd};
-ghost use Rattle.tcap_ber.specs.Device.{CountsFailure, Tells, Takes, Passes, failing_inner, failing_failures, failing_left};
+ghost use Rattle.tcap_ber.specs.Device.{CountsFailure, Tells, Takes, counted_inner, one_more};
+ghost use Rattle.tcap_msg_rows.specs.Failing.{Passes, failing_failures, failing_inner, failing_left};
 
-use crate::counted::Counted;
-use crate::device::{Failed, Read, Write};
 use std::io;
+use tcap_ber::{Counted, Failed, Read, Write};
 
 /// A reader or writer of std as a device that fails once, when a given count of octets has gone through
 /// it, and then goes on.
 #[derive(Drop)]
 pub struct Failing<T> {
     device: Counted<T>,
-    // How many octets go through before it fails; `None` once it has failed.
+    /// How often it failed, up to `u64::MAX`.
+    failures: u64,
+    /// How many octets go through before it fails; `None` once it has failed by itself.
     left: Option<usize>,
 }
 
@@ -26,6 +28,7 @@ impl<T> Failing<T> {
     {
         Failing {
             device: Counted::new(inner),
+            failures: 0,
             left: Some(after),
         }
     }
@@ -35,6 +38,16 @@ impl<T> Failing<T> {
         ensures { result ≡ failing_inner self }
     {
         self.device.into_inner()
+    }
+
+    /// Counts a failure, and returns it.
+    fn fail(&mut self) -> Failed
+        ensures device { self.new.device ≡ self.old.device }
+        ensures failures { failing_failures self.new ≡ one_more (failing_failures self.old) }
+        ensures left { failing_left self.new ≡ failing_left self.old }
+    {
+        self.failures = self.failures.saturating_add(1);
+        Failed
     }
 }
 
@@ -62,16 +75,20 @@ impl<T: io::Read> Read for Failing<T> {
             ⊎ (failing_left self.new ≡ failing_left self.old)) }
         ensures once { failing_left self.old ≡ None → failing_left self.new ≡ None }
     {
-        let Some(left) = self.left else {
-            return self.device.read(buffer);
+        let most = match self.left {
+            Some(0) if !buffer.is_empty() => {
+                self.left = None;
+                return Err(self.fail());
+            }
+            Some(left) => left.min(buffer.len()),
+            None => buffer.len(),
         };
-        if left == 0 && !buffer.is_empty() {
-            self.left = None;
-            return Err(self.device.fail());
+        let Ok(told) = self.device.read(&mut buffer[..most]) else {
+            return Err(self.fail());
+        };
+        if let Some(left) = self.left {
+            self.left = Some(left - told);
         }
-        let most = left.min(buffer.len());
-        let told = self.device.read(&mut buffer[..most])?;
-        self.left = Some(left - told);
         Ok(told)
     }
 }
@@ -99,16 +116,20 @@ impl<T: io::Write> Write for Failing<T> {
             ⊎ (failing_left self.new ≡ failing_left self.old)) }
         ensures once { failing_left self.old ≡ None → failing_left self.new ≡ None }
     {
-        let Some(left) = self.left else {
-            return self.device.write_all(octets);
+        let most = match self.left {
+            Some(left) => left.min(octets.len()),
+            None => octets.len(),
         };
-        if octets.len() <= left {
-            self.device.write_all(octets)?;
-            self.left = Some(left - octets.len());
-            return Ok(());
+        let taken = self.device.write_all(&octets[..most]);
+        if taken.is_err() || most < octets.len() {
+            if taken.is_ok() {
+                self.left = None;
+            }
+            return Err(self.fail());
         }
-        self.device.write_all(&octets[..left])?;
-        self.left = None;
-        Err(self.device.fail())
+        if let Some(left) = self.left {
+            self.left = Some(left - most);
+        }
+        Ok(())
     }
 }
