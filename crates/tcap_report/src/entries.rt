@@ -12,7 +12,7 @@ use crate::fault::{FormFault, Halt};
 use std::alloc::{AllocError, Global};
 use std::mem;
 use tcap_ber::{Outer, outer};
-use tcap_explain::{LINE_LIMIT, broken_by, hint_of, name_of, push_broken_rule};
+use tcap_diagnostics::{LINE_LIMIT, broken_by, hint_of, name_of, push_broken_rule};
 use tcap_record::{End, Line, LineFault, read_line};
 
 /// What a trace is, by its first octets.

@@ -3,7 +3,7 @@
 use crate::case::Case;
 use std::alloc::{AllocError, Global};
 use tcap_ber::{Counted, Fault};
-use tcap_explain::{name_of, run_why};
+use tcap_diagnostics::{name_of, run_why};
 
 /// How the line begins in which `show --why` says why.
 const WHY: &str = "  why: ";

@@ -10,7 +10,7 @@ mod checker_lives;
 mod dialogues;
 mod end;
 mod evidence;
-mod explain;
+mod diagnostics;
 mod faults;
 mod judge;
 mod lines;
@@ -33,7 +33,7 @@ pub use checker_lives::{end_waits_behind_mark, given_of_mark, heard_of_mark, wai
 pub use dialogues::fault_of_a_part;
 pub use end::{answered, first_sent};
 pub use evidence::told_fault;
-pub use explain::explained;
+pub use diagnostics::explained;
 pub use faults::fault_of;
 pub use judge::is_called_lawful;
 pub use lines::shown;

@@ -3,7 +3,7 @@
 use crate::opening::{is_fault, is_same, noted, open, status_of, tell, unopened};
 use std::{fs, io};
 use tcap_ber::{Counted, Read};
-use tcap_explain::{Noted, Role};
+use tcap_diagnostics::{Noted, Role};
 use tcap_lines::{Status, WriteFailed};
 use tcap_verdict::{Asked, run_explain, run_explain_check};
 

@@ -3,7 +3,7 @@
 use crate::opening::{is_fault, noted, open, status_of, tell, unopened};
 use std::io;
 use tcap_ber::{Counted, Read};
-use tcap_explain::{Noted, Role};
+use tcap_diagnostics::{Noted, Role};
 use tcap_judge::{run_blame, run_check, run_check_end, run_judge, run_judge_end};
 use tcap_record::End;
 

@@ -21,7 +21,7 @@ use std::process::ExitCode;
 use std::{env, io};
 use tcap_ber::{Counted, Read, Unopened, Write};
 use tcap_books::CARRIED_BOOK;
-use tcap_explain::{
+use tcap_diagnostics::{
     Kept, Noted, Role, Told, run_lines, run_table, run_why, write_hint, write_rule,
 };
 use tcap_lines::{MEMORY_LINE, Status, WriteFailed, run_pack, run_show};

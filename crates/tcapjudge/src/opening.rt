@@ -4,7 +4,7 @@ use std::fs::{File, Metadata};
 use std::os::unix::fs::MetadataExt;
 use std::{fs, io};
 use tcap_ber::{Counted, Read, Unopened};
-use tcap_explain::{Noted, Role, write_code_hints, write_hint};
+use tcap_diagnostics::{Noted, Role, write_code_hints, write_hint};
 use tcap_lines::{Status, WriteFailed};
 
 /// So many octets of a file are looked at.

@@ -16,7 +16,7 @@ use std::{fs, io};
 use tcap_ber::{Counted, Read, Write};
 use tcap_books::{AMBIGUOUS, Book, CARRIED_BOOK, CLASH};
 use tcap_dialogues::Reuse;
-use tcap_explain::Role;
+use tcap_diagnostics::Role;
 use tcap_report::{Asked, Junit, Lines, Page, Sinks, Stop, Sum, Watch, run_trace, tell_unread};
 use tcap_traces::Verdict;
 use tcap_words::{Ids, Test};

@@ -1,0 +1,16 @@
+-- The readers and writers in others.
+use Rattle.tcap_diagnostics.specs.declared.kept.Kept.{Kept}
+use Rattle.tcap_diagnostics.specs.declared.noted.Noted.{Noted}
+use Rattle.tcap_diagnostics.specs.declared.told.Told.{Told}
+
+-- the reader in a `Noted`
+abbrev pub noted_inner : {R : Type 0} → Noted R → R
+noted_inner device = device.reader
+
+-- the reader in a `Kept`
+abbrev pub kept_inner : {R : Type 0} → Kept R → R
+kept_inner device = device.reader
+
+-- the writer in a `Told`
+abbrev pub told_inner : {W : Type 0} → Told W → W
+told_inner device = device.writer

@@ -1,0 +1,200 @@
+//! Lines of digits, packed and shown in one step.
+
+ghost use Rattle.std.specs.Prelude.{◌≡◌, ◌≢◌, Err, IsErr, OnOk, OnErr};
+ghost use Rattle.tcap_ber.specs.Device.{one_more};
+ghost use Rattle.tcap_diagnostics.specs.declared.stop.Stop.{Stop};
+
+use crate::rules::{Broken, LINE_LIMIT, LINES_LIMIT, Rule, broken_by, push_broken};
+use crate::showing::Showing;
+use crate::stop::Stop;
+use std::alloc::{AllocError, Global};
+use tcap_ber::{Counted, Failed, Read, Write};
+use tcap_lines::{Status, WriteFailed};
+use tcap_record::{FeedFault, FeedReason, PIECE_LEN, PackFault, pack};
+
+/// The greatest count of octets of a line with its end.
+const HELD_LIMIT: usize = LINE_LIMIT + 2;
+
+/// Lines as they are shown: what came of the line that has no end yet, and how many were before it.
+#[derive(Debug, Drop)]
+struct Lines {
+    alloc: Global,
+    showing: Showing,
+    line: Vec<u8>,
+    lines: u64,
+    read: u64,
+}
+
+/// The content of a line: it without its end.
+fn content_of(line: &[u8]) -> &[u8] {
+    match line {
+        [front @ .., b'\r', b'\n'] => front,
+        [front @ .., b'\n'] => front,
+        _ => line,
+    }
+}
+
+/// The record that one line stands for. `BadHexLine` where it is none.
+fn packed(alloc: Global, line: &[u8]) -> Result<Vec<u8>, FeedReason> {
+    let mut record = Counted::new(Vec::new(alloc));
+    match pack(alloc, &mut Counted::new(line), &mut record) {
+        Ok(_) => Ok(record.into_inner()),
+        Err(PackFault::Fault(fault)) => Err(fault.reason),
+        // A list takes all octets but for want of memory.
+        Err(PackFault::Write) => Err(FeedReason::Memory),
+    }
+}
+
+impl Lines {
+    /// The fault that the line which is held is no line of a record.
+    fn bad_line(&self) -> FeedFault {
+        FeedFault {
+            reason: FeedReason::BadHexLine,
+            place: self.lines.saturating_add(1),
+        }
+    }
+
+    /// Adds octets to the line.
+    fn hold(&mut self, octets: &[u8]) -> Result<(), FeedFault> {
+        let room = HELD_LIMIT.saturating_sub(self.line.len());
+        if octets.len() > room {
+            self.line.extend_from_slice(&octets[..room])?;
+            return Err(self.bad_line());
+        }
+        self.line.extend_from_slice(octets)?;
+        Ok(())
+    }
+
+    /// Shows the line that is held, and drops it.
+    fn end_line<W: Write>(&mut self, writer: &mut W) -> Result<(), Stop>
+        ensures write { result ≡ Err Stop.Write → W.failures writer.new ≡ one_more (W.failures writer.old) }
+        ensures others { result ≢ Err Stop.Write → W.failures writer.new ≡ W.failures writer.old }
+    {
+        if self.lines >= LINES_LIMIT {
+            return Err(Stop::Fault(self.bad_line()));
+        }
+        let record = match packed(self.alloc, &self.line) {
+            Ok(record) => record,
+            Err(FeedReason::BadHexLine) => return Err(Stop::Fault(self.bad_line())),
+            Err(_) => return Err(Stop::from(AllocError)),
+        };
+        self.showing.show_piece(&record, writer)?;
+        self.lines = self.lines.saturating_add(1);
+        self.line.clear();
+        Ok(())
+    }
+
+    /// Shows the lines that end in `piece`, and holds what is behind them.
+    fn show_lines<W: Write>(&mut self, piece: &[u8], writer: &mut W) -> Result<(), Stop>
+        ensures write { result ≡ Err Stop.Write → W.failures writer.new ≡ one_more (W.failures writer.old) }
+        ensures others { result ≢ Err Stop.Write → W.failures writer.new ≡ W.failures writer.old }
+    {
+        let mut rest = piece;
+        for _ in 0..piece.len() {
+            let Some(end) = rest.iter().position(|octet| *octet == b'\n') else {
+                break;
+            };
+            let (line, more) = rest.split_at(end.saturating_add(1).min(rest.len()));
+            self.hold(line)?;
+            self.end_line(writer)?;
+            rest = more;
+        }
+        self.hold(rest)?;
+        Ok(())
+    }
+
+    /// Shows all lines that `reader` tells.
+    fn show_all<R: Read, W: Write>(&mut self, reader: &mut R, writer: &mut W) -> Result<(), Stop>
+        ensures write { result ≡ Err Stop.Write → W.failures writer.new ≡ one_more (W.failures writer.old) }
+        ensures others { result ≢ Err Stop.Write → W.failures writer.new ≡ W.failures writer.old }
+    {
+        let mut piece = [0; PIECE_LEN];
+        for _ in 0..u64::MAX {
+            let told = match reader.read(&mut piece) {
+                Ok(0) => break,
+                Ok(told) => told,
+                Err(Failed) => {
+                    return Err(Stop::Fault(FeedFault {
+                        reason: FeedReason::Read,
+                        place: self.read,
+                    }));
+                }
+            };
+            self.read = self.read.saturating_add(told as u64);
+            self.show_lines(&piece[..told], writer)?;
+        }
+        if self.line.is_empty() {
+            return Ok(());
+        }
+        self.end_line(writer)
+    }
+
+    /// The rule that the line which is held breaks.
+    fn broken(&self) -> Result<Option<Broken>, AllocError> {
+        if self.lines >= LINES_LIMIT {
+            return Ok(Some(Broken {
+                rule: Rule::Many,
+                column: 1,
+            }));
+        }
+        broken_by(self.alloc, content_of(&self.line))
+    }
+
+    /// The line that says which rule the line which is held breaks.
+    fn rule_line(&self) -> Result<String, AllocError> {
+        let mut text = String::new(self.alloc);
+        if let Some(broken) = self.broken()? {
+            push_broken(&mut text, broken)?;
+        }
+        Ok(text)
+    }
+
+    /// Ends what was shown, and says behind the fault of a line which rule it breaks.
+    fn end<W: Write>(self, ended: Result<(), Stop>, writer: &mut W) -> Result<Status, WriteFailed>
+        ensures stopped { ended ≡ Err Stop.Write → IsErr result
+            × (W.failures writer.new ≡ W.failures writer.old) }
+        ensures counts { OnOk result (W.failures writer.new ≡ W.failures writer.old) }
+        ensures failed { ended ≢ Err Stop.Write
+            → OnErr result (W.failures writer.new ≡ one_more (W.failures writer.old)) }
+    {
+        let is_line = matches!(
+            ended,
+            Err(Stop::Fault(FeedFault {
+                reason: FeedReason::BadHexLine,
+                ..
+            }))
+        );
+        let rule = self.rule_line();
+        let status = self.showing.end(ended, writer)?;
+        if let (true, Ok(text)) = (is_line, &rule) {
+            writer.write_all(text.as_bytes()).map_err(|_| WriteFailed)?;
+        }
+        Ok(status)
+    }
+}
+
+/// Prints the entries of the record that the lines of digits stand for which `reader` tells up to its end: what
+/// [`run_pack`](tcap_lines::run_pack) makes of them, as [`run_show`](tcap_lines::run_show) prints it. Behind the line of
+/// the fault of a line of digits stands which rule it breaks, and in which column; with `why`, under each other line of
+/// fault one that says why in words. The status says whether a line of fault was printed. Where memory runs out, lines of
+/// the first entries are printed, whole ones, and its line. `WriteFailed` where the writer failed in this call. One line
+/// and one entry are held at a time.
+pub fn run_lines<R: Read, W: Write>(
+    alloc: Global,
+    reader: &mut R,
+    why: bool,
+    writer: &mut W,
+) -> Result<Status, WriteFailed>
+    ensures counts { OnOk result (W.failures writer.new ≡ W.failures writer.old) }
+    ensures failed { OnErr result (W.failures writer.new ≡ one_more (W.failures writer.old)) }
+{
+    let mut lines = Lines {
+        alloc,
+        showing: Showing::new(alloc, why),
+        line: Vec::new(alloc),
+        lines: 0,
+        read: 0,
+    };
+    let ended = lines.show_all(reader, writer);
+    lines.end(ended, writer)
+}

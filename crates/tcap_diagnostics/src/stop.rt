@@ -1,0 +1,43 @@
+//! Why a run goes no further.
+
+ghost use Rattle.std.specs.Prelude.{◌≡◌};
+ghost use Rattle.tcap_record.specs.declared.fault.FeedReason.{FeedReason};
+ghost use Rattle.tcap_record.specs.Framing.{feed_fault};
+ghost use Rattle.tcap_diagnostics.specs.declared.stop.Stop.{Stop};
+
+use std::alloc::AllocError;
+use tcap_ber::Failed;
+use tcap_record::FeedFault;
+
+/// Why the lines of a record go no further.
+#[derive(Clone, Copy, PartialEq, Eq)]
+pub(crate) enum Stop {
+    /// What was read has a fault, or memory ran out.
+    Fault(FeedFault),
+    /// The writer failed.
+    Write,
+}
+
+impl From<FeedFault> for Stop {
+    ghost from_gives = { λ fault stop. stop ≡ Stop.Fault fault };
+
+    fn from(fault: FeedFault) -> Stop {
+        Stop::Fault(fault)
+    }
+}
+
+impl From<AllocError> for Stop {
+    ghost from_gives = { λ _ stop. stop ≡ Stop.Fault (feed_fault FeedReason.Memory 0) };
+
+    fn from(error: AllocError) -> Stop {
+        Stop::Fault(FeedFault::from(error))
+    }
+}
+
+impl From<Failed> for Stop {
+    ghost from_gives = { λ _ stop. stop ≡ Stop.Write };
+
+    fn from(_: Failed) -> Stop {
+        Stop::Write
+    }
+}

@@ -1,0 +1,201 @@
+//! An operation table, or a book of them, printed.
+
+ghost use Rattle.std.specs.Prelude.{◌≡◌, ℕ, List, Ok, Err, IfOk, OnOk, OnErr};
+ghost use Rattle.std.specs.Io.KnownBytes.{Consumes, IsAtEnd};
+ghost use Rattle.tcap_ber.specs.Device.{one_more};
+ghost use Rattle.tcap_diagnostics.specs.Tables.{IsTableText};
+ghost use Rattle.tcap_lines.specs.declared.status.Status.{Status};
+
+use crate::code_hints::{push_code_hints, push_unlisted};
+use crate::table_faults::push_book_fault;
+use crate::table_rows::push_book;
+use serde_json::Value;
+use std::alloc::{AllocError, Global};
+use tcap_ber::{Failed, Read, Write};
+use tcap_books::{Book, BookFault, CLASH};
+use tcap_end::TableReason;
+use tcap_lines::{MEMORY_LINE, Status, WriteFailed};
+use tcap_record::{FeedReason, PIECE_LEN, push_fault};
+
+/// The greatest count of octets of a table.
+const TABLE_LIMIT: usize = 67_108_864;
+
+/// Why a text was not read.
+#[derive(Clone, Copy, PartialEq, Eq)]
+enum TextFault {
+    /// It is longer than the limit.
+    TooLong,
+    /// The reader failed behind so many octets.
+    Read(u64),
+    /// Memory ran out.
+    Memory,
+}
+
+impl From<AllocError> for TextFault {
+    fn from(_: AllocError) -> TextFault {
+        TextFault::Memory
+    }
+}
+
+/// The octets that `reader` tells up to its end, where they are no more than a table may have.
+fn read_text<R: Read>(alloc: Global, reader: &mut R) -> Result<Vec<u8>, TextFault>
+    ensures told { IfOk result (λ text. Consumes (R.untold reader.old) (R.untold reader.new) text.items
+        × IsAtEnd (R.untold reader.new)) }
+{
+    let mut piece = [0; PIECE_LEN];
+    let mut text = Vec::new(alloc);
+    for _ in 0..u64::MAX {
+        let told = match reader.read(&mut piece) {
+            Ok(0) => return Ok(text),
+            Ok(told) => told,
+            Err(Failed) => return Err(TextFault::Read(text.len() as u64)),
+        };
+        if told > TABLE_LIMIT.saturating_sub(text.len()) {
+            return Err(TextFault::TooLong);
+        }
+        text.extend_from_slice(&piece[..told])?;
+    }
+    Err(TextFault::TooLong)
+}
+
+/// The value that a text is; `None` where it is no JSON.
+fn value_of(alloc: Global, octets: &[u8]) -> Result<Option<Value>, AllocError> {
+    match Value::from_slice(alloc, octets) {
+        Ok(value) => Ok(Some(value)),
+        Err(error) if error.is_memory() => Err(AllocError),
+        Err(_) => Ok(None),
+    }
+}
+
+/// Appends which two tables of a book have the same context, if two have, and answers how the run ends.
+fn push_clash(text: &mut String, book: &Book) -> Result<Status, AllocError> {
+    let Some(pair) = book.clash() else {
+        return Ok(Status::Fine);
+    };
+    write!(text, "error: {CLASH}: ")?;
+    book.push_pair(text, pair)?;
+    text.push_str("\n")?;
+    Ok(Status::Fault)
+}
+
+/// Appends the lines of a book, or those of its fault, and what is told beside them, and answers how the run ends.
+#[tactic(auto, using(crate::proofs::TableLaws::text_of_book))]
+fn push_text(
+    alloc: Global,
+    text: &mut String,
+    hints: &mut String,
+    octets: &[u8],
+) -> Result<Status, AllocError>
+    ensures table { result ≡ Ok Status.Fine → IsTableText octets.now }
+{
+    let value = value_of(alloc, octets)?;
+    if let Some(value) = &value {
+        push_code_hints(alloc, hints, None, value)?;
+    }
+    match Book::from_json(alloc, octets) {
+        Ok(book) => {
+            if let Some(value) = &value {
+                push_book(alloc, text, &book, value)?;
+                push_unlisted(alloc, hints, None, value)?;
+            }
+            push_clash(hints, &book)
+        }
+        Err(BookFault::Memory) => Err(AllocError),
+        Err(fault) => {
+            push_book_fault(alloc, text, fault, value.as_ref())?;
+            Ok(Status::Fault)
+        }
+    }
+}
+
+/// Appends what is printed of what was read.
+fn push_read(
+    alloc: Global,
+    text: &mut String,
+    hints: &mut String,
+    read: Result<Vec<u8>, TextFault>,
+) -> Result<Status, AllocError>
+    ensures table { result ≡ Ok Status.Fine → IfOk read (λ octets. IsTableText octets.items) }
+    ensures read { OnErr read (result ≡ Ok Status.Fine → ⊥) }
+{
+    match read {
+        Ok(octets) => push_text(alloc, text, hints, &octets),
+        Err(TextFault::Memory) => Err(AllocError),
+        Err(TextFault::TooLong) => {
+            push_fault(text, TableReason::NotJson.number(), 0)?;
+            text.push_str("  why: the text has over 67,108,864 octets\n")?;
+            Ok(Status::Fault)
+        }
+        Err(TextFault::Read(place)) => {
+            push_fault(text, FeedReason::Read.number(), place)?;
+            text.push_str("  why: the reader failed\n")?;
+            Ok(Status::Fault)
+        }
+    }
+}
+
+/// Prints the rows of the operation table, or of the book of them, that `reader` tells, one line each in the order of the codes; or
+/// the line of its fault, as the other runs print it, and behind it what is wrong in words. `faults` is told of codes that may be
+/// meant as numbers, of linked codes that no row has, and of two tables with one context; that it fails is not said. The status says
+/// whether a line of fault was printed, or two tables have one context. Where memory runs out, only its line is printed. `WriteFailed`
+/// where `writer` failed in this call.
+pub fn run_table<R: Read, W: Write, F: Write>(
+    alloc: Global,
+    reader: &mut R,
+    writer: &mut W,
+    faults: &mut F,
+) -> Result<Status, WriteFailed>
+    // Where the run is fine, the reader told, up to its end, the text of an operation table or of a book.
+    ensures table { result ≡ Ok Status.Fine → (told : List ℕ)
+        × Consumes (R.untold reader.old) (R.untold reader.new) told × IsAtEnd (R.untold reader.new)
+        × IsTableText told }
+    ensures counts { OnOk result (W.failures writer.new ≡ W.failures writer.old) }
+    ensures failed { OnErr result (W.failures writer.new ≡ one_more (W.failures writer.old)) }
+{
+    let read = read_text(alloc, reader);
+    let mut text = String::new(alloc);
+    let mut hints = String::new(alloc);
+    let (line, status) = match push_read(alloc, &mut text, &mut hints, read) {
+        Ok(status) => (text.as_bytes(), status),
+        Err(AllocError) => (MEMORY_LINE.as_bytes(), Status::Fault),
+    };
+    writer.write_all(line).map_err(|_| WriteFailed)?;
+    let _ = faults.write_all(hints.as_bytes());
+    Ok(status)
+}
+
+/// Appends the lines of the codes of a text of JSON that may be meant as numbers, and of linked codes that no row has; of a text that
+/// is no JSON nothing.
+fn push_codes(
+    alloc: Global,
+    text: &mut String,
+    path: &str,
+    octets: &[u8],
+) -> Result<(), AllocError> {
+    match value_of(alloc, octets)? {
+        Some(value) => {
+            push_code_hints(alloc, text, Some(path), &value)?;
+            push_unlisted(alloc, text, Some(path), &value)
+        }
+        None => Ok(()),
+    }
+}
+
+/// Writes which codes of an operation table, or of a book of them, may be meant as numbers, and which linked codes no row has: the
+/// lines that `run_table` tells of them, each with that path; where there are none, or memory runs out, nothing. `WriteFailed` where
+/// the writer failed in this call.
+pub fn write_code_hints<W: Write>(
+    alloc: Global,
+    path: &str,
+    table: &[u8],
+    writer: &mut W,
+) -> Result<(), WriteFailed>
+    ensures counts { OnOk result (W.failures writer.new ≡ W.failures writer.old) }
+    ensures failed { OnErr result (W.failures writer.new ≡ one_more (W.failures writer.old)) }
+{
+    let mut text = String::new(alloc);
+    match push_codes(alloc, &mut text, path, table) {
+        Ok(()) => writer.write_all(text.as_bytes()).map_err(|_| WriteFailed),
+        Err(AllocError) => Ok(()),
+    }
+}
