@@ -6,12 +6,12 @@ use tcap_ber::Counted;
 use tcap_books::Book;
 use tcap_dialogues::Reuse;
 use tcap_end::Table;
+use tcap_explain::{Asked, run_explain};
 use tcap_judge::{blame_record, blame_status, run_blame, run_check, run_judge, run_judge_end};
 use tcap_lines::{Status, WriteFailed, run_pack, run_show};
 use tcap_record::{End, read_record};
 use tcap_report::{Asked as AskedOfTrace, Sinks, Stop, Sum, Watch, run_trace};
 use tcap_traces::Verdict;
-use tcap_verdict::{Asked, run_explain};
 
 /// Nobody looks on.
 #[derive(Drop)]

@@ -4,8 +4,8 @@ use crate::opening::{is_fault, is_same, noted, open, status_of, tell, unopened};
 use std::{fs, io};
 use tcap_ber::{Counted, Read};
 use tcap_diagnostics::{Noted, Role};
+use tcap_explain::{Asked, run_explain, run_explain_check};
 use tcap_lines::{Status, WriteFailed};
-use tcap_verdict::{Asked, run_explain, run_explain_check};
 
 /// The paths that are named.
 #[derive(Clone, Copy)]

@@ -24,8 +24,8 @@ use tcap_books::CARRIED_BOOK;
 use tcap_diagnostics::{
     Kept, Noted, Role, Told, run_lines, run_table, run_why, write_hint, write_rule,
 };
+use tcap_explain::Asked;
 use tcap_lines::{MEMORY_LINE, Status, WriteFailed, run_pack, run_show};
-use tcap_verdict::Asked;
 use tcap_words::{Request, WordsFault, request};
 
 /// The exit status where a word of the command is not text, so that it is not for `clap` to say.

@@ -1,0 +1,12 @@
+-- The lines of the steps so far, and those of the steps that are left, are all.
+use Rattle.std.proofs.Common.{◌≡◌, ◌≤◌, ◌++◌, drop}
+use Rattle.std.specs.String.{string_bytes}
+use Rattle.tcap_explain.specs.StepLines.{lines_from}
+use Rattle.tcap_explain.proofs.step_lines.push_all.Given as goal
+
+abbrev pub invariant-loop-step : goal.invariant-loop-step
+invariant-loop-step l = record {
+  counted : l.number ≤ l.step-index;
+  left : string_bytes l.text ++ lines_from l.judged l.number (drop l.step-index l.steps)
+      ≡ string_bytes l.initial.text ++ lines_from l.judged 0 l.steps;
+}

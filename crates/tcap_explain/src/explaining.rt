@@ -1,0 +1,534 @@
+//! What is said of a record, and why.
+
+ghost use Rattle.std.specs.Prelude.{◌≡◌, ◌⊎◌, ◌≤◌, ◌&&◌, [], ℕ, List, true, false, None, Some, Ok, Err, IfOk, IfSome, OnOk, OnErr, length};
+ghost use Rattle.std.specs.String.{string_bytes};
+ghost use Rattle.tcap_ber.specs.Device.{one_more};
+ghost use Rattle.tcap_certificate.specs.Unheard.{unheard_of};
+ghost use Rattle.tcap_judge.specs.declared.outcome.Outcome.TheVariants.{Lawful, Refuted, Undecided};
+ghost use Rattle.tcap_judge.specs.Checked.{out_of_memory, replay_says};
+ghost use Rattle.tcap_judge.specs.Judged.{IsShown, lawful_by, replayed_by};
+ghost use Rattle.tcap_judge.specs.Verdict.{named_by, proposed_by, verdict_of};
+ghost use Rattle.tcap_judge.specs.Blamed.{ends_of, is_lawful, joint_verdict};
+ghost use Rattle.tcap_check.specs.Told.{events_of};
+ghost use Rattle.tcap_explain.specs.Faults.{IsFaultBehind};
+ghost use Rattle.tcap_explain.specs.StepLines.{run_lines};
+ghost use Rattle.tcap_explain.specs.Refuted.{refuted_lines};
+ghost use Rattle.tcap_explain.specs.Why.{AreLinesOfBoth, EndsWithEnds, Explains, ExplainsBy, GivesWhy, GivesWhyBy, IsExplained, IsExplainedBy, IsWhy};
+
+use crate::chart::Chart;
+use crate::faults::fault_text;
+use crate::refuted::{ends_asked, refuted_text};
+use crate::runs::{lawful_ends_text, run_so_far};
+use crate::step_lines::{is_lost_from, push_steps};
+use crate::stops::stop_text;
+use std::alloc::{AllocError, Global};
+use tcap_ber::{Read, Write};
+use tcap_check::{Certificate, CheckFault, Partial, Step, run_until};
+use tcap_end::Table;
+use tcap_judge::{
+    Ends, OUT_OF_MEMORY, Outcome, named, propose, read_certificate, read_table, write_outcome,
+};
+use tcap_lines::{Status, WriteFailed};
+use tcap_record::{End, Record, read_record};
+use tcap_refute::Refutation;
+
+/// What is said, and why.
+#[derive(Drop)]
+struct Why {
+    outcome: Outcome,
+    // The lines behind that of the outcome.
+    behind: String,
+    // The run as a page; empty where none is asked for, or there is no record.
+    chart: String,
+}
+
+/// What a run is asked beside its files.
+#[derive(Clone, Copy, Debug)]
+pub struct Asked {
+    /// The end that is judged alone, where it is one.
+    pub judged: Option<End>,
+    /// Whether a chart is asked for.
+    pub with_chart: bool,
+}
+
+impl Why {
+    /// That is said, and nothing stands behind it.
+    fn alone(alloc: Global, outcome: Outcome) -> Why
+        ensures outcome { result.outcome ≡ outcome }
+        ensures behind { string_bytes result.behind ≡ [] }
+    {
+        Why {
+            outcome,
+            behind: String::new(alloc),
+            chart: String::new(alloc),
+        }
+    }
+
+    /// That is said of what was given in place of a record, a table or a certificate, and which it is.
+    fn of_fault(alloc: Global, outcome: Outcome) -> Why
+        ensures outcome { result.outcome ≡ outcome }
+        ensures behind { IsFaultBehind outcome (string_bytes result.behind) }
+    {
+        match fault_text(alloc, outcome) {
+            Ok(behind) => Why {
+                outcome,
+                behind,
+                chart: String::new(alloc),
+            },
+            Err(AllocError) => Why::alone(alloc, outcome),
+        }
+    }
+}
+
+/// How many of its peer's messages an end is taken not to have received in a run.
+fn count_unheard(end: End, steps: &[Step]) -> u64
+    ensures { result ≡ unheard_of end (events_of steps.now) }
+{
+    let mut unheard = 0;
+    for step in steps {
+        if is_lost_from(end.other(), step) {
+            unheard += 1;
+        }
+    }
+    unheard
+}
+
+/// What is said of so many entries that have this run.
+fn said_of(judged: Option<End>, count: usize, steps: &[Step]) -> Outcome
+    ensures { result ≡ lawful_by judged count (events_of steps.now) }
+{
+    match judged {
+        None => Outcome::Lawful(count),
+        Some(end) => Outcome::LawfulFor(count, count_unheard(end, steps)),
+    }
+}
+
+/// The chart of a run of these steps, where one is asked for.
+fn chart_of(
+    alloc: Global,
+    read: &Record,
+    asked: Asked,
+    outcome: Outcome,
+    behind: &str,
+    steps: &[Step],
+) -> Result<String, AllocError> {
+    if !asked.with_chart {
+        return Ok(String::new(alloc));
+    }
+    let judged = asked.judged;
+    Chart {
+        read,
+        judged,
+        outcome,
+        behind,
+    }
+    .of_steps(alloc, steps)
+}
+
+/// That a record is lawful, and the run that shows it.
+fn explain_run(
+    alloc: Global,
+    read: &Record,
+    steps: &[Step],
+    asked: Asked,
+) -> Result<Why, AllocError>
+    ensures outcome { IfOk result (λ why. why.outcome
+        ≡ lawful_by asked.judged (length read.now.entries.items) (events_of steps.now)) }
+    ensures behind { IfOk result (λ why. string_bytes why.behind ≡ run_lines asked.judged steps.now) }
+{
+    let outcome = said_of(asked.judged, read.entries.len(), steps);
+    let mut behind = String::new(alloc);
+    push_steps(&mut behind, asked.judged, steps)?;
+    let chart = chart_of(alloc, read, asked, outcome, &behind, steps)?;
+    Ok(Why {
+        outcome,
+        behind,
+        chart,
+    })
+}
+
+/// Explains an outcome of a record for which the certificate gives no run: where its run stops, and the findings on
+/// these ends. The ends of the run may be changed.
+fn explain_stop(
+    alloc: Global,
+    read: &Record,
+    table: &Table,
+    certificate: &Certificate,
+    asked: Asked,
+    ends: Option<Ends>,
+    run: &mut Partial,
+    fault: CheckFault,
+    outcome: Outcome,
+) -> Result<Why, AllocError>
+    requires found { IfSome ends (λ both. both ≡ ends_of table.now read.now.entries.items) }
+    ensures { IfOk result (λ why. (why.outcome ≡ outcome)
+        × EndsWithEnds table.now read.now.entries.items ends (string_bytes why.behind)) }
+{
+    let behind = stop_text(alloc, read, table, certificate, ends, fault, run)?;
+    let chart = chart_of(alloc, read, asked, outcome, &behind, &run.steps)?;
+    Ok(Why {
+        outcome,
+        behind,
+        chart,
+    })
+}
+
+/// Explains that a record is lawful, of which each end by itself is, by the run that shows it for each: two lawful ends
+/// may have sent it then.
+fn explain_ends(
+    alloc: Global,
+    read: &Record,
+    table: &Table,
+    asked: Asked,
+    ends: Ends,
+) -> Result<Why, AllocError>
+    requires few { length read.now.entries.items ≤ 100000 }
+    requires ends { ends ≡ ends_of table.now read.now.entries.items }
+    requires lawful { (is_lawful ends.a && is_lawful ends.b) ≡ true }
+    ensures outcome { IfOk result (λ why. why.outcome ≡ Lawful (length read.now.entries.items)) }
+    ensures behind { IfOk result (λ why. AreLinesOfBoth table.now read.now.entries.items (string_bytes why.behind)) }
+{
+    let behind = lawful_ends_text(alloc, read, table, ends)?;
+    let outcome = Outcome::Lawful(read.entries.len());
+    let chart = chart_of(alloc, read, asked, outcome, &behind, &[])?;
+    Ok(Why {
+        outcome,
+        behind,
+        chart,
+    })
+}
+
+/// Returns these ends, if each by itself is lawful.
+fn lawful_both(ends: Option<Ends>) -> Option<Ends>
+    ensures some { IfSome result (λ both. (ends ≡ Some both) × ((is_lawful both.a && is_lawful both.b) ≡ true)) }
+    ensures none { result ≡ None → IfSome ends (λ both. (is_lawful both.a && is_lawful both.b) ≡ false) }
+{
+    match ends {
+        Some(both) if both.are_lawful() => Some(both),
+        _ => None,
+    }
+}
+
+/// Explains the verdict on a record of which no entry is named, and for which the certificate that is proposed gives no
+/// run: that it is lawful, if each of its ends by itself is; else where the run stops.
+fn explain_other(
+    alloc: Global,
+    read: &Record,
+    table: &Table,
+    certificate: &Certificate,
+    asked: Asked,
+    run: &mut Partial,
+    fault: CheckFault,
+) -> Result<Why, AllocError>
+    requires few { length read.now.entries.items ≤ 100000 }
+    requires verdict { verdict_of asked.judged table.now read.now.entries.items ≡ Undecided fault }
+    requires refused { replayed_by asked.judged table.now certificate.now read.now.entries.items ≡ Err fault }
+    ensures { IfOk result (λ why. (why.outcome ≡ joint_verdict asked.judged table.now read.now.entries.items)
+        × IsShown asked.judged table.now read.now.entries.items why.outcome
+        × IsWhy asked.judged table.now certificate.now read.now.entries.items why.outcome (string_bytes why.behind)) }
+{
+    let outcome = Outcome::Undecided(fault);
+    let ends = ends_asked(alloc, read, table, asked.judged)?;
+    match lawful_both(ends) {
+        Some(both) => explain_ends(alloc, read, table, asked, both),
+        None => explain_stop(
+            alloc,
+            read,
+            table,
+            certificate,
+            asked,
+            ends,
+            run,
+            fault,
+            outcome,
+        ),
+    }
+}
+
+/// That an entry is at fault, and why. The certificate that is proposed is needed for the chart alone.
+fn explain_refuted(
+    alloc: Global,
+    read: &Record,
+    table: &Table,
+    asked: Asked,
+    refutation: Refutation,
+) -> Result<Why, AllocError>
+    requires named { named_by asked.judged table.now read.now.entries.items ≡ Some refutation }
+    requires few { length read.now.entries.items ≤ 100000 }
+    ensures { IfOk result (λ why. (why.outcome ≡ Refuted refutation)
+        × (string_bytes why.behind ≡ refuted_lines asked.judged table.now read.now.entries.items refutation)) }
+{
+    let outcome = Outcome::Refuted(refutation);
+    let behind = refuted_text(alloc, read, table, asked.judged, refutation)?;
+    let chart = if asked.with_chart {
+        let certificate = propose(alloc, read, asked.judged)?;
+        let run = run_until(alloc, read, table, &certificate, asked.judged)?;
+        chart_of(alloc, read, asked, outcome, &behind, &run.steps)?
+    } else {
+        String::new(alloc)
+    };
+    Ok(Why {
+        outcome,
+        behind,
+        chart,
+    })
+}
+
+/// What is said of a record of which no entry is named: what the certificate that is proposed shows, and why.
+fn explain_by_search(
+    alloc: Global,
+    read: &Record,
+    table: &Table,
+    asked: Asked,
+) -> Result<Why, AllocError>
+    requires few { length read.now.entries.items ≤ 100000 }
+    requires sound { named_by asked.judged table.now read.now.entries.items ≡ None }
+    ensures { IfOk result (λ why. (why.outcome ≡ joint_verdict asked.judged table.now read.now.entries.items)
+        × IsShown asked.judged table.now read.now.entries.items why.outcome
+        × IsWhy asked.judged table.now (proposed_by asked.judged read.now.entries.items) read.now.entries.items why.outcome
+        (string_bytes why.behind)) }
+{
+    let certificate = propose(alloc, read, asked.judged)?;
+    let mut run = run_so_far(alloc, read, table, &certificate, asked.judged)?;
+    match run.refused {
+        None => explain_run(alloc, read, &run.steps, asked),
+        Some(fault) => explain_other(alloc, read, table, &certificate, asked, &mut run, fault),
+    }
+}
+
+/// The verdict on a record, and why.
+fn explain_verdict(
+    alloc: Global,
+    read: &Record,
+    table: &Table,
+    asked: Asked,
+) -> Result<Why, AllocError>
+    requires few { length read.now.entries.items ≤ 100000 }
+    ensures { IfOk result (λ why. (why.outcome ≡ joint_verdict asked.judged table.now read.now.entries.items)
+        × IsShown asked.judged table.now read.now.entries.items why.outcome
+        × IsWhy asked.judged table.now (proposed_by asked.judged read.now.entries.items) read.now.entries.items why.outcome
+        (string_bytes why.behind)) }
+{
+    match named(alloc, read, table, asked.judged)? {
+        Some(refutation) => explain_refuted(alloc, read, table, asked, refutation),
+        None => explain_by_search(alloc, read, table, asked),
+    }
+}
+
+/// What a certificate shows of a record, and why.
+fn explain_replay(
+    alloc: Global,
+    read: &Record,
+    table: &Table,
+    certificate: &Certificate,
+    asked: Asked,
+) -> Result<Why, AllocError>
+    requires few { length read.now.entries.items ≤ 100000 }
+    ensures { IfOk result (λ why. (why.outcome ≡ replay_says asked.judged (length read.now.entries.items)
+        (replayed_by asked.judged table.now certificate.now read.now.entries.items))
+        × IsShown asked.judged table.now read.now.entries.items why.outcome
+        × IsWhy asked.judged table.now certificate.now read.now.entries.items why.outcome (string_bytes why.behind)) }
+{
+    let mut run = run_so_far(alloc, read, table, certificate, asked.judged)?;
+    match run.refused {
+        None => explain_run(alloc, read, &run.steps, asked),
+        Some(fault) => {
+            let outcome = Outcome::NotShown(fault);
+            let ends = ends_asked(alloc, read, table, asked.judged)?;
+            explain_stop(
+                alloc,
+                read,
+                table,
+                certificate,
+                asked,
+                ends,
+                &mut run,
+                fault,
+                outcome,
+            )
+        }
+    }
+}
+
+/// What is said of the record that `reader` tells, and why.
+fn explain_told<R: Read>(alloc: Global, reader: &mut R, table: &Table, asked: Asked) -> Why
+    ensures { GivesWhy asked.judged table.now (record {
+      before = R.untold reader.old;
+      after = R.untold reader.new;
+      failed_before = R.failures reader.old;
+      failed_after = R.failures reader.new;
+    }) result.outcome (string_bytes result.behind) }
+{
+    match read_record(alloc, reader) {
+        Ok(read) => match explain_verdict(alloc, &read, table, asked) {
+            Ok(why) => why,
+            Err(AllocError) => Why::alone(alloc, OUT_OF_MEMORY),
+        },
+        Err(fault) => Why::of_fault(alloc, Outcome::Faulty(fault.reason.number(), fault.place)),
+    }
+}
+
+/// The same by a certificate.
+fn explain_told_by<R: Read>(
+    alloc: Global,
+    reader: &mut R,
+    table: &Table,
+    certificate: &Certificate,
+    asked: Asked,
+) -> Why
+    ensures { GivesWhyBy asked.judged table.now (Ok certificate.now) (record {
+      before = R.untold reader.old;
+      after = R.untold reader.new;
+      failed_before = R.failures reader.old;
+      failed_after = R.failures reader.new;
+    }) result.outcome (string_bytes result.behind) }
+{
+    match read_record(alloc, reader) {
+        Ok(read) => match explain_replay(alloc, &read, table, certificate, asked) {
+            Ok(why) => why,
+            Err(AllocError) => Why::alone(alloc, OUT_OF_MEMORY),
+        },
+        Err(fault) => Why::of_fault(alloc, Outcome::Faulty(fault.reason.number(), fault.place)),
+    }
+}
+
+/// What is said of a record and a table, each of which a reader tells, and why.
+fn explain_both<R: Read, T: Read>(
+    alloc: Global,
+    entries: &mut R,
+    table: &mut T,
+    asked: Asked,
+) -> Why
+    ensures { IsExplained asked.judged (record {
+      before = R.untold entries.old;
+      after = R.untold entries.new;
+      failed_before = R.failures entries.old;
+      failed_after = R.failures entries.new;
+    })
+        (record {
+          before = T.untold table.old;
+          after = T.untold table.new;
+          failed_before = T.failures table.old;
+          failed_after = T.failures table.new;
+        }) result.outcome (string_bytes result.behind) }
+{
+    match read_table(alloc, table) {
+        Ok(table) => explain_told(alloc, entries, &table, asked),
+        Err(outcome) => Why::of_fault(alloc, outcome),
+    }
+}
+
+/// What is said of a record, a table and a certificate, each of which a reader tells, and why.
+fn explain_all<R: Read, T: Read, C: Read>(
+    alloc: Global,
+    entries: &mut R,
+    table: &mut T,
+    certificate: &mut C,
+    asked: Asked,
+) -> Why
+    ensures { IsExplainedBy asked.judged (record {
+      before = R.untold entries.old;
+      after = R.untold entries.new;
+      failed_before = R.failures entries.old;
+      failed_after = R.failures entries.new;
+    })
+        (record {
+          before = T.untold table.old;
+          after = T.untold table.new;
+          failed_before = T.failures table.old;
+          failed_after = T.failures table.new;
+        })
+        (record {
+          before = C.untold certificate.old;
+          after = C.untold certificate.new;
+          failed_before = C.failures certificate.old;
+          failed_after = C.failures certificate.new;
+        }) result.outcome (string_bytes result.behind) }
+{
+    let table = match read_table(alloc, table) {
+        Ok(table) => table,
+        Err(outcome) => return Why::of_fault(alloc, outcome),
+    };
+    match read_certificate(alloc, certificate) {
+        Ok(certificate) => explain_told_by(alloc, entries, &table, &certificate, asked),
+        Err(outcome) => Why::of_fault(alloc, outcome),
+    }
+}
+
+/// Judges the record that `entries` returns by the operation table that `table` returns, one end alone or, if none is
+/// named, both. It writes the line of `judge`, or that the record is lawful if each end by itself is, and then why: for a
+/// record that is lawful, the run that shows it, step by step (Q.774 3.2 and 3.3), or else the run of each end; if an
+/// entry is at fault, what it does and on which entries that rests; else where the run stops, and what the end knows
+/// there. After REFUTED and UNDECIDED, if both ends are judged, it writes what `blame` finds of each, and why. The status
+/// is that of the first line. `chart` becomes the chart of the run, a page of HTML, if one is asked for and the record,
+/// the table and the certificate have no fault, and else empty. All memory is taken before the first octet is written;
+/// if it runs out, `FAULT 99 0` is the only line.
+///
+/// # Errors
+///
+/// `WriteFailed` if the writer failed.
+pub fn run_explain<R: Read, T: Read, W: Write>(
+    alloc: Global,
+    entries: &mut R,
+    table: &mut T,
+    asked: Asked,
+    chart: &mut String,
+    writer: &mut W,
+) -> Result<Status, WriteFailed>
+    ensures explains { IfOk result (Explains asked.judged (record {
+      before = R.untold entries.old;
+      after = R.untold entries.new;
+      failed_before = R.failures entries.old;
+      failed_after = R.failures entries.new;
+    })
+        (record {
+          before = T.untold table.old;
+          after = T.untold table.new;
+          failed_before = T.failures table.old;
+          failed_after = T.failures table.new;
+        })
+        (W.taken writer.old) (W.taken writer.new)) }
+    ensures counts { OnOk result (W.failures writer.new ≡ W.failures writer.old) }
+    ensures failed { OnErr result (W.failures writer.new ≡ one_more (W.failures writer.old)) }
+{
+    let why = explain_both(alloc, entries, table, asked);
+    *chart = why.chart;
+    write_outcome(alloc, why.outcome, &why.behind, writer)
+}
+
+/// The same by the certificate that `certificate` tells: the line is that of `check`, and so is the status.
+pub fn run_explain_check<R: Read, T: Read, C: Read, W: Write>(
+    alloc: Global,
+    entries: &mut R,
+    table: &mut T,
+    certificate: &mut C,
+    asked: Asked,
+    chart: &mut String,
+    writer: &mut W,
+) -> Result<Status, WriteFailed>
+    ensures explains { IfOk result (ExplainsBy asked.judged (record {
+      before = R.untold entries.old;
+      after = R.untold entries.new;
+      failed_before = R.failures entries.old;
+      failed_after = R.failures entries.new;
+    })
+        (record {
+          before = T.untold table.old;
+          after = T.untold table.new;
+          failed_before = T.failures table.old;
+          failed_after = T.failures table.new;
+        })
+        (record {
+          before = C.untold certificate.old;
+          after = C.untold certificate.new;
+          failed_before = C.failures certificate.old;
+          failed_after = C.failures certificate.new;
+        })
+        (W.taken writer.old) (W.taken writer.new)) }
+    ensures counts { OnOk result (W.failures writer.new ≡ W.failures writer.old) }
+    ensures failed { OnErr result (W.failures writer.new ≡ one_more (W.failures writer.old)) }
+{
+    let why = explain_all(alloc, entries, table, certificate, asked);
+    *chart = why.chart;
+    write_outcome(alloc, why.outcome, &why.behind, writer)
+}

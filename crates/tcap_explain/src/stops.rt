@@ -1,0 +1,374 @@
+//! Why a certificate shows nothing: the reason, the entry, and what the end knows there.
+
+ghost use Rattle.std.specs.Prelude.{◌≡◌, IfOk, IfSome};
+ghost use Rattle.std.specs.String.{string_bytes};
+ghost use Rattle.tcap_judge.specs.Blamed.{ends_of};
+ghost use Rattle.tcap_explain.specs.Why.{EndsWithEnds};
+
+use crate::half_states::{push_component_state, push_half_state};
+use crate::indenting::push_indented;
+use crate::reasons::{fault_words, reason_words};
+use crate::refusing::{MANY, is_of_component, refused_component};
+use crate::refuted::push_asked;
+use crate::step_lines::letter;
+use std::alloc::{AllocError, Global};
+use tcap_ber::Fault;
+use tcap_check::{Certificate, CheckFault, Fate, Partial, Reason};
+use tcap_end::{EndFault, EndState, HalfName, Table};
+use tcap_judge::Ends;
+use tcap_msg::{Kind, Message, MessageParts};
+use tcap_parts::ComponentView;
+use tcap_record::{Body, End, Record, push_view};
+
+/// How many halves, or numbers, are told.
+const MOST: usize = 8;
+
+/// Where the run of a certificate stops.
+#[derive(Clone, Copy)]
+struct Stop<'a> {
+    read: &'a Record,
+    table: &'a Table,
+    certificate: &'a Certificate,
+    fault: CheckFault,
+}
+
+/// Appends what a reason says, and its name behind it.
+fn push_words(text: &mut String, words: (&str, &str)) -> Result<(), AllocError> {
+    let (name, meaning) = words;
+    text.push_str(meaning)?;
+    text.push_str(" (")?;
+    text.push_str(name)?;
+    text.push_str(")")
+}
+
+/// Appends the line of a reason.
+fn push_reason(text: &mut String, reason: Reason) -> Result<(), AllocError> {
+    text.push_str(match reason {
+        Reason::BadReply | Reason::SendRefused(_) | Reason::HiddenRefused(_) | Reason::NotQuiet =>
+            "why: in the run that the certificate says, ",
+        _ => "why: ",
+    })?;
+    push_words(text, reason_words(reason))?;
+    if let Reason::SendRefused(fault) | Reason::HiddenRefused(fault) = reason {
+        text.push_str(": ")?;
+        push_words(text, fault_words(fault))?;
+    }
+    text.push_str("\n")
+}
+
+/// Appends what is to be known of octets that are no message.
+fn push_bad(text: &mut String, fault: Fault) -> Result<(), AllocError> {
+    text.push_str("`tcapjudge show --why RECORD` says what is wrong with them\n")?;
+    if is_limit(fault.reason.number()) {
+        text.push_str("it is a limit of this profile: no end is blamed for it\n")?;
+    }
+    Ok(())
+}
+
+/// Whether octets are refused for that reason by a limit of this profile alone.
+fn is_limit(number: u8) -> bool {
+    matches!(number, 2..=4 | 12 | 13 | 16..=18)
+}
+
+/// The name of the half over which a message is sent: by its own ID where the end knows that, or of a Begin; else by its peer's.
+fn sending_name(message: &Message, state: &EndState) -> Option<HalfName> {
+    let own = message
+        .otid()
+        .map(|id| HalfName::Own(id.to_transaction_id()));
+    match (message.kind(), own) {
+        (Kind::Unidirectional, _) => None,
+        (_, Some(name)) if state.knows(&name) || message.kind() == Kind::Begin => Some(name),
+        _ => Some(HalfName::Peer(message.dtid()?.to_transaction_id())),
+    }
+}
+
+/// The name of the half over which a message is received.
+fn receiving_name(message: &Message) -> Option<HalfName> {
+    match message.kind() {
+        Kind::Unidirectional => None,
+        Kind::Begin => Some(HalfName::Peer(message.otid()?.to_transaction_id())),
+        _ => Some(HalfName::Own(message.dtid()?.to_transaction_id())),
+    }
+}
+
+/// The name of the half over which a message is sent, where there is one or should be: not that of a Begin whose ID is new.
+fn name_to_tell(message: &Message, state: &EndState) -> Option<HalfName> {
+    let name = sending_name(message, state)?;
+    if message.kind() == Kind::Begin && !state.knows(&name) {
+        return None;
+    }
+    Some(name)
+}
+
+/// Each component of a message in words, with what an end knows of its invoke ID over the half of that name, where that is open.
+fn words_of_components(
+    alloc: Global,
+    state: &EndState,
+    name: Option<&HalfName>,
+    message: &Message,
+) -> Result<Vec<String>, AllocError> {
+    let half = match name {
+        Some(name) => state.open_half(name),
+        None => None,
+    };
+    let mut all = Vec::new(alloc);
+    for component in message.components() {
+        let mut words = String::new(alloc);
+        push_component_state(alloc, &mut words, half.as_ref(), component)?;
+        all.push(words)?;
+    }
+    Ok(all)
+}
+
+/// Appends which component of a message an end refuses to send, where it is one, and what it knows of it. The end is used up: it may have
+/// sent the components before that one.
+fn push_refused(
+    alloc: Global,
+    text: &mut String,
+    state: &mut EndState,
+    name: Option<&HalfName>,
+    table: &Table,
+    message: &Message,
+) -> Result<(), AllocError> {
+    if message.count() > MANY {
+        return text.push_str("it has over 64 components: which one is refused is not looked for\n");
+    }
+    let all = words_of_components(alloc, state, name, message)?;
+    let Some(place) = refused_component(alloc, state, table, message)? else {
+        return Ok(());
+    };
+    let Some(words) = all.get(place) else {
+        return Ok(());
+    };
+    writeln!(text, "component {place} is what it refuses:")?;
+    text.push_str(words)
+}
+
+/// The end's state behind the run as far as it goes.
+fn state_of(run: &mut Partial, end: End) -> &mut EndState {
+    match end {
+        End::A => &mut run.a,
+        End::B => &mut run.b,
+    }
+}
+
+/// Appends why an end can't receive a message, where that is so.
+fn push_refusal(text: &mut String, refused: Result<(), EndFault>) -> Result<(), AllocError> {
+    match refused {
+        Ok(()) => Ok(()),
+        Err(fault) => {
+            text.push_str("it can't receive it: ")?;
+            push_words(text, fault_words(fault))?;
+            text.push_str("\n")
+        }
+    }
+}
+
+/// Whether a message is refused for Rejects in a Unidirectional, which the standard leaves to the user.
+fn is_left_to_user(message: &Message, fault: EndFault) -> bool {
+    message.kind() == Kind::Unidirectional
+        && fault == EndFault::NothingToAnswer
+        && message.components().all(|one| matches!(
+            one,
+            ComponentView::Invoke { .. } | ComponentView::Reject { .. }
+        ))
+}
+
+/// Appends what the end knows that sends a message, and which component it refuses.
+fn push_sender(
+    alloc: Global,
+    text: &mut String,
+    run: &mut Partial,
+    table: &Table,
+    sender: End,
+    message: &Message,
+    fault: EndFault,
+) -> Result<(), AllocError> {
+    let state = state_of(run, sender);
+    let name = name_to_tell(message, state);
+    if let Some(name) = &name {
+        push_half_state(text, sender, state, name)?;
+    }
+    if is_left_to_user(message, fault) {
+        text.push_str(
+            "a Unidirectional carries Invokes alone here; a Reject in one is left to the user, and blamed on nobody\n",
+        )?;
+    }
+    if is_of_component(fault) {
+        push_refused(alloc, text, state, name.as_ref(), table, message)
+    } else {
+        Ok(())
+    }
+}
+
+/// Appends what the end knows that can't receive a message, and why.
+fn push_receiver(
+    text: &mut String,
+    run: &mut Partial,
+    table: &Table,
+    receiver: End,
+    message: &Message,
+) -> Result<(), AllocError> {
+    let state = state_of(run, receiver);
+    if let Some(name) = receiving_name(message) {
+        push_half_state(text, receiver, state, &name)?;
+    }
+    push_refusal(text, state.receive(table, message))
+}
+
+/// Whether the certificate ties a message to the entry.
+fn is_tied(stop: &Stop) -> bool {
+    stop.certificate.fates().iter().any(
+        |fate| matches!(fate, Fate::By(reply) if u64::from(*reply) == stop.fault.entry),
+    )
+}
+
+/// Appends which messages the certificate ties to the entry.
+fn push_tied(text: &mut String, stop: &Stop, is_answer: bool) -> Result<(), AllocError> {
+    text.push_str(if is_answer {
+        "it is a provider's answer, and the messages that the certificate says it answers are"
+    } else {
+        "it is no provider's answer, but the certificate says that it answers"
+    })?;
+    let mut found = 0;
+    for (number, fate) in stop.certificate.fates().iter().enumerate() {
+        if matches!(fate, Fate::By(reply) if u64::from(*reply) == stop.fault.entry) {
+            if found >= MOST {
+                return text.push_str(" ..\n");
+            }
+            write!(text, " {number}")?;
+            found += 1;
+        }
+    }
+    text.push_str(if found == 0 { " none\n" } else { "\n" })
+}
+
+/// Appends the entry behind a gap.
+fn push_behind(text: &mut String, stop: &Stop, gap: u32) -> Result<(), AllocError> {
+    match stop.read.entries.get(gap as usize) {
+        Some(entry) => push_view(text, gap as usize, &entry.view()),
+        None => text.push_str("no entry is behind it\n"),
+    }
+}
+
+/// Appends what the certificate lists of the entry, the first of it, each with the entry before which it stands.
+fn push_listed(text: &mut String, stop: &Stop) -> Result<(), AllocError> {
+    let mut found = 0;
+    for x in stop.certificate.closings() {
+        if u64::from(x.entry) == stop.fault.entry && found < MOST {
+            found += 1;
+            let (end, gap) = (letter(x.side), x.gap);
+            writeln!(
+                text,
+                "listed: before entry {gap} {end}'s half of its transaction closes unseen"
+            )?;
+            push_behind(text, stop, gap)?;
+        }
+    }
+    for x in stop.certificate.expiries() {
+        if u64::from(x.entry) == stop.fault.entry && found < MOST {
+            found += 1;
+            let (end, gap, component) = (letter(x.side), x.gap, x.component);
+            writeln!(
+                text,
+                "listed: before entry {gap} {end}'s invocation of its component {component} ends unseen"
+            )?;
+            push_behind(text, stop, gap)?;
+        }
+    }
+    Ok(())
+}
+
+/// Appends the halves of an end that are open, the first of them.
+fn push_open(
+    alloc: Global,
+    text: &mut String,
+    end: End,
+    state: &EndState,
+) -> Result<(), AllocError> {
+    let names = state.open_halves(alloc)?;
+    for (number, name) in names.iter().enumerate() {
+        if number >= MOST {
+            return text.push_str("..\n");
+        }
+        push_half_state(text, end, state, name)?;
+    }
+    Ok(())
+}
+
+/// Appends what the end knows that sends the message of an entry, or that receives it, where the run stops.
+fn push_known(
+    alloc: Global,
+    text: &mut String,
+    stop: &Stop,
+    run: &mut Partial,
+    sender: End,
+    message: &Message,
+) -> Result<(), AllocError> {
+    match stop.fault.reason {
+        Reason::SendRefused(fault) => {
+            push_sender(alloc, text, run, stop.table, sender, message, fault)
+        }
+        Reason::BadReply if message.cause().is_some() => push_tied(text, stop, true),
+        Reason::BadReply if is_tied(stop) => push_tied(text, stop, false),
+        Reason::BadReply => push_receiver(text, run, stop.table, sender.other(), message),
+        Reason::HiddenRefused(_) => push_listed(text, stop),
+        _ => Ok(()),
+    }
+}
+
+/// Appends where the run stops: the reason, the entry, and what the end knows there that sends or receives it.
+fn push_stop(
+    alloc: Global,
+    text: &mut String,
+    stop: &Stop,
+    run: &mut Partial,
+) -> Result<(), AllocError> {
+    let fault = stop.fault;
+    push_reason(text, fault.reason)?;
+    if let Some(entry) = stop.read.entries.get(fault.entry as usize) {
+        push_view(text, fault.entry as usize, &entry.view())?;
+        if let (Some(sender), Body::Good(message)) = (entry.side, &entry.body) {
+            push_known(alloc, text, stop, run, sender, message)?;
+        }
+        if let (Reason::NotQuiet, Body::Quiet) = (fault.reason, &entry.body) {
+            push_open(alloc, text, End::A, &run.a)?;
+            push_open(alloc, text, End::B, &run.b)?;
+        }
+    }
+    if let Reason::BadMessage(fault) = fault.reason {
+        push_bad(text, fault)?;
+    }
+    if !matches!(fault.reason, Reason::BadMessage(_) | Reason::NoItem) {
+        text.push_str("another certificate may show more: this says nothing of an end\n")?;
+    }
+    Ok(())
+}
+
+/// Returns the lines that explain a record of which the certificate shows nothing: where its run stops, each line with
+/// two blanks before it, and then the findings on these ends. The ends of the run may be changed; its steps are not.
+pub(crate) fn stop_text(
+    alloc: Global,
+    read: &Record,
+    table: &Table,
+    certificate: &Certificate,
+    ends: Option<Ends>,
+    fault: CheckFault,
+    run: &mut Partial,
+) -> Result<String, AllocError>
+    requires found { IfSome ends (λ both. both ≡ ends_of table.now read.now.entries.items) }
+    ensures { IfOk result (λ text. EndsWithEnds table.now read.now.entries.items ends (string_bytes text)) }
+{
+    let stop = Stop {
+        read,
+        table,
+        certificate,
+        fault,
+    };
+    let mut lines = String::new(alloc);
+    push_stop(alloc, &mut lines, &stop, run)?;
+    let mut text = String::new(alloc);
+    push_indented(&mut text, &lines)?;
+    push_asked(alloc, &mut text, read, table, ends)?;
+    Ok(text)
+}

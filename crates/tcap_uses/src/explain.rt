@@ -1,0 +1,29 @@
+use std::alloc::Global;
+use tcap_ber::Counted;
+use tcap_explain::{Asked, run_explain};
+use tcap_lines::{Status, WriteFailed};
+
+/// What `tcapjudge explain` prints of a record and an operation table whose octets are in memory, and how the run ends.
+pub fn told_why(
+    alloc: Global,
+    octets: &[u8],
+    operations: &[u8],
+) -> Result<(Vec<u8>, Status), WriteFailed> {
+    let mut entries = Counted::new(octets);
+    let mut table = Counted::new(operations);
+    let mut writer = Counted::new(Vec::new(alloc));
+    let mut chart = String::new(alloc);
+    let asked = Asked {
+        judged: None,
+        with_chart: false,
+    };
+    let status = run_explain(
+        alloc,
+        &mut entries,
+        &mut table,
+        asked,
+        &mut chart,
+        &mut writer,
+    )?;
+    Ok((writer.into_inner(), status))
+}
