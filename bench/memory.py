@@ -65,6 +65,8 @@ SHOWN_BAD = [
     "octets 01 6c 08 a1 06 02 01 01 [30] 01 2d; Begin otid=01\n",
     "2 A Begin otid=02\n",
 ]
+# The hint of `table` at a linked code that no row has.
+UNLISTED = b'  hint: row 5: "linked":["2a0305"] is the code of no row\n'
 TABLED = (
     "op=45 class=1\nop=46 class=2\nop=47 class=3\nop=48 class=4\nop=50 class=1 linked=48\n"
     "op=g:2a0304 class=1 linked=g:2a0305\n"
@@ -214,7 +216,7 @@ def look_at_runs(library, folder):
     tell("pack, cut", *look("pack", library, [PROGRAM, "pack"], (BEGIN + "A 62\n").encode(), wanted, others), wanted)
     with open(f"{folder}/tabled", "wb") as file:
         file.write(TABLE)
-    wanted = said(TABLED, 0)
+    wanted = said(TABLED, 0, UNLISTED)
     command = [PROGRAM, "table", f"{folder}/tabled"]
     tell("table", *look("table", library, command, b"", wanted, [said(NO_MEMORY, 3)]), wanted)
     for number, (words, files, out, status) in enumerate(CHECKED):

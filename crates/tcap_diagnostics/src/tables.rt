@@ -155,13 +155,19 @@ pub fn run_table<R: Read, W: Write, F: Write>(
     let read = read_text(alloc, reader);
     let mut text = String::new(alloc);
     let mut hints = String::new(alloc);
-    let (line, status) = match push_read(alloc, &mut text, &mut hints, read) {
-        Ok(status) => (text.as_bytes(), status),
-        Err(AllocError) => (MEMORY_LINE.as_bytes(), Status::Fault),
-    };
-    writer.write_all(line).map_err(|_| WriteFailed)?;
-    let _ = faults.write_all(hints.as_bytes());
-    Ok(status)
+    match push_read(alloc, &mut text, &mut hints, read) {
+        Ok(status) => {
+            writer.write_all(text.as_bytes()).map_err(|_| WriteFailed)?;
+            let _ = faults.write_all(hints.as_bytes());
+            Ok(status)
+        }
+        Err(AllocError) => {
+            writer
+                .write_all(MEMORY_LINE.as_bytes())
+                .map_err(|_| WriteFailed)?;
+            Ok(Status::Fault)
+        }
+    }
 }
 
 /// Appends the lines of the codes of a text of JSON that may be meant as numbers, and of linked codes that no row has; of a text that
