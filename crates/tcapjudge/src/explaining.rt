@@ -1,8 +1,9 @@
 //! The word `explain`: a verdict, why it is so, and a chart of the run.
 
-use crate::opening::{is_fault, is_same, noted, open, status_of, tell, unopened};
+use crate::opening::{is_fault, is_same, status_of, tell};
+use crate::source::Source;
 use std::{fs, io};
-use tcap_ber::{Counted, Read};
+use tcap_ber::Counted;
 use tcap_diagnostics::{Noted, Role};
 use tcap_explain::{Asked, run_explain, run_explain_check};
 use tcap_lines::{Status, WriteFailed};
@@ -39,11 +40,11 @@ fn finish(
     }
 }
 
-/// Explains what the readers tell, where no certificate is named.
-fn explained<R: Read, T: Read>(
+/// Explains the verdict on a record by searching for a certificate.
+fn explained(
     rt: &HostRuntime,
-    entries: &mut Noted<R>,
-    table: &mut Noted<T>,
+    entries: &mut Noted<Source>,
+    table: &mut Noted<Source>,
     paths: Paths,
     asked: Asked,
 ) -> u8 {
@@ -58,58 +59,34 @@ fn explained<R: Read, T: Read>(
     finish(rt, paths.chart, &chart, ended)
 }
 
-/// The same by the certificate of that path, which `cert` tells.
-fn explained_check<R: Read, T: Read, C: Read>(
+/// Explains what the certificate of the file `path` shows of a record.
+fn explained_check(
     rt: &HostRuntime,
-    entries: &mut Noted<R>,
-    table: &mut Noted<T>,
-    cert: (&str, &mut Noted<C>),
+    entries: &mut Noted<Source>,
+    table: &mut Noted<Source>,
+    path: &str,
     paths: Paths,
     asked: Asked,
 ) -> u8 {
     let alloc = rt.alloc();
-    let (path, cert) = cert;
+    let mut cert = Source::noted(rt, path);
     let mut chart = String::new(alloc);
     let mut writer = Counted::new(io::writer(rt));
-    let ended = run_explain_check(alloc, entries, table, cert, asked, &mut chart, &mut writer);
+    let ended = run_explain_check(
+        alloc,
+        entries,
+        table,
+        &mut cert,
+        asked,
+        &mut chart,
+        &mut writer,
+    );
     if is_fault(&ended) {
         tell(rt, Role::Record, paths.entries, entries);
         tell(rt, Role::Table, paths.table, table);
-        tell(rt, Role::Certificate, path, cert);
+        tell(rt, Role::Certificate, path, &mut cert);
     }
     finish(rt, paths.chart, &chart, ended)
-}
-
-/// Explains what the readers tell; the certificate is opened last.
-fn explained_over<R: Read, T: Read>(
-    rt: &HostRuntime,
-    entries: &mut Noted<R>,
-    table: &mut Noted<T>,
-    paths: Paths,
-    asked: Asked,
-) -> u8 {
-    let Some(path) = paths.cert else {
-        return explained(rt, entries, table, paths, asked);
-    };
-    match open(rt, path) {
-        Ok(file) => explained_check(
-            rt,
-            entries,
-            table,
-            (path, &mut noted(rt, file)),
-            paths,
-            asked,
-        ),
-        Err(_) => explained_check(rt, entries, table, (path, &mut unopened(rt)), paths, asked),
-    }
-}
-
-/// The same, by the operation table that `table` tells.
-fn explained_by<T: Read>(rt: &HostRuntime, table: &mut Noted<T>, paths: Paths, asked: Asked) -> u8 {
-    match open(rt, paths.entries) {
-        Ok(file) => explained_over(rt, &mut noted(rt, file), table, paths, asked),
-        Err(_) => explained_over(rt, &mut unopened(rt), table, paths, asked),
-    }
 }
 
 /// Whether the file of the chart is one of those that are read.
@@ -126,15 +103,18 @@ fn is_overwritten(rt: &HostRuntime, paths: Paths) -> bool {
     }
 }
 
-/// Explains the record of those paths, by the operation table of that path. Nothing is done where the chart would take the
-/// place of one of the files.
+/// Explains the verdict on the record of the file `paths.entries`, by the table of the file `paths.table`. The files are opened in the
+/// order in which they are read: the table, the record, the certificate. If the chart would take the place of one of these files,
+/// nothing is read, and standard error says so. Returns the exit status.
 pub(crate) fn explain(rt: &HostRuntime, paths: Paths, asked: Asked) -> u8 {
     if is_overwritten(rt, paths) {
         let _ = eprintln!(rt; "error: the chart would be written over a file that is read");
         return Status::Fault.number();
     }
-    match open(rt, paths.table) {
-        Ok(file) => explained_by(rt, &mut noted(rt, file), paths, asked),
-        Err(_) => explained_by(rt, &mut unopened(rt), paths, asked),
+    let mut table = Source::noted(rt, paths.table);
+    let mut entries = Source::noted(rt, paths.entries);
+    match paths.cert {
+        Some(path) => explained_check(rt, &mut entries, &mut table, path, paths, asked),
+        None => explained(rt, &mut entries, &mut table, paths, asked),
     }
 }

@@ -1,9 +1,10 @@
 //! The words `judge`, `blame` and `check`: verdicts on a record, by an operation table.
 
-use crate::opening::{is_fault, noted, open, status_of, tell, unopened};
+use crate::opening::{is_fault, status_of, tell};
+use crate::source::Source;
 use std::io;
-use tcap_ber::{Counted, Read};
-use tcap_diagnostics::{Noted, Role};
+use tcap_ber::Counted;
+use tcap_diagnostics::Role;
 use tcap_judge::{run_blame, run_check, run_check_end, run_judge, run_judge_end};
 use tcap_record::End;
 
@@ -18,16 +19,9 @@ pub(crate) enum Question {
     Blame,
 }
 
-/// The paths of a record, an operation table and a certificate.
-#[derive(Clone, Copy)]
-struct CheckPaths<'a> {
-    entries: &'a str,
-    table: &'a str,
-    cert: &'a str,
-}
-
-/// Replays the certificate of that path over the record of that path, for one end where it is given. The files are opened in the
-/// order in which they are read: the table, the certificate, the record.
+/// Replays the certificate of the file `cert` over the record of the file `entries`, by the table of the file `table`; for one end
+/// alone if `side` is given. The files are opened in the order in which they are read: the table, the certificate, the record. The
+/// line is printed at once. Returns the exit status.
 pub(crate) fn check(
     rt: &HostRuntime,
     entries: &str,
@@ -35,122 +29,56 @@ pub(crate) fn check(
     cert: &str,
     side: Option<End>,
 ) -> u8 {
-    let files = CheckPaths {
-        entries,
-        table,
-        cert,
-    };
-    match open(rt, table) {
-        Ok(file) => check_by(rt, files, &mut noted(rt, file), side),
-        Err(_) => check_by(rt, files, &mut unopened(rt), side),
-    }
-}
-
-/// The same, by the operation table that `table` tells.
-fn check_by<T: Read>(
-    rt: &HostRuntime,
-    files: CheckPaths,
-    table: &mut Noted<T>,
-    side: Option<End>,
-) -> u8 {
-    match open(rt, files.cert) {
-        Ok(file) => check_over(rt, files, table, &mut noted(rt, file), side),
-        Err(_) => check_over(rt, files, table, &mut unopened(rt), side),
-    }
-}
-
-/// The same, with the certificate that `certificate` tells.
-fn check_over<T: Read, C: Read>(
-    rt: &HostRuntime,
-    files: CheckPaths,
-    table: &mut Noted<T>,
-    certificate: &mut Noted<C>,
-    side: Option<End>,
-) -> u8 {
-    match open(rt, files.entries) {
-        Ok(file) => checked(rt, files, &mut noted(rt, file), table, certificate, side),
-        Err(_) => checked(rt, files, &mut unopened(rt), table, certificate, side),
-    }
-}
-
-/// The same, where the readers are all there. The line goes out at once.
-fn checked<R: Read, T: Read, C: Read>(
-    rt: &HostRuntime,
-    files: CheckPaths,
-    entries: &mut Noted<R>,
-    table: &mut Noted<T>,
-    certificate: &mut Noted<C>,
-    side: Option<End>,
-) -> u8 {
-    let mut writer = Counted::new(io::writer(rt));
+    let mut book = Source::noted(rt, table);
+    let mut certificate = Source::noted(rt, cert);
+    let mut record = Source::noted(rt, entries);
+    let (alloc, mut writer) = (rt.alloc(), Counted::new(io::writer(rt)));
     let ended = match side {
-        None => run_check(rt.alloc(), entries, table, certificate, &mut writer),
-        Some(end) => run_check_end(rt.alloc(), entries, table, certificate, end, &mut writer),
+        None => run_check(alloc, &mut record, &mut book, &mut certificate, &mut writer),
+        Some(end) => run_check_end(
+            alloc,
+            &mut record,
+            &mut book,
+            &mut certificate,
+            end,
+            &mut writer,
+        ),
     };
     if is_fault(&ended) {
-        tell(rt, Role::Record, files.entries, entries);
-        tell(rt, Role::Table, files.table, table);
-        tell(rt, Role::Certificate, files.cert, certificate);
+        tell(rt, Role::Record, entries, &mut record);
+        tell(rt, Role::Table, table, &mut book);
+        tell(rt, Role::Certificate, cert, &mut certificate);
     }
     status_of(ended)
 }
 
-/// The paths of a record and an operation table.
-#[derive(Clone, Copy)]
-struct JudgePaths<'a> {
-    entries: &'a str,
-    table: &'a str,
-}
-
-/// Answers what is asked of the record of that path, by the operation table of that path. The table is opened first, since it is
-/// read first.
+/// Answers what is asked of the record of the file `entries`, by the table of the file `table`. The table is opened first, since it is
+/// read first. What is printed goes out at once. Returns the exit status.
 pub(crate) fn judge(rt: &HostRuntime, entries: &str, table: &str, question: Question) -> u8 {
-    let files = JudgePaths { entries, table };
-    match open(rt, table) {
-        Ok(file) => judge_by(rt, files, &mut noted(rt, file), question),
-        Err(_) => judge_by(rt, files, &mut unopened(rt), question),
-    }
-}
-
-/// The same, by the operation table that `table` tells.
-fn judge_by<T: Read>(
-    rt: &HostRuntime,
-    files: JudgePaths,
-    table: &mut Noted<T>,
-    question: Question,
-) -> u8 {
-    match open(rt, files.entries) {
-        Ok(file) => judged(rt, files, &mut noted(rt, file), table, question),
-        Err(_) => judged(rt, files, &mut unopened(rt), table, question),
-    }
-}
-
-/// The same, where both readers are there. What is printed goes out at once.
-fn judged<R: Read, T: Read>(
-    rt: &HostRuntime,
-    files: JudgePaths,
-    entries: &mut Noted<R>,
-    table: &mut Noted<T>,
-    question: Question,
-) -> u8 {
-    let mut writer = Counted::new(io::writer(rt));
+    let mut book = Source::noted(rt, table);
+    let mut record = Source::noted(rt, entries);
+    let (alloc, mut writer) = (rt.alloc(), Counted::new(io::writer(rt)));
     let ended = match question {
-        Question::Verdict(with_certificate) => {
-            run_judge(rt.alloc(), entries, table, with_certificate, &mut writer)
-        }
+        Question::Verdict(with_certificate) => run_judge(
+            alloc,
+            &mut record,
+            &mut book,
+            with_certificate,
+            &mut writer,
+        ),
         Question::OfEnd(end, with_certificate) => run_judge_end(
-            rt.alloc(),
-            entries,
-            table,
+            alloc,
+            &mut record,
+            &mut book,
             end,
             with_certificate,
             &mut writer,
         ),
-        Question::Blame => run_blame(rt.alloc(), entries, table, &mut writer),
+        Question::Blame => run_blame(alloc, &mut record, &mut book, &mut writer),
     };
     if is_fault(&ended) {
-        tell(rt, Role::Record, files.entries, entries);
-        tell(rt, Role::Table, files.table, table);
+        tell(rt, Role::Record, entries, &mut record);
+        tell(rt, Role::Table, table, &mut book);
     }
     status_of(ended)
 }

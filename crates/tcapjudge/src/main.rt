@@ -6,20 +6,21 @@ mod explaining;
 mod judging;
 mod opening;
 mod outputs;
+mod source;
 mod testing;
 mod wording;
 mod writing;
 
 use crate::explaining::{Paths, explain};
 use crate::judging::{Question, check, judge};
-use crate::opening::open;
+use crate::source::Source;
 use crate::testing::test;
 use crate::wording::tell_no_text;
 use std::alloc::Global;
 use std::io::BufWriter;
 use std::process::ExitCode;
 use std::{env, io};
-use tcap_ber::{Counted, Read, Unopened, Write};
+use tcap_ber::{Counted, Write};
 use tcap_books::CARRIED_BOOK;
 use tcap_diagnostics::{
     Kept, Noted, Role, Told, run_lines, run_table, run_why, write_hint, write_rule,
@@ -44,6 +45,8 @@ enum Task {
     Lines(bool),
     /// They are an operation table, or a book of them, of which the rows are printed.
     Table,
+    /// The rows of the book that the program carries are printed, and nothing is read.
+    Carried,
 }
 
 /// Asks what the words behind the program's name ask for, and does it.
@@ -116,23 +119,23 @@ fn answer(rt: &HostRuntime, request: Request) -> io::Result<u8> {
     }
 }
 
-/// Does the task over the file of that path, or the standard input.
+/// Does the task over the file with this path; if there is no path, over the standard input.
 fn over_path(rt: &HostRuntime, task: Task, path: Option<&str>) -> io::Result<u8> {
-    let Some(opened) = path else {
-        return over(rt, task, path, Counted::new(rt.reader()));
+    let source = match path {
+        Some(path) => Source::open(rt, path),
+        None => Source::input(rt),
     };
-    match open(rt, opened) {
-        Ok(file) => over(rt, task, path, Counted::new(file)),
-        Err(_) => over(rt, task, path, Unopened::new()),
-    }
+    over(rt, task, path, source)
 }
 
-/// Prints the rows of what that path names, or of the book that the program carries.
+/// Prints the rows of the table, or of the book of tables, in the file with this path; if there is no path, of the book that the
+/// program carries.
 fn show_table(rt: &HostRuntime, path: Option<&str>) -> io::Result<u8> {
-    match path {
-        Some(_) => over_path(rt, Task::Table, path),
-        None => over(rt, Task::Table, None, Counted::new(CARRIED_BOOK.as_bytes())),
-    }
+    let task = match path {
+        Some(_) => Task::Table,
+        None => Task::Carried,
+    };
+    over_path(rt, task, path)
 }
 
 /// Says that there is no memory, where faults of the task go.
@@ -144,19 +147,14 @@ fn no_memory(rt: &HostRuntime, task: Task) -> io::Result<u8> {
     Ok(Status::Fault.number())
 }
 
-/// Does the task with what `reader` tells, the file of that path or the standard input.
-fn over<R: Read + Drop>(
-    rt: &HostRuntime,
-    task: Task,
-    path: Option<&str>,
-    reader: R,
-) -> io::Result<u8> {
+/// Does the task with what `source` reads: the file with this path, or the standard input. Returns the exit status.
+fn over(rt: &HostRuntime, task: Task, path: Option<&str>, source: Source) -> io::Result<u8> {
     let Ok(buffer) = BufWriter::new(rt.alloc(), io::writer(rt)) else {
         return no_memory(rt, task);
     };
     let mut writer = Counted::new(buffer);
     let faults = Counted::new(rt.stderr());
-    let noted = Noted::new(rt.alloc(), reader);
+    let noted = Noted::new(rt.alloc(), source);
     let ended = done(rt.alloc(), task, path, noted, &mut writer, faults);
     // Where standard error takes nothing, what was packed goes out all the same.
     let is_written = writer.failures() == 0 && writer.flush().is_ok();
@@ -169,13 +167,13 @@ fn over<R: Read + Drop>(
     Ok(status.number())
 }
 
-/// Does the task with what `reader` tells, and says behind a fault what else is known: which rule a line of digits breaks, and what
+/// Does the task with what `reader` reads, and says after a fault what else is known: which rule a line of digits breaks, and what
 /// the octets look like where they are not what they are given as.
-fn done<R: Read + Drop, W: Write, F: Write + Drop>(
+fn done<W: Write, F: Write + Drop>(
     alloc: Global,
     task: Task,
     path: Option<&str>,
-    reader: Noted<R>,
+    reader: Noted<Source>,
     writer: &mut W,
     faults: F,
 ) -> Result<Status, WriteFailed> {
@@ -198,15 +196,19 @@ fn done<R: Read + Drop, W: Write, F: Write + Drop>(
             let status = run_table(alloc, &mut reader, writer, &mut faults)?;
             hint(status, Role::Book, path, &reader, &mut faults)
         }
+        Task::Carried => {
+            let mut book = Counted::new(CARRIED_BOOK.as_bytes());
+            run_table(alloc, &mut book, writer, &mut faults)
+        }
     }
 }
 
 /// Behind a fault `faults` is told what the file of that path, or the standard input, looks like, where it is not what it is given as.
-fn hint<R, F: Write>(
+fn hint<F: Write>(
     status: Status,
     role: Role,
     path: Option<&str>,
-    reader: &Noted<R>,
+    reader: &Noted<Source>,
     faults: &mut F,
 ) -> Result<Status, WriteFailed> {
     if status == Status::Fault {
@@ -216,10 +218,10 @@ fn hint<R, F: Write>(
 }
 
 /// Makes a record of lines; behind the fault of a line `faults` is told which rule it breaks.
-fn make_record<R: Read + Drop, W: Write, F: Write + Drop>(
+fn make_record<W: Write, F: Write + Drop>(
     alloc: Global,
     path: Option<&str>,
-    reader: Noted<R>,
+    reader: Noted<Source>,
     writer: &mut W,
     faults: F,
 ) -> Result<Status, WriteFailed> {

@@ -1,9 +1,10 @@
 //! Files that are read, and what is said of those that were given by mistake.
 
-use std::fs::{File, Metadata};
+use crate::source::Source;
+use std::fs;
+use std::fs::Metadata;
 use std::os::unix::fs::MetadataExt;
-use std::{fs, io};
-use tcap_ber::{Counted, Read, Unopened};
+use tcap_ber::{Counted, Read};
 use tcap_diagnostics::{Noted, Role, write_code_hints, write_hint};
 use tcap_lines::{Status, WriteFailed};
 
@@ -16,32 +17,6 @@ pub(crate) fn is_folder(rt: &HostRuntime, path: &str) -> bool {
         Ok(found) => found.is_dir(),
         Err(_) => false,
     }
-}
-
-/// Opens the file of that path. Where it can't be read, standard error says which file that is, and why.
-pub(crate) fn open(rt: &HostRuntime, path: &str) -> io::Result<File> {
-    match fs::open(rt, path) {
-        Ok(file) => {
-            if is_folder(rt, path) {
-                let _ = eprintln!(rt; "error: {path}: it is a directory");
-            }
-            Ok(file)
-        }
-        Err(error) => {
-            let _ = eprintln!(rt; "error: {path}: {error}");
-            Err(error)
-        }
-    }
-}
-
-/// A reader of that file, whose first octets are noted.
-pub(crate) fn noted(rt: &HostRuntime, file: File) -> Noted<Counted<File>> {
-    Noted::new(rt.alloc(), Counted::new(file))
-}
-
-/// A reader of a file that could not be opened.
-pub(crate) fn unopened(rt: &HostRuntime) -> Noted<Unopened> {
-    Noted::new(rt.alloc(), Unopened::new())
 }
 
 /// Whether that path is that of a plain file, of which reading waits for nobody.
@@ -70,7 +45,7 @@ pub(crate) fn is_same(rt: &HostRuntime, one: &str, other: &str) -> bool {
 
 /// Behind a line of fault, says on standard error what the file of that path looks like, where it is not what it is given as. Of a
 /// plain file of which nothing was read the first octets are read for it.
-pub(crate) fn tell<R: Read>(rt: &HostRuntime, role: Role, path: &str, reader: &mut Noted<R>) {
+pub(crate) fn tell(rt: &HostRuntime, role: Role, path: &str, reader: &mut Noted<Source>) {
     if reader.first().is_empty() && is_plain(rt, path) {
         let mut piece = [0; LOOKED_AT];
         let _ = reader.read(&mut piece);

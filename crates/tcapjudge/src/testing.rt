@@ -8,12 +8,13 @@ ghost use Rattle.tcapjudge.specs.Tested.{AreCounted, IsStatus, IsWorst};
 
 use crate::opening::{is_folder, tell_codes, tell_text};
 use crate::outputs::{INPUT, Outputs, stand_ins};
+use crate::source::Source;
 use crate::writing::{Output, Sink, tell_unprinted};
 use std::alloc::AllocError;
 use std::fmt::Display;
 use std::time::Instant;
 use std::{fs, io};
-use tcap_ber::{Counted, Read, Write};
+use tcap_ber::Write;
 use tcap_books::{AMBIGUOUS, Book, CARRIED_BOOK, CLASH};
 use tcap_diagnostics::Role;
 use tcap_dialogues::Reuse;
@@ -258,11 +259,11 @@ fn test_path<W: Write, J: Lines, P: Watch>(
         if is_folder(rt, INPUT) {
             return tell_unread(alloc, asked, IS_FOLDER, sinks);
         }
-        return run_trace(alloc, &mut Counted::new(rt.reader()), asked, sinks);
+        return run_trace(alloc, &mut Source::input(rt), asked, sinks);
     }
     match fs::open(rt, path) {
         Ok(file) if is_folder(rt, path) => tell_unread(alloc, asked, IS_FOLDER, sinks),
-        Ok(file) => run_trace(alloc, &mut Counted::new(file), asked, sinks),
+        Ok(file) => run_trace(alloc, &mut Source::file(file), asked, sinks),
         Err(error) => {
             let mut text = String::new(alloc);
             if write!(text, "{error}").is_err() {
