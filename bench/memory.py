@@ -6,7 +6,7 @@ Each run has to say what it says without a failure, with that status; or that me
 `judge`, `blame` and `explain` have `FAULT 99 0` as their only line then. `show` has it behind the lines of the first entries, and
 `pack` on standard error, with the octets of the first lines on standard output. A run that finds no memory as it reads
 its words has it alone, on standard output. What is fed or called once more where memory ran out has to go on as if
-nothing had been. With a word behind it only the words of `tcapjudge` are tried."""
+nothing had been. With an argument, only the program is tried: the one that TCAPJUDGE names, else the proved one."""
 
 import os
 import shutil
@@ -15,7 +15,8 @@ import sys
 import tempfile
 from collections import Counter
 
-PROGRAM = "crates/tcapjudge/out/tcapjudge"
+# The program to try: the one that TCAPJUDGE names, else the proved one.
+PROGRAM = os.environ.get("TCAPJUDGE") or "crates/tcapjudge/out/tcapjudge"
 BENCH = "crates/tcap_bench/out/tcap_bench"
 CALLS = "crates/tcap_end_rows/out/tcap_end_rows"
 NO_MEMORY = b"FAULT 99 0\n"
@@ -140,6 +141,9 @@ LAWFUL 4 unheard 0
   B receives 2
 """
 
+# How many runs of the program were tried, each with every allocation failing in turn.
+tried = 0
+
 # A word, its files, and what it has to say: the standard output and the status.
 CHECKED = [
     ("check", (REJECTED, TABLE, EXPIRED), "LAWFUL 3\n", 0),
@@ -190,7 +194,9 @@ def look(name, library, command, given, wanted, others):
 
 
 def tell(name, count, given, wanted):
-    """Prints how many of the allocations of a run end in the fault."""
+    """Prints how many of the allocations of a run end in the fault, and counts the run."""
+    global tried
+    tried += 1
     without = given[wanted]
     print(f"{name}: of {count} allocations {count - without} end in FAULT 99 0, and it does without {without}")
 
@@ -257,6 +263,7 @@ def main():
         look_at_runs(library, folder)
         if len(sys.argv) == 1:
             look_at_calls(library)
+    print(f"{tried} passed, 0 failed")
 
 
 if __name__ == "__main__":

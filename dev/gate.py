@@ -226,14 +226,19 @@ def jobs():
     return max(1, min(machine.cores(), int(machine.free_memory() // LARGEST)))
 
 
+def has_compiler():
+    """Returns whether this machine has a C compiler."""
+    return bool(shutil.which("cc") or shutil.which("gcc"))
+
+
 def refused_memory():
-    """Whether the program says what it has to where each allocation of a run fails in turn: as counts."""
-    if not (shutil.which("cc") or shutil.which("gcc")):
+    """Tries runs of the program with each allocation failing in turn. Returns the counts."""
+    if not has_compiler():
         print("allocations that fail in turn: not tried, for want of a C compiler")
         return Counts()
-    ended = subprocess.run([sys.executable, "bench/memory.py", "program"], check=False)
-    print(f"allocations that fail in turn: {'said' if ended.returncode == 0 else 'NOT said'}")
-    return Counts(failed=1) if ended.returncode else Counts(1)
+    counts = counts_of_script("bench/memory.py", "program")
+    print(f"{counts.all()} runs with allocations that fail in turn, {counts.failed} wrong")
+    return counts
 
 
 def main():

@@ -19,17 +19,17 @@ import unproved
 # Random cases, for so many seconds: the first ones of this seed.
 FUZZ = ["60", "1"]
 NOT_SHOWN = """Left to `make test`: proofs, wrong bodies, the tests within the crates, the stored runs, the second compiler,
-the library for C, its example for TTCN-3, allocations that fail, and feeding while an entry is lent. What ran is not the
+the library for C, its example for TTCN-3, and feeding while an entry is lent. What ran is not the
 proved program: it is optimised less, and nothing was proved of it or is checked as it runs. These tests say nothing about
 speed."""
 
 
-def begin(stack, name, words, env):
+def begin(stack, path, words, env):
     """Has a test run until it ends, or until the stack is closed. Returns the process and the file of what it prints."""
     printed = stack.enter_context(tempfile.TemporaryFile())
     how = {"stdin": subprocess.DEVNULL, "stdout": printed, "stderr": printed, "env": env}
     # A test that is interrupted removes what it made.
-    return stack.enter_context(unproved.started([sys.executable, f"tests/{name}.py", *words], signal.SIGINT, **how)), printed
+    return stack.enter_context(unproved.started([sys.executable, path, *words], signal.SIGINT, **how)), printed
 
 
 def counts_of(status, printed):
@@ -46,8 +46,10 @@ def run_all(env):
     """Runs the tests, and prints of each what it counted. Returns how many passed and failed."""
     start, both = time.monotonic(), [0, 0]
     with contextlib.ExitStack() as stack:
-        running = {what: begin(stack, name, [], env) for name, what in gate.TESTS.items()}
-        running["random cases"] = begin(stack, "fuzz", FUZZ, env)
+        running = {what: begin(stack, f"tests/{name}.py", [], env) for name, what in gate.TESTS.items()}
+        running["random cases"] = begin(stack, "tests/fuzz.py", FUZZ, env)
+        if gate.has_compiler():
+            running["runs with allocations that fail in turn"] = begin(stack, "bench/memory.py", ["program"], env)
         while running:
             time.sleep(0.1)
             for what in [what for what, (run, _) in running.items() if run.poll() is not None]:
