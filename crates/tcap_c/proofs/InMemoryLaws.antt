@@ -32,7 +32,7 @@ use Rattle.tcap_judge.specs.Verdict.{GivesVerdictWith, IsAtFaultBy, certificate_
 use Rattle.tcap_judge.specs.Blamed.{AreFound, GivesBlame, GivesBlameWith, IsFound, ends_of, finding, finding_by, is_lawful, items_before, joint_record_verdict, record_ends}
 use Rattle.tcap_judge.proofs.BlamedLaws.{are_lawful, without_unheard}
 use Rattle.tcap_judge.proofs.LawfulLaws.{IsFoundBy, by_certificate, fine_fault, no_fault, spells_items, table_fault, table_text}
-use Rattle.tcap_judge.proofs.VerdictLaws.{NamesRightly, blames_rightly, by_refutation, lawful_record, names_rightly, refuted_record}
+use Rattle.tcap_judge.proofs.VerdictLaws.{NamesRightly, by_refutation, lawful_record, refuted_record}
 use Rattle.tcap_c.specs.declared.answer.Answer.{Answer}
 use Rattle.tcap_c.specs.InMemory.{AreRight, IsAtFaultIn, IsRight, MayBeSentBy, SaysBlamed, SaysChecked, SaysJudged, blame_answers, finding_answer, in_memory, no_answer, outcome_answer, refutation_answer}
 
@@ -138,15 +138,6 @@ right_of judged octets text (NotShown fault) lawful refuted =
     record { lawful = λ is. cc; refuted = λ is. cc; blamed = λ is. cc }
 right_of judged octets text (Faulty number place) lawful refuted =
     record { lawful = λ is. cc; refuted = λ is. cc; blamed = λ is. cc }
-
--- the entry that is named is at fault, whoever is judged
-pub names_all : ((table : Table) (entries : List (Result Item Reason)) (r : Refutation)
-    → refuted table entries ≡ Some r → IsAtFault table entries r)
-    → ((table : Table) (side : Side) (entries : List Entry) (r : Refutation)
-    → blamed table side entries ≡ Some r → IsAtFaultOf table side entries r)
-    → (judged : Option Side) → NamesRightly judged
-names_all refutes blames None = names_rightly refutes
-names_all refutes blames (Some side) = blames_rightly side blames
 
 pub judged_right : (judged : Option Side) → NamesRightly judged → (octets text : List ℕ) (outcome : Outcome)
     → SaysJudged judged octets text outcome → IsRight judged octets text (outcome_answer outcome)

@@ -20,7 +20,8 @@ use Rattle.tcap_judge.specs.declared.outcome.Outcome.TheVariants.{Lawful, Lawful
 use Rattle.tcap_lines.specs.Shown.{status_number}
 use Rattle.tcap_judge.specs.Outcome.{inner_number, outcome_status}
 use Rattle.tcap_judge.specs.Judged.{MayBeSent}
-use Rattle.tcap_judge.specs.Checked.{Device, Judges}
+use Rattle.tcap_judge.specs.Checked.{Judges}
+use Rattle.tcap_judge.specs.Device.{Device}
 use Rattle.tcap_judge.specs.Verdict.{IsAtFaultBy, IsJudged}
 use Rattle.tcap_judge.specs.Blamed.{IsBlamed, blame_status}
 use Rattle.tcap_judge.specs.LawfulRecord.{SpellsRecord}

@@ -18,7 +18,8 @@ use Rattle.tcap_judge.specs.declared.outcome.Outcome.TheVariants.{Lawful, Lawful
 use Rattle.tcap_lines.specs.declared.status.Status.{Status}
 use Rattle.tcap_judge.specs.Judged.{IsShown, replayed_by}
 use Rattle.tcap_judge.specs.Outcome.{SaysWith}
-use Rattle.tcap_judge.specs.Checked.{Device, IsUntouched, ReadsCertificate, ReadsRecord, ReadsTable, out_of_memory, record_says}
+use Rattle.tcap_judge.specs.Checked.{ReadsCertificate, ReadsRecord, ReadsTable, out_of_memory, record_says}
+use Rattle.tcap_judge.specs.Device.{Device, IsUntouched}
 use Rattle.tcap_judge.specs.Verdict.{proposed_by}
 use Rattle.tcap_judge.specs.declared.finding.Ends.{Ends}
 use Rattle.tcap_judge.specs.Blamed.{finding, finding_line, joint_record_verdict}

@@ -6,6 +6,7 @@ ghost use Rattle.tcap_ber.specs.Device.{one_more};
 ghost use Rattle.tcap_certificate.specs.Unheard.{unheard_of};
 ghost use Rattle.tcap_judge.specs.declared.outcome.Outcome.TheVariants.{Lawful, Refuted, Undecided};
 ghost use Rattle.tcap_judge.specs.Checked.{out_of_memory, replay_says};
+ghost use Rattle.tcap_judge.specs.Device.{device};
 ghost use Rattle.tcap_judge.specs.Judged.{IsShown, lawful_by, replayed_by};
 ghost use Rattle.tcap_judge.specs.Verdict.{named_by, proposed_by, verdict_of};
 ghost use Rattle.tcap_judge.specs.Blamed.{ends_of, is_lawful, joint_verdict};
@@ -352,12 +353,7 @@ fn explain_replay(
 
 /// What is said of the record that `reader` tells, and why.
 fn explain_told<R: Read>(alloc: Global, reader: &mut R, table: &Table, asked: Asked) -> Why
-    ensures { GivesWhy asked.judged table.now (record {
-      before = R.untold reader.old;
-      after = R.untold reader.new;
-      failed_before = R.failures reader.old;
-      failed_after = R.failures reader.new;
-    }) result.outcome (string_bytes result.behind) }
+    ensures { GivesWhy asked.judged table.now (device R.untold R.failures reader.old reader.new) result.outcome (string_bytes result.behind) }
 {
     match read_record(alloc, reader) {
         Ok(read) => match explain_verdict(alloc, &read, table, asked) {
@@ -376,12 +372,7 @@ fn explain_told_by<R: Read>(
     certificate: &Certificate,
     asked: Asked,
 ) -> Why
-    ensures { GivesWhyBy asked.judged table.now (Ok certificate.now) (record {
-      before = R.untold reader.old;
-      after = R.untold reader.new;
-      failed_before = R.failures reader.old;
-      failed_after = R.failures reader.new;
-    }) result.outcome (string_bytes result.behind) }
+    ensures { GivesWhyBy asked.judged table.now (Ok certificate.now) (device R.untold R.failures reader.old reader.new) result.outcome (string_bytes result.behind) }
 {
     match read_record(alloc, reader) {
         Ok(read) => match explain_replay(alloc, &read, table, certificate, asked) {
@@ -399,18 +390,8 @@ fn explain_both<R: Read, T: Read>(
     table: &mut T,
     asked: Asked,
 ) -> Why
-    ensures { IsExplained asked.judged (record {
-      before = R.untold entries.old;
-      after = R.untold entries.new;
-      failed_before = R.failures entries.old;
-      failed_after = R.failures entries.new;
-    })
-        (record {
-          before = T.untold table.old;
-          after = T.untold table.new;
-          failed_before = T.failures table.old;
-          failed_after = T.failures table.new;
-        }) result.outcome (string_bytes result.behind) }
+    ensures { IsExplained asked.judged (device R.untold R.failures entries.old entries.new)
+        (device T.untold T.failures table.old table.new) result.outcome (string_bytes result.behind) }
 {
     match read_table(alloc, table) {
         Ok(table) => explain_told(alloc, entries, &table, asked),
@@ -426,24 +407,9 @@ fn explain_all<R: Read, T: Read, C: Read>(
     certificate: &mut C,
     asked: Asked,
 ) -> Why
-    ensures { IsExplainedBy asked.judged (record {
-      before = R.untold entries.old;
-      after = R.untold entries.new;
-      failed_before = R.failures entries.old;
-      failed_after = R.failures entries.new;
-    })
-        (record {
-          before = T.untold table.old;
-          after = T.untold table.new;
-          failed_before = T.failures table.old;
-          failed_after = T.failures table.new;
-        })
-        (record {
-          before = C.untold certificate.old;
-          after = C.untold certificate.new;
-          failed_before = C.failures certificate.old;
-          failed_after = C.failures certificate.new;
-        }) result.outcome (string_bytes result.behind) }
+    ensures { IsExplainedBy asked.judged (device R.untold R.failures entries.old entries.new)
+        (device T.untold T.failures table.old table.new)
+        (device C.untold C.failures certificate.old certificate.new) result.outcome (string_bytes result.behind) }
 {
     let table = match read_table(alloc, table) {
         Ok(table) => table,
@@ -475,18 +441,8 @@ pub fn run_explain<R: Read, T: Read, W: Write>(
     chart: &mut String,
     writer: &mut W,
 ) -> Result<Status, WriteFailed>
-    ensures explains { IfOk result (Explains asked.judged (record {
-      before = R.untold entries.old;
-      after = R.untold entries.new;
-      failed_before = R.failures entries.old;
-      failed_after = R.failures entries.new;
-    })
-        (record {
-          before = T.untold table.old;
-          after = T.untold table.new;
-          failed_before = T.failures table.old;
-          failed_after = T.failures table.new;
-        })
+    ensures explains { IfOk result (Explains asked.judged (device R.untold R.failures entries.old entries.new)
+        (device T.untold T.failures table.old table.new)
         (W.taken writer.old) (W.taken writer.new)) }
     ensures counts { OnOk result (W.failures writer.new ≡ W.failures writer.old) }
     ensures failed { OnErr result (W.failures writer.new ≡ one_more (W.failures writer.old)) }
@@ -506,24 +462,9 @@ pub fn run_explain_check<R: Read, T: Read, C: Read, W: Write>(
     chart: &mut String,
     writer: &mut W,
 ) -> Result<Status, WriteFailed>
-    ensures explains { IfOk result (ExplainsBy asked.judged (record {
-      before = R.untold entries.old;
-      after = R.untold entries.new;
-      failed_before = R.failures entries.old;
-      failed_after = R.failures entries.new;
-    })
-        (record {
-          before = T.untold table.old;
-          after = T.untold table.new;
-          failed_before = T.failures table.old;
-          failed_after = T.failures table.new;
-        })
-        (record {
-          before = C.untold certificate.old;
-          after = C.untold certificate.new;
-          failed_before = C.failures certificate.old;
-          failed_after = C.failures certificate.new;
-        })
+    ensures explains { IfOk result (ExplainsBy asked.judged (device R.untold R.failures entries.old entries.new)
+        (device T.untold T.failures table.old table.new)
+        (device C.untold C.failures certificate.old certificate.new)
         (W.taken writer.old) (W.taken writer.new)) }
     ensures counts { OnOk result (W.failures writer.new ≡ W.failures writer.old) }
     ensures failed { OnErr result (W.failures writer.new ≡ one_more (W.failures writer.old)) }

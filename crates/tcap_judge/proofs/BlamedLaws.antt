@@ -23,7 +23,8 @@ use Rattle.tcap_lines.specs.declared.status.Status.TheVariants as statuses
 use Rattle.tcap_lines.specs.declared.status.WriteFailed.{WriteFailed}
 use Rattle.tcap_judge.specs.Outcome.{outcome_line, outcome_status}
 use Rattle.tcap_judge.specs.Judged.{AreLawful, AreLawfulUnheard, IsShown, MayBeSent, MayBeSentUnheard, replayed_by}
-use Rattle.tcap_judge.specs.Checked.{Device, ReadsRecord, ReadsTable, out_of_memory}
+use Rattle.tcap_judge.specs.Checked.{ReadsRecord, ReadsTable, out_of_memory}
+use Rattle.tcap_judge.specs.Device.{Device}
 use Rattle.tcap_judge.specs.Verdict.{named_by, proposed_by, record_verdict, verdict}
 use Rattle.tcap_judge.specs.EachEnd.{AreBlamed}
 use Rattle.tcap_judge.specs.Blamed.{AreFound, FindsLawfulEnds, GivesBlame, GivesBlameWith, IsBlamed, IsFound, PrintsBlame, SaysLines, blame_status, ends_lines, ends_of, finding, is_blamed, is_lawful, joint_record_verdict, joint_verdict, lines_behind, record_ends, unblamed_status, verdict_by_ends}

@@ -33,8 +33,10 @@ use Rattle.tcap_lines.specs.declared.status.WriteFailed.{WriteFailed}
 use Rattle.tcap_judge.specs.Outcome.{Says, SaysWith, outcome_line, outcome_status}
 use Rattle.tcap_judge.specs.Text.{ReadsText}
 use Rattle.tcap_judge.specs.Judged.{AreLawfulUnheard, IsShown, MayBeSentUnheard, lawful_by, replayed_by, said_lawful}
-use Rattle.tcap_judge.specs.Checked.{Checks, Device, IsCertificateGiven, IsReasoned, IsTableGiven, Judges, JudgesBy, JudgesRecord, JudgesWith, ReadsCertificate, ReadsRecord, ReadsTable, SaysOfDescribed, out_of_memory, record_says, replay_says, said_of_text, text_limit}
-use Rattle.tcap_judge.specs.LawfulRecord.{FindsLawfulBy, SpellsRecord, TellsAll}
+use Rattle.tcap_judge.specs.Checked.{Checks, IsCertificateGiven, IsReasoned, IsTableGiven, Judges, JudgesBy, JudgesRecord, JudgesWith, ReadsCertificate, ReadsRecord, ReadsTable, SaysOfDescribed, out_of_memory, record_says, replay_says, said_of_text, text_limit}
+use Rattle.tcap_judge.specs.Device.{Device}
+use Rattle.tcap_judge.specs.LawfulEnd.{FindsLawfulBy}
+use Rattle.tcap_judge.specs.LawfulRecord.{SpellsRecord, TellsAll, TellsItems}
 
 -- ---- what the octets spell
 
@@ -248,40 +250,41 @@ table_text d operations reads = elim reads.is [
     by (Ok octets) reads (Err fault, is, given) = cc
     by (Err fault) reads given = cc
 
+-- what both readers told
+told_items : (entries table : Device) (operations : Table) (items : List Item) (octets : List ℕ)
+    → ReadsTable table (Ok operations) → TellsAll entries octets → SpellsRecord items octets
+    → TellsItems entries table operations items
+told_items entries table operations items octets reads tells spells =
+    let text = table_text table operations reads in
+    record {
+      octets = octets;
+      text = text.0;
+      tells = tells;
+      tells_table = text.1;
+      is_table = text.2;
+      spells = spells;
+    }
+
 -- what was found, with the text of the table and the line
 pub finds : (judged : Option Side) (entries table : Device) (operations : Table) (taken taken' : Option (List ℕ))
     (outcome : Outcome) → ReadsTable table (Ok operations) → IsFoundBy judged operations entries outcome
     → Appends taken taken' (outcome_line outcome) → FindsLawfulBy judged entries table taken taken'
-finds None entries table operations taken taken' outcome reads found line =
-    let text = table_text table operations reads in
-    record {
-      octets = found.octets;
-      text = text.0;
-      operations = operations;
-      items = found.items;
-      moves = found.lawful.0;
-      tells = found.tells;
-      tells_table = text.1;
-      is_table = text.2;
-      spells = found.spells;
-      lawful = found.lawful.1;
-      line = subst (λ (o : Outcome). Appends taken taken' (outcome_line o)) found.is line;
-    }
-finds (Some side) entries table operations taken taken' outcome reads found line =
-    let text = table_text table operations reads in
-    record {
-      octets = found.octets;
-      text = text.0;
-      operations = operations;
-      items = found.items;
-      unheard = found.unheard;
-      tells = found.tells;
-      tells_table = text.1;
-      is_table = text.2;
-      spells = found.spells;
-      lawful = found.lawful;
-      line = subst (λ (o : Outcome). Appends taken taken' (outcome_line o)) found.is line;
-    }
+finds None entries table operations taken taken' outcome reads found line = record {
+  operations = operations;
+  items = found.items;
+  moves = found.lawful.0;
+  told = told_items entries table operations found.items found.octets reads found.tells found.spells;
+  lawful = found.lawful.1;
+  line = subst (λ (o : Outcome). Appends taken taken' (outcome_line o)) found.is line;
+}
+finds (Some side) entries table operations taken taken' outcome reads found line = record {
+  operations = operations;
+  items = found.items;
+  unheard = found.unheard;
+  told = told_items entries table operations found.items found.octets reads found.tells found.spells;
+  lawful = found.lawful;
+  line = subst (λ (o : Outcome). Appends taken taken' (outcome_line o)) found.is line;
+}
 
 by_table : (judged : Option Side) (given : Result Table Outcome) (entries table certificate : Device)
     (taken taken' : Option (List ℕ)) (outcome : Outcome) → ReadsTable table given

@@ -23,7 +23,8 @@ use Rattle.tcap_lines.specs.declared.status.Status.TheVariants as statuses
 use Rattle.tcap_lines.specs.declared.status.WriteFailed.{WriteFailed}
 use Rattle.tcap_judge.specs.Outcome.{SaysWith, outcome_line, outcome_status, refuted_line}
 use Rattle.tcap_judge.specs.Judged.{IsShown, lawful_by, replayed_by, said_lawful}
-use Rattle.tcap_judge.specs.Checked.{Device, ReadsRecord, ReadsTable, out_of_memory}
+use Rattle.tcap_judge.specs.Checked.{ReadsRecord, ReadsTable, out_of_memory}
+use Rattle.tcap_judge.specs.Device.{Device}
 use Rattle.tcap_judge.specs.Verdict.{FindsFault, FindsLawfulThen, GivesVerdict, GivesVerdictWith, IsAtFaultBy, IsCertificateLine, IsJudged, PrintsVerdict, certificate_line, named_by, proposed_by, record_verdict, verdict_by}
 use Rattle.tcap_judge.proofs.LawfulLaws.{IsFineOf, IsFoundBy, fine_fault, finds, found_said, lawful_is, no_fault, table_fault, table_text}
 use Rattle.tcap_judge.proofs.SpellsNothingLaws.{spells_nothing}
@@ -154,14 +155,13 @@ abbrev pub NamesRightly : Option Side → Type 0
 NamesRightly judged = (table : Table) (entries : List Entry) (r : Refutation) → named_by judged table entries ≡ Some r
     → IsAtFaultBy judged table entries r
 
-pub names_rightly : ((table : Table) (entries : List (Result Item Reason)) (r : Refutation)
-    → refuted table entries ≡ Some r → IsAtFault table entries r) → NamesRightly None
-names_rightly law table entries r is = law table (map item_of entries) r is
-
-pub blames_rightly : (side : Side) → ((table : Table) (side : Side) (entries : List Entry) (r : Refutation)
+pub rightly : ((table : Table) (entries : List (Result Item Reason)) (r : Refutation)
+    → refuted table entries ≡ Some r → IsAtFault table entries r)
+    → ((table : Table) (side : Side) (entries : List Entry) (r : Refutation)
     → blamed table side entries ≡ Some r → IsAtFaultOf table side entries r)
-    → NamesRightly (Some side)
-blames_rightly side law table entries r is = law table side entries r is
+    → (judged : Option Side) → NamesRightly judged
+rightly refutes blames None table entries r is = refutes table (map item_of entries) r is
+rightly refutes blames (Some side) table entries r is = blames table side entries r is
 
 refuted_table : (judged : Option Side) → NamesRightly judged → (given : Result Table Outcome) (with_certificate : Bool)
     (entries table : Device) (taken taken' : Option (List ℕ)) (r : Refutation) (behind : List ℕ) → ReadsTable table given

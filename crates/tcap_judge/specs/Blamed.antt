@@ -28,7 +28,8 @@ use Rattle.tcap_lines.specs.declared.status.Status.TheVariants as statuses
 use Rattle.tcap_judge.specs.Outcome.{outcome_line, outcome_status}
 use Rattle.tcap_lines.specs.Shown.{memory_line}
 use Rattle.tcap_judge.specs.Judged.{AreLawful, AreLawfulUnheard, IsShown}
-use Rattle.tcap_judge.specs.Checked.{Device, IsUntouched, ReadsRecord, ReadsTable, out_of_memory}
+use Rattle.tcap_judge.specs.Checked.{ReadsRecord, ReadsTable, out_of_memory}
+use Rattle.tcap_judge.specs.Device.{Device, IsUntouched}
 use Rattle.tcap_judge.specs.LawfulRecord.{FindsLawful}
 use Rattle.tcap_judge.specs.Verdict.{SpellsNothing, record_verdict, verdict, verdict_for}
 

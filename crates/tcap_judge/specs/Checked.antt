@@ -24,20 +24,10 @@ use Rattle.tcap_judge.specs.declared.text_reading.TextFault.TheVariants as fault
 use Rattle.tcap_judge.specs.declared.outcome.Outcome.{Outcome}
 use Rattle.tcap_judge.specs.declared.outcome.Outcome.TheVariants.{Lawful, NotShown, Faulty}
 use Rattle.tcap_lines.specs.declared.status.Status.{Status}
+use Rattle.tcap_judge.specs.Device.{Device, IsUntouched}
 use Rattle.tcap_judge.specs.Judged.{IsShown, lawful_by, replayed_by}
 use Rattle.tcap_judge.specs.Outcome.{Says}
 use Rattle.tcap_judge.specs.Text.{ReadsText}
-
--- What a reader has still to tell, where that is known, and how often it failed, before and after.
-pub record Device : Type 0 where
-  pub before : Option (List ℕ)
-  pub after : Option (List ℕ)
-  pub failed_before : ℕ
-  pub failed_after : ℕ
-
--- nothing was asked of it
-abbrev pub IsUntouched : Device → Type 0
-IsUntouched d = (d.after ≡ d.before) × (d.failed_after ≡ d.failed_before)
 
 abbrev pub out_of_memory : Outcome
 out_of_memory = Faulty 99 0

@@ -11,7 +11,8 @@ use Rattle.tcap_check.specs.Checking.{Checking, Took}
 use Rattle.tcap_model.specs.Entries.{item_of}
 use Rattle.tcap_certificate.specs.Replayed.{certificate_fits, replayed_by}
 use Rattle.tcap_judge.specs.declared.outcome.Outcome.{Outcome}
-use Rattle.tcap_judge.specs.Checked.{Device, ReadsRecord, out_of_memory, replay_says}
+use Rattle.tcap_judge.specs.Checked.{ReadsRecord, out_of_memory, replay_says}
+use Rattle.tcap_judge.specs.Device.{Device}
 
 -- A checker of whoever is judged took these entries; or the certificate's numbers are out of their ranges, and there is none.
 abbrev pub IsCheckerOf : Option Side → Table → Certificate → Result Checking CheckFault → List Entry → Type 0

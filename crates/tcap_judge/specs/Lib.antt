@@ -3,7 +3,9 @@ pub mod Outcome
 pub mod Judged
 pub mod Checked
 pub mod Judging
+pub mod Device
 pub mod LawfulRecord
+pub mod LawfulEnd
 pub mod OctetsRead
 pub mod Verdict
 pub mod Blamed

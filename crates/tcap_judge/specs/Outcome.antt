@@ -13,6 +13,7 @@ use Rattle.tcap_refute.specs.Kind.{kind_number}
 use Rattle.tcap_lines.specs.Shown.{memory_line}
 use Rattle.tcap_judge.specs.declared.outcome.Outcome.{Outcome}
 use Rattle.tcap_judge.specs.declared.outcome.Outcome.TheVariants.{Lawful, LawfulFor, NotShown, Refuted, Undecided, Faulty}
+use Rattle.tcap_judge.specs.LawfulRecord.{lawful_line}
 use Rattle.tcap_lines.specs.declared.status.Status.{Status}
 use Rattle.tcap_lines.specs.declared.status.Status.TheVariants as statuses
 
@@ -53,7 +54,7 @@ undecided_line fault = codes "UNDECIDED " ++ decimal fault.entry ++ codes " " ++
 
 -- the line of an outcome
 abbrev pub outcome_line : Outcome → List ℕ
-outcome_line (Lawful count) = codes "LAWFUL " ++ decimal count ++ line_end
+outcome_line (Lawful count) = lawful_line count
 outcome_line (LawfulFor count unheard) =
     codes "LAWFUL " ++ decimal count ++ codes " unheard " ++ decimal unheard ++ line_end
 outcome_line (NotShown fault) = not_shown_line fault

@@ -28,8 +28,10 @@ use Rattle.tcap_judge.specs.declared.outcome.Outcome.TheVariants.{Lawful, Lawful
 use Rattle.tcap_lines.specs.declared.status.Status.{Status}
 use Rattle.tcap_judge.specs.Judged.{IsShown, lawful_by, replayed_by}
 use Rattle.tcap_judge.specs.Outcome.{SaysWith, refuted_line}
-use Rattle.tcap_judge.specs.Checked.{Device, IsUntouched, ReadsRecord, ReadsTable, out_of_memory}
-use Rattle.tcap_judge.specs.LawfulRecord.{FindsLawfulBy, TellsAll}
+use Rattle.tcap_judge.specs.Checked.{ReadsRecord, ReadsTable, out_of_memory}
+use Rattle.tcap_judge.specs.Device.{Device, IsUntouched}
+use Rattle.tcap_judge.specs.LawfulEnd.{FindsLawfulBy}
+use Rattle.tcap_judge.specs.LawfulRecord.{TellsAll}
 
 -- the entry that is named: the first that no end sends which keeps the rules, or the first that is blamed on that end
 abbrev pub named_by : Option Side → Table → List Entry → Option Refutation

@@ -13,6 +13,7 @@ ghost use Rattle.tcap_faults.specs.Fault.{blamed};
 ghost use Rattle.tcap_search.specs.Found.{or_both};
 ghost use Rattle.tcap_search.specs.Proposed.{proposed, proposed_for};
 ghost use Rattle.tcap_judge.specs.Blamed.{AreFound, FindsLawfulEnds, GivesBlame, IsBlamed, IsFound, PrintsBlame, SaysLines, ends_of, finding, lines_behind};
+ghost use Rattle.tcap_judge.specs.Device.{device};
 ghost use Rattle.tcap_judge.specs.EachEnd.{AreBlamed};
 ghost use Rattle.tcap_judge.specs.Judged.{IsShown};
 ghost use Rattle.tcap_judge.specs.Outcome.{outcome_line};
@@ -237,12 +238,7 @@ pub fn blame_record(alloc: Global, read: &Record, table: &Table) -> Result<Blame
 
 /// What is said of the record that `reader` tells.
 fn blame_told<R: Read>(alloc: Global, reader: &mut R, table: &Table) -> Blame
-    ensures { GivesBlame table.now (record {
-      before = R.untold reader.old;
-      after = R.untold reader.new;
-      failed_before = R.failures reader.old;
-      failed_after = R.failures reader.new;
-    }) result.outcome result.ends }
+    ensures { GivesBlame table.now (device R.untold R.failures reader.old reader.new) result.outcome result.ends }
 {
     laws::blamed_is_at_fault();
     match read_record(alloc, reader) {
@@ -257,18 +253,8 @@ fn blame_told<R: Read>(alloc: Global, reader: &mut R, table: &Table) -> Blame
 /// What is said of the record that `entries` tells, by the operation table that `table` tells, and of each of its ends.
 /// `run_blame` writes the lines of it. Nothing of the record is read before the table is there.
 pub fn blame_outcome<R: Read, T: Read>(alloc: Global, entries: &mut R, table: &mut T) -> Blame
-    ensures { IsBlamed (record {
-      before = R.untold entries.old;
-      after = R.untold entries.new;
-      failed_before = R.failures entries.old;
-      failed_after = R.failures entries.new;
-    })
-        (record {
-          before = T.untold table.old;
-          after = T.untold table.new;
-          failed_before = T.failures table.old;
-          failed_after = T.failures table.new;
-        }) result.outcome result.ends }
+    ensures { IsBlamed (device R.untold R.failures entries.old entries.new)
+        (device T.untold T.failures table.old table.new) result.outcome result.ends }
 {
     match read_table(alloc, table) {
         Ok(table) => blame_told(alloc, entries, &table),
@@ -314,7 +300,7 @@ fn write_said<W: Write>(alloc: Global, said: &Blame, writer: &mut W) -> Result<S
 /// or `LAWFUL COUNT` if each end by itself is lawful: two lawful ends may have sent the record then. If the record and
 /// the table have no fault, it then writes a line for each end: `BLAMED END ENTRY KIND`, its lowest entry, or quiet
 /// mark, that no run has in which this end keeps the rules, whatever its peer sends, as far as fifteen kinds show
-/// (Q.771, Q.773, Q.774), with the lowest kind; or `LAWFUL END COUNT unheard COUNT`, as `run_judge_end` finds it; or
+/// (Q.771, Q.773, Q.774), with the lowest kind; or `LAWFUL END COUNT unheard COUNT`, as `run_judge` finds it of that end; or
 /// `NOT BLAMED END COUNT`, with the number of entries before the first that is no message, or of all. What is blamed
 /// comes first, the lower entry before the other; else A comes before B. The status is that of REFUTED if an entry is
 /// blamed on an end, that of UNDECIDED if an entry is refuted and blamed on nobody, else that of the first line. All
@@ -329,32 +315,12 @@ pub fn run_blame<R: Read, T: Read, W: Write>(
     table: &mut T,
     writer: &mut W,
 ) -> Result<Status, WriteFailed>
-    ensures blames { IfOk result (PrintsBlame (record {
-      before = R.untold entries.old;
-      after = R.untold entries.new;
-      failed_before = R.failures entries.old;
-      failed_after = R.failures entries.new;
-    })
-        (record {
-          before = T.untold table.old;
-          after = T.untold table.new;
-          failed_before = T.failures table.old;
-          failed_after = T.failures table.new;
-        })
+    ensures blames { IfOk result (PrintsBlame (device R.untold R.failures entries.old entries.new)
+        (device T.untold T.failures table.old table.new)
         (W.taken writer.old) (W.taken writer.new)) }
     ensures lawful { result ≡ Ok Status.Fine
-        → FindsLawfulEnds (record {
-          before = R.untold entries.old;
-          after = R.untold entries.new;
-          failed_before = R.failures entries.old;
-          failed_after = R.failures entries.new;
-        })
-        (record {
-          before = T.untold table.old;
-          after = T.untold table.new;
-          failed_before = T.failures table.old;
-          failed_after = T.failures table.new;
-        })
+        → FindsLawfulEnds (device R.untold R.failures entries.old entries.new)
+        (device T.untold T.failures table.old table.new)
         (W.taken writer.old) (W.taken writer.new) }
     ensures counts { OnOk result (W.failures writer.new ≡ W.failures writer.old) }
     ensures failed { OnErr result (W.failures writer.new ≡ one_more (W.failures writer.old)) }

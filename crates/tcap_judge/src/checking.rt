@@ -10,7 +10,8 @@ ghost use Rattle.tcap_record.specs.Framing.{feed_fault};
 ghost use Rattle.tcap_record.specs.Held.{IsFront, IsHeld, IsPart, IsWhole, nothing_held};
 ghost use Rattle.tcap_record.specs.Viewed.{entry_read};
 ghost use Rattle.tcap_judge.specs.Checked.{Checks, Judges, JudgesRecord};
-ghost use Rattle.tcap_judge.specs.LawfulRecord.{FindsLawful, FindsLawfulFor};
+ghost use Rattle.tcap_judge.specs.Device.{device};
+ghost use Rattle.tcap_judge.specs.LawfulEnd.{FindsLawfulBy};
 ghost use Rattle.tcap_judge.specs.Judged.{said_lawful};
 ghost use Rattle.tcap_judge.specs.Judging.{Finishes, Leads, LeadsFed, LeadsToEnd, IsCheckerOf, Takes};
 ghost use Rattle.tcap_judge.specs.Outcome.{Says};
@@ -88,12 +89,7 @@ fn take_all<R: Read>(
     reader: &mut R,
 ) -> Result<(), FeedFault>
     requires fresh { frames.old ≡ nothing_held }
-    ensures { LeadsToEnd checker.old (record {
-      before = R.untold reader.old;
-      after = R.untold reader.new;
-      failed_before = R.failures reader.old;
-      failed_after = R.failures reader.new;
-    })
+    ensures { LeadsToEnd checker.old (device R.untold R.failures reader.old reader.new)
         frames.new checker.new result }
 {
     let mut piece = [0; PIECE_LEN];
@@ -160,12 +156,7 @@ fn judge_record<R: Read>(
     certificate: &Certificate,
     judged: Option<End>,
 ) -> Outcome
-    ensures { JudgesRecord judged table.now certificate.now (record {
-      before = R.untold reader.old;
-      after = R.untold reader.new;
-      failed_before = R.failures reader.old;
-      failed_after = R.failures reader.new;
-    }) result }
+    ensures { JudgesRecord judged table.now certificate.now (device R.untold R.failures reader.old reader.new) result }
 {
     let mut frames = Frames::new(alloc);
     let Some(mut checker) = start(alloc, table, certificate, judged) else {
@@ -178,8 +169,7 @@ fn judge_record<R: Read>(
 }
 
 /// What is said of the record that `entries` tells, by the operation table that `table` tells and the certificate that
-/// `certificate` tells: of one end alone, or, where none is named, of both. `run_check` and `run_check_end` write the line of
-/// it. Nothing of the record is read before the other two are there.
+/// `certificate` tells: of one end alone, or, if none is given, of both. `run_check` writes the line of it. Nothing of the record is read before the other two are there.
 pub fn check_outcome<R: Read, T: Read, C: Read>(
     alloc: Global,
     entries: &mut R,
@@ -187,24 +177,9 @@ pub fn check_outcome<R: Read, T: Read, C: Read>(
     certificate: &mut C,
     judged: Option<End>,
 ) -> Outcome
-    ensures { Judges judged (record {
-      before = R.untold entries.old;
-      after = R.untold entries.new;
-      failed_before = R.failures entries.old;
-      failed_after = R.failures entries.new;
-    })
-        (record {
-          before = T.untold table.old;
-          after = T.untold table.new;
-          failed_before = T.failures table.old;
-          failed_after = T.failures table.new;
-        })
-        (record {
-          before = C.untold certificate.old;
-          after = C.untold certificate.new;
-          failed_before = C.failures certificate.old;
-          failed_after = C.failures certificate.new;
-        }) result }
+    ensures { Judges judged (device R.untold R.failures entries.old entries.new)
+        (device T.untold T.failures table.old table.new)
+        (device C.untold C.failures certificate.old certificate.new) result }
 {
     let table = match read_table(alloc, table) {
         Ok(table) => table,
@@ -217,104 +192,33 @@ pub fn check_outcome<R: Read, T: Read, C: Read>(
     judge_record(alloc, entries, &table, &certificate, judged)
 }
 
-/// Replays the certificate that `certificate` tells over the record that `entries` tells, by the operation table that
-/// `table` tells, and writes one line: that the record is lawful, or why the certificate does not show it, or what is
-/// wrong with one of the three, the table first, then the certificate, then the record. Each text has at most
-/// 67,108,864 octets; of the record one entry is held at a time, and nothing is read before the other two are there.
-/// `WriteFailed` where the writer failed.
+/// Replays the certificate that `certificate` returns over the record that `entries` returns, by the operation table that
+/// `table` returns, and writes one line: that the record is lawful, or why the certificate does not show it, or what is
+/// wrong with one of the three, the table first, then the certificate, then the record. If an end is given, that end alone
+/// is judged: whether it may have sent its part of the record, whatever its peer sent, and how many of the peer's messages
+/// it does not hear in the run. Each text has at most 67,108,864 octets. One entry of the record is held at a time, and
+/// none is read before the table and the certificate are there.
+///
+/// # Errors
+///
+/// `WriteFailed` if the writer failed.
 pub fn run_check<R: Read, T: Read, C: Read, W: Write>(
     alloc: Global,
     entries: &mut R,
     table: &mut T,
     certificate: &mut C,
+    judged: Option<End>,
     writer: &mut W,
 ) -> Result<Status, WriteFailed>
-    ensures checks { IfOk result (Checks None (record {
-      before = R.untold entries.old;
-      after = R.untold entries.new;
-      failed_before = R.failures entries.old;
-      failed_after = R.failures entries.new;
-    })
-        (record {
-          before = T.untold table.old;
-          after = T.untold table.new;
-          failed_before = T.failures table.old;
-          failed_after = T.failures table.new;
-        })
-        (record {
-          before = C.untold certificate.old;
-          after = C.untold certificate.new;
-          failed_before = C.failures certificate.old;
-          failed_after = C.failures certificate.new;
-        })
+    ensures checks { IfOk result (Checks judged (device R.untold R.failures entries.old entries.new)
+        (device T.untold T.failures table.old table.new) (device C.untold C.failures certificate.old certificate.new)
         (W.taken writer.old) (W.taken writer.new)) }
     ensures lawful { result ≡ Ok Status.Fine
-        → FindsLawful (record {
-          before = R.untold entries.old;
-          after = R.untold entries.new;
-          failed_before = R.failures entries.old;
-          failed_after = R.failures entries.new;
-        })
-        (record {
-          before = T.untold table.old;
-          after = T.untold table.new;
-          failed_before = T.failures table.old;
-          failed_after = T.failures table.new;
-        })
-        (W.taken writer.old) (W.taken writer.new) }
+        → FindsLawfulBy judged (device R.untold R.failures entries.old entries.new)
+        (device T.untold T.failures table.old table.new) (W.taken writer.old) (W.taken writer.new) }
     ensures counts { OnOk result (W.failures writer.new ≡ W.failures writer.old) }
     ensures failed { OnErr result (W.failures writer.new ≡ one_more (W.failures writer.old)) }
 {
-    let outcome = check_outcome(alloc, entries, table, certificate, None);
-    write_outcome(alloc, outcome, "", writer)
-}
-
-/// The same for one end alone: whether it may have sent its part of the record, whatever its peer sent, with how many of the
-/// peer's messages are taken as unheard; or why the certificate does not show it.
-pub fn run_check_end<R: Read, T: Read, C: Read, W: Write>(
-    alloc: Global,
-    entries: &mut R,
-    table: &mut T,
-    certificate: &mut C,
-    end: End,
-    writer: &mut W,
-) -> Result<Status, WriteFailed>
-    ensures checks { IfOk result (Checks (Some end) (record {
-      before = R.untold entries.old;
-      after = R.untold entries.new;
-      failed_before = R.failures entries.old;
-      failed_after = R.failures entries.new;
-    })
-        (record {
-          before = T.untold table.old;
-          after = T.untold table.new;
-          failed_before = T.failures table.old;
-          failed_after = T.failures table.new;
-        })
-        (record {
-          before = C.untold certificate.old;
-          after = C.untold certificate.new;
-          failed_before = C.failures certificate.old;
-          failed_after = C.failures certificate.new;
-        })
-        (W.taken writer.old) (W.taken writer.new)) }
-    ensures lawful { result ≡ Ok Status.Fine
-        → FindsLawfulFor end (record {
-          before = R.untold entries.old;
-          after = R.untold entries.new;
-          failed_before = R.failures entries.old;
-          failed_after = R.failures entries.new;
-        })
-        (record {
-          before = T.untold table.old;
-          after = T.untold table.new;
-          failed_before = T.failures table.old;
-          failed_after = T.failures table.new;
-        })
-        (W.taken writer.old) (W.taken writer.new) }
-    ensures counts { OnOk result (W.failures writer.new ≡ W.failures writer.old) }
-    ensures failed { OnErr result (W.failures writer.new ≡ one_more (W.failures writer.old)) }
-{
-    let outcome = check_outcome(alloc, entries, table, certificate, Some(end));
+    let outcome = check_outcome(alloc, entries, table, certificate, judged);
     write_outcome(alloc, outcome, "", writer)
 }

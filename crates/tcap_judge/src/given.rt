@@ -2,6 +2,7 @@
 
 ghost use Rattle.std.specs.Prelude.{◌≡◌};
 ghost use Rattle.tcap_judge.specs.Checked.{ReadsCertificate, ReadsTable, said_of_text};
+ghost use Rattle.tcap_judge.specs.Device.{device};
 
 use crate::outcome::{OUT_OF_MEMORY, Outcome};
 use crate::text_reading::{TextFault, read_text};
@@ -35,12 +36,7 @@ fn without_text(too_long: u8, fault: TextFault) -> Outcome
 /// The operation table that a reader tells, of at most 67,108,864 octets of text; else what is said in its place: a fault
 /// of the table (30 to 34), the reader's failure (23), or that memory ran out (99).
 pub fn read_table<R: Read>(alloc: Global, reader: &mut R) -> Result<Table, Outcome>
-    ensures { ReadsTable (record {
-      before = R.untold reader.old;
-      after = R.untold reader.new;
-      failed_before = R.failures reader.old;
-      failed_after = R.failures reader.new;
-    }) result }
+    ensures { ReadsTable (device R.untold R.failures reader.old reader.new) result }
 {
     match read_text(alloc, reader, TEXT_LIMIT) {
         Ok(text) => match Table::from_json(alloc, &text) {
@@ -55,12 +51,7 @@ pub fn read_table<R: Read>(alloc: Global, reader: &mut R) -> Result<Table, Outco
 /// The certificate that a reader tells, of at most 67,108,864 octets of text; else what is said in its place: that it is
 /// none (60), the reader's failure (23), or that memory ran out (99).
 pub fn read_certificate<R: Read>(alloc: Global, reader: &mut R) -> Result<Certificate, Outcome>
-    ensures { ReadsCertificate (record {
-      before = R.untold reader.old;
-      after = R.untold reader.new;
-      failed_before = R.failures reader.old;
-      failed_after = R.failures reader.new;
-    }) result }
+    ensures { ReadsCertificate (device R.untold R.failures reader.old reader.new) result }
 {
     match read_text(alloc, reader, TEXT_LIMIT) {
         Ok(text) => match from_json(alloc, &text) {

@@ -3,7 +3,7 @@
 ghost use Rattle.std.specs.Prelude.{◌≡◌, ℕ, List, false, None, Some, Ok, IfOk, OnOk, OnErr};
 ghost use Rattle.std.specs.String.{string_bytes};
 ghost use Rattle.tcap_ber.specs.Device.{one_more};
-ghost use Rattle.tcap_judge.specs.LawfulRecord.{FindsLawful};
+ghost use Rattle.tcap_judge.specs.Device.{device};
 ghost use Rattle.tcap_judge.specs.Verdict.{FindsFault, FindsLawfulThen, GivesVerdict, IsJudged, PrintsVerdict};
 
 use crate::given::read_table;
@@ -24,12 +24,7 @@ fn judge_told<R: Read>(
     judged: Option<End>,
     with_certificate: bool,
 ) -> Said
-    ensures { GivesVerdict judged table.now with_certificate (record {
-      before = R.untold reader.old;
-      after = R.untold reader.new;
-      failed_before = R.failures reader.old;
-      failed_after = R.failures reader.new;
-    }) result.outcome (string_bytes result.behind) }
+    ensures { GivesVerdict judged table.now with_certificate (device R.untold R.failures reader.old reader.new) result.outcome (string_bytes result.behind) }
 {
     match read_record(alloc, reader) {
         Ok(read) => match judge_record(alloc, &read, table, judged, with_certificate) {
@@ -49,18 +44,8 @@ fn judge<R: Read, T: Read>(
     judged: Option<End>,
     with_certificate: bool,
 ) -> Said
-    ensures { IsJudged judged with_certificate (record {
-      before = R.untold entries.old;
-      after = R.untold entries.new;
-      failed_before = R.failures entries.old;
-      failed_after = R.failures entries.new;
-    })
-        (record {
-          before = T.untold table.old;
-          after = T.untold table.new;
-          failed_before = T.failures table.old;
-          failed_after = T.failures table.new;
-        }) result.outcome (string_bytes result.behind) }
+    ensures { IsJudged judged with_certificate (device R.untold R.failures entries.old entries.new)
+        (device T.untold T.failures table.old table.new) result.outcome (string_bytes result.behind) }
 {
     match read_table(alloc, table) {
         Ok(table) => judge_told(alloc, entries, &table, judged, with_certificate),
@@ -68,151 +53,53 @@ fn judge<R: Read, T: Read>(
     }
 }
 
-/// What is said of the record that `entries` tells, by the operation table that `table` tells: of one end alone, or, where none
-/// is named, of both. `run_judge` and `run_judge_end` write the line of it. Nothing of the record is read before the table is
-/// there.
+/// What is said of the record that `entries` tells, by the operation table that `table` tells: of one end alone, or, if none
+/// is given, of both. `run_judge` writes the line of it. Nothing of the record is read before the table is there.
 pub fn judge_outcome<R: Read, T: Read>(
     alloc: Global,
     entries: &mut R,
     table: &mut T,
     judged: Option<End>,
 ) -> Outcome
-    ensures { (behind : List ℕ) × IsJudged judged false (record {
-      before = R.untold entries.old;
-      after = R.untold entries.new;
-      failed_before = R.failures entries.old;
-      failed_after = R.failures entries.new;
-    })
-        (record {
-          before = T.untold table.old;
-          after = T.untold table.new;
-          failed_before = T.failures table.old;
-          failed_after = T.failures table.new;
-        }) result behind }
+    ensures { (behind : List ℕ) × IsJudged judged false (device R.untold R.failures entries.old entries.new)
+        (device T.untold T.failures table.old table.new) result behind }
 {
     judge(alloc, entries, table, judged, false).outcome
 }
 
-/// Judges the record that `entries` tells by the operation table that `table` tells, and writes one line: the first entry
-/// that no end sends which keeps the rules; or that the record is lawful, where the certificate that is proposed shows it;
-/// or where that fails; or what is wrong with the table, and else with the record, of which nothing is read before the table
-/// is there. Behind LAWFUL it writes the certificate on a line of its own, where it is asked for. All that grows has grown
-/// before the first octet is written. `WriteFailed` where the writer failed.
+/// Judges the record that `entries` returns by the operation table that `table` returns, and writes one line: the first
+/// entry that no end sends which keeps the rules; or that the record is lawful, if the certificate that is proposed shows
+/// it; or why that fails; or what is wrong with the table, and else with the record, of which nothing is read before the
+/// table is there. If an end is given, that end alone is judged: the line names the first entry, or quiet mark, that no run
+/// has in which this end keeps the rules, whatever its peer sends; or it says that the end may have sent its part of the
+/// record, and how many of the peer's messages it does not hear. After LAWFUL it writes the certificate on a line of its
+/// own, if `with_certificate`. All that grows has grown before the first octet is written.
+///
+/// # Errors
+///
+/// `WriteFailed` if the writer failed.
 pub fn run_judge<R: Read, T: Read, W: Write>(
     alloc: Global,
     entries: &mut R,
     table: &mut T,
+    judged: Option<End>,
     with_certificate: bool,
     writer: &mut W,
 ) -> Result<Status, WriteFailed>
-    ensures judges { IfOk result (PrintsVerdict None with_certificate (record {
-      before = R.untold entries.old;
-      after = R.untold entries.new;
-      failed_before = R.failures entries.old;
-      failed_after = R.failures entries.new;
-    })
-        (record {
-          before = T.untold table.old;
-          after = T.untold table.new;
-          failed_before = T.failures table.old;
-          failed_after = T.failures table.new;
-        })
+    ensures judges { IfOk result (PrintsVerdict judged with_certificate
+        (device R.untold R.failures entries.old entries.new) (device T.untold T.failures table.old table.new)
         (W.taken writer.old) (W.taken writer.new)) }
     ensures lawful { result ≡ Ok Status.Fine
-        → FindsLawfulThen None with_certificate (record {
-          before = R.untold entries.old;
-          after = R.untold entries.new;
-          failed_before = R.failures entries.old;
-          failed_after = R.failures entries.new;
-        })
-        (record {
-          before = T.untold table.old;
-          after = T.untold table.new;
-          failed_before = T.failures table.old;
-          failed_after = T.failures table.new;
-        })
-        (W.taken writer.old) (W.taken writer.new) }
+        → FindsLawfulThen judged with_certificate (device R.untold R.failures entries.old entries.new)
+        (device T.untold T.failures table.old table.new) (W.taken writer.old) (W.taken writer.new) }
     ensures refuted { result ≡ Ok Status.Refuted
-        → FindsFault None (record {
-          before = R.untold entries.old;
-          after = R.untold entries.new;
-          failed_before = R.failures entries.old;
-          failed_after = R.failures entries.new;
-        })
-        (record {
-          before = T.untold table.old;
-          after = T.untold table.new;
-          failed_before = T.failures table.old;
-          failed_after = T.failures table.new;
-        })
-        (W.taken writer.old) (W.taken writer.new) }
+        → FindsFault judged (device R.untold R.failures entries.old entries.new)
+        (device T.untold T.failures table.old table.new) (W.taken writer.old) (W.taken writer.new) }
     ensures counts { OnOk result (W.failures writer.new ≡ W.failures writer.old) }
     ensures failed { OnErr result (W.failures writer.new ≡ one_more (W.failures writer.old)) }
 {
     laws::refuted_is_at_fault();
-    let said = judge(alloc, entries, table, None, with_certificate);
-    write_outcome(alloc, said.outcome, &said.behind, writer)
-}
-
-/// The same for one end alone: the first entry that is blamed on it, or quiet mark, which no run has in which this end
-/// keeps the rules, whatever its peer sends; or that it may have sent its part of the record, where the certificate that is
-/// proposed for it shows it, with how many of its peer's messages are taken as unheard; or where that fails; or what is
-/// wrong with the table, and else with the record, of which nothing is read before the table is there. Behind LAWFUL it
-/// writes the certificate on a line of its own, where it is asked for. All that grows has grown before the first octet is
-/// written. `WriteFailed` where the writer failed.
-pub fn run_judge_end<R: Read, T: Read, W: Write>(
-    alloc: Global,
-    entries: &mut R,
-    table: &mut T,
-    end: End,
-    with_certificate: bool,
-    writer: &mut W,
-) -> Result<Status, WriteFailed>
-    ensures judges { IfOk result (PrintsVerdict (Some end) with_certificate (record {
-      before = R.untold entries.old;
-      after = R.untold entries.new;
-      failed_before = R.failures entries.old;
-      failed_after = R.failures entries.new;
-    })
-        (record {
-          before = T.untold table.old;
-          after = T.untold table.new;
-          failed_before = T.failures table.old;
-          failed_after = T.failures table.new;
-        })
-        (W.taken writer.old) (W.taken writer.new)) }
-    ensures lawful { result ≡ Ok Status.Fine
-        → FindsLawfulThen (Some end) with_certificate (record {
-          before = R.untold entries.old;
-          after = R.untold entries.new;
-          failed_before = R.failures entries.old;
-          failed_after = R.failures entries.new;
-        })
-        (record {
-          before = T.untold table.old;
-          after = T.untold table.new;
-          failed_before = T.failures table.old;
-          failed_after = T.failures table.new;
-        })
-        (W.taken writer.old) (W.taken writer.new) }
-    ensures refuted { result ≡ Ok Status.Refuted
-        → FindsFault (Some end) (record {
-          before = R.untold entries.old;
-          after = R.untold entries.new;
-          failed_before = R.failures entries.old;
-          failed_after = R.failures entries.new;
-        })
-        (record {
-          before = T.untold table.old;
-          after = T.untold table.new;
-          failed_before = T.failures table.old;
-          failed_after = T.failures table.new;
-        })
-        (W.taken writer.old) (W.taken writer.new) }
-    ensures counts { OnOk result (W.failures writer.new ≡ W.failures writer.old) }
-    ensures failed { OnErr result (W.failures writer.new ≡ one_more (W.failures writer.old)) }
-{
     tcap_faults::laws::blamed_is_at_fault();
-    let said = judge(alloc, entries, table, Some(end), with_certificate);
+    let said = judge(alloc, entries, table, judged, with_certificate);
     write_outcome(alloc, said.outcome, &said.behind, writer)
 }

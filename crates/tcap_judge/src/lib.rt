@@ -13,10 +13,10 @@ mod text_reading;
 mod verdicts;
 
 pub use blaming::{Blame, blame_outcome, blame_record, find_both, run_blame};
-pub use checking::{check_outcome, run_check, run_check_end};
+pub use checking::{check_outcome, run_check};
 pub use finding::{Ends, Finding, blame_status, push_finding, stands_behind};
 pub use given::{read_certificate, read_table};
-pub use judging::{judge_outcome, run_judge, run_judge_end};
+pub use judging::{judge_outcome, run_judge};
 pub use outcome::{OUT_OF_MEMORY, Outcome, inner_number, push_outcome, write_outcome};
 pub use tcap_certificate_text::CertificateText;
 pub use tcap_lines::{Status, WriteFailed, run_pack, run_show};

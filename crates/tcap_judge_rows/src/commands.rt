@@ -60,10 +60,11 @@ pub(crate) fn outcome_of(alloc: Global, command: &Command, limits: [usize; 4]) -
             &mut record,
             &mut table,
             &mut certificate,
+            None,
             &mut writer,
         ),
-        "judge" => run_judge(alloc, &mut record, &mut table, false, &mut writer),
-        "judge --cert" => run_judge(alloc, &mut record, &mut table, true, &mut writer),
+        "judge" => run_judge(alloc, &mut record, &mut table, None, false, &mut writer),
+        "judge --cert" => run_judge(alloc, &mut record, &mut table, None, true, &mut writer),
         "blame" => run_blame(alloc, &mut record, &mut table, &mut writer),
         _ => return None,
     };

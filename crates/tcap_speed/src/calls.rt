@@ -7,7 +7,7 @@ use tcap_books::Book;
 use tcap_dialogues::Reuse;
 use tcap_end::Table;
 use tcap_explain::{Asked, run_explain};
-use tcap_judge::{blame_record, blame_status, run_blame, run_check, run_judge, run_judge_end};
+use tcap_judge::{blame_record, blame_status, run_blame, run_check, run_judge};
 use tcap_lines::{Status, WriteFailed, run_pack, run_show};
 use tcap_record::{End, read_record};
 use tcap_report::{Asked as AskedOfTrace, Sinks, Stop, Sum, Watch, run_trace};
@@ -114,30 +114,16 @@ impl Answers {
         self.note_octets(printed);
     }
 
-    /// Judges both ends, and has the certificate printed.
-    pub(crate) fn judge(&mut self, alloc: Global, octets: &[u8]) {
+    /// Judges both ends, and has the certificate printed; or judges the given end alone.
+    pub(crate) fn judge(&mut self, alloc: Global, octets: &[u8], judged: Option<End>) {
         let mut writer = Counted::new(Vec::new(alloc));
         let mut table = Counted::new(TABLE.as_bytes());
         let ended = run_judge(
             alloc,
             &mut Counted::new(octets),
             &mut table,
-            true,
-            &mut writer,
-        );
-        self.note(ended, &writer.into_inner());
-    }
-
-    /// Judges one end alone.
-    pub(crate) fn judge_end(&mut self, alloc: Global, octets: &[u8], end: End) {
-        let mut writer = Counted::new(Vec::new(alloc));
-        let mut table = Counted::new(TABLE.as_bytes());
-        let ended = run_judge_end(
-            alloc,
-            &mut Counted::new(octets),
-            &mut table,
-            end,
-            false,
+            judged,
+            judged.is_none(),
             &mut writer,
         );
         self.note(ended, &writer.into_inner());
@@ -214,6 +200,7 @@ impl Answers {
             &mut Counted::new(octets),
             &mut table,
             &mut told,
+            None,
             &mut writer,
         );
         self.note(ended, &writer.into_inner());

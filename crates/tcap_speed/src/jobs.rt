@@ -105,9 +105,9 @@ fn nightly(
         };
         let made = make_traffic(alloc, len as usize, dialogues, faults, dice.word())?;
         match kind {
-            0..=5 => answers.judge(alloc, &made.octets),
-            6 => answers.judge_end(alloc, &made.octets, End::A),
-            7 => answers.judge_end(alloc, &made.octets, End::B),
+            0..=5 => answers.judge(alloc, &made.octets, None),
+            6 => answers.judge(alloc, &made.octets, Some(End::A)),
+            7 => answers.judge(alloc, &made.octets, Some(End::B)),
             _ => answers.blame(alloc, &made.octets),
         }
     }
@@ -141,9 +141,9 @@ fn awkward(
     entries: u32,
 ) -> Result<(), AllocError> {
     let few = entries / 6;
-    answers.judge(alloc, &one_invoke_id(alloc, few, seed)?.octets);
-    answers.judge(alloc, &crossing(alloc, few, seed)?.octets);
-    answers.judge_end(alloc, &unheard(alloc, few, seed)?.octets, End::B);
+    answers.judge(alloc, &one_invoke_id(alloc, few, seed)?.octets, None);
+    answers.judge(alloc, &crossing(alloc, few, seed)?.octets, None);
+    answers.judge(alloc, &unheard(alloc, few, seed)?.octets, Some(End::B));
     let made = all_under_way(alloc, few, seed)?;
     let certificate = made.certificate(alloc)?;
     answers.check(alloc, &made.octets, certificate.as_str());
@@ -210,7 +210,7 @@ pub(crate) fn answers_of(
 ) -> Result<Answers, AllocError> {
     let mut answers = Answers::new();
     match job {
-        Job::Load => answers.judge(alloc, &load(alloc, seed, entries)?.octets),
+        Job::Load => answers.judge(alloc, &load(alloc, seed, entries)?.octets, None),
         Job::Blame => answers.blame(alloc, &load(alloc, seed, entries)?.octets),
         Job::Explain => answers.explain(alloc, &load(alloc, seed, entries)?.octets),
         Job::Nightly => nightly(alloc, &mut answers, seed, entries)?,

@@ -30,6 +30,7 @@ pub fn is_called_lawful(
         &mut entries,
         &mut of_table,
         &mut of_certificate,
+        None,
         &mut writer,
     )?;
     Ok(matches!(status, Status::Fine))

@@ -17,7 +17,7 @@ use Rattle.tcap_words.specs.CommandLine.{tool}
 use Rattle.tcap_words.specs.Tests.{values_of}
 use Rattle.tcap_words.specs.Words.{Asks, Explains, Tested, blamed_paths, checked_paths, end_value, explained_paths, is_ids_word, is_letter, is_number, is_set, judged_paths, named_with, named_with_flag, named_with_flags, named_with_paths, named_with_traces, named_with_two, path_text, shown_path, tested}
 use Rattle.tcap_words.specs.declared.asked.Request.{Request}
-use Rattle.tcap_words.specs.declared.asked.Request.TheVariants.{Show, Pack, Check, CheckEnd, Judge, JudgeEnd, Explain, Blame, Table, Test}
+use Rattle.tcap_words.specs.declared.asked.Request.TheVariants.{Show, Pack, Check, Judge, Explain, Blame, Table, Test}
 use Rattle.tcap_words.proofs.Tool.{IsKnown, fused, named}
 use Rattle.tcap_words.proofs.Needed.{needed_there}
 
@@ -310,21 +310,6 @@ end_named m words name known f o same is_name is_rows is_known is =
     (entered_at m words name known f same is_name is_rows is_known)
     ∙ sym (is ∙ first_value-rows f (codes "end"))
 
--- and what is made of it is what they ask for
-pub check_made : (words : List Text) (o : Option Side) (x y z : Bor Text) (r : Request)
-    → named_with_paths words ≡ Some (codes "check", (Some x.now, Some y.now, Some z.now))
-    → end_value words ≡ option_map letter o → (o ≡ None → r ≡ Check x y z)
-    → ((side : Side) → o ≡ Some side → r ≡ CheckEnd side x y z) → Asks words r
-check_made words None x y z r named at both one = subst (Asks words) (sym (both refl)) (named, at)
-check_made words (Some side) x y z r named at both one = subst (Asks words) (sym (one side refl)) (named, at)
-
-pub judge_made : (words : List Text) (o : Option Side) (x y : Bor Text) (flag : Bool) (r : Request)
-    → named_with_flag words ≡ Some (codes "judge", (Some x.now, Some y.now, flag))
-    → end_value words ≡ option_map letter o → (o ≡ None → r ≡ Judge x y flag)
-    → ((side : Side) → o ≡ Some side → r ≡ JudgeEnd side x y flag) → Asks words r
-judge_made words None x y flag r named at both one = subst (Asks words) (sym (both refl)) (named, at)
-judge_made words (Some side) x y flag r named at both one = subst (Asks words) (sym (one side refl)) (named, at)
-
 -- the paths of `explain`, and the file of its chart
 abbrev four : Option Text → Option Text → Option Text → Option Text
     → Option (Text × (Option Text × Option Text × Option Text × Option Text))
@@ -351,10 +336,8 @@ explain_asked_of m words name f (Explain x y z side file) same is_name is_rows i
 )
 explain_asked_of m words name f (Show path why lines) same is_name is_rows is_explain explains = absurd explains
 explain_asked_of m words name f (Pack path) same is_name is_rows is_explain explains = absurd explains
-explain_asked_of m words name f (Check x y z) same is_name is_rows is_explain explains = absurd explains
-explain_asked_of m words name f (CheckEnd side x y z) same is_name is_rows is_explain explains = absurd explains
-explain_asked_of m words name f (Judge x y flag) same is_name is_rows is_explain explains = absurd explains
-explain_asked_of m words name f (JudgeEnd side x y flag) same is_name is_rows is_explain explains = absurd explains
+explain_asked_of m words name f (Check x y z side) same is_name is_rows is_explain explains = absurd explains
+explain_asked_of m words name f (Judge x y flag side) same is_name is_rows is_explain explains = absurd explains
 explain_asked_of m words name f (Blame x y) same is_name is_rows is_explain explains = absurd explains
 explain_asked_of m words name f (Table x) same is_name is_rows is_explain explains = absurd explains
 explain_asked_of m words name f (Test x) same is_name is_rows is_explain explains = absurd explains

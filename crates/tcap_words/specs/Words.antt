@@ -12,7 +12,7 @@ use Rattle.tcap_record.specs.Ends.{letter}
 use Rattle.tcap_words.specs.CommandLine.{tool}
 pub use Rattle.tcap_words.specs.Tests.{Tested, is_ids_word, is_number, is_set, number_of, path_text, requested, tested}
 use Rattle.tcap_words.specs.declared.asked.Request.{Request}
-use Rattle.tcap_words.specs.declared.asked.Request.TheVariants.{Show, Pack, Check, CheckEnd, Judge, JudgeEnd, Explain, Blame, Table, Test}
+use Rattle.tcap_words.specs.declared.asked.Request.TheVariants.{Show, Pack, Check, Judge, Explain, Blame, Table, Test}
 use Rattle.tcap_words.specs.declared.words.WordsFault.{WordsFault}
 use Rattle.tcap_words.specs.declared.words.WordsFault.TheVariants.{Words, Memory}
 
@@ -81,18 +81,12 @@ Asks words (Show path with_reasons of_lines) =
     named_with_flags words ≡ Some (codes "show", (path_text path, with_reasons, of_lines))
 Asks words (Pack path) =
     named_with (codes "LINES") words ≡ Some (codes "pack", path_text path)
-Asks words (Check taken table cert) =
+Asks words (Check taken table cert side) =
     (named_with_paths words ≡ Some (codes "check", (Some taken.now, Some table.now, Some cert.now)))
-    × (end_value words ≡ None)
-Asks words (CheckEnd side taken table cert) =
-    (named_with_paths words ≡ Some (codes "check", (Some taken.now, Some table.now, Some cert.now)))
-    × (end_value words ≡ Some (letter side))
-Asks words (Judge taken table with_certificate) =
+    × (end_value words ≡ option_map letter side)
+Asks words (Judge taken table with_certificate side) =
     (named_with_flag words ≡ Some (codes "judge", (Some taken.now, Some table.now, with_certificate)))
-    × (end_value words ≡ None)
-Asks words (JudgeEnd side taken table with_certificate) =
-    (named_with_flag words ≡ Some (codes "judge", (Some taken.now, Some table.now, with_certificate)))
-    × (end_value words ≡ Some (letter side))
+    × (end_value words ≡ option_map letter side)
 Asks words (Explain taken table cert side chart) =
     (named_with_chart words ≡ Some (codes "explain", (Some taken.now, Some table.now, path_text cert, path_text chart)))
     × (end_value words ≡ option_map letter side)

@@ -46,14 +46,12 @@ pub enum Request<'a> {
     Show(Option<&'a str>, bool, bool),
     /// Make a record of the lines of hex digits in the file of this path, or on standard input.
     Pack(Option<&'a str>),
-    /// Replay a certificate for a record: the paths of the record, of the operation table and of the certificate.
-    Check(&'a str, &'a str, &'a str),
-    /// Replay a certificate for the messages of one end: that end, and then the paths as in `Check`.
-    CheckEnd(End, &'a str, &'a str, &'a str),
-    /// Judge a record: the paths of the record and of the operation table, and whether the certificate is printed too.
-    Judge(&'a str, &'a str, bool),
-    /// Judge one end of a record: that end, and then as in `Judge`.
-    JudgeEnd(End, &'a str, &'a str, bool),
+    /// Replay a certificate for a record: the paths of the record, of the operation table and of the certificate, and the
+    /// end that is judged alone, if one is given.
+    Check(&'a str, &'a str, &'a str, Option<End>),
+    /// Judge a record: the paths of the record and of the operation table, whether the certificate is printed too, and the
+    /// end that is judged alone, if one is given.
+    Judge(&'a str, &'a str, bool, Option<End>),
     /// Say in words why a record is lawful, refuted or undecided: the paths of the record, of the operation table and of
     /// a certificate, which may be left out; the end that is judged alone, where it is given; and the path of the file
     /// that a chart of the run goes to, where it is asked for.

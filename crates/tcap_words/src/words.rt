@@ -225,40 +225,6 @@ fn test_request<'a>(alloc: Global, found: &ArgMatches<'a>) -> Result<Test<'a>, A
     })
 }
 
-/// The request to replay a certificate, for one end where it is given.
-fn check_request<'a>(
-    side: Option<End>,
-    entries: &'a str,
-    table: &'a str,
-    cert: &'a str,
-) -> Request<'a>
-    ensures both { side ≡ None → result ≡ asked.Check entries.entry table.entry cert.entry }
-    ensures one { (end_given : Side) → side ≡ Some end_given
-        → result ≡ asked.CheckEnd end_given entries.entry table.entry cert.entry }
-{
-    match side {
-        None => Request::Check(entries, table, cert),
-        Some(side) => Request::CheckEnd(side, entries, table, cert),
-    }
-}
-
-/// The request to judge, one end where it is given.
-fn judge_request<'a>(
-    side: Option<End>,
-    entries: &'a str,
-    table: &'a str,
-    with_certificate: bool,
-) -> Request<'a>
-    ensures both { side ≡ None → result ≡ asked.Judge entries.entry table.entry with_certificate }
-    ensures one { (end_given : Side) → side ≡ Some end_given
-        → result ≡ asked.JudgeEnd end_given entries.entry table.entry with_certificate }
-{
-    match side {
-        None => Request::Judge(entries, table, with_certificate),
-        Some(side) => Request::JudgeEnd(side, entries, table, with_certificate),
-    }
-}
-
 /// The request to explain, with the paths and the end that are given.
 fn explain_request<'a>(found: &ArgMatches<'a>) -> Request<'a>
     requires entries { is_some (first_value (found_of found.now) (codes "RECORD")) ≡ true }
@@ -308,13 +274,13 @@ pub fn request<'a>(alloc: Global, words: &'a [&'a str]) -> Result<Request<'a>, W
             let record = needed(found, "RECORD");
             let table = needed(found, "TABLE");
             let cert = needed(found, "CERT");
-            Ok(check_request(end_given(found), record, table, cert))
+            Ok(Request::Check(record, table, cert, end_given(found)))
         }
         "judge" => {
             let record = needed(found, "RECORD");
             let table = needed(found, "TABLE");
             let with_certificate = is_set(found, "cert");
-            Ok(judge_request(end_given(found), record, table, with_certificate))
+            Ok(Request::Judge(record, table, with_certificate, end_given(found)))
         }
         "explain" => Ok(explain_request(found)),
         "blame" => {

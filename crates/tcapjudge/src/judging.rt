@@ -5,45 +5,40 @@ use crate::source::Source;
 use std::io;
 use tcap_ber::Counted;
 use tcap_diagnostics::Role;
-use tcap_judge::{run_blame, run_check, run_check_end, run_judge, run_judge_end};
+use tcap_judge::{run_blame, run_check, run_judge};
 use tcap_record::End;
 
 /// What is asked of a record and an operation table.
 #[derive(Clone, Copy)]
 pub(crate) enum Question {
-    /// The verdict on the record; and the certificate that shows it to be lawful, where that is asked for.
-    Verdict(bool),
-    /// The same of the messages of one end alone.
-    OfEnd(End, bool),
+    /// The verdict on both ends, or on the given end alone; and whether the certificate that shows it to be lawful is printed too.
+    Verdict(Option<End>, bool),
     /// The verdict, and which end is at fault.
     Blame,
 }
 
 /// Replays the certificate of the file `cert` over the record of the file `entries`, by the table of the file `table`; for one end
-/// alone if `side` is given. The files are opened in the order in which they are read: the table, the certificate, the record. The
+/// alone if `judged` is given. The files are opened in the order in which they are read: the table, the certificate, the record. The
 /// line is printed at once. Returns the exit status.
 pub(crate) fn check(
     rt: &HostRuntime,
     entries: &str,
     table: &str,
     cert: &str,
-    side: Option<End>,
+    judged: Option<End>,
 ) -> u8 {
     let mut book = Source::noted(rt, table);
     let mut certificate = Source::noted(rt, cert);
     let mut record = Source::noted(rt, entries);
     let (alloc, mut writer) = (rt.alloc(), Counted::new(io::writer(rt)));
-    let ended = match side {
-        None => run_check(alloc, &mut record, &mut book, &mut certificate, &mut writer),
-        Some(end) => run_check_end(
-            alloc,
-            &mut record,
-            &mut book,
-            &mut certificate,
-            end,
-            &mut writer,
-        ),
-    };
+    let ended = run_check(
+        alloc,
+        &mut record,
+        &mut book,
+        &mut certificate,
+        judged,
+        &mut writer,
+    );
     if is_fault(&ended) {
         tell(rt, Role::Record, entries, &mut record);
         tell(rt, Role::Table, table, &mut book);
@@ -59,18 +54,11 @@ pub(crate) fn judge(rt: &HostRuntime, entries: &str, table: &str, question: Ques
     let mut record = Source::noted(rt, entries);
     let (alloc, mut writer) = (rt.alloc(), Counted::new(io::writer(rt)));
     let ended = match question {
-        Question::Verdict(with_certificate) => run_judge(
+        Question::Verdict(judged, with_certificate) => run_judge(
             alloc,
             &mut record,
             &mut book,
-            with_certificate,
-            &mut writer,
-        ),
-        Question::OfEnd(end, with_certificate) => run_judge_end(
-            alloc,
-            &mut record,
-            &mut book,
-            end,
+            judged,
             with_certificate,
             &mut writer,
         ),

@@ -83,15 +83,11 @@ fn answer(rt: &HostRuntime, request: Request) -> io::Result<u8> {
         Request::Show(path, true, false) => over_path(rt, Task::Why, path),
         Request::Show(path, false, false) => over_path(rt, Task::Show, path),
         Request::Pack(path) => over_path(rt, Task::Pack, path),
-        Request::Check(entries, table, cert) => Ok(check(rt, entries, table, cert, None)),
-        Request::CheckEnd(end, entries, table, cert) => {
-            Ok(check(rt, entries, table, cert, Some(end)))
+        Request::Check(entries, table, cert, judged) => {
+            Ok(check(rt, entries, table, cert, judged))
         }
-        Request::Judge(entries, table, with_certificate) => {
-            Ok(judge(rt, entries, table, Question::Verdict(with_certificate)))
-        }
-        Request::JudgeEnd(end, entries, table, with_certificate) => {
-            let question = Question::OfEnd(end, with_certificate);
+        Request::Judge(entries, table, with_certificate, judged) => {
+            let question = Question::Verdict(judged, with_certificate);
             Ok(judge(rt, entries, table, question))
         }
         Request::Blame(entries, table) => Ok(judge(rt, entries, table, Question::Blame)),

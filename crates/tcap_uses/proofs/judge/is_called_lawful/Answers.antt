@@ -6,7 +6,7 @@ use Rattle.tcap_model.specs.World.{Item}
 use Rattle.tcap_model.specs.Run.{IsLawful}
 use Rattle.tcap_lines.specs.declared.status.Status.{Status}
 use Rattle.tcap_lines.specs.declared.status.Status.TheVariants.{Fine}
-use Rattle.tcap_judge.specs.Checked.{Device}
+use Rattle.tcap_judge.specs.Device.{Device}
 use Rattle.tcap_judge.specs.LawfulRecord.{FindsLawful, SpellsRecord}
 use Rattle.tcap_uses.proofs.Results.{told_all}
 use Rattle.tcap_uses.proofs.judge.is_called_lawful.Goals.{in-Fine, in_default}
@@ -18,15 +18,15 @@ known_lawful : (entries table : Device) (taken taken' : Option (List ℕ)) (octe
     → (items : List Item) × (operations : Table) × (moves : ℕ) × SpellsRecord items octets
     × IsTableOf text (Ok operations) × IsLawful items operations moves
 known_lawful entries table taken taken' octets text is text_is found =
-    let told = subst (λ (o : Option (List ℕ)). Consumes o entries.after found.octets) is found.tells.0 in
-    let told_text = subst (λ (o : Option (List ℕ)). Consumes o table.after found.text) text_is found.tells_table.0 in
-    let all = told_all octets found.octets entries.after told found.tells.1 in
-    let all_text = told_all text found.text table.after told_text found.tells_table.1 in (
+    let told = subst (λ (o : Option (List ℕ)). Consumes o entries.after found.told.octets) is found.told.tells.0 in
+    let told_text = subst (λ (o : Option (List ℕ)). Consumes o table.after found.told.text) text_is found.told.tells_table.0 in
+    let all = told_all octets found.told.octets entries.after told found.told.tells.1 in
+    let all_text = told_all text found.told.text table.after told_text found.told.tells_table.1 in (
       found.items,
       found.operations,
       found.moves,
-      subst (SpellsRecord found.items) all found.spells,
-      subst (λ (t : List ℕ). IsTableOf t (Ok found.operations)) all_text found.is_table,
+      subst (SpellsRecord found.items) all found.told.spells,
+      subst (λ (t : List ℕ). IsTableOf t (Ok found.operations)) all_text found.told.is_table,
       found.lawful,
     )
 

@@ -8,7 +8,7 @@ use Rattle.clap.specs.Simple.{HasMatchesOf, subcommand_of, subcommand_rows_of}
 use Rattle.clap.specs.declared.builder.command.Command.{Command}
 use Rattle.clap.specs.declared.parser.matches.ArgMatches.{ArgMatches}
 use Rattle.tcap_words.specs.CommandLine.{placeless, tool}
-use Rattle.tcap_words.proofs.Matches.{asked_of, blame_asked_of, blame_there, check_asked_of, check_made, check_there, end_named, explain_asked_of, explain_there, has_name, judge_asked_of, judge_made, judge_there, no_name, other_name, show_asked_of, test_asked_of, test_there}
+use Rattle.tcap_words.proofs.Matches.{asked_of, blame_asked_of, blame_there, check_asked_of, check_there, end_named, explain_asked_of, explain_there, has_name, judge_asked_of, judge_there, no_name, other_name, show_asked_of, test_asked_of, test_there}
 use Rattle.tcap_words.proofs.PlacelessCommands.{fault_of_same, simple_and_free_same, simple_same, subcommand_same, takes_same}
 use Rattle.tcap_words.proofs.Tool.{IsKnown, as_fault, became_memory, tool_simple, tool_is_simple}
 use Rattle.tcap_words.proofs.words.request.Goals as goal
@@ -137,15 +137,13 @@ returns-in-check-clause-asks c =
     let words = texts c.args.words.now in
     let m = c.in_ok-matches.matches in
     let f = found_of c.in-Some.found.now in
-    let same = rows c.in_ok-command.command words m c.in_ok-command.ensures c.in_ok-matches.ensures.matches in
-    check_made words c.end_given.result c.needed-record.result c.needed-table.result c.needed-cert.result
-    c.check_request.result
-    (check_asked_of m words c.in-Some.name.now f c.needed-record.result.now c.needed-table.result.now
-    c.needed-cert.result.now same c.in-Some.ensures.name c.in-Some.ensures.rows c.in-check.is c.needed-record.ensures
-    c.needed-table.ensures c.needed-cert.ensures)
-    (end_named m words c.in-Some.name.now (codes "check") f c.end_given.result same c.in-Some.ensures.name
-    c.in-Some.ensures.rows c.in-check.is c.end_given.ensures)
-    c.check_request.ensures.both c.check_request.ensures.one
+    let same = rows c.in_ok-command.command words m c.in_ok-command.ensures c.in_ok-matches.ensures.matches in (
+      check_asked_of m words c.in-Some.name.now f c.needed-record.result.now c.needed-table.result.now
+          c.needed-cert.result.now same c.in-Some.ensures.name c.in-Some.ensures.rows c.in-check.is c.needed-record.ensures
+          c.needed-table.ensures c.needed-cert.ensures,
+      end_named m words c.in-Some.name.now (codes "check") f c.end_given.result same c.in-Some.ensures.name
+          c.in-Some.ensures.rows c.in-check.is c.end_given.ensures,
+    )
 
 pub returns-in-judge-clause-faults : goal.returns-in-judge-clause-faults
 returns-in-judge-clause-faults c =
@@ -183,15 +181,13 @@ returns-in-judge-clause-asks c =
     let words = texts c.args.words.now in
     let m = c.in_ok-matches.matches in
     let f = found_of c.in-Some.found.now in
-    let same = rows c.in_ok-command.command words m c.in_ok-command.ensures c.in_ok-matches.ensures.matches in
-    judge_made words c.end_given-in-judge.result c.needed-record-in-judge.result c.needed-table-in-judge.result
-    c.is_set-with_certificate.result c.judge_request.result
-    (judge_asked_of m words c.in-Some.name.now f c.needed-record-in-judge.result.now
-    c.needed-table-in-judge.result.now c.is_set-with_certificate.result same c.in-Some.ensures.name c.in-Some.ensures.rows c.in-judge.is
-    c.needed-record-in-judge.ensures c.needed-table-in-judge.ensures c.is_set-with_certificate.ensures)
-    (end_named m words c.in-Some.name.now (codes "judge") f c.end_given-in-judge.result same c.in-Some.ensures.name
-    c.in-Some.ensures.rows c.in-judge.is c.end_given-in-judge.ensures)
-    c.judge_request.ensures.both c.judge_request.ensures.one
+    let same = rows c.in_ok-command.command words m c.in_ok-command.ensures c.in_ok-matches.ensures.matches in (
+      judge_asked_of m words c.in-Some.name.now f c.needed-record-in-judge.result.now
+          c.needed-table-in-judge.result.now c.is_set-with_certificate.result same c.in-Some.ensures.name c.in-Some.ensures.rows c.in-judge.is
+          c.needed-record-in-judge.ensures c.needed-table-in-judge.ensures c.is_set-with_certificate.ensures,
+      end_named m words c.in-Some.name.now (codes "judge") f c.end_given-in-judge.result same c.in-Some.ensures.name
+          c.in-Some.ensures.rows c.in-judge.is c.end_given-in-judge.ensures,
+    )
 
 pub returns-in-explain-clause-faults : goal.returns-in-explain-clause-faults
 returns-in-explain-clause-faults c =

@@ -1,0 +1,27 @@
+-- What it means that a record is found lawful of one end alone.
+use Rattle.std.specs.Prelude.{ℕ, List, length, Option, Some, None}
+use Rattle.std.specs.Io.KnownBytes.{Appends}
+use Rattle.tcap_record.specs.declared.entry.End.{End as Side}
+use Rattle.tcap_end.specs.Table.{Table}
+use Rattle.tcap_model.specs.World.{Item}
+use Rattle.tcap_certificate.specs.Unheard.{IsLawfulUnheard}
+use Rattle.tcap_judge.specs.declared.outcome.Outcome.TheVariants.{LawfulFor}
+use Rattle.tcap_judge.specs.Device.{Device}
+use Rattle.tcap_judge.specs.LawfulRecord.{FindsLawful, TellsItems}
+use Rattle.tcap_judge.specs.Outcome.{outcome_line}
+
+-- The readers returned a record and an operation table. This end may have sent its part of the items of the record,
+-- whatever its peer sent, and the writer took the line that says so, with the count of the items and of the peer's messages
+-- that are lost in that run, so that the end does not hear them.
+pub record FindsLawfulFor (side : Side) (entries table : Device) (taken taken' : Option (List ℕ)) : Type 0 where
+  pub operations : Table
+  pub items : List Item
+  pub unheard : ℕ
+  pub told : TellsItems entries table operations items
+  pub lawful : IsLawfulUnheard side items operations unheard
+  pub line : Appends taken taken' (outcome_line (LawfulFor (length items) unheard))
+
+-- That is so of both ends, or of the given end alone.
+abbrev pub FindsLawfulBy : Option Side → Device → Device → Option (List ℕ) → Option (List ℕ) → Type 0
+FindsLawfulBy None entries table taken taken' = FindsLawful entries table taken taken'
+FindsLawfulBy (Some side) entries table taken taken' = FindsLawfulFor side entries table taken taken'
