@@ -15,7 +15,7 @@ enum Origin {
     /// A file.
     File(Counted<File>),
     /// The standard input.
-    Input(Counted<StdinLock>),
+    Input(Counted<StdinLock<'static>>),
     /// A file that could not be opened.
     Unopened,
 }
