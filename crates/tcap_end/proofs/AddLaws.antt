@@ -19,7 +19,7 @@ use Rattle.tcap_end.specs.HalfState.{half_of, other_id}
 use Rattle.tcap_end.specs.End.{End, put}
 use Rattle.tcap_end.specs.Sound.{Has, Rises, halves_of}
 use Rattle.tcap_end.specs.Halves.{Indexes, IsAt, IsHeld, IsNew, IsOpen, end_of, half_at, half_in, halves_at, kept_half, places_of}
-use Rattle.tcap_end.proofs.MapLaws.{found_inserted, found_other, kept_at, rises_inserted}
+use Rattle.tcap_lists.proofs.MapLaws.{found_inserted, found_other, kept_at, rises_inserted}
 use Rattle.tcap_end.proofs.FoundLaws.{octets_total}
 use Rattle.tcap_end.proofs.FindLaws.{half_there, has_there}
 use Rattle.tcap_end.proofs.PlacedLaws.{elsewhere, entries_are, halves_placed, halves_same, over_slab, places_rise, put_is, slots_eq}

@@ -28,7 +28,7 @@ use Rattle.tcap_end.specs.Ways.{components_by}
 use Rattle.tcap_end.specs.End.{End, KeptHalf, put}
 use Rattle.tcap_end.specs.Sound.{Has, IsKept, halves_of}
 use Rattle.tcap_end.specs.Halves.{AllPlaced, Indexes, IsAt, IsHeld, IsOpen, end_of, index_of, kept_half, places_of}
-use Rattle.tcap_end.proofs.MapLaws.{found_inserted, found_new, found_other, kept_at}
+use Rattle.tcap_lists.proofs.MapLaws.{found_inserted, found_new, found_other, kept_at}
 use Rattle.tcap_end.proofs.FoundLaws.{octets_total}
 use Rattle.tcap_end.proofs.HalfLaws.{Follows}
 use Rattle.tcap_end.proofs.AnsweringLaws.{ok_same}

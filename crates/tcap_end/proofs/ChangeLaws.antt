@@ -21,7 +21,7 @@ use Rattle.tcap_end.specs.HalfState.{half_of}
 use Rattle.tcap_end.specs.End.{End, put}
 use Rattle.tcap_end.specs.Sound.{Has, IsKept, Rises, halves_of}
 use Rattle.tcap_end.specs.Halves.{AnswersOver, Becomes, Indexes, IsAt, IsHeld, IsOpen, closed_at, end_of, half_at, half_in, halves_at, places_of, kept_half}
-use Rattle.tcap_end.proofs.MapLaws.{found_inserted, found_new, insert_again, keys_eq, kept_at, rises_inserted}
+use Rattle.tcap_lists.proofs.MapLaws.{found_inserted, found_new, insert_again, keys_eq, kept_at, rises_inserted}
 use Rattle.tcap_end.proofs.FoundLaws.{octets_total}
 use Rattle.tcap_end.proofs.HalfLaws.{Follows}
 use Rattle.tcap_end.proofs.PlacedLaws.{elsewhere, slots_eq, halves_same, halves_put, halves_placed, places_rise, the_open, has_open, kept_by, one_place, put_is, indexes_put}

@@ -18,7 +18,7 @@ use Rattle.tcap_end.specs.Component.{allows, allows_for, answer_problems, answer
 use Rattle.tcap_end.specs.Message.{receive_components, send_components}
 use Rattle.tcap_end.proofs.AnsweringLaws.{needs_ok, then_ok}
 use Rattle.tcap_end.proofs.HalfLaws.{Follows, IsListed, follows_grants, follows_inn, follows_out, follows_self, follows_then}
-use Rattle.tcap_end.proofs.MapLaws.{all_inserted, all_removed, rises_inserted, rises_removed}
+use Rattle.tcap_lists.proofs.MapLaws.{all_inserted, all_removed, rises_inserted, rises_removed}
 
 -- ---- lists by invoke ID
 

@@ -12,8 +12,8 @@ use Rattle.std.proofs.lemmas.Cmp.{int_cmp_total}
 use Rattle.std.proofs.lemmas.List.Sorted.{searchable_from_sorted}
 use Rattle.tcap_end.specs.Sound.{Rises}
 use Rattle.tcap_end.specs.Outs.{found_at, one_on}
-use Rattle.tcap_end.proofs.KeepLaws.{lookup_above}
-use Rattle.tcap_end.proofs.MapLaws.{below_all, turned, turned_less}
+use Rattle.tcap_lists.proofs.KeepLaws.{lookup_above}
+use Rattle.tcap_lists.proofs.MapLaws.{below_all, turned, turned_less}
 
 -- What stands at a place is what is looked up, and putting something there changes it alone.
 pub record IsThere {A : Type 0} (id : ℤ) (es : List (ℤ × A)) (at : ℕ) : Type 0 where

@@ -15,7 +15,7 @@ use Rattle.tcap_end.specs.Table.{octets_cmp}
 use Rattle.tcap_end.specs.Half.{Half}
 use Rattle.tcap_end.specs.End.{End, KeptHalf, first_half, half_where, is_id, named, with_own, with_peer}
 use Rattle.tcap_end.specs.Sound.{Has, IsEnd, Rises, halves_of}
-use Rattle.tcap_end.proofs.MapLaws.{behind_first, kept_at}
+use Rattle.tcap_lists.proofs.MapLaws.{behind_first, kept_at}
 
 pub octets_total : IsTotalOrder octets_cmp
 octets_total = nat_list_cmp_total

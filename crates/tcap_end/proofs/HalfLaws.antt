@@ -15,7 +15,7 @@ use Rattle.tcap_end.specs.Dialogue.{confirm, first_standing, is_request}
 use Rattle.tcap_end.specs.Message.{active_half, is_active, is_received}
 use Rattle.tcap_end.specs.declared.half.Slot.TheVariants.{Begun, Accepted}
 use Rattle.tcap_end.specs.Sound.{FitsPhase, HasItems, IsHalf, Rises}
-use Rattle.tcap_end.proofs.MapLaws.{rises_removed}
+use Rattle.tcap_lists.proofs.MapLaws.{rises_removed}
 
 -- ---- a step from one half to another
 

@@ -17,7 +17,7 @@ use Rattle.tcap_end.specs.Hidden.{close, expire, may_close, may_expire, without_
 use Rattle.tcap_end.specs.Outs.{HasPlace, kept_outs}
 use Rattle.tcap_end.specs.Table.{Table, expires_of}
 use Rattle.tcap_end.proofs.BackLaws.{has_place}
-use Rattle.tcap_end.proofs.MapLaws.{rises_removed}
+use Rattle.tcap_lists.proofs.MapLaws.{rises_removed}
 use Rattle.tcap_end.proofs.HalfLaws.{Follows, follows_out}
 
 -- ---- closing unseen

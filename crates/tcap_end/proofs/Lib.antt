@@ -6,13 +6,10 @@ pub mod HalfLaws
 pub mod ComponentLaws
 pub mod EndLaws
 pub mod StepLaws
-pub mod CodeMapLaws
 pub mod TableLaws
 pub mod TableRows
-pub mod KeepLaws
 pub mod FoundAtLaws
 pub mod OutLaws
-pub mod PlaceLaws
 pub mod UndoLaws
 pub mod RoundLaws
 pub mod WayLaws
@@ -36,8 +33,4 @@ pub mod SendStepLaws
 pub mod ReplyLaws
 pub mod EndStateLaws
 pub mod QuietUnseenLaws
-pub mod ChainLaws
-pub mod RowLaws
-pub mod ItemLaws
 pub mod SameKindLaws
-pub mod ListLaws

@@ -9,10 +9,10 @@ use Rattle.std.specs.Map.{lookup}
 use Rattle.std.specs.BTreeMap.{insert_entry, is_at}
 use Rattle.tcap_end.specs.declared.outs.OwnInvocation.{OwnInvocation}
 use Rattle.tcap_end.specs.Sound.{Rises}
-use Rattle.tcap_end.specs.Lists.{keep}
+use Rattle.tcap_lists.specs.Lists.{keep}
 use Rattle.tcap_end.specs.Outs.{found_at, with_out}
-use Rattle.tcap_end.proofs.KeepLaws.{insert_dropped, insert_keep, lookup_keep}
-use Rattle.tcap_end.proofs.MapLaws.{found_new, rises_inserted, still_found}
+use Rattle.tcap_lists.proofs.KeepLaws.{insert_dropped, insert_keep, lookup_keep}
+use Rattle.tcap_lists.proofs.MapLaws.{found_new, rises_inserted, still_found}
 use Rattle.tcap_end.proofs.FoundAtLaws.{found_absent, found_there}
 
 -- where there are no places, they rise

@@ -20,7 +20,7 @@ use Rattle.tcap_end.specs.Sound.{Has, IsEnd, IsKept}
 use Rattle.tcap_end.specs.Table.{octets_cmp}
 use Rattle.tcap_end.proofs.FindLaws.{closed_there, has_there, none_there}
 use Rattle.tcap_end.proofs.FoundLaws.{named_has, none_own, none_peer, own_has, peer_has}
-use Rattle.tcap_end.proofs.MapLaws.{kept_at}
+use Rattle.tcap_lists.proofs.MapLaws.{kept_at}
 use Rattle.tcap_end.proofs.HalfLaws.{Follows}
 
 -- ---- whether a half is open

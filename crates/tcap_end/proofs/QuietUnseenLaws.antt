@@ -20,11 +20,11 @@ use Rattle.tcap_end.specs.Step.{◌>>=◌}
 use Rattle.tcap_end.specs.Hidden.{close_each, may_close, open_halves, open_names, quiet_unseen}
 use Rattle.tcap_end.specs.Halves.{closing, kept_half, name_in}
 use Rattle.tcap_end.specs.Sound.{Has, IsEnd, IsKept, Rises}
-use Rattle.tcap_end.proofs.MapLaws.{behind_first, below_first, found_first, found_later}
+use Rattle.tcap_lists.proofs.MapLaws.{behind_first, below_first, found_first, found_later}
 use Rattle.tcap_end.proofs.FoundLaws.{half_at, octets_total}
 use Rattle.tcap_end.proofs.FindLaws.{Finds, own_finds, peer_finds}
 use Rattle.tcap_end.proofs.HiddenLaws.{half_closes, stays_open}
-use Rattle.tcap_end.proofs.PlaceLaws.{shifted}
+use Rattle.tcap_lists.proofs.PlaceLaws.{shifted}
 use Rattle.tcap_end.proofs.StepLaws.{closes}
 
 -- ---- open halves

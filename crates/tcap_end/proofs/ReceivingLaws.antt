@@ -23,7 +23,7 @@ use Rattle.tcap_end.specs.Component.{answer_problems, answered_operation, id_pro
 use Rattle.tcap_end.specs.Received.{invoke_problems, link_numbers, target_of, target_problems}
 use Rattle.tcap_end.specs.Outs.{HasPlace, kept_outs, with_state}
 use Rattle.tcap_end.proofs.BackLaws.{has_place, state_again}
-use Rattle.tcap_end.proofs.KeepLaws.{remove_absent}
+use Rattle.tcap_lists.proofs.KeepLaws.{remove_absent}
 
 -- ---- own invocations that wait for their last answer
 

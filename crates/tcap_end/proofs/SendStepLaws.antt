@@ -23,7 +23,7 @@ use Rattle.tcap_end.specs.Sound.{FitsPhase, Has, IsEnd, IsKept}
 use Rattle.tcap_end.specs.Ways.{components_by, way_of}
 use Rattle.tcap_end.proofs.FoundLaws.{octets_total}
 use Rattle.tcap_end.proofs.HalfLaws.{received_is}
-use Rattle.tcap_end.proofs.MapLaws.{found_new, insert_twice}
+use Rattle.tcap_lists.proofs.MapLaws.{found_new, insert_twice}
 use Rattle.tcap_end.proofs.WayLaws.{sends_out}
 
 -- ---- a half is put twice

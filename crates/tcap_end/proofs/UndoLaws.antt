@@ -4,10 +4,10 @@ use Rattle.tcap_end.specs.declared.half_state.HalfState.{HalfState}
 use Rattle.tcap_end.specs.declared.half_state.Change.{Change}
 use Rattle.tcap_end.specs.declared.half_state.Change.TheVariants.{Out, Waits, InnTaken, GrantTaken, InnJoined, GrantJoined}
 use Rattle.tcap_end.specs.declared.half.InvocationState.TheVariants as states
-use Rattle.tcap_end.specs.declared.lists.Lists.{Lists}
+use Rattle.tcap_lists.specs.declared.lists.Lists.{Lists}
 use Rattle.tcap_end.specs.Half.{Half}
 use Rattle.tcap_end.specs.HalfState.{CanUndo, GoesBack, Keeps, Kept, Undoes, half_in, kept_of, undone}
-use Rattle.tcap_end.specs.Lists.{KeepsRows, kind_of, one_less, rows_of, with_place}
+use Rattle.tcap_lists.specs.Lists.{KeepsRows, kind_of, one_less, rows_of, with_place}
 use Rattle.tcap_end.specs.Outs.{with_out, with_state}
 use Rattle.std.proofs.Common.{ℕ, ℤ}
 

@@ -10,7 +10,7 @@ use Rattle.tcap_end.specs.declared.fault.EndFault.TheVariants as faults
 use Rattle.tcap_end.specs.Class.{reports_neither}
 use Rattle.tcap_end.specs.Table.{Table, class_of}
 use Rattle.tcap_end.specs.Message.{has_id, send_uni_components}
-use Rattle.tcap_end.proofs.MapLaws.{kept_at}
+use Rattle.tcap_lists.proofs.MapLaws.{kept_at}
 
 -- The IDs so far are the keys, and what is left behind them tells of all.
 pub record Uni (table : Table) (all : List Component) (used : List (ℤ × Unit {0})) (left : List Component) : Type 0 where

@@ -11,15 +11,8 @@ pub mod Class
 pub mod Dialogue
 pub mod Ways
 pub mod Sound
-pub mod CodeMap
 pub mod TableText
 pub mod TableReading
-pub mod Chains
-pub mod KindIndex
-pub mod InPlace
-pub mod Room
-pub mod Row
-pub mod Lists
 pub mod Outs
 pub mod Received
 pub mod Places

@@ -6,7 +6,7 @@ use Rattle.std.specs.BTreeMap.{insert_entry, is_at}
 use Rattle.tcap_end.specs.declared.half.InvocationState.{InvocationState}
 use Rattle.tcap_end.specs.declared.outs.OwnInvocation.{OwnInvocation}
 use Rattle.tcap_end.specs.declared.outs.Outs.{Outs}
-use Rattle.tcap_end.specs.Lists.{keep}
+use Rattle.tcap_lists.specs.Lists.{keep}
 
 abbrev pub kept_outs : Outs → List (ℤ × OwnInvocation)
 kept_outs o = keep (λ place. place) o.places.items

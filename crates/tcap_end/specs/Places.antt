@@ -1,15 +1,11 @@
 -- Where the oldest item stands that fits.
-use Rattle.std.specs.Prelude.{ℕ, suc, ℤ, Bool, true, false, List, [], ◌∷◌, Option, Some, None, option_map, cond}
+use Rattle.std.specs.Prelude.{ℕ, ℤ, true, false, List, Option, None}
 use Rattle.tcap_parts.specs.declared.problem.Problem.{Problem}
 use Rattle.tcap_parts.specs.declared.problem.Problem.TheVariants as problems
 use Rattle.tcap_end.specs.Half.{Answer, Invocation, listed}
 use Rattle.tcap_end.specs.Component.{allows, allows_for}
-use Rattle.tcap_end.specs.Row.{fits_in}
-
--- the place of the first item that fits
-abbrev pub place_of : {A : Type 0} → (A → Bool) → List A → Option ℕ
-place_of fits [] = None
-place_of fits (item ∷ items) = cond (fits item) (Some 0) (option_map suc (place_of fits items))
+use Rattle.tcap_lists.specs.Row.{fits_in}
+pub use Rattle.tcap_lists.specs.Row.{place_of}
 
 -- where the oldest item stands that a Reject of this problem takes, in the rows of invocations and of answers
 abbrev pub rejected_place : List (ℤ × List (Option Invocation)) → List (ℤ × List (Option Answer)) → ℤ → Problem → Option ℕ

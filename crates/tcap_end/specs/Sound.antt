@@ -1,11 +1,10 @@
 -- What holds of every end, whatever went over it.
 use Rattle.std.specs.Prelude.{◌≡◌, ◌≢◌, ℕ, ℤ, List, [], Some, None, IsSome}
-use Rattle.std.specs.declared.cmp.Ordering.{Ordering}
 use Rattle.std.specs.List.{AllByRecursion}
-use Rattle.std.specs.List.Sorted.{IsStrictlySortedBy}
-use Rattle.std.specs.Map.{keys_of, lookup}
+use Rattle.std.specs.Map.{lookup}
 use Rattle.std.specs.BTreeMap.{is_at}
 use Rattle.std.specs.Ordering.{int_cmp}
+pub use Rattle.tcap_lists.specs.Items.{Rises}
 use Rattle.tcap_end.specs.declared.half.Phase.{Phase}
 use Rattle.tcap_end.specs.declared.half.Phase.TheVariants as phases
 use Rattle.tcap_end.specs.declared.half.Standing.TheVariants as standings
@@ -14,10 +13,6 @@ use Rattle.tcap_end.specs.declared.half.Slot.TheVariants.{Begun, Accepted}
 use Rattle.tcap_end.specs.Table.{octets_cmp}
 use Rattle.tcap_end.specs.Half.{Half}
 use Rattle.tcap_end.specs.End.{End, KeptHalf}
-
--- The keys rise.
-abbrev pub Rises : {K A : Type 0} → (K → K → Ordering) → List (K × A) → Type 0
-Rises cmp entries = IsStrictlySortedBy cmp (keys_of entries)
 
 -- No invoke ID stands with an empty list.
 abbrev pub HasItems : {A : Type 0} → List (ℤ × List A) → Type 0

@@ -1,24 +1,9 @@
 -- The operation table: what a test bench knows of the operations (Q.771, operation classes).
 use Rattle.std.specs.Prelude.{ℕ, Bool, false, List, [], Option, Some, None, option_map}
-use Rattle.std.specs.Ordering.{int_cmp, nat_cmp}
-use Rattle.std.specs.declared.cmp.Ordering.{Ordering}
-use Rattle.std.specs.declared.cmp.Ordering.TheVariants.{Less, Greater}
-use Rattle.std.specs.Cmp.Lexicographic.{slice_cmp}
 use Rattle.std.specs.Map.{lookup}
 use Rattle.std.specs.BTreeMap.{is_at}
 use Rattle.tcap_parts.specs.declared.code.Code.{Code}
-use Rattle.tcap_parts.specs.declared.code.Code.TheVariants.{Local, Global}
-
--- octets in their order, from the first on
-abbrev pub octets_cmp : List ℕ → List ℕ → Ordering
-octets_cmp a b = slice_cmp nat_cmp a b
-
--- codes in their order: local ones first
-abbrev pub code_cmp : Code → Code → Ordering
-code_cmp (Local m) (Local n) = int_cmp m n
-code_cmp (Local m) (Global octets) = Less
-code_cmp (Global octets) (Local n) = Greater
-code_cmp (Global a) (Global b) = octets_cmp a b
+pub use Rattle.tcap_lists.specs.CodeMap.{code_cmp, octets_cmp}
 
 -- an operation: its class, from 1 to 4, the operations that may be linked to it, each mapped to nothing, and whether an
 -- invocation of it may end in the record by its timer or by the user's cancelling

@@ -1,10 +1,10 @@
 -- What a row and operations that were read stand for.
 use Rattle.std.specs.Prelude.{Bool, true, false, List, [], ◌∷◌, Result, Ok, Err}
 use Rattle.tcap_parts.specs.declared.code.Code.{Code}
-use Rattle.tcap_end.specs.declared.code_map.CodeMap.{CodeMap}
+use Rattle.tcap_lists.specs.declared.code_map.CodeMap.{CodeMap}
 use Rattle.tcap_end.specs.declared.table.TableFault.{TableFault}
 use Rattle.tcap_end.specs.declared.table_text.Row.{Row as TextRow}
-use Rattle.tcap_end.specs.CodeMap.{coded, key_code}
+use Rattle.tcap_lists.specs.CodeMap.{coded, key_code}
 use Rattle.tcap_end.specs.Table.{Operation}
 use Rattle.tcap_end.specs.TableText.{Row}
 

@@ -8,11 +8,11 @@ ghost use Rattle.tcap_end.specs.HalfState.{CanUndo, IsUndone, Undoes, half_of};
 
 use crate::changes::Changes;
 use crate::half::{InvocationState, Phase, Slot, Standing};
-use crate::lists::Lists;
 use crate::outs::{Outs, OwnInvocation};
 use crate::received::{Answer, Invocation};
 use crate::table::Table;
 use std::alloc::{AllocError, Global};
+use tcap_lists::Lists;
 use tcap_msg::TransactionId;
 
 /// What is kept of an open half.

@@ -1,10 +1,8 @@
 //! One end of TCAP dialogues: what it may send, and what it does with what it receives (Q.771, Q.774).
 #![tactic(auto)]
 
-mod chains;
 mod changes;
 mod class;
-mod code_map;
 mod dialogues;
 mod end_hidden;
 mod end_receiving;
@@ -19,19 +17,13 @@ mod half_sending;
 mod half_state;
 mod half_view;
 mod halves;
-mod in_place;
-mod kind_index;
-mod kind_numbers;
 pub mod laws;
-mod lists;
 mod outs;
 mod places;
 mod received;
-mod row;
 mod table;
 mod table_text;
 mod unidirectional;
-mod wanted;
 
 pub use class::{reports, reports_neither};
 pub use end_state::EndState;

@@ -5,18 +5,16 @@ ghost use Rattle.std.specs.List.{slice_get};
 ghost use Rattle.tcap_parts.specs.Meaning.{code_of};
 ghost use Rattle.tcap_end.specs.Half.{with_newest};
 ghost use Rattle.tcap_end.specs.Component.{allows, allows_for, class_reports, is_code, links, may_answer};
-ghost use Rattle.tcap_end.specs.Lists.{HasRow, KeepsKinds, KeepsRows, row_of, rows_of};
+ghost use Rattle.tcap_lists.specs.Lists.{HasRow, KeepsKinds, KeepsRows, row_kinds, row_of, rows_of};
 ghost use Rattle.tcap_end.specs.Places.{place_of};
 ghost use Rattle.tcap_end.specs.Received.{invoke_problems, target_problems};
-ghost use Rattle.tcap_end.specs.Row.{earlier, fits_in};
+ghost use Rattle.tcap_lists.specs.Row.{earlier, fits_in};
 
 use crate::class::reports;
-use crate::kind_numbers::SORTS;
-use crate::lists::Lists;
 use crate::received::{Answer, Invocation, Link, Target};
-use crate::row::{FEW_KINDS, Row};
 use crate::table::Table;
 use std::alloc::{AllocError, Global};
+use tcap_lists::{FEW_KINDS, Lists, Row, SORTS};
 use tcap_parts::CodeView;
 
 /// Whether two codes are one.
@@ -253,7 +251,7 @@ fn guessed_invocations(
     duplicate: bool,
     link: Link,
 ) -> Option<usize>
-    ensures { (number : ℕ) → result ≡ Some number → slice_get row.now.kinds.items number
+    ensures { (number : ℕ) → result ≡ Some number → slice_get (row_kinds row.now) number
         ≡ Some (record { code = code_of code.entry; problems = invoke_problems duplicate link }) }
 {
     let number = row.guess(code, sort_of(duplicate, link))?;
@@ -271,7 +269,7 @@ fn guessed_invocations(
 
 /// The number of a kind of invocations.
 fn invocations(row: &Row<Invocation>, code: CodeView, duplicate: bool, link: Link) -> Option<usize>
-    ensures { (number : ℕ) → result ≡ Some number → slice_get row.now.kinds.items number
+    ensures { (number : ℕ) → result ≡ Some number → slice_get (row_kinds row.now) number
         ≡ Some (record { code = code_of code.entry; problems = invoke_problems duplicate link }) }
 {
     if row.kinds().len() <= FEW_KINDS {

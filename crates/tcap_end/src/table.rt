@@ -9,10 +9,10 @@ ghost use Rattle.tcap_end.specs.TableReading.{is_linked};
 ghost use Rattle.tcap_end.specs.declared.table.TableReason.{TableReason};
 ghost use Rattle.tcap_end.specs.TableText.{IsTableOf, table_fault};
 
-use crate::code_map::CodeMap;
 use crate::table_text::read_table;
 use std::alloc::{AllocError, Global};
 use std::marker::Model;
+use tcap_lists::CodeMap;
 use tcap_parts::CodeView;
 
 /// Why a text is refused as an operation table.
@@ -80,7 +80,7 @@ pub(crate) struct Operation {
 
 impl Model for Operation {
     ghost use Rattle.std.specs.Prelude.{◌<◌, ◌≤◌};
-    ghost use Rattle.tcap_end.specs.CodeMap.{coded};
+    ghost use Rattle.tcap_lists.specs.CodeMap.{coded};
     ghost use Rattle.tcap_end.specs.Table.{Operation as Meant};
 
     ghost Value = { Meant };
@@ -100,7 +100,7 @@ pub struct Table {
 }
 
 impl Model for Table {
-    ghost use Rattle.tcap_end.specs.CodeMap.{coded};
+    ghost use Rattle.tcap_lists.specs.CodeMap.{coded};
     ghost use Rattle.tcap_end.specs.Table.{Table as Meant};
 
     ghost Value = { Meant };

@@ -8,17 +8,17 @@ ghost use Rattle.tcap_end.specs.declared.table.TableFault.{TableFault};
 ghost use Rattle.serde_json.specs.Data.{array};
 ghost use Rattle.serde_json.specs.View.{view, items_view, members_view};
 ghost use Rattle.tcap_end.specs.declared.table.TableReason.{TableReason};
-ghost use Rattle.tcap_end.specs.CodeMap.{coded, key_code};
+ghost use Rattle.tcap_lists.specs.CodeMap.{coded, key_code};
 ghost use Rattle.tcap_end.specs.TableText.{class_in, code_in, codes_in, flag_in, global_of, linked_in, local_of, whole_in};
 ghost use Rattle.tcap_end.specs.TableText.{IsTableOf, has_only, operations_in, row_in, table_by, table_fault, table_in, with_row};
 ghost use Rattle.tcap_end.specs.TableReading.{row_of, operations_of};
 
-use crate::code_map::{CodeKey, CodeMap};
 use crate::table::{Operation, Table, TableFault, TableReason};
 use hex::FromHexError;
 use serde_json::{Map, Value};
 use std::alloc::{AllocError, Global};
 use tcap_ber::ObjectIdView;
+use tcap_lists::{CodeKey, CodeMap};
 
 /// The greatest count of rows.
 const ROWS_LIMIT: usize = 1000;

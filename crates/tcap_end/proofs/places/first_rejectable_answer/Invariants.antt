@@ -1,12 +1,13 @@
 use Rattle.std.proofs.Common.{◌≡◌}
+use Rattle.tcap_lists.specs.Lists.{row_kinds, row_places}
 use Rattle.tcap_end.specs.Component.{allows_for}
 use Rattle.tcap_end.specs.Places.{place_of}
-use Rattle.tcap_end.proofs.PlaceLaws.{fits_below}
+use Rattle.tcap_lists.proofs.PlaceLaws.{fits_below}
 use Rattle.tcap_end.proofs.places.first_rejectable_answer.Given as goal
 
 -- The oldest of the kinds that were asked so far.
 abbrev pub invariant-loop-kind : goal.invariant-loop-kind
 invariant-loop-kind l = record {
-  kinds : l.kinds ≡ l.row.kinds.items;
-  found : l.found ≡ place_of (fits_below (allows_for l.is_result l.problem) l.kinds l.kind) l.row.places.items;
+  kinds : l.kinds ≡ row_kinds l.row;
+  found : l.found ≡ place_of (fits_below (allows_for l.is_result l.problem) l.kinds l.kind) (row_places l.row);
 }

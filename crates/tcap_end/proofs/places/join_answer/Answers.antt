@@ -1,6 +1,6 @@
 use Rattle.std.proofs.Common.{◌<◌, length, arith, ap}
 use Rattle.std.specs.Prelude.{is_some}
-use Rattle.tcap_end.proofs.ItemLaws.{get_within}
+use Rattle.tcap_lists.proofs.ItemLaws.{get_within}
 use Rattle.tcap_end.proofs.places.join_answer.Goals as goal
 
 pub join-requires : goal.join-requires

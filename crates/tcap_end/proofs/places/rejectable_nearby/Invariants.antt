@@ -1,7 +1,7 @@
 use Rattle.std.proofs.Common.{◌≡◌, ◌<◌, ℕ, None, false, get_or}
 use Rattle.tcap_end.specs.Component.{allows}
-use Rattle.tcap_end.specs.Lists.{row_of}
-use Rattle.tcap_end.specs.Row.{fits_in}
+use Rattle.tcap_lists.specs.Lists.{row_of}
+use Rattle.tcap_lists.specs.Row.{fits_in}
 use Rattle.tcap_end.proofs.places.rejectable_nearby.Given as goal
 
 -- None that was passed may be rejected so.

@@ -1,6 +1,6 @@
 use Rattle.std.proofs.Common.{◌≡◌, [], drop}
 use Rattle.serde_json.specs.View.{items_view}
-use Rattle.tcap_end.specs.CodeMap.{coded}
+use Rattle.tcap_lists.specs.CodeMap.{coded}
 use Rattle.tcap_end.specs.TableText.{operations_in}
 use Rattle.tcap_end.proofs.table_text.operations_in.Given as goal
 

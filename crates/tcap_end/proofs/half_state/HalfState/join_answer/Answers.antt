@@ -2,8 +2,8 @@ use mir.Syntax.{w8}
 use Rattle.std.proofs.Common.{ap, ◌∙◌}
 use Rattle.std.proofs.lemmas.Int.{to_z-of_z}
 use Rattle.tcap_end.specs.HalfState.{half_of, kept_of}
-use Rattle.tcap_end.specs.Lists.{items_of, rows_of}
-use Rattle.tcap_end.proofs.ListLaws.{items_newest, whole_rows}
+use Rattle.tcap_lists.specs.Lists.{items_of, rows_of}
+use Rattle.tcap_lists.proofs.ListLaws.{items_newest, whole_rows}
 use Rattle.tcap_end.proofs.NoteLaws.{grant_noted, keeps_grants, read_noted, still_same}
 use Rattle.tcap_end.proofs.half_state.HalfState.join_answer.Goals as goal
 

@@ -3,8 +3,8 @@ use Rattle.std.proofs.Common.{refl, ap, ◌∙◌}
 use Rattle.std.proofs.lemmas.Int.{to_z-of_z}
 use Rattle.tcap_end.specs.Half.{listed, with_newest}
 use Rattle.tcap_end.specs.HalfState.{half_of, kept_of}
-use Rattle.tcap_end.specs.Lists.{items_of, rows_of}
-use Rattle.tcap_end.proofs.ListLaws.{items_newest, whole_rows}
+use Rattle.tcap_lists.specs.Lists.{items_of, rows_of}
+use Rattle.tcap_lists.proofs.ListLaws.{items_newest, whole_rows}
 use Rattle.tcap_end.proofs.NoteLaws.{inn_noted, keeps_inn, read_noted, still_same}
 use Rattle.tcap_end.proofs.ReceivingLaws.{are_some, kept_item}
 use Rattle.tcap_end.proofs.half_state.HalfState.receive_invoke.Goals as goal

@@ -7,7 +7,7 @@ use Rattle.tcap_end.specs.declared.fault.EndFault.{EndFault}
 use Rattle.tcap_end.specs.Half.{Half}
 use Rattle.tcap_end.specs.HalfState.{half_in, kept_of}
 use Rattle.tcap_end.proofs.BackLaws.{place_some}
-use Rattle.tcap_end.proofs.ListLaws.{whole_rows}
+use Rattle.tcap_lists.proofs.ListLaws.{whole_rows}
 use Rattle.tcap_end.proofs.SendLaws.{answers_one}
 use Rattle.tcap_end.proofs.half_state.HalfState.send_answer.Goals as goal
 

@@ -6,7 +6,7 @@ use Rattle.tcap_parts.specs.Meaning.{problem_of}
 use Rattle.tcap_end.specs.declared.fault.EndFault.{EndFault}
 use Rattle.tcap_end.specs.Half.{Half}
 use Rattle.tcap_end.specs.HalfState.{half_in, kept_of}
-use Rattle.tcap_end.proofs.ListLaws.{whole_rows}
+use Rattle.tcap_lists.proofs.ListLaws.{whole_rows}
 use Rattle.tcap_end.proofs.SendLaws.{not_rejected, rejects_grant, rejects_inn}
 use Rattle.tcap_end.proofs.half_state.HalfState.send_reject.Goals as goal
 

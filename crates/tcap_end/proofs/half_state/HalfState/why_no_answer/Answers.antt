@@ -3,7 +3,7 @@ use Rattle.std.proofs.Common.{sym, ap, ◌∙◌}
 use Rattle.std.specs.Prelude.{is_some}
 use Rattle.std.proofs.lemmas.Int.{to_z-of_z}
 use Rattle.tcap_end.specs.HalfState.{kept_of}
-use Rattle.tcap_end.proofs.ListLaws.{whole_rows}
+use Rattle.tcap_lists.proofs.ListLaws.{whole_rows}
 use Rattle.tcap_end.proofs.SendLaws.{is_forbidden, is_nothing, is_wrong}
 use Rattle.tcap_end.proofs.half_state.HalfState.why_no_answer.Goals as goal
 

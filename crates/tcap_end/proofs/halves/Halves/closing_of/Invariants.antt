@@ -1,7 +1,7 @@
 use Rattle.std.proofs.Common.{◌≡◌, ◌<◌, ◌+◌, ◌^◌, length}
 use Rattle.tcap_end.specs.Halves.{closing, end_of, halves_at}
 use Rattle.tcap_end.specs.Sound.{halves_of}
-use Rattle.tcap_end.proofs.PlaceLaws.{shifted}
+use Rattle.tcap_lists.proofs.PlaceLaws.{shifted}
 use Rattle.tcap_end.proofs.halves.Halves.closing_of.Given as goal
 
 -- So many halves before this place are open, and each may close.

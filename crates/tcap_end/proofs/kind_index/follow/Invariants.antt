@@ -1,5 +1,0 @@
-use Rattle.tcap_end.specs.Chains.{AreMarked, kinds_in}
-use Rattle.tcap_end.proofs.kind_index.follow.Given as goal
-
-abbrev pub invariant-loop : goal.invariant-loop
-invariant-loop l = AreMarked l.places (kinds_in l.chains.marks.items)

@@ -1,0 +1,293 @@
+-- Of which kinds the places of a row are.
+use Rattle.std.proofs.Common.{◌≡◌, ◌≢◌, ◌⊎◌, inl, inr, ℕ, zero, suc, ◌+◌, ◌<◌, ◌≤◌, Bool, true, false, List, [], ◌∷◌, ◌++◌, Option, Some, None, length, take, refl, sym, ap, ◌∙◌, arith, get_or, set}
+use Rattle.std.proofs.lemmas.Bool.{cases_eq, cases_lt}
+use Rattle.std.proofs.lemmas.Bool.Decides.{nat_tests}
+use Rattle.std.proofs.lemmas.Grind.{get_or-set_at}
+use Rattle.std.proofs.lemmas.List.{get_or-set_other}
+use Rattle.std.proofs.lemmas.Option.{none-some}
+use Rattle.std.specs.Prelude.{◌==◌, cond, map}
+use Rattle.std.specs.List.{slice_get}
+use Rattle.tcap_lists.specs.declared.chains.Mark.{Mark}
+use Rattle.tcap_lists.specs.Chains.{AreBefore, AreEnds, AreMarked, kinds_in}
+use Rattle.tcap_lists.specs.Row.{IsOldest, is_wanted, stood}
+use Rattle.tcap_lists.proofs.ItemLaws.{get_front, get_last, get_within}
+
+-- ---- the kinds of marks
+
+pub kind_got : (marks : List Mark) (n : ℕ) (mark : Mark) → slice_get marks n ≡ Some mark → slice_get (kinds_in marks) n ≡ Some mark.kind
+kind_got [] n mark e = absurd (none-some mark e)
+kind_got (first ∷ marks) zero mark e = let same : first ≡ mark = cc in rw same refl
+kind_got (first ∷ marks) (suc n) mark e = kind_got marks n mark e
+
+pub mark_got : (marks : List Mark) (n kind : ℕ) → slice_get (kinds_in marks) n ≡ Some kind
+    → (mark : Mark) × (slice_get marks n ≡ Some mark) × (mark.kind ≡ kind)
+mark_got [] n kind e = absurd (none-some kind e)
+mark_got (first ∷ marks) zero kind e = let same : first.kind ≡ kind = cc in (first, refl, same)
+mark_got (first ∷ marks) (suc n) kind e = mark_got marks n kind e
+
+pub kinds_length : (marks : List Mark) → length (kinds_in marks) ≡ length marks
+kinds_length [] = refl
+kinds_length (mark ∷ marks) = ap suc (kinds_length marks)
+
+pub kinds_append : (marks more : List Mark) → kinds_in (marks ++ more) ≡ kinds_in marks ++ kinds_in more
+kinds_append [] more = refl
+kinds_append (mark ∷ marks) more = ap (λ kinds. mark.kind ∷ kinds) (kinds_append marks more)
+
+-- One of a list with one more is one of the list, or that.
+pub got_more : {A : Type 0} (items : List A) (new item : A) (n : ℕ) → slice_get (items ++ new ∷ []) n ≡ Some item
+    → (slice_get items n ≡ Some item) ⊎ ((n ≡ length items) × (item ≡ new))
+got_more [] new item zero e = let same : item ≡ new = cc in inr (refl, same)
+got_more [] new item (suc n) e = absurd (none-some item e)
+got_more (first ∷ items) new item zero e = inl e
+got_more (first ∷ items) new item (suc n) e = by (got_more items new item n e)
+  where
+    by : (slice_get items n ≡ Some item) ⊎ ((n ≡ length items) × (item ≡ new))
+        → (slice_get items n ≡ Some item) ⊎ ((suc n ≡ suc (length items)) × (item ≡ new))
+    by (inl there) = inl there
+    by (inr last) = inr (ap suc last.0, last.1)
+
+pub some_within : {A : Type 0} (items : List A) (n : ℕ) (item : A) → slice_get items n ≡ Some item → n < length items
+some_within [] n item e = absurd (none-some item e)
+some_within (first ∷ items) zero item e = omega arith
+some_within (first ∷ items) (suc n) item e = omega (arith, some_within items n item e)
+
+pub some_front : {A : Type 0} (items more : List A) (n : ℕ) (item : A) → slice_get items n ≡ Some item → slice_get (items ++ more) n ≡ Some item
+some_front items more n item e = get_front items more n (some_within items n item e) ∙ e
+
+-- ---- what is known of the places
+
+-- No place of the kind stands between.
+pub is_next : (marks : List Mark) (at kind to : ℕ) (mark : Mark) → AreBefore marks → slice_get marks to ≡ Some mark → mark.kind ≡ kind
+    → mark.before ≤ at + 1 → (n : ℕ) → at < n → n < to → slice_get (kinds_in marks) n ≢ Some kind
+is_next marks at kind to mark before is its_kind bound n behind less here =
+    let there = mark_got marks n kind here in
+    let under = before n to mark there.0 is there.1 less (there.2 ∙ sym its_kind) in
+    omega (arith, under, bound, behind)
+
+pub is_under : (marks : List Mark) (ends : List ℕ) (kind : ℕ) → AreEnds marks ends → (at : ℕ) → slice_get (kinds_in marks) at ≡ Some kind
+    → at < get_or ends kind 0
+is_under marks ends kind ended at here = let there = mark_got marks at kind here in
+    rw (there.2) at (ended at there.0 there.1)
+
+-- ---- ends
+
+pub pad_same : (ends : List ℕ) (n : ℕ) → get_or (ends ++ 0 ∷ []) n 0 ≡ get_or ends n 0
+pad_same [] zero = refl
+pad_same [] (suc n) = refl
+pad_same (end ∷ ends) zero = refl
+pad_same (end ∷ ends) (suc n) = pad_same ends n
+
+pub padded_ends : (marks : List Mark) (ends other : List ℕ) → ((n : ℕ) → get_or other n 0 ≡ get_or ends n 0) → AreEnds marks ends
+    → AreEnds marks other
+padded_ends marks ends other same ended = λ at mark is. rw (same mark.kind) (ended at mark is)
+
+-- The end of one kind changes.
+pub set_ends : (marks : List Mark) (ends : List ℕ) (kind end : ℕ) → kind < length ends
+    → ((at : ℕ) → slice_get (kinds_in marks) at ≡ Some kind → at < end) → AreEnds marks ends → AreEnds marks (set ends kind end)
+set_ends marks ends kind end within under ended = λ at mark is. by at mark is (cases_eq mark.kind kind)
+  where
+    by : (at : ℕ) (mark : Mark) → slice_get marks at ≡ Some mark → (mark.kind ≡ kind) ⊎ (mark.kind ≡ kind → ⊥)
+        → at < get_or (set ends kind end) mark.kind 0
+    by at mark is (inl same) =
+        rw (get_or-set_at ends kind mark.kind end 0 same within) (under at (kind_got marks at mark is ∙ ap Some same))
+    by at mark is (inr apart) = rw (get_or-set_other ends kind mark.kind end 0 apart) (ended at mark is)
+
+-- ---- one more
+
+pub more_before : (marks : List Mark) (new : Mark) → AreBefore marks
+    → ((at : ℕ) → slice_get (kinds_in marks) at ≡ Some new.kind → at < new.before) → AreBefore (marks ++ new ∷ [])
+more_before marks new before under = λ n at mark other is there less same.
+    by n at mark other less same (got_more marks new mark at is) (got_more marks new other n there)
+  where
+    by : (n at : ℕ) (mark other : Mark) → n < at → other.kind ≡ mark.kind
+        → (slice_get marks at ≡ Some mark) ⊎ ((at ≡ length marks) × (mark ≡ new))
+        → (slice_get marks n ≡ Some other) ⊎ ((n ≡ length marks) × (other ≡ new)) → n < mark.before
+    by n at mark other less same (inl is) (inl there) = before n at mark other is there less same
+    by n at mark other less same (inl is) (inr last) =
+        let below = some_within marks at mark is in absurd (let e = last.0 in omega (arith, less, below, e))
+    by n at mark other less same (inr new_one) (inl there) =
+        rw (new_one.1) (under n (kind_got marks n other there ∙ ap Some (same ∙ ap (λ (m : Mark). m.kind) new_one.1)))
+    by n at mark other less same (inr new_one) (inr last) = absurd (let e = last.0 in let f = new_one.0 in omega (arith, less, e, f))
+
+pub more_ends : (marks : List Mark) (ends : List ℕ) (new : Mark) → AreEnds marks ends → length marks < get_or ends new.kind 0
+    → AreEnds (marks ++ new ∷ []) ends
+more_ends marks ends new ended under = λ at mark is. by at mark (got_more marks new mark at is)
+  where
+    by : (at : ℕ) (mark : Mark) → (slice_get marks at ≡ Some mark) ⊎ ((at ≡ length marks) × (mark ≡ new)) → at < get_or ends mark.kind 0
+    by at mark (inl is) = ended at mark is
+    by at mark (inr last) = rw (last.0, last.1) under
+
+-- It may be that there is no memory for it.
+pub pushed_before : (pushed : Bool) (marks : List Mark) (new : Mark) → AreBefore marks
+    → ((at : ℕ) → slice_get (kinds_in marks) at ≡ Some new.kind → at < new.before) → AreBefore (cond pushed (marks ++ new ∷ []) marks)
+pushed_before true marks new before under = more_before marks new before under
+pushed_before false marks new before under = before
+
+pub pushed_ends : (pushed : Bool) (marks : List Mark) (ends : List ℕ) (new : Mark) → AreEnds marks ends
+    → length marks < get_or ends new.kind 0 → AreEnds (cond pushed (marks ++ new ∷ []) marks) ends
+pushed_ends true marks ends new ended under = more_ends marks ends new ended under
+pushed_ends false marks ends new ended under = ended
+
+pub kind_within : (marks : List Mark) (n kind : ℕ) → slice_get (kinds_in marks) n ≡ Some kind → n < length marks
+kind_within marks n kind is = let there = mark_got marks n kind is in some_within marks n there.0 there.1
+
+-- ---- one less
+
+pub less_before : (marks more : List Mark) → AreBefore (marks ++ more) → AreBefore marks
+less_before marks more before = λ n at mark other is there.
+    before n at mark other (some_front marks more at mark is) (some_front marks more n other there)
+
+pub less_ends : (marks more : List Mark) (ends : List ℕ) → AreEnds (marks ++ more) ends → AreEnds marks ends
+less_ends marks more ends ended = λ at mark is. ended at mark (some_front marks more at mark is)
+
+-- All others of its kind stand before what the mark says.
+pub under_last : (marks : List Mark) (last : Mark) → AreBefore (marks ++ last ∷ []) → (at : ℕ)
+    → slice_get (kinds_in marks) at ≡ Some last.kind → at < last.before
+under_last marks last before at here = let there = mark_got marks at last.kind here in
+    before at (length marks) last there.0 (get_last marks last (length marks) refl) (some_front marks (last ∷ []) at there.0 there.1)
+    (some_within marks at there.0 there.1) there.2
+
+pub less_kinds : (marks more : List Mark) (at kind : ℕ) → slice_get (kinds_in marks) at ≡ Some kind
+    → slice_get (kinds_in (marks ++ more)) at ≡ Some kind
+less_kinds marks more at kind is = rw (kinds_append marks more) (some_front (kinds_in marks) (kinds_in more) at kind is)
+
+-- ---- places and what is known of them
+
+stood_within : (places : List (Option ℕ)) (at kind : ℕ) → stood places at ≡ Some kind → at < length places
+stood_within [] at kind is = absurd (none-some kind is)
+stood_within (place ∷ places) zero kind is = omega arith
+stood_within (place ∷ places) (suc at) kind is = omega (arith, stood_within places at kind is)
+
+pub marked_none : (places : List (Option ℕ)) → AreMarked places []
+marked_none places = λ at kind known is bad. absurd (none-some known bad)
+
+-- An item comes to a place that is known as one of its kind.
+pub marked_set : (places : List (Option ℕ)) (kinds : List ℕ) (at kind : ℕ) → at < length places → slice_get kinds at ≡ Some kind
+    → AreMarked places kinds → AreMarked (set places at (Some kind)) kinds
+marked_set places kinds at kind within here marked = λ n other known is there. by n other known is there (cases_eq n at)
+  where
+    by : (n other known : ℕ) → stood (set places at (Some kind)) n ≡ Some other → slice_get kinds n ≡ Some known
+        → (n ≡ at) ⊎ (n ≡ at → ⊥) → known ≡ other
+    by n other known is there (inl same) =
+        let it : Some kind ≡ Some other = sym (get_or-set_at places at n (Some kind) None same within) ∙ is in
+        let its : Some known ≡ Some kind = sym there ∙ ap (slice_get kinds) same ∙ here in cc
+    by n other known is there (inr apart) =
+        marked n other known (sym (get_or-set_other places at n (Some kind) None apart) ∙ is) there
+
+-- An item is taken.
+pub marked_taken : (places : List (Option ℕ)) (kinds : List ℕ) (at : ℕ) → at < length places → AreMarked places kinds
+    → AreMarked (set places at None) kinds
+marked_taken places kinds at within marked = λ n other known is there. by n other known is there (cases_eq n at)
+  where
+    by : (n other known : ℕ) → stood (set places at None) n ≡ Some other → slice_get kinds n ≡ Some known
+        → (n ≡ at) ⊎ (n ≡ at → ⊥) → known ≡ other
+    by n other known is there (inl same) =
+        absurd (none-some other (sym (get_or-set_at places at n None None same within) ∙ is))
+    by n other known is there (inr apart) = marked n other known (sym (get_or-set_other places at n None None apart) ∙ is) there
+
+stood_more : (places : List (Option ℕ)) (n kind : ℕ) → stood (places ++ None ∷ []) n ≡ Some kind → stood places n ≡ Some kind
+stood_more [] zero kind bad = bad
+stood_more [] (suc n) kind bad = bad
+stood_more (place ∷ places) zero kind is = is
+stood_more (place ∷ places) (suc n) kind is = stood_more places n kind is
+
+-- One place more is empty.
+pub marked_grown : (places : List (Option ℕ)) (kinds : List ℕ) → AreMarked places kinds → AreMarked (places ++ None ∷ []) kinds
+marked_grown places kinds marked = λ n other known is there. marked n other known (stood_more places n other is) there
+
+-- It may be that there is no memory for it.
+pub marked_pushed : (pushed : Bool) (places : List (Option ℕ)) (kinds : List ℕ) → AreMarked places kinds
+    → AreMarked (cond pushed (places ++ None ∷ []) places) kinds
+marked_pushed true places kinds marked = marked_grown places kinds marked
+marked_pushed false places kinds marked = marked
+
+stood_less : (places : List (Option ℕ)) (count n kind : ℕ) → stood (take count places) n ≡ Some kind → stood places n ≡ Some kind
+stood_less [] zero n kind bad = bad
+stood_less [] (suc count) n kind bad = bad
+stood_less (place ∷ places) zero n kind bad = absurd (none-some kind bad)
+stood_less (place ∷ places) (suc count) zero kind is = is
+stood_less (place ∷ places) (suc count) (suc n) kind is = stood_less places count n kind is
+
+-- Places go, and no more is known of those that are left.
+pub marked_less : (places : List (Option ℕ)) (kinds fewer : List ℕ) (count : ℕ)
+    → ((at kind : ℕ) → slice_get fewer at ≡ Some kind → slice_get kinds at ≡ Some kind) → AreMarked places kinds
+    → AreMarked (take count places) fewer
+marked_less places kinds fewer count so marked = λ n other known is there. marked n other known (stood_less places count n other is) (so n known there)
+
+-- More is known.
+pub marked_more : (places : List (Option ℕ)) (kinds : List ℕ) (new : ℕ)
+    → ((known : ℕ) → stood places (length kinds) ≡ Some known → new ≡ known) → AreMarked places kinds → AreMarked places (kinds ++ new ∷ [])
+marked_more places kinds new its marked = λ n other known is there. by n other known is (got_more kinds new known n there)
+  where
+    by : (n other known : ℕ) → stood places n ≡ Some other → (slice_get kinds n ≡ Some known) ⊎ ((n ≡ length kinds) × (known ≡ new))
+        → known ≡ other
+    by n other known is (inl there) = marked n other known is there
+    by n other known is (inr last) = last.1 ∙ its other (ap (stood places) (sym last.0) ∙ is)
+
+-- ---- where no item of a kind stands
+
+some_kind : (kinds : List ℕ) (n : ℕ) → n < length kinds → (known : ℕ) × (slice_get kinds n ≡ Some known)
+some_kind [] n below = absurd (omega (arith, below))
+some_kind (kind ∷ kinds) zero below = (kind, refl)
+some_kind (kind ∷ kinds) (suc n) below = some_kind kinds n (omega (arith, below))
+
+equal_kinds : (known kind : ℕ) → (known == kind) ≡ true → known ≡ kind
+equal_kinds known kind e = grind (arith, nat_tests)
+
+false_unless : (b : Bool) → (b ≡ true → ⊥) → b ≡ false
+false_unless true not = absurd (not refl)
+false_unless false not = refl
+
+pub not_wanted : (places : List (Option ℕ)) (kinds : List ℕ) (kind n : ℕ) → AreMarked places kinds → length places ≤ length kinds
+    → slice_get kinds n ≢ Some kind → is_wanted (Some kind) (stood places n) ≡ false
+not_wanted places kinds kind n marked all apart = false_unless (is_wanted (Some kind) (stood places n)) (λ want. by (stood places n) refl want)
+  where
+    by : (o : Option ℕ) → stood places n ≡ o → is_wanted (Some kind) o ≡ true → ⊥
+    by None is bad = let wrong : false ≡ true = bad in cc
+    by (Some other) is want =
+        let there = some_kind kinds n (omega (arith, all, stood_within places n other is)) in
+        apart (there.1 ∙ ap Some (marked n other there.0 is there.1 ∙ equal_kinds other kind want))
+
+pub past_wanted : (places : List (Option ℕ)) (kind n : ℕ) → length places ≤ n → is_wanted (Some kind) (stood places n) ≡ false
+past_wanted [] kind n past = refl
+past_wanted (place ∷ places) kind zero past = absurd (omega (arith, past))
+past_wanted (place ∷ places) kind (suc n) past = past_wanted places kind n (omega (arith, past))
+
+-- The next item of a kind is its oldest, once the oldest was taken.
+pub next_oldest : (places before : List (Option ℕ)) (wanted : Option ℕ) (oldest at next : ℕ) → oldest ≡ at
+    → ((n : ℕ) → at ≤ n → n < next → is_wanted wanted (stood places n) ≡ false)
+    → ((n : ℕ) → next ≤ n → is_wanted wanted (stood places n) ≡ true → is_wanted wanted (stood places next) ≡ true)
+    → places ≡ set before at None → IsOldest wanted before oldest → IsOldest wanted places next
+next_oldest places before wanted oldest at next is none there set_so was = λ n want. by n want (cases_eq n at) (cases_lt n next)
+  where
+    not_here : (places : List (Option ℕ)) (at : ℕ) → stood (set places at None) at ≡ None
+    not_here [] zero = refl
+    not_here [] (suc at) = refl
+    not_here (place ∷ places) zero = refl
+    not_here (place ∷ places) (suc at) = not_here places at
+
+    none_wanted : (wanted : Option ℕ) → is_wanted wanted None ≡ false
+    none_wanted None = refl
+    none_wanted (Some kind) = refl
+
+    behind : (n : ℕ) → n ≢ at → is_wanted wanted (stood places n) ≡ true → at ≤ n
+    behind n apart want =
+        let same : stood places n ≡ stood before n = ap (λ places. stood places n) set_so ∙ get_or-set_other before at n None None apart in
+        let old = (was n (ap (is_wanted wanted) (sym same) ∙ want)).0 in omega (arith, old, is)
+
+    by : (n : ℕ) → is_wanted wanted (stood places n) ≡ true → (n ≡ at) ⊎ (n ≡ at → ⊥) → (n < next) ⊎ (next ≤ n)
+        → (next ≤ n) × (is_wanted wanted (stood places next) ≡ true)
+    by n want (inl here) where_at =
+        let bad : is_wanted wanted (stood places n) ≡ false =
+        rw (set_so, here, not_here before at) (none_wanted wanted) in
+        absurd (let wrong : true ≡ false = sym want ∙ bad in cc)
+    by n want (inr apart) (inl less) =
+        absurd (let wrong : true ≡ false = sym want ∙ none n (behind n apart want) less in cc)
+    by n want (inr apart) (inr past) = (past, there n past want)
+
+-- ---- what is read of a list
+
+pub got_past : {A : Type 0} (items : List A) (n : ℕ) (d : A) → length items ≤ n → get_or items n d ≡ d
+got_past [] n d past = refl
+got_past (first ∷ items) zero d past = absurd (omega (arith, past))
+got_past (first ∷ items) (suc n) d past = got_past items n d (omega (arith, past))

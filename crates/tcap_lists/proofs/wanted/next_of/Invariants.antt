@@ -1,0 +1,13 @@
+use Rattle.std.proofs.Common.{◌≡◌, ◌≤◌, ◌<◌, ◌-◌, ℕ, false, length}
+use Rattle.tcap_lists.specs.Row.{is_wanted, stood}
+use Rattle.tcap_lists.proofs.wanted.next_of.Given as goal
+
+-- None that is wanted was passed.
+abbrev pub invariant-loop-at : goal.invariant-loop-at
+invariant-loop-at l = record {
+  behind : l.from ≤ l.at;
+  none : (at : ℕ) → l.from ≤ at → at < l.at → is_wanted l.wanted (stood l.places at) ≡ false;
+}
+
+abbrev pub decreases-loop-at : goal.decreases-loop-at
+decreases-loop-at l = length l.places - l.at

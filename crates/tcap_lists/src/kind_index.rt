@@ -1,0 +1,149 @@
+//! An index of the kinds of a row, which is made where they are many.
+
+ghost use Rattle.std.specs.Prelude.{◌≡◌, ◌<◌, ℕ, List, [], Option, Some, IfSome, length, slice_get, slice_set};
+ghost use Rattle.tcap_lists.specs.Chains.{AreMarked, kinds_in};
+ghost use Rattle.tcap_lists.specs.Row.{stood};
+
+use crate::chains::Chains;
+use crate::kind_numbers::{KindNumbers, SORTS};
+use crate::wanted::stood;
+use std::alloc::{AllocError, Global};
+use std::marker::Model;
+use tcap_parts::CodeView;
+
+/// Kinds by their codes, and places by their kinds.
+#[derive(Debug, Drop)]
+pub(crate) struct IndexParts {
+    /// By operation codes, where kinds have one: guesses, on which no answer rests.
+    numbers: KindNumbers,
+    /// The places of each kind.
+    chains: Chains,
+}
+
+/// The same, made where kinds are many; before, it takes no memory.
+#[derive(Debug, Drop)]
+pub(crate) struct KindIndex {
+    parts: Option<Box<IndexParts>>,
+}
+
+impl Model for KindIndex {
+    ghost use Rattle.std.specs.Prelude.{ℕ, List};
+    ghost use Rattle.tcap_lists.specs.KindIndex.{indexed_kinds};
+
+    ghost Value = { List ℕ };
+
+    ghost view = { λ a. indexed_kinds a.parts };
+}
+
+/// The kind of the item in a place, or else the one given.
+fn kind_at(places: &[Option<usize>], at: usize, kind: usize) -> usize
+    ensures { (known : ℕ) → stood places.now at ≡ Some known → result ≡ known }
+{
+    match stood(places, at) {
+        Some(known) => known,
+        None => kind,
+    }
+}
+
+/// Puts one place more into the chain of its kind; one without an item may be of this kind.
+fn follow_one(places: &[Option<usize>], chains: &mut Chains, kind: usize) -> Result<(), AllocError>
+    ensures { AreMarked places.now (kinds_in chains.old.marks.items) → AreMarked places.now (kinds_in chains.new.marks.items) }
+{
+    let known = kind_at(places, chains.len(), kind);
+    chains.push(known)
+}
+
+/// Puts the places that are in no chain into those of their kinds, and then the next place into that of this kind.
+fn follow(places: &[Option<usize>], chains: &mut Chains, kind: usize) -> Result<(), AllocError>
+    requires marked { AreMarked places.now (kinds_in chains.old.marks.items) }
+    ensures { AreMarked places.now (kinds_in chains.new.marks.items) }
+{
+    for _ in chains.len()..places.len() {
+        follow_one(places, chains, kind)?;
+    }
+    follow_one(places, chains, kind)
+}
+
+impl KindIndex {
+    /// Nothing.
+    pub(crate) fn new() -> KindIndex
+        ensures { result ≡ [] }
+    {
+        KindIndex { parts: None }
+    }
+
+    /// A guess of the number of the kind of this sort that has this operation code.
+    pub(crate) fn guess(&self, code: CodeView, sort: usize) -> Option<usize>
+        requires { sort < SORTS }
+    {
+        match &self.parts {
+            Some(parts) => parts.numbers.get(code, sort),
+            None => None,
+        }
+    }
+
+    /// A kind of this sort, one of many, will have this operation code and this number.
+    pub(crate) fn expect(
+        &mut self,
+        alloc: Global,
+        code: CodeView,
+        sort: usize,
+        number: usize,
+    ) -> Result<(), AllocError>
+        requires { sort < SORTS }
+        ensures { self.new ≡ self.old }
+    {
+        match &mut self.parts {
+            Some(parts) => parts.numbers.put(alloc, code, sort, number),
+            None => {
+                let mut parts = IndexParts {
+                    numbers: KindNumbers::new(alloc),
+                    chains: Chains::new(alloc),
+                };
+                parts.numbers.put(alloc, code, sort, number)?;
+                self.parts = Some(Box::new(alloc, parts)?);
+                Ok(())
+            }
+        }
+    }
+
+    /// The places of each kind, where kinds are many.
+    pub(crate) fn chains(&self) -> Option<&Chains>
+        ensures { IfSome result (λ chains. kinds_in chains.now.marks.items ≡ self.now) }
+    {
+        match &self.parts {
+            Some(parts) => Some(&parts.chains),
+            None => None,
+        }
+    }
+
+    /// The next place will be one of this kind.
+    pub(crate) fn follow(&mut self, places: &[Option<usize>], kind: usize) -> Result<(), AllocError>
+        requires marked { AreMarked places.now self.old }
+        ensures { AreMarked places.now self.new }
+    {
+        match &mut self.parts {
+            Some(parts) => follow(places, &mut parts.chains, kind),
+            None => Ok(()),
+        }
+    }
+
+    /// Forgets the last place, where more are known than there are places.
+    pub(crate) fn pop(&mut self, places: usize)
+        ensures { (at kind : ℕ) → slice_get self.new at ≡ Some kind → slice_get self.old at ≡ Some kind }
+    {
+        if let Some(parts) = &mut self.parts {
+            parts.chains.pop(places);
+        }
+    }
+
+    /// An item of that kind comes to a place. Where that is not the kind of the place, nothing is known of any place.
+    pub(crate) fn keep(&mut self, at: usize, kind: usize)
+        ensures { (places : List (Option ℕ)) → at < length places → AreMarked places self.old
+            → AreMarked (slice_set places at (Some kind)) self.new }
+    {
+        if let Some(parts) = &mut self.parts {
+            parts.chains.keep(at, kind);
+        }
+    }
+}

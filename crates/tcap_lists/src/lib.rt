@@ -1,0 +1,16 @@
+//! Items by invoke ID, in the order in which they came, and values by operation code.
+#![tactic(auto)]
+
+mod chains;
+mod code_map;
+mod in_place;
+mod kind_index;
+mod kind_numbers;
+mod lists;
+mod row;
+mod wanted;
+
+pub use code_map::{CodeKey, CodeMap};
+pub use kind_numbers::SORTS;
+pub use lists::Lists;
+pub use row::{FEW_KINDS, Row};

@@ -1,0 +1,395 @@
+//! Items in the order in which they came, each of one kind.
+
+ghost use Rattle.std.specs.Prelude.{◌≡◌, ◌<◌, ◌≤◌, ℕ, List, Option, Some, None, true, false, slice_index_or, slice_set, length, vec_len};
+ghost use Rattle.smallvec.specs.SmallVec.{small_vec_len};
+ghost use Rattle.tcap_lists.specs.Chains.{AreMarked, kinds_in};
+ghost use Rattle.tcap_lists.specs.Row.{AreNumbered, AreOldest, IsOldest, is_wanted, stood};
+
+use crate::chains::Chains;
+use crate::in_place::InPlace;
+use crate::kind_index::KindIndex;
+use crate::kind_numbers::SORTS;
+use crate::wanted::{is_wanted, oldest_before, oldest_behind, stood};
+use smallvec::SmallVec;
+use std::alloc::{AllocError, Global};
+use std::cell::Cell;
+use tcap_parts::CodeView;
+
+/// How many kinds are looked through one by one. If there are more, they have numbers by their codes, and the places of one
+/// kind are in chains.
+pub const FEW_KINDS: usize = 8;
+
+/// From how many places on a row without an item is spent.
+const SPENT_FROM: usize = 16;
+
+/// Items in the order in which they came, each of one kind. An item stands in a place, which is empty once the item was
+/// taken; neither taking it nor putting it back can fail. One item, or two of one kind, take no memory besides the row's.
+/// Where the oldest item of a kind stands is known; where it is taken, the next one is looked for behind it: place by place
+/// where kinds are few, or else over places of that kind alone.
+#[derive(Debug, Drop)]
+pub struct Row<K> {
+    kinds: InPlace<K>,
+    /// The kind of the item in each place, by its number.
+    places: SmallVec<Option<usize>, 2>,
+    /// The place of the oldest item of each kind, where there is one.
+    oldest: SmallVec<usize, 1>,
+    /// The place of the oldest item of all, where there is one.
+    first: usize,
+    /// Numbers of kinds and the places of each, where kinds are many.
+    index: KindIndex,
+    /// The number of the last kind to which an operation was found to be linked. It is a hint for speed alone.
+    linking: Cell<usize>,
+    ghost marked: { AreMarked places.items index },
+    ghost numbered: { AreNumbered places.items (length kinds.items) },
+    ghost for_each: { length kinds.items ≤ small_vec_len oldest },
+    ghost oldest_of_each: { AreOldest places.items oldest.items },
+    ghost oldest_of_all: { IsOldest None places.items first },
+}
+
+/// A place that all items of a kind stand before.
+fn end_of(places: &[Option<usize>], chains: &Chains, kind: usize) -> usize
+    requires marked { AreMarked places.now (kinds_in chains.now.marks.items) }
+    requires all { length places.now ≤ vec_len chains.now.marks }
+    ensures within { result ≤ length places.now }
+    ensures none { (at : ℕ) → result ≤ at → is_wanted (Some kind) (stood places.now at) ≡ false }
+{
+    let end = chains.end_of(kind);
+    if end < places.len() {
+        end
+    } else {
+        places.len()
+    }
+}
+
+/// The first place from there on where an item of a kind stands, or else one behind all of them.
+fn next_of_kind(places: &[Option<usize>], chains: &Chains, kind: usize, from: usize) -> usize
+    requires marked { AreMarked places.now (kinds_in chains.now.marks.items) }
+    requires all { length places.now ≤ vec_len chains.now.marks }
+    ensures behind { from ≤ result }
+    ensures none { (at : ℕ) → from ≤ at → at < result → is_wanted (Some kind) (stood places.now at) ≡ false }
+    ensures there { (at : ℕ) → result ≤ at → is_wanted (Some kind) (stood places.now at) ≡ true
+        → is_wanted (Some kind) (stood places.now result) ≡ true }
+{
+    let end = end_of(places, chains, kind);
+    let mut at = from;
+    while at < end {
+        if is_wanted(places[at], Some(kind)) {
+            return at;
+        }
+        at = chains.behind(at, kind);
+    }
+    at
+}
+
+/// Where the oldest item of a kind stands, once an item of a place was taken: it stood there before.
+fn oldest_in_chain(
+    places: &[Option<usize>],
+    chains: &Chains,
+    kind: usize,
+    oldest: usize,
+    at: usize,
+) -> usize
+    requires marked { AreMarked places.now (kinds_in chains.now.marks.items) }
+    ensures { (before : List (Option ℕ)) → places.now ≡ slice_set before at None → IsOldest (Some kind) before oldest
+        → IsOldest (Some kind) places.now result }
+{
+    if oldest == at && places.len() <= chains.len() {
+        next_of_kind(places, chains, kind, at)
+    } else {
+        oldest_behind(places, Some(kind), oldest, at)
+    }
+}
+
+/// The same, where kinds may be many.
+fn oldest_of_kind(
+    places: &[Option<usize>],
+    index: &KindIndex,
+    kind: usize,
+    oldest: usize,
+    at: usize,
+) -> usize
+    requires marked { AreMarked places.now index.now }
+    ensures { (before : List (Option ℕ)) → places.now ≡ slice_set before at None → IsOldest (Some kind) before oldest
+        → IsOldest (Some kind) places.now result }
+{
+    match index.chains() {
+        Some(chains) => oldest_in_chain(places, chains, kind, oldest, at),
+        None => oldest_behind(places, Some(kind), oldest, at),
+    }
+}
+
+/// Where the oldest item of a kind stands, if there is one.
+fn place_of_kind(oldest: &[usize], kind: usize) -> usize
+    requires { kind < length oldest.now }
+    ensures { result ≡ slice_index_or oldest.now kind 0 }
+{
+    oldest[kind]
+}
+
+/// Puts a value in the place of another.
+fn put<T: Copy, const N: usize>(items: &mut SmallVec<T, N>, at: usize, value: T)
+    requires { at < small_vec_len items.old }
+    ensures { items.new.items ≡ slice_set items.old.items at value }
+{
+    items[at] = value;
+}
+
+impl<K> Row<K> {
+    ghost use Rattle.std.specs.Prelude.{
+      ◌≡◌,
+      ◌<◌,
+      ◌++◌,
+      ◌∷◌,
+      [],
+      ◌-◌,
+      ℕ,
+      Some,
+      None,
+      IfOk,
+      OnOk,
+      OnErr,
+      IsSome,
+      IsTrue,
+      MatchOption,
+      option_copied,
+      slice_set,
+      take,
+      length,
+    };
+    ghost use Rattle.std.specs.List.{slice_get};
+    ghost use Rattle.std.specs.Mem.{FitsInMemory};
+    ghost use Rattle.tcap_lists.specs.Row.{is_wanted, kind_in, place_of, stood};
+    ghost use Rattle.tcap_lists.specs.Lists.{KeepsKinds, row_kinds, row_of, row_places};
+
+    /// No items.
+    pub(crate) fn new(alloc: Global) -> Row<K>
+        ensures { row_of result ≡ [] }
+    {
+        Row {
+            kinds: InPlace::new(),
+            places: SmallVec::new(alloc),
+            oldest: SmallVec::new(alloc),
+            first: 0,
+            index: KindIndex::new(),
+            linking: Cell::new(0),
+        }
+    }
+
+    /// Returns the kinds that there were, by their numbers.
+    pub fn kinds(&self) -> &[K]
+        requires { FitsInMemory K.row }
+        ensures kinds { result.now ≡ row_kinds self.now }
+        ensures count { length result.now ≡ length (row_kinds self.now) }
+    {
+        self.kinds.as_slice()
+    }
+
+    /// Returns a guess of the number of the kind of this sort that has this operation code.
+    pub fn guess(&self, code: CodeView, sort: usize) -> Option<usize>
+        requires { sort < SORTS }
+    {
+        self.index.guess(code, sort)
+    }
+
+    /// Notes that the next kind will be of this sort, and have this operation code.
+    pub fn expect(
+        &mut self,
+        alloc: Global,
+        code: CodeView,
+        sort: usize,
+    ) -> Result<(), AllocError>
+        requires { sort < SORTS }
+        ensures kinds { row_kinds self.new ≡ row_kinds self.old }
+        ensures places { row_places self.new ≡ row_places self.old }
+    {
+        let number = self.kinds.len();
+        if number < FEW_KINDS {
+            return Ok(());
+        }
+        self.index.expect(alloc, code, sort, number)
+    }
+
+    /// Returns where the number is kept of the last kind to which an operation was found to be linked.
+    pub fn linking(&self) -> &Cell<usize> {
+        &self.linking
+    }
+
+    /// Returns the place of the oldest item of a kind, if there is one.
+    pub fn oldest_of(&self, kind: usize) -> Option<usize>
+        requires { kind < length (row_kinds self.now) }
+        ensures { result ≡ place_of (is_wanted (Some kind)) (row_places self.now) }
+    {
+        let at = place_of_kind(self.oldest.as_slice(), kind);
+        if is_wanted(stood(self.places.as_slice(), at), Some(kind)) {
+            Some(at)
+        } else {
+            None
+        }
+    }
+
+    /// Returns the kind of the item in a place, if one stands there.
+    pub fn item(&self, at: usize) -> Option<&K>
+        ensures { option_copied result ≡ kind_in (row_kinds self.now) (stood (row_places self.now) at) }
+    {
+        let kind = stood(self.places.as_slice(), at)?;
+        self.kinds.get(kind)
+    }
+
+    /// Returns the place of the oldest item, and its kind, if there is one.
+    pub fn oldest(&self) -> Option<(usize, &K)>
+        ensures { MatchOption result (place_of (is_wanted None) (row_places self.now) ≡ None)
+            (λ first. (place_of (is_wanted None) (row_places self.now) ≡ Some first.0)
+            × (kind_in (row_kinds self.now) (stood (row_places self.now) first.0) ≡ Some first.1.now)) }
+    {
+        let kind = self.item(self.first)?;
+        Some((self.first, kind))
+    }
+
+    /// Returns a place that no item stands before.
+    pub fn front(&self) -> usize
+        ensures { (at : ℕ) → at < result → stood (row_places self.now) at ≡ None }
+    {
+        self.first
+    }
+
+    /// Returns how many places there are.
+    pub fn len(&self) -> usize
+        ensures { result ≡ length (row_places self.now) }
+    {
+        self.places.len()
+    }
+
+    /// Whether it has many places, and no item in them.
+    pub(crate) fn is_spent(&self) -> bool
+        ensures { IsTrue result → place_of (is_wanted None) self.now.places.items ≡ None }
+    {
+        self.places.len() >= SPENT_FROM && self.oldest().is_none()
+    }
+
+    /// Lets all places go, and all kinds.
+    pub(crate) fn clear(&mut self, alloc: Global)
+    where
+        K: Drop,
+        ensures { row_of self.new ≡ [] }
+    {
+        *self = Row::new(alloc);
+    }
+
+    /// One kind more, of which there is no item. Its number.
+    pub(crate) fn begin(&mut self, kind: K) -> Result<usize, AllocError>
+    where
+        K: Drop,
+        ensures number { IfOk result (λ number. (number ≡ length self.old.kinds.items)
+            × (self.new.kinds.items ≡ self.old.kinds.items ++ kind ∷ [])) }
+        ensures kept { OnErr result (self.new.kinds.items ≡ self.old.kinds.items) }
+        ensures places { self.new.places ≡ self.old.places }
+    {
+        let number = self.kinds.len();
+        let alloc = *self.places.allocator();
+        self.widen()?;
+        self.kinds.push(alloc, kind)?;
+        Ok(number)
+    }
+
+    /// A place for the oldest item of one kind more.
+    fn widen(&mut self) -> Result<(), AllocError>
+        ensures wide { OnOk result (length self.new.kinds.items < small_vec_len self.new.oldest) }
+        ensures kinds { self.new.kinds ≡ self.old.kinds }
+        ensures places { self.new.places ≡ self.old.places }
+    {
+        if self.oldest.len() <= self.kinds.len() {
+            self.oldest.push(0)?;
+        }
+        Ok(())
+    }
+
+    /// Puts an item of a kind to an empty place.
+    pub(crate) fn put_back(&mut self, at: usize, kind: usize)
+        requires within { at < small_vec_len self.old.places }
+        requires empty { stood self.old.places.items at ≡ None }
+        requires there { kind < length self.old.kinds.items }
+        ensures put { self.new.places.items ≡ slice_set self.old.places.items at (Some kind) }
+        ensures kinds { self.new.kinds ≡ self.old.kinds }
+    {
+        self.index.keep(at, kind);
+        let oldest = place_of_kind(self.oldest.as_slice(), kind);
+        let oldest = oldest_before(self.places.as_slice(), Some(kind), oldest, at);
+        put(&mut self.oldest, kind, oldest);
+        self.first = oldest_before(self.places.as_slice(), None, self.first, at);
+        put(&mut self.places, at, Some(kind));
+    }
+
+    /// One place more, which is empty.
+    fn grow(&mut self) -> Result<(), AllocError>
+        ensures more { OnOk result (self.new.places.items ≡ self.old.places.items ++ None ∷ []) }
+        ensures kept { OnErr result (self.new.places.items ≡ self.old.places.items) }
+        ensures kinds { self.new.kinds ≡ self.old.kinds }
+    {
+        self.places.push(None)?;
+        Ok(())
+    }
+
+    /// The next place will be one of a kind, where kinds are many.
+    fn follow(&mut self, kind: usize) -> Result<(), AllocError>
+        ensures places { self.new.places ≡ self.old.places }
+        ensures kinds { self.new.kinds ≡ self.old.kinds }
+    {
+        if self.kinds.len() <= FEW_KINDS {
+            return Ok(());
+        }
+        self.index.follow(self.places.as_slice(), kind)
+    }
+
+    /// Adds an item of a kind, the newest of all.
+    pub fn join(&mut self, kind: usize) -> Result<(), AllocError>
+        requires { kind < length (row_kinds self.old) }
+        ensures joined { OnOk result (row_places self.new ≡ row_places self.old ++ Some kind ∷ []) }
+        ensures kept { OnErr result (row_places self.new ≡ row_places self.old) }
+        ensures kinds { row_kinds self.new ≡ row_kinds self.old }
+    {
+        let at = self.places.len();
+        self.follow(kind)?;
+        self.grow()?;
+        self.put_back(at, kind);
+        Ok(())
+    }
+
+    /// Adds the first item of a kind, the newest of all.
+    pub fn join_first(&mut self, kind: K) -> Result<(), AllocError>
+    where
+        K: Drop,
+        ensures joined { OnOk result (row_of self.new ≡ row_of self.old ++ Some kind ∷ []) }
+        ensures kept { OnErr result (row_of self.new ≡ row_of self.old) }
+        ensures kinds { KeepsKinds self.old self.new }
+    {
+        let number = self.begin(kind)?;
+        self.join(number)
+    }
+
+    /// Takes the newest place away again.
+    pub(crate) fn leave(&mut self)
+        ensures left { self.new.places.items ≡ take (length self.old.places.items - 1) self.old.places.items }
+        ensures kinds { self.new.kinds ≡ self.old.kinds }
+    {
+        self.places.pop();
+        self.index.pop(self.places.len());
+    }
+
+    /// Takes the item of a place. The number of its kind.
+    pub(crate) fn take(&mut self, at: usize) -> usize
+        requires { IsSome (stood self.old.places.items at) }
+        ensures kind { stood self.old.places.items at ≡ Some result }
+        ensures taken { self.new.places.items ≡ slice_set self.old.places.items at None }
+        ensures kinds { self.new.kinds ≡ self.old.kinds }
+    {
+        let Some(kind) = stood(self.places.as_slice(), at) else {
+            unreachable!()
+        };
+        put(&mut self.places, at, None);
+        let oldest = place_of_kind(self.oldest.as_slice(), kind);
+        let oldest = oldest_of_kind(self.places.as_slice(), &self.index, kind, oldest, at);
+        put(&mut self.oldest, kind, oldest);
+        self.first = oldest_behind(self.places.as_slice(), None, self.first, at);
+        kind
+    }
+}
