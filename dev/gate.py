@@ -42,6 +42,7 @@ TESTS = {
     "facts": "faults at entries in words",
     "pages": "examples and commands of pages",
     "rules": "examples of rules",
+    "theorem": "parts of the page of theorems",
     "captures": "tests of captures",
     "real_parts": "tests over a real stack",
     "traces": "traces",
