@@ -192,12 +192,7 @@ impl<K> Row<K> {
     }
 
     /// Notes that the next kind will be of this sort, and have this operation code.
-    pub fn expect(
-        &mut self,
-        alloc: Global,
-        code: CodeView,
-        sort: usize,
-    ) -> Result<(), AllocError>
+    pub fn expect(&mut self, alloc: Global, code: CodeView, sort: usize) -> Result<(), AllocError>
         requires { sort < SORTS }
         ensures kinds { row_kinds self.new ≡ row_kinds self.old }
         ensures places { row_places self.new ≡ row_places self.old }
