@@ -6,7 +6,6 @@ ghost use Rattle.tcap_model.specs.Entries.{item_of};
 ghost use Rattle.tcap_evidence.specs.Pairing.{anew, paired_before, partner_in, with_message, with_pair, with_partner};
 
 use crate::listing::{Test, is_that};
-use crate::sent::is_side;
 use std::alloc::{AllocError, Global};
 use tcap_msg::{Message, TransactionId, TransactionIdView};
 use tcap_record::{Body, End, Entry, Record};
@@ -33,7 +32,7 @@ fn partner_in<'a>(
     let Message::Continue { otid, dtid, .. } = message else {
         return None;
     };
-    let (here, there) = if is_side(of, sender) {
+    let (here, there) = if of.is(sender) {
         (otid, dtid)
     } else {
         (dtid, otid)
@@ -102,13 +101,13 @@ impl Pairs {
         ensures { OnOk result ((self.new.entries.items, self.new.from, self.new.to)
             ≡ with_message of id.now number sender message.now (self.old.entries.items, self.old.from, self.old.to)) }
     {
-        if is_side(of, sender) && Test::BeginFrom(Some(id)).passes(message) {
+        if of.is(sender) && Test::BeginFrom(Some(id)).passes(message) {
             self.entries.push(number)?;
             self.forget();
             return Ok(());
         }
         match partner_in(of, id, sender, message) {
-            Some(partner) => self.take_partner(number, is_side(of, sender), partner),
+            Some(partner) => self.take_partner(number, of.is(sender), partner),
             None => Ok(()),
         }
     }

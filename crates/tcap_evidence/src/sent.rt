@@ -3,7 +3,6 @@
 ghost use Rattle.std.specs.Prelude.{◌≡◌, IfOk, OnOk};
 ghost use Rattle.tcap_record.specs.Ends.{other};
 ghost use Rattle.tcap_model.specs.Entries.{item_of};
-ghost use Rattle.tcap_model.specs.World.{is_side};
 ghost use Rattle.tcap_evidence.specs.Numbered.{numbered_of, sent_before, with_entry};
 
 use std::alloc::{AllocError, Global};
@@ -24,13 +23,6 @@ pub(crate) struct Stretch<'a> {
     pub(crate) peer: Vec<Sent<'a>>,
 }
 
-/// Whether it is that end.
-pub(crate) fn is_side(end: End, side: End) -> bool
-    ensures { result ≡ is_side end side }
-{
-    end == side
-}
-
 impl<'a> Stretch<'a> {
     /// An entry more, of that number.
     fn take(&mut self, end: End, number: u64, entry: &'a Entry) -> Result<(), AllocError>
@@ -46,7 +38,7 @@ impl<'a> Stretch<'a> {
             }
             (Some(side), Body::Good(message)) => {
                 let sent = Sent { number, message };
-                if is_side(end, side) {
+                if end.is(side) {
                     self.own.push(sent)?;
                 } else {
                     self.peer.push(sent)?;

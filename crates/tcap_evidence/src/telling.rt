@@ -14,7 +14,7 @@ use crate::operation_lines::push_invocations;
 use crate::what::What;
 use crate::words::{
     class_of_sort, class_words, doubt_words, how_words, is_of_half, is_told_empty, kind_words,
-    lacks_words, letter, place_words, sender_of, sort_in, sort_words,
+    lacks_words, place_words, sender_of, sort_in, sort_words,
 };
 use std::alloc::{AllocError, Global};
 use tcap_end::Table;
@@ -47,7 +47,7 @@ fn push_entry(
     ensures { OnOk result (string_bytes text.new ≡ string_bytes text.old ++ entry_line end at component) }
 {
     let number = at.entry;
-    let letter = letter(end);
+    let letter = end.letter();
     write!(text, "  entry {number} of {letter}")?;
     push_number(text, component)?;
     text.push_str(": ")?;
@@ -62,7 +62,7 @@ fn push_mark(text: &mut String, end: End, at: Refutation) -> Result<(), AllocErr
     let number = at.entry;
     write!(text, "  entry {number}")?;
     text.push_str(": a transaction of ")?;
-    text.push_str(letter(end))?;
+    text.push_str(end.letter())?;
     text.push_str(" is open at this quiet mark")?;
     text.push_str("\n")
 }
@@ -117,7 +117,7 @@ fn push_how(text: &mut String, end: End, about: &Subject) -> Result<(), AllocErr
         ++ line_end)) }
 {
     text.push_str("  the transaction of ")?;
-    text.push_str(letter(end))?;
+    text.push_str(end.letter())?;
     text.push_str(": ")?;
     text.push_str(how_words(about.how))?;
     push_own(text, about.own.as_ref())?;
@@ -211,7 +211,7 @@ pub(crate) fn push_entries(text: &mut String, entries: &[u64]) -> Result<(), All
 pub fn push_what(text: &mut String, end: End, what: What, id: Option<i8>) -> Result<(), AllocError>
     ensures { OnOk result (string_bytes text.new ≡ string_bytes text.old ++ what_words end id what) }
 {
-    text.push_str(letter(sender_of(end, what)))?;
+    text.push_str(sender_of(end, what).letter())?;
     text.push_str(": ")?;
     push_sorted(text, sort_in(what), id)?;
     text.push_str(place_words(what))

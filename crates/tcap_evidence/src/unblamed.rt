@@ -9,7 +9,6 @@ use crate::finding::grounds_for;
 use crate::pairing::paired_before;
 use crate::telling::{push_entries, push_grounds};
 use crate::what::What;
-use crate::words::letter;
 use std::alloc::{AllocError, Global};
 use tcap_end::Table;
 use tcap_faults::{Tangle, TangledId, Unblamed, unblamed};
@@ -67,7 +66,7 @@ fn push_again(text: &mut String, end: End, again: u64) -> Result<(), AllocError>
     ensures { OnOk result (string_bytes text.new ≡ string_bytes text.old ++ again_text end again) }
 {
     text.push_str("  nobody is blamed for it: ")?;
-    text.push_str(letter(end))?;
+    text.push_str(end.letter())?;
     write!(text, " used an own ID again in entry {again}")?;
     text.push_str(", so that its transactions can't be told apart")?;
     text.push_str("\n")
@@ -80,7 +79,7 @@ fn push_tangled_id(text: &mut String, tangled: &TangledId) -> Result<(), AllocEr
     text.push_str("  nobody is blamed for it: transaction ID ")?;
     push_hex(text, tangled.id.octets())?;
     text.push_str(" of ")?;
-    text.push_str(letter(tangled.side))?;
+    text.push_str(tangled.side.letter())?;
     text.push_str(tangle_words(tangled.why))
 }
 

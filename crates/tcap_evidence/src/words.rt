@@ -1,23 +1,12 @@
 //! Words for what a fault rests on.
 
 ghost use Rattle.std.specs.Prelude.{◌≡◌};
-ghost use Rattle.tcap_record.specs.Ends.{letter};
 ghost use Rattle.tcap_evidence.specs.Words.{class_of_sort, class_words, doubt_words, how_words, is_of_half, is_told_empty, kind_words, lacks_words, place_words, sender_of, sort_in, sort_words};
 
 use crate::what::What;
 use tcap_faults::{Class, How, Sort};
 use tcap_record::End;
 use tcap_refute::Kind;
-
-/// The letter of an end.
-pub(crate) fn letter(end: End) -> &'static str
-    ensures { result.now ≡ letter end }
-{
-    match end {
-        End::A => "A",
-        End::B => "B",
-    }
-}
 
 /// What a kind says of a message, or of a quiet mark.
 #[tactic(auto, unfolding(crate::specs::Words::kind_words))]

@@ -1,6 +1,6 @@
 //! The chart of a run: a page of HTML, the frame with one object of JSON for the run.
 
-use crate::step_lines::{is_entry, letter, push_half, push_owner, push_reason};
+use crate::step_lines::{is_entry, push_half, push_owner, push_reason};
 use std::alloc::{AllocError, Global};
 use tcap_check::Step;
 use tcap_end::HalfName;
@@ -133,7 +133,7 @@ fn push_word(json: &mut String, word: &str, end: Option<End>) -> Result<(), Allo
     json.push_str(word)?;
     json.push_str("\"")?;
     match end {
-        Some(end) => push_named(json, "end", letter(end)),
+        Some(end) => push_named(json, "end", end.letter()),
         None => Ok(()),
     }
 }
@@ -223,7 +223,7 @@ impl Chart<'_> {
         write!(json, "{{\"run\":{{\"count\":{count}")?;
         push_named(json, "title", title.trim_end())?;
         if let Some(end) = self.judged {
-            push_named(json, "of", letter(end))?;
+            push_named(json, "of", end.letter())?;
         }
         let Some(marked) = marked(self.outcome) else {
             return Ok(());

@@ -1,6 +1,5 @@
 //! What an end knows of a half, in words.
 
-use crate::step_lines::letter;
 use std::alloc::{AllocError, Global};
 use tcap_end::{EndState, HalfName, InvocationState, OpenHalf, Phase, Standing};
 use tcap_msg::TransactionId;
@@ -150,7 +149,7 @@ pub(crate) fn push_half_state(
     state: &EndState,
     name: &HalfName,
 ) -> Result<(), AllocError> {
-    text.push_str(letter(end))?;
+    text.push_str(end.letter())?;
     match state.open_half(name) {
         Some(half) => {
             text.push_str(": the half with")?;

@@ -4,8 +4,6 @@ ghost use Rattle.std.specs.Prelude.{◌≡◌, ◌++◌, OnOk, codes};
 ghost use Rattle.std.specs.String.{string_bytes};
 ghost use Rattle.hex.specs.Hex.{encode_lower};
 ghost use Rattle.tcap_certificate.specs.Unheard.{is_lost_from};
-ghost use Rattle.tcap_model.specs.World.{is_side};
-ghost use Rattle.tcap_record.specs.Ends.{letter};
 ghost use Rattle.tcap_check.specs.Told.{event_of};
 ghost use Rattle.tcap_explain.specs.StepLines.{closing_line, deed_text, discard_line, discard_text, expiry_line, half_text, invocation_text, is_entry, lines_from, loss_line, own_label, owner_text, peer_label, reply_line, run_label, run_lines, sent_line, step_line};
 
@@ -15,29 +13,12 @@ use tcap_end::{EndFault, HalfName};
 use tcap_msg::Message;
 use tcap_record::{End, push_head, push_hex};
 
-/// The letter of an end.
-pub(crate) fn letter(end: End) -> &'static str
-    ensures { result.now ≡ letter end }
-{
-    match end {
-        End::A => "A",
-        End::B => "B",
-    }
-}
-
-/// Whether they are one end.
-pub(crate) fn is_side(end: End, side: End) -> bool
-    ensures { result ≡ is_side end side }
-{
-    end == side
-}
-
 /// Whether a step is the loss of a message that an end sent.
 pub(crate) fn is_lost_from(side: End, step: &Step) -> bool
     ensures { result ≡ is_lost_from side (event_of step.now) }
 {
     match step {
-        Step::Loses(sender, _) | Step::Discards(sender, _, _) => is_side(side, *sender),
+        Step::Loses(sender, _) | Step::Discards(sender, _, _) => side.is(*sender),
         _ => false,
     }
 }
@@ -99,7 +80,7 @@ fn push_deed(text: &mut String, end: End, deed: &str, number: u64) -> Result<(),
     ensures { OnOk result (string_bytes text.new ≡ string_bytes text.old ++ deed_text end deed.now number) }
 {
     text.push_str("  ")?;
-    text.push_str(letter(end))?;
+    text.push_str(end.letter())?;
     text.push_str(deed)?;
     write!(text, "{number}")
 }
@@ -142,7 +123,7 @@ fn push_invocation(text: &mut String, end: End, id: i8) -> Result<(), AllocError
     ensures { OnOk result (string_bytes text.new ≡ string_bytes text.old ++ invocation_text end id) }
 {
     text.push_str("  ")?;
-    text.push_str(letter(end))?;
+    text.push_str(end.letter())?;
     text.push_str(": invocation ")?;
     write!(text, "{id}")?;
     text.push_str(" of ")
@@ -162,7 +143,7 @@ fn push_closing(text: &mut String, end: End, name: &HalfName) -> Result<(), Allo
     ensures { OnOk result (string_bytes text.new ≡ string_bytes text.old ++ closing_line end name.now) }
 {
     text.push_str("  ")?;
-    text.push_str(letter(end))?;
+    text.push_str(end.letter())?;
     text.push_str(": ")?;
     push_half(text, name)?;
     text.push_str(" closes unseen\n")
@@ -188,9 +169,9 @@ fn push_loss(
 {
     match judged {
         None => writeln!(text, "  {number} is taken as lost"),
-        Some(judged) if is_side(judged, sender) => Ok(()),
+        Some(judged) if judged.is(sender) => Ok(()),
         Some(judged) => {
-            let letter = letter(judged);
+            let letter = judged.letter();
             writeln!(text, "  {number} is taken as lost before {letter}")
         }
     }

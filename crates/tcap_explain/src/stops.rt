@@ -10,7 +10,6 @@ use crate::indenting::push_indented;
 use crate::reasons::{fault_words, reason_words};
 use crate::refusing::{MANY, is_of_component, refused_component};
 use crate::refuted::push_asked;
-use crate::step_lines::letter;
 use std::alloc::{AllocError, Global};
 use tcap_ber::Fault;
 use tcap_check::{Certificate, CheckFault, Fate, Partial, Reason};
@@ -257,7 +256,7 @@ fn push_listed(text: &mut String, stop: &Stop) -> Result<(), AllocError> {
     for x in stop.certificate.closings() {
         if u64::from(x.entry) == stop.fault.entry && found < MOST {
             found += 1;
-            let (end, gap) = (letter(x.side), x.gap);
+            let (end, gap) = (x.side.letter(), x.gap);
             writeln!(
                 text,
                 "listed: before entry {gap} {end}'s half of its transaction closes unseen"
@@ -268,7 +267,7 @@ fn push_listed(text: &mut String, stop: &Stop) -> Result<(), AllocError> {
     for x in stop.certificate.expiries() {
         if u64::from(x.entry) == stop.fault.entry && found < MOST {
             found += 1;
-            let (end, gap, component) = (letter(x.side), x.gap, x.component);
+            let (end, gap, component) = (x.side.letter(), x.gap, x.component);
             writeln!(
                 text,
                 "listed: before entry {gap} {end}'s invocation of its component {component} ends unseen"

@@ -2,7 +2,6 @@
 
 ghost use Rattle.std.specs.Prelude.{◌≡◌, ◌&&◌, ◌++◌, Some, OnOk};
 ghost use Rattle.std.specs.String.{string_bytes};
-ghost use Rattle.tcap_record.specs.Ends.{letter};
 ghost use Rattle.tcap_judge.specs.Blamed.{blame_status, ends_lines, finding_by, finding_line, is_blamed, is_lawful, stands_behind, unblamed_status, verdict_by_ends};
 
 use crate::outcome::Outcome;
@@ -58,21 +57,11 @@ impl Finding {
     }
 }
 
-/// The letter of an end.
-fn letter(end: End) -> &'static str
-    ensures { result.now ≡ letter end }
-{
-    match end {
-        End::A => "A",
-        End::B => "B",
-    }
-}
-
 /// Appends the line of what is said of an end. `AllocError` where memory ran out.
 pub fn push_finding(text: &mut String, end: End, finding: Finding) -> Result<(), AllocError>
     ensures { OnOk result (string_bytes text.new ≡ string_bytes text.old ++ finding_line end finding) }
 {
-    let letter = letter(end);
+    let letter = end.letter();
     match finding {
         Finding::Blamed(refutation) => {
             let entry = refutation.entry;

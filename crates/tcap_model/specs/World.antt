@@ -4,6 +4,7 @@ use Rattle.tcap_msg.specs.declared.message.Message.{Message}
 use Rattle.tcap_record.specs.declared.entry.End.{End as Side}
 use Rattle.tcap_record.specs.declared.entry.End.TheVariants as sides
 use Rattle.tcap_end.specs.End.{End, nothing}
+pub use Rattle.tcap_record.specs.Ends.{is_side}
 
 -- What a record lists: a message that an end sent, or a quiet mark.
 pub data Item : Type 0 where
@@ -35,11 +36,6 @@ pub record World : Type 0 where
 -- the world in which nothing happened yet
 abbrev pub empty : World
 empty = record { a = nothing; b = nothing; from_a = []; from_b = []; sent = [] }
-
-abbrev pub is_side : Side → Side → Bool
-is_side sides.A sides.A = true
-is_side sides.B sides.B = true
-is_side _ _ = false
 
 -- what an end is
 abbrev pub end_at : Side → World → End

@@ -7,14 +7,6 @@ use tcap_msg::{Message, MessageParts, TransactionIdView};
 use tcap_parts::{CodeView, ComponentView};
 use tcap_record::{Body, End, Entry, push_head, push_hex, push_view};
 
-/// The letter of an end.
-fn letter(end: End) -> &'static str {
-    match end {
-        End::A => "A",
-        End::B => "B",
-    }
-}
-
 /// Appends an operation, by its name where the table has one.
 fn push_operation(
     text: &mut String,
@@ -123,7 +115,7 @@ pub fn push_entry(
 ) -> Result<(), AllocError> {
     write!(json, "{{\"entry\":{number}")?;
     if let Some(end) = entry.side {
-        push_named(json, "end", letter(end))?;
+        push_named(json, "end", end.letter())?;
     }
     match &entry.body {
         Body::Good(message) => {

@@ -1,5 +1,5 @@
 -- The two ends of a record.
-use Rattle.std.specs.Prelude.{ℕ, List, codes}
+use Rattle.std.specs.Prelude.{ℕ, Bool, true, false, List, codes}
 use Rattle.tcap_record.specs.declared.entry.End.{End}
 use Rattle.tcap_record.specs.declared.entry.End.TheVariants as ends
 
@@ -7,6 +7,12 @@ use Rattle.tcap_record.specs.declared.entry.End.TheVariants as ends
 abbrev pub other : End → End
 other ends.A = ends.B
 other ends.B = ends.A
+
+-- whether both are the same end
+abbrev pub is_side : End → End → Bool
+is_side ends.A ends.A = true
+is_side ends.B ends.B = true
+is_side _ _ = false
 
 -- the letter of an end
 abbrev pub letter : End → List ℕ

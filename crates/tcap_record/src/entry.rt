@@ -17,7 +17,7 @@ pub enum End {
 }
 
 impl End {
-    ghost use Rattle.tcap_record.specs.Ends.{other};
+    ghost use Rattle.tcap_record.specs.Ends.{is_side, letter, other};
 
     /// The other end.
     pub fn other(self) -> End
@@ -26,6 +26,23 @@ impl End {
         match self {
             End::A => End::B,
             End::B => End::A,
+        }
+    }
+
+    /// Returns whether this end is `end`.
+    pub fn is(self, end: End) -> bool
+        ensures { result ≡ is_side self end }
+    {
+        self == end
+    }
+
+    /// Returns the letter of this end: `A` or `B`.
+    pub fn letter(self) -> &'static str
+        ensures { result.now ≡ letter self }
+    {
+        match self {
+            End::A => "A",
+            End::B => "B",
         }
     }
 }

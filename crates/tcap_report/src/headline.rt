@@ -5,7 +5,7 @@ use crate::order::{in_order, is_asked};
 use crate::reason::push_sentence;
 use crate::text::no_table_words;
 use crate::waiting::push_first_wait;
-use crate::words::{letter, line_of, push_doubt, push_said};
+use crate::words::{line_of, push_doubt, push_said};
 use std::alloc::{AllocError, Global};
 use tcap_record::End;
 use tcap_refute::Refutation;
@@ -45,7 +45,7 @@ fn push_end(
     end: End,
     said: Said,
 ) -> Result<(), AllocError> {
-    text.push_str(letter(end))?;
+    text.push_str(end.letter())?;
     text.push_str(": ")?;
     match said {
         Said::Fail(at) => push_blame(alloc, text, case, judged, end, at),

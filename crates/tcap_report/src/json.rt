@@ -10,7 +10,7 @@ use crate::sum::Sum;
 use crate::telling::Told;
 use crate::text::{push_behind, push_undecided};
 use crate::waiting::push_waiting;
-use crate::words::{comment_of, ids_of, letter, line_of, push_doubt};
+use crate::words::{comment_of, ids_of, line_of, push_doubt};
 use std::alloc::{AllocError, Global};
 use tcap_evidence::{Evidence, push_what};
 use tcap_page::{push_flag, push_named, push_numbers, push_octets, push_text};
@@ -81,7 +81,7 @@ fn push_blamed(
     push_reason(alloc, &mut text, case, judged, end, at)?;
     push_named(json, "text", &text)?;
     if grounds.later == Some(end) {
-        push_named(json, "may_follow", letter(end.other()))?;
+        push_named(json, "may_follow", end.other().letter())?;
     }
     push_evidence(alloc, json, end, grounds.at(end))
 }
@@ -192,7 +192,7 @@ fn push_ends(
     for end in [End::A, End::B] {
         if is_asked(of, end) {
             json.push_str(",\"")?;
-            json.push_str(letter(end))?;
+            json.push_str(end.letter())?;
             json.push_str("\":")?;
             push_end(alloc, json, case, judged, end, ends.of(end), grounds)?;
         }

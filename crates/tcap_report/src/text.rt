@@ -6,7 +6,7 @@ use crate::no_message::push_no_message;
 use crate::order::{in_order, is_asked, last_open, later_end};
 use crate::reason::push_reason;
 use crate::waiting::push_waiting;
-use crate::words::{comment_of, ids_of, letter, line_of, push_doubt, push_ids, push_said};
+use crate::words::{comment_of, ids_of, line_of, push_doubt, push_ids, push_said};
 use std::alloc::{AllocError, Global};
 use tcap_books::NamedTable;
 use tcap_msg::MessageParts;
@@ -25,7 +25,7 @@ fn push_all_ids(text: &mut String, case: &Case) -> Result<(), AllocError> {
     for end in [End::A, End::B] {
         if !ids_of(case, end).is_empty() {
             text.push_str(", ")?;
-            text.push_str(letter(end))?;
+            text.push_str(end.letter())?;
             push_ids(text, case, end)?;
         }
     }
@@ -83,7 +83,7 @@ fn push_later(text: &mut String, end: End, later: bool) -> Result<(), AllocError
         return Ok(());
     }
     text.push_str("; it comes later, and may follow from that of ")?;
-    text.push_str(letter(end.other()))
+    text.push_str(end.other().letter())
 }
 
 /// Appends the line of an end that is blamed.
@@ -99,7 +99,7 @@ fn push_blamed(
     let entry = at.entry;
     let kind = at.kind.number();
     text.push_str("  ")?;
-    text.push_str(letter(end))?;
+    text.push_str(end.letter())?;
     text.push_str(": ")?;
     text.push_str(verdict.word())?;
     write!(text, " at entry {entry} of the dialogue")?;
@@ -150,7 +150,7 @@ fn push_end(
         }
         _ => {
             text.push_str("  ")?;
-            text.push_str(letter(end))?;
+            text.push_str(end.letter())?;
             text.push_str(": inconc: ")?;
             push_undecided(alloc, text, case, said)
         }
@@ -194,7 +194,7 @@ fn push_entry(
     push_place(alloc, text, case, number as u64)?;
     text.push_str(": ")?;
     if let Some(end) = entry.side {
-        text.push_str(letter(end))?;
+        text.push_str(end.letter())?;
         text.push_str(" ")?;
     }
     push_body(text, judged.table, entry.place, &entry.body)?;

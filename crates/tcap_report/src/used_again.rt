@@ -1,7 +1,7 @@
 //! An ID that is used again where no ID is free: by `--ids once`.
 
 use crate::case::{Case, heading_of};
-use crate::words::{letter, line_of};
+use crate::words::line_of;
 use std::alloc::{AllocError, Global};
 use std::collections::BTreeSet;
 use tcap_dialogues::HeadingView;
@@ -88,7 +88,7 @@ pub(crate) fn push_used_again(
         return Ok(());
     };
     text.push_str("; ")?;
-    text.push_str(letter(heading.sender))?;
+    text.push_str(heading.sender.letter())?;
     text.push_str(" uses its ID ")?;
     push_hex(text, otid.octets)?;
     let line = line_of(case, number);

@@ -1,7 +1,6 @@
 //! What an open dialogue waits for.
 
 use crate::case::Judged;
-use crate::words::letter;
 use std::alloc::{AllocError, Global};
 use tcap_end::reports;
 use tcap_msg::{Kind as Form, Message, MessageParts};
@@ -150,7 +149,7 @@ fn push_wait(text: &mut String, wait: Option<Wait>) -> Result<(), AllocError> {
         return text.push_str("it waits for an End or an Abort");
     };
     text.push_str("it waits for an answer of ")?;
-    text.push_str(letter(of))?;
+    text.push_str(of.letter())?;
     match invocation {
         Some(id) => write!(text, " to invocation {id} in entry {entry}, of class 1"),
         None => write!(text, " to the Begin in entry {entry}"),

@@ -9,14 +9,6 @@ use tcap_parts::DialogueView;
 use tcap_record::{End, push_hex};
 use tcap_traces::{Doubt, Said};
 
-/// The letter of an end.
-pub(crate) fn letter(end: End) -> &'static str {
-    match end {
-        End::A => "A",
-        End::B => "B",
-    }
-}
-
 /// The application context name that a message's dialogue portion has.
 pub(crate) fn context_in(alloc: Global, message: &Message) -> Result<Option<Vec<u8>>, AllocError> {
     let found = match message.dialogue() {
@@ -45,7 +37,7 @@ fn push_early_mark(text: &mut String, case: &Case) -> Result<(), AllocError> {
     text.push_str(": ID ")?;
     push_hex(text, in_use.id.octets())?;
     text.push_str(" of ")?;
-    text.push_str(letter(in_use.end))?;
+    text.push_str(in_use.end.letter())?;
     text.push_str(" was in use before it")
 }
 

@@ -9,7 +9,6 @@ ghost use Rattle.tcap_msg.specs.Parts.{components_in};
 ghost use Rattle.tcap_end.specs.End.{is_id};
 ghost use Rattle.tcap_end.specs.Table.{operation_of};
 ghost use Rattle.tcap_model.specs.Entries.{item_of};
-ghost use Rattle.tcap_model.specs.World.{is_side};
 ghost use Rattle.tcap_refute.specs.Before.{is_a};
 ghost use Rattle.tcap_refute.specs.Kind.{is_unknown_operation};
 ghost use Rattle.tcap_evidence.specs.Evidence.{component_at};
@@ -135,21 +134,12 @@ fn has_lacking(table: &Table, id: i8, message: &Message) -> bool
     false
 }
 
-/// Whether it is that end.
-pub(crate) fn is_side(end: End, side: End) -> bool
-    ensures { result ≡ is_side end side }
-{
-    end == side
-}
-
 /// Whether that end sent such a one in an entry.
 fn sends_lacking(table: &Table, end: End, id: i8, entry: &Entry) -> bool
     ensures { result ≡ sends_lacking table.now end id (item_of entry.now) }
 {
     match (entry.side, &entry.body) {
-        (Some(sender), Body::Good(message)) => {
-            is_side(end, sender) && has_lacking(table, id, message)
-        }
+        (Some(sender), Body::Good(message)) => { end.is(sender) && has_lacking(table, id, message) }
         _ => false,
     }
 }
@@ -219,7 +209,7 @@ fn is_heard_with(end: End, id: TransactionIdView, so: bool, entry: &Entry) -> bo
 {
     match (entry.side, &entry.body) {
         (Some(sender), Body::Good(message)) => {
-            if is_side(end, sender) {
+            if end.is(sender) {
                 so && !(is_begin(message) && is_that(message.otid(), id))
             } else {
                 so || is_that(message.dtid(), id)
@@ -281,7 +271,7 @@ fn is_begun_by_peer(began: Option<End>, end: End) -> bool
     ensures { result ≡ is_begun_by_peer began «end» }
 {
     match began {
-        Some(began) => is_side(end.other(), began),
+        Some(began) => end.other().is(began),
         None => false,
     }
 }

@@ -8,7 +8,7 @@ ghost use Rattle.tcap_judge.specs.Blamed.{IsFound, finding};
 ghost use Rattle.tcap_traces.specs.Shown.{IsFoundBefore, IsSo};
 ghost use Rattle.tcap_traces.specs.Verdict.{found_before, is_of, no_message_at, passes, said_before, said_by, said_of, verdict_asked};
 
-use crate::doubts::{doubt_of, is_side};
+use crate::doubts::doubt_of;
 use crate::said::{Circumstances, Said};
 use crate::verdict::Verdict;
 use std::alloc::{AllocError, Global};
@@ -75,7 +75,7 @@ fn is_of(end: End, entry: &Entry) -> bool
     ensures { result ≡ is_of end entry.now }
 {
     match entry.side {
-        Some(sender) => is_side(end, sender),
+        Some(sender) => end.is(sender),
         None => false,
     }
 }
