@@ -27,7 +27,7 @@ pub use kept::Kept;
 pub use lines::run_lines;
 pub use names::name_of;
 pub use noted::Noted;
-pub use rules::{Broken, LINE_LIMIT, broken_by, push_broken_rule, write_rule};
+pub use rules::{Broken, broken_by, push_broken_rule, write_rule};
 pub use tables::{run_table, write_code_hints};
 pub use told::Told;
 pub use why::run_why;

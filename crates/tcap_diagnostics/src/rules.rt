@@ -10,12 +10,7 @@ use crate::told::Told;
 use std::alloc::{AllocError, Global};
 use tcap_ber::{Outer, Reason, Write, outer};
 use tcap_lines::WriteFailed;
-
-/// The greatest count of octets of a line, its end left out.
-pub const LINE_LIMIT: usize = 131_092;
-
-/// The greatest count of lines.
-pub(crate) const LINES_LIMIT: u64 = 1_000_000;
+use tcap_record::{LINE_LIMIT, LINES_LIMIT};
 
 /// A rule of the lines of digits.
 #[derive(Clone, Copy, Debug, PartialEq, Eq)]

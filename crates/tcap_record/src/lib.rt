@@ -24,6 +24,6 @@ pub use fault::{FeedFault, FeedReason};
 pub use feeder::Feeder;
 pub use frames::Frames;
 pub use lines::push_head;
-pub use packing::{Line, LineFault, PackFault, pack, read_line};
+pub use packing::{LINE_LIMIT, LINES_LIMIT, Line, LineFault, PackFault, pack, read_line};
 pub use printing::{ShowFault, show};
 pub use reading::{PIECE_LEN, read_record};

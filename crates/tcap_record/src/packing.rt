@@ -24,10 +24,10 @@ use std::alloc::{AllocError, Global};
 use tcap_ber::{Failed, RawView, Read, Write};
 
 /// The greatest count of octets of a line, its end left out, a limit of this profile.
-const LINE_LIMIT: usize = 131_092;
+pub const LINE_LIMIT: usize = 131_092;
 
 /// The greatest count of lines, a limit of this profile.
-const LINES_LIMIT: u64 = 1_000_000;
+pub const LINES_LIMIT: u64 = 1_000_000;
 
 const NEWLINE: u8 = b'\n';
 

@@ -12,8 +12,8 @@ use crate::fault::{FormFault, Halt};
 use std::alloc::{AllocError, Global};
 use std::mem;
 use tcap_ber::{Outer, outer};
-use tcap_diagnostics::{LINE_LIMIT, broken_by, hint_of, name_of, push_broken_rule};
-use tcap_record::{End, Line, LineFault, read_line};
+use tcap_diagnostics::{broken_by, hint_of, name_of, push_broken_rule};
+use tcap_record::{End, LINE_LIMIT, Line, LineFault, read_line};
 
 /// What a trace is, by its first octets.
 #[derive(Clone, Copy, PartialEq, Eq)]
