@@ -1,4 +1,4 @@
--- What is known of octets that are in memory, by what is said of them.
+-- The answers on octets in memory are right.
 use Rattle.std.proofs.Common.{◌≡◌, ◌&&◌, Bool, cond, ℕ, List, [], ◌++◌, length, map, true, false, refl, sym, ap, subst, ◌∙◌, inl, inr, append-nil}
 use Rattle.std.specs.Prelude.{Option, Some, None, Result, Ok, Err}
 use Rattle.std.specs.Io.KnownBytes.{Consumes, IsAtEnd}
@@ -36,11 +36,11 @@ use Rattle.tcap_judge.proofs.VerdictLaws.{NamesRightly, by_refutation, lawful_re
 use Rattle.tcap_c.specs.declared.answer.Answer.{Answer}
 use Rattle.tcap_c.specs.InMemory.{AreRight, IsAtFaultIn, IsRight, MayBeSentBy, SaysBlamed, SaysChecked, SaysJudged, blame_answers, finding_answer, in_memory, no_answer, outcome_answer, refutation_answer}
 
--- what a reader of these octets told up to its end is all of them
+-- The octets read from a reader in memory up to its end are all its octets.
 told_all : (octets left told : List ℕ) → Consumes (Some octets) (Some left) told → IsAtEnd (Some left) → told ≡ octets
 told_all octets left told consumes at = sym (consumes ∙ ap (λ (x : List ℕ). told ++ x) at ∙ append-nil told)
 
--- the text of the table that was read
+-- The text is that of the table that was read.
 text_is : (text left : List ℕ) (operations : Table) → ReadsTable (in_memory text left) (Ok operations)
     → IsTableOf text (Ok operations)
 text_is text left operations reads =
@@ -58,7 +58,7 @@ may_be_sent judged octets text left left_of_text operations outcome reads found 
   lawful = without_unheard judged found.items operations found.unheard found.lawful;
 }
 
--- entries that are all that was told, and are lawful
+-- If all octets were read and the entries are lawful, the octets may have been sent.
 entries_may_be_sent : (judged : Option Side) (octets text left left_of_text : List ℕ) (operations : Table) (entries : List Entry)
     (end : Unit {0}) → ReadsTable (in_memory text left_of_text) (Ok operations)
     → ReadsRecord (in_memory octets left) entries (Ok end) → AreLawful judged operations entries → MayBeSentBy judged octets text
@@ -121,7 +121,7 @@ judged_refuted judged rightly octets text r says = by says.given.0 says.given.1 
         is_at_fault judged octets text says.left says.left_of_text operations named.entries named.end r
         (refutation_answer 1 r) reads named.reads (rightly operations named.entries r named.named) refl refl
 
--- an answer is right where what is said is
+-- If the outcome is right, so is the answer.
 right_of : (judged : Option Side) (octets text : List ℕ) (outcome : Outcome)
     → (outcome_status outcome ≡ statuses.Fine → MayBeSentBy judged octets text)
     → ((r : Refutation) → outcome ≡ Refuted r → IsAtFaultIn judged octets text (refutation_answer 1 r))
@@ -178,7 +178,7 @@ checked_right judged octets text certificate outcome says is =
 
 -- ---- blaming
 
--- What is said of the record is what judging says, or that it is lawful, where each end by itself is.
+-- The answer on the record is right: it is that of the verdict, or LAWFUL because each end is lawful on its own.
 told_right : NamesRightly None → (octets text left left_of_text : List ℕ) (operations : Table) (entries : List Entry)
     (end : Result (Unit {0}) FeedFault) (outcome : Outcome) → ReadsTable (in_memory text left_of_text) (Ok operations)
     → ReadsRecord (in_memory octets left) entries end → outcome ≡ joint_record_verdict None operations entries end
@@ -237,7 +237,7 @@ both_right rightly octets text outcome ends says = by says.given.0 says.given.1 
         told_right rightly octets text says.left says.left_of_text operations told.entries told.end outcome reads told.reads
         told.says told.shown
 
--- an answer on an end is right where what is said of it is
+-- If the finding is right, so is the answer on the end.
 end_right_of : (side : Side) (octets text : List ℕ) (said : Finding)
     → ((count unheard : ℕ) → said ≡ findings.Lawful count unheard → MayBeSentBy (Some side) octets text)
     → ((r : Refutation) → said ≡ findings.Blamed r → IsAtFaultIn (Some side) octets text (refutation_answer 5 r))
@@ -252,7 +252,7 @@ end_right_of side octets text (findings.NotBlamed count) lawful blamed =
 nothing_right : (judged : Option Side) (octets text : List ℕ) → IsRight judged octets text no_answer
 nothing_right judged octets text = record { lawful = λ is. cc; refuted = λ is. cc; blamed = λ is. cc }
 
--- what is blamed is what the verdict on the end names
+-- The verdict on an end refutes the entry that a finding blames.
 named_by_finding : (count : ℕ) (outcome : Outcome) (r : Refutation) → finding_by count outcome ≡ findings.Blamed r
     → outcome ≡ Refuted r
 named_by_finding count (Refuted other) r is = let same : other ≡ r = cc in ap Refuted same
@@ -262,7 +262,7 @@ named_by_finding count (NotShown fault) r is = cc
 named_by_finding count (Undecided fault) r is = cc
 named_by_finding count (Faulty number place) r is = cc
 
--- one end, of entries that are all that was told
+-- The answer on one end is right, if all octets were read.
 end_right : (side : Side) (octets text left left_of_text : List ℕ) (operations : Table) (entries : List Entry)
     (end : Unit {0}) (said : Finding) → ReadsTable (in_memory text left_of_text) (Ok operations)
     → ReadsRecord (in_memory octets left) entries (Ok end) → said ≡ finding operations entries side
@@ -281,7 +281,7 @@ end_right side octets text left left_of_text operations entries end said reads t
     (rightly r (by_refutation (Some side) (length entries) (named_by (Some side) operations entries)
     (replayed_by (Some side) operations (proposed_by (Some side) entries) entries) r (sym refuted))) refl refl)
 
--- both ends, where something is said of them
+-- The answers on both ends are right, if there are findings.
 ends_right : (octets text left left_of_text : List ℕ) (operations : Table) (outcome : Outcome) (ends : Ends)
     → ReadsTable (in_memory text left_of_text) (Ok operations)
     → GivesBlame operations (in_memory octets left) outcome (Some ends)

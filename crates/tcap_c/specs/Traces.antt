@@ -1,4 +1,4 @@
--- What is asked of a trace by numbers, and what a call gives of it.
+-- What do the options of `tcapjudge_test` mean, and what does a call return?
 use Rattle.std.specs.Prelude.{◌≡◌, ℕ, ◌<◌, List, ◌++◌, length, take, drop, true, false, Bool, nat_eq, cond, Option, Some, None, Ok, option_and_then}
 use Rattle.tcap_record.specs.declared.entry.End.{End as Side}
 use Rattle.tcap_dialogues.specs.declared.reuse.Reuse.{Reuse}
@@ -13,16 +13,17 @@ use Rattle.tcap_c.specs.declared.asked.Rules.{Rules}
 
 -- ---- numbers
 
--- how IDs may come again, and whether nothing was under way then
+-- the rule for using IDs again, and whether nothing is in transit then
 abbrev pub reuse_of : ℕ → ℕ → Option (Reuse × Bool)
 reuse_of number linger = cond (nat_eq number 0) (Some (Again linger, false))
     (cond (nat_eq number 1) (Some (Again linger, true))
     (cond (nat_eq number 2) (Some (Once, false)) None))
 
+-- the flag for 0 or 1; None for another number
 abbrev pub flag_of : ℕ → Option Bool
 flag_of number = cond (nat_eq number 0) (Some false) (cond (nat_eq number 1) (Some true) None)
 
--- what the numbers mean; nothing where one of them is unknown
+-- the meaning of the options, or None if a number is unknown
 abbrev pub rules_of : Asked → Option Rules
 rules_of asked =
     option_and_then (λ (of : Option Side).
@@ -31,13 +32,13 @@ rules_of asked =
     Some (record { of = of; reuse = again.0; settled = again.1; complete = complete }))
     (flag_of asked.complete)) (reuse_of asked.ids asked.linger)) (judged_by asked.of)
 
--- ---- what a call gives
+-- ---- the results of calls
 
--- octets that are laid over the front of a room, as many as it has room for; behind them it stays as it is
+-- The room after `octets` were copied to its front, as many as fit. The rest of the room is unchanged.
 abbrev pub laid : List ℕ → List ℕ → List ℕ
 laid octets room = take (length room) octets ++ drop (length octets) room
 
--- Some octets were laid over the room, all of them are counted, and the status is that of a verdict.
+-- Octets were copied to the room, `len` is the number of all of them, and the status is that of a verdict.
 pub record Tells (old new : List ℕ) (len status : ℕ) : Type 0 where
   pub octets : List ℕ
   pub verdict : Verdict
@@ -45,10 +46,11 @@ pub record Tells (old new : List ℕ) (len status : ℕ) : Type 0 where
   pub len_is : len ≡ length octets
   pub status_is : status ≡ status_of verdict
 
--- a call with a number that is unknown: nothing is written
+-- A call with an unknown number writes nothing and returns 4.
 abbrev pub TellsNothing : List ℕ → List ℕ → ℕ → ℕ → Type 0
 TellsNothing old new len status = (new ≡ old) × (len ≡ 0) × (status ≡ 4)
 
--- The text is a book, and it is told which of its tables is for a dialogue: one at most has no contexts, and no two have one context.
+-- The text is a table set, and each dialogue has at most one table in it: at most one table has no contexts, and no two
+-- share one.
 abbrev pub IsClearBook : List ℕ → Type 0
 IsClearBook text = (tables : List NamedTable) × IsBookOf text (Ok tables) × (is_ambiguous tables ≡ false) × (clash tables ≡ None)

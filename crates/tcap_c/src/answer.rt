@@ -1,4 +1,4 @@
-//! What is said, as numbers that a program in C reads.
+//! Answers as numbers, for programs in C.
 
 ghost use Rattle.std.specs.Prelude.{◌≡◌};
 ghost use Rattle.tcap_lines.specs.Shown.{status_number};
@@ -10,32 +10,32 @@ use tcap_check::CheckFault;
 use tcap_judge::{Blame, Ends, Finding, Outcome, blame_status, inner_number};
 use tcap_refute::Refutation;
 
-/// What is said of a record, or of an end. The header `clib/tcapjudge.h` says what its numbers mean.
+/// The answer on a record or on an end. The header `clib/tcapjudge.h` explains the numbers.
 #[repr(C)]
 #[derive(Clone, Copy, Debug, PartialEq, Eq)]
 pub struct Answer {
-    /// How many entries are LAWFUL, or NOT BLAMED; which entry is REFUTED, BLAMED, UNDECIDED or NOT SHOWN, counted from 0;
-    /// the place of a FAULT.
+    /// The number of entries that are LAWFUL or NOT BLAMED; the number of the entry that is REFUTED, BLAMED, UNDECIDED
+    /// or NOT SHOWN, counted from 0; or the place of a FAULT.
     pub entry: u64,
-    /// How many messages of the peer an end that is LAWFUL did not hear.
+    /// The number of the peer's messages that a LAWFUL end did not receive.
     pub unheard: u64,
-    /// LAWFUL 0, REFUTED 1, UNDECIDED 2, FAULT 3, NOT SHOWN 4, BLAMED 5, NOT BLAMED 6; 7 where nothing is said.
+    /// LAWFUL 0, REFUTED 1, UNDECIDED 2, FAULT 3, NOT SHOWN 4, BLAMED 5, NOT BLAMED 6, or 7 for an empty answer.
     pub verdict: u8,
-    /// The kind of a REFUTED or BLAMED entry; the reason of what is UNDECIDED, NOT SHOWN or a FAULT.
+    /// The kind of a REFUTED or BLAMED entry; the reason of UNDECIDED, NOT SHOWN or FAULT.
     pub reason: u8,
-    /// The number behind `/` of a reason; 0 where there is none.
+    /// The number after the `/` of a reason, or 0 if it has none.
     pub inner: u8,
 }
 
-/// What is said of a record, and of each of its ends.
+/// The answers on a record and on each of its ends.
 #[repr(C)]
 #[derive(Clone, Copy, Debug, PartialEq, Eq)]
 pub struct Answers {
-    /// Of the record.
+    /// The answer on the record.
     pub both: Answer,
-    /// Of the end A.
+    /// The answer on end A.
     pub a: Answer,
-    /// Of the end B.
+    /// The answer on end B.
     pub b: Answer,
 }
 
@@ -56,7 +56,7 @@ const NOT_BLAMED: u8 = 6;
 const NOTHING: u8 = 7;
 
 impl Answer {
-    /// A verdict with a count, a place or an entry, and nothing more.
+    /// Creates an answer with a verdict and an entry, count or offset.
     fn new(verdict: u8, entry: u64) -> Answer
         ensures { result ≡ answer verdict entry 0 0 0 }
     {
@@ -69,14 +69,14 @@ impl Answer {
         }
     }
 
-    /// Nothing is said.
+    /// Creates the empty answer.
     pub(crate) fn nothing() -> Answer
         ensures { result ≡ no_answer }
     {
         Answer::new(NOTHING, 0)
     }
 
-    /// So many entries are lawful, of which so many messages are unheard.
+    /// Creates the answer that `count` entries are lawful, with `unheard` unheard messages.
     fn lawful(count: usize, unheard: u64) -> Answer
         ensures { result ≡ answer 0 count 0 0 unheard }
     {
@@ -86,7 +86,7 @@ impl Answer {
         }
     }
 
-    /// Where a certificate fails, and why.
+    /// Creates the answer for a certificate that fails.
     fn of_fault(verdict: u8, fault: CheckFault) -> Answer
         ensures { result ≡ fault_answer verdict fault }
     {
@@ -97,7 +97,7 @@ impl Answer {
         }
     }
 
-    /// Which entry is at fault, and by which kind.
+    /// Creates the answer for an entry at fault.
     fn of_refutation(verdict: u8, refutation: Refutation) -> Answer
         ensures { result ≡ refutation_answer verdict refutation }
     {
@@ -107,7 +107,7 @@ impl Answer {
         }
     }
 
-    /// What is said of a record.
+    /// Converts an outcome for a record.
     fn of_outcome(outcome: Outcome) -> Answer
         ensures { result ≡ outcome_answer outcome }
     {
@@ -124,7 +124,7 @@ impl Answer {
         }
     }
 
-    /// What is said of an end.
+    /// Converts a finding on an end.
     fn of_finding(finding: Finding) -> Answer
         ensures { result ≡ finding_answer finding }
     {
@@ -135,7 +135,7 @@ impl Answer {
         }
     }
 
-    /// Puts what is said of a record here, and answers the exit status.
+    /// Stores the answer for an outcome, and returns its exit status.
     pub(crate) fn put(&mut self, outcome: Outcome) -> u8
         ensures given { self.new ≡ outcome_answer outcome }
         ensures status { result ≡ status_number (outcome_status outcome) }
@@ -146,7 +146,7 @@ impl Answer {
 }
 
 impl Answers {
-    /// What is said of a record, and of its ends where something is said of them.
+    /// Converts the result of `blame`. The answers on the ends are empty if there are no findings.
     fn of_blame(blame: Blame) -> Answers
         ensures { result ≡ blame_answers blame.outcome blame.ends }
     {
@@ -165,7 +165,7 @@ impl Answers {
         }
     }
 
-    /// Puts what is said of a record and its ends here, and answers the exit status.
+    /// Stores the answers for the result of `blame`, and returns its exit status.
     pub(crate) fn put(&mut self, blame: Blame) -> u8
         ensures given { self.new ≡ blame_answers blame.outcome blame.ends }
         ensures status { result ≡ status_number (blame_status blame.ends blame.outcome) }

@@ -1,4 +1,4 @@
-//! What is asked of a trace, as numbers that a program in C gives.
+//! The options for a trace, as numbers that a program in C gives.
 
 ghost use Rattle.std.specs.Prelude.{◌≡◌};
 ghost use Rattle.tcap_c.specs.InMemory.{judged_by};
@@ -7,34 +7,35 @@ ghost use Rattle.tcap_c.specs.Traces.{flag_of, reuse_of, rules_of};
 use tcap_dialogues::Reuse;
 use tcap_record::End;
 
-/// What is asked of a trace. The header `clib/tcapjudge.h` says what its numbers mean.
+/// The options for a trace, as numbers. The header `clib/tcapjudge.h` explains them.
 #[repr(C)]
 #[derive(Clone, Copy, Debug, PartialEq, Eq)]
 pub struct Asked {
-    /// Behind so many entries a dialogue that is over is judged.
+    /// The number of entries after which a dialogue that is over is judged.
     pub linger: u64,
-    /// Whose verdicts are asked: of both ends 0, of one the octet `A` or `B`.
+    /// The judged end: 0 for both ends, or the octet `A` or `B`.
     pub of: u8,
-    /// What becomes of the IDs of a dialogue that is over: they come again 0, nothing was under way then 1, each is used once 2.
+    /// The rule for the IDs of a dialogue that is over: 0 used again, 1 used again with nothing in transit, 2 used
+    /// once.
     pub ids: u8,
-    /// Whether the trace holds whole dialogues: 0 or 1.
+    /// 1 if the trace holds whole dialogues, else 0.
     pub complete: u8,
 }
 
-/// The same, of numbers that are known.
+/// The options for a trace, by their meaning.
 #[derive(Clone, Copy, PartialEq, Eq)]
 pub(crate) struct Rules {
-    /// The end whose verdicts are asked; both where it is none.
+    /// The end whose verdicts are asked, or None for both.
     pub(crate) of: Option<End>,
-    /// How transaction IDs may come again.
+    /// The rule for using transaction IDs again.
     pub(crate) reuse: Reuse,
-    /// Whether nothing of a dialogue was under way when one of its IDs came again.
+    /// True if none of a dialogue's messages is in transit when one of its IDs is used again.
     pub(crate) settled: bool,
-    /// Whether a dialogue that is open at the end of the trace is inconclusive.
+    /// True if a dialogue that is open at the end of the trace is inconclusive.
     pub(crate) complete: bool,
 }
 
-/// Who is judged: both ends, which 0 names, or the one that its octet names.
+/// Returns the judged end for a number: 0 for both ends, or the octet of an end. None if the number is unknown.
 pub(crate) fn who_is(number: u8) -> Option<Option<End>>
     ensures { result ≡ judged_by number }
 {
@@ -46,7 +47,7 @@ pub(crate) fn who_is(number: u8) -> Option<Option<End>>
     }
 }
 
-/// How IDs may come again, and whether nothing was under way then.
+/// Returns the rule for using IDs again, and whether nothing is in transit then. None if the number is unknown.
 fn reuse_of(number: u8, linger: u64) -> Option<(Reuse, bool)>
     ensures { result ≡ reuse_of number linger }
 {
@@ -58,7 +59,7 @@ fn reuse_of(number: u8, linger: u64) -> Option<(Reuse, bool)>
     }
 }
 
-/// Whether it is so.
+/// Returns a flag for 0 or 1. None if the number is unknown.
 fn flag_of(number: u8) -> Option<bool>
     ensures { result ≡ flag_of number }
 {
@@ -70,7 +71,7 @@ fn flag_of(number: u8) -> Option<bool>
 }
 
 impl Asked {
-    /// What its numbers mean; nothing where one of them is unknown.
+    /// Returns the meaning of the numbers, or None if one of them is unknown.
     pub(crate) fn rules(self) -> Option<Rules>
         ensures { result ≡ rules_of self }
     {

@@ -1,5 +1,6 @@
-//! `tcapjudge` for programs in C: what its words `judge`, `check` and `blame` say of octets that are in memory, as numbers, and
-//! what its word `test` says of a trace, as lines of JSON.
+//! `tcapjudge` for programs in C: the answers of `judge`, `check` and `blame` on octets in memory, as numbers, and
+//! those of `test` on a trace, as lines of JSON.
+//!
 //! The header `clib/tcapjudge.h` declares these functions; `make clib` makes the library.
 #![tactic(auto)]
 
@@ -27,10 +28,10 @@ pub use asked::Asked;
 use std::alloc::Global;
 use tcap_record::End;
 
-/// The answer to a call with a number that is unknown.
+/// The status of a call with an unknown number.
 const WRONG_CALL: u8 = 4;
 
-/// Judges a record, and puts what is said into `answer`.
+/// Judges a record, stores the answer, and returns the status.
 fn judge(alloc: Global, octets: &[u8], table: &[u8], who: Option<End>, answer: &mut Answer) -> u8
     ensures gives { Gives (SaysJudged who octets.now table.now) answer.new result }
     ensures right { IsRight who octets.now table.now answer.new }
@@ -40,7 +41,7 @@ fn judge(alloc: Global, octets: &[u8], table: &[u8], who: Option<End>, answer: &
     answer.put(judged(alloc, octets, table, who))
 }
 
-/// Replays a certificate over a record, and puts what is said into `answer`.
+/// Replays a certificate over a record, stores the answer, and returns the status.
 fn check(
     alloc: Global,
     octets: &[u8],
@@ -55,7 +56,7 @@ fn check(
     answer.put(checked(alloc, octets, table, certificate, who))
 }
 
-/// Says nothing.
+/// Stores the answer to a wrong call, and returns its status.
 fn refuse(answer: &mut Answer) -> u8
     ensures { IsWrongCall answer.new result }
 {
@@ -63,10 +64,11 @@ fn refuse(answer: &mut Answer) -> u8
     WRONG_CALL
 }
 
-/// Judges a record, `octets`, by the text of an operation table, as `tcapjudge judge` does where `end` is 0, and as
-/// `judge --end` where it is the octet `A` or `B`. Puts what is said into `answer`, and answers the exit status: 0 LAWFUL,
-/// 1 REFUTED, 2 UNDECIDED, 3 a fault of the table or the record, or memory ran out (the reason is then 99). 4 where `end` is
-/// another number; then nothing is said.
+/// Judges the record `octets` by an operation table, like `tcapjudge judge`, and stores the answer.
+///
+/// `end` is 0 for both ends, or the octet `A` or `B` for that end alone, like `judge --end`. Returns the exit status: 0
+/// LAWFUL, 1 REFUTED, 2 UNDECIDED, 3 for a fault of the table or the record or if memory runs out (reason 99). If `end`
+/// is another number, the answer is empty and the status is 4.
 #[unsafe(no_mangle)]
 pub extern "C" fn tcapjudge_judge(
     alloc: Global,
@@ -86,9 +88,10 @@ pub extern "C" fn tcapjudge_judge(
     }
 }
 
-/// Replays the text of a certificate over a record, as `tcapjudge check` and `check --end` do. Puts what is said into
-/// `answer`, and answers the exit status: 0 LAWFUL, 2 NOT SHOWN, 3 a fault of one of the three, or memory ran
-/// out (the reason is then 99). 4 where `end` is none of 0, `A` and `B`; then nothing is said.
+/// Replays a certificate over a record, like `tcapjudge check` and `check --end`, and stores the answer.
+///
+/// Returns the exit status: 0 LAWFUL, 2 NOT SHOWN, 3 for a fault of a file or if memory runs out (reason 99). If `end`
+/// is none of 0, `A` and `B`, the answer is empty and the status is 4.
 #[unsafe(no_mangle)]
 pub extern "C" fn tcapjudge_check(
     alloc: Global,
@@ -110,9 +113,11 @@ pub extern "C" fn tcapjudge_check(
     }
 }
 
-/// Judges a record and each of its ends, as `tcapjudge blame` does. Puts what is said into `answers`, and answers the exit
-/// status: 1 where an end is BLAMED, 0 where both ends are LAWFUL, else by the record: 0 LAWFUL, 2 REFUTED or UNDECIDED, 3 a
-/// fault of the table or the record, or memory ran out (the reason is then 99); then nothing is said of the ends.
+/// Judges a record and each of its ends, like `tcapjudge blame`, and stores the answers.
+///
+/// Returns the exit status: 1 if an end is BLAMED, and 0 if both ends are LAWFUL. Else the record decides: 0 LAWFUL, 2
+/// REFUTED or UNDECIDED, 3 for a fault of the table or the record or if memory runs out (reason 99). After a status of
+/// 3, the answers on the ends are empty.
 #[unsafe(no_mangle)]
 pub extern "C" fn tcapjudge_blame(
     alloc: Global,
@@ -128,11 +133,13 @@ pub extern "C" fn tcapjudge_blame(
     answers.put(blamed(alloc, octets, table))
 }
 
-/// Judges each dialogue of a trace, as `tcapjudge test` does: of lines of digits or of a record, by the text of a table or of a
-/// book, or, where that is empty, by the book that the library carries. Lays the lines of JSON over `lines`, as many octets as it
-/// has room for, puts into `len` how many they all are, and answers the exit status: 0 pass, 1 fail, 2 inconclusive, 3 error: also
-/// where the book has a fault or memory ran out, which the one line then says. 4 where a number of `asked` is unknown; then nothing
-/// is written.
+/// Judges each dialogue of a trace, like `tcapjudge test`, and writes the lines of JSON.
+///
+/// `trace` is lines of digits or a record. `book` is the text of a table or a table set, or empty for the set that the
+/// library carries. As many octets of the lines as fit are copied to `lines`; `len` becomes the number of all of them.
+///
+/// Returns the exit status: 0 pass, 1 fail, 2 inconclusive, 3 error. A fault of `book` or a lack of memory is an error,
+/// which the only line reports. If a number in `asked` is unknown, nothing is written and the status is 4.
 #[unsafe(no_mangle)]
 pub extern "C" fn tcapjudge_test(
     alloc: Global,

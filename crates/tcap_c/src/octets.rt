@@ -1,4 +1,4 @@
-//! Octets that are in memory, as a reader.
+//! A reader of octets in memory.
 
 ghost use Rattle.std.specs.Prelude.{◌≡◌, ◌≤◌, ◌<◌, length, Some, IfOk};
 ghost use Rattle.std.specs.Io.KnownBytes.{IsAtEnd};
@@ -7,14 +7,14 @@ ghost use Rattle.tcap_ber.specs.Device.{CountsFailure, Tells};
 use std::io;
 use tcap_ber::{Failed, Read};
 
-/// The octets that are left to read. It never fails.
+/// The octets left to read. Reading never fails.
 #[derive(Drop)]
 pub(crate) struct Octets<'a> {
     rest: &'a [u8],
 }
 
 impl<'a> Octets<'a> {
-    /// All of these are left.
+    /// Creates a reader of these octets.
     pub(crate) fn new(octets: &'a [u8]) -> Octets<'a>
         ensures { result.rest.now ≡ octets.now }
     {

@@ -1,4 +1,4 @@
-//! What is said of octets that are in memory.
+//! Outcomes for octets in memory.
 
 ghost use Rattle.tcap_c.specs.InMemory.{SaysBlamed, SaysChecked, SaysJudged};
 
@@ -7,7 +7,7 @@ use std::alloc::Global;
 use tcap_judge::{Blame, Outcome, blame_outcome, check_outcome, judge_outcome};
 use tcap_record::End;
 
-/// What `judge` says of a record by a table: of one end alone, or, where none is named, of both.
+/// Returns the outcome of `judge` for a record and a table: of the end `who`, or of both ends.
 pub(crate) fn judged(alloc: Global, octets: &[u8], table: &[u8], who: Option<End>) -> Outcome
     ensures { SaysJudged who octets.now table.now result }
 {
@@ -16,7 +16,7 @@ pub(crate) fn judged(alloc: Global, octets: &[u8], table: &[u8], who: Option<End
     judge_outcome(alloc, &mut entries, &mut operations, who)
 }
 
-/// The same of `check`, by a certificate.
+/// Returns the outcome of `check` for a record, a table and a certificate.
 pub(crate) fn checked(
     alloc: Global,
     octets: &[u8],
@@ -32,7 +32,7 @@ pub(crate) fn checked(
     check_outcome(alloc, &mut entries, &mut operations, &mut given, who)
 }
 
-/// The same of `blame`, which speaks of both ends too.
+/// Returns the outcome of `blame` for a record and a table, and the finding on each end.
 pub(crate) fn blamed(alloc: Global, octets: &[u8], table: &[u8]) -> Blame
     ensures { SaysBlamed octets.now table.now result.outcome result.ends }
 {

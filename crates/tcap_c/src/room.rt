@@ -1,9 +1,9 @@
-//! The room of a caller.
+//! Output to the memory of a caller.
 
 ghost use Rattle.std.specs.Prelude.{◌≡◌, length};
 ghost use Rattle.tcap_c.specs.Traces.{laid};
 
-/// Lays octets over the front of `room`, as many as it has room for, and puts into `len` how many they all are.
+/// Copies octets to the front of `room`, as many as fit, and stores the number of all octets in `len`.
 pub(crate) fn lay(octets: &[u8], room: &mut [u8], len: &mut usize)
     ensures room { room.new ≡ laid octets.now room.old }
     ensures len { len.new ≡ length octets.now }

@@ -1,4 +1,4 @@
-//! Each call once, of records that are judged by hand.
+//! Calls on records that were judged by hand.
 
 use crate::{Answer, Answers, tcapjudge_blame, tcapjudge_check, tcapjudge_judge};
 use std::test::Fail;
@@ -10,14 +10,14 @@ const TABLE: &[u8] = b"{\"operations\":[{\"class\":1,\"code\":45}]}";
 const DIALOGUE: &[u8] =
     b"\x41\x62\x0d\x48\x01\x01\x6c\x08\xa1\x06\x02\x01\x01\x02\x01\x2d\x42\x64\x0a\x49\x01\x01\x6c\x05\xa2\x03\x02\x01\x01";
 
-/// The same Begin, and an End of B to a transaction that is not there.
+/// The Begin of `DIALOGUE`, then an End of B to an unknown transaction.
 const TO_NINE: &[u8] =
     b"\x41\x62\x0d\x48\x01\x01\x6c\x08\xa1\x06\x02\x01\x01\x02\x01\x2d\x42\x64\x03\x49\x01\x09";
 
-/// The Begin is delivered behind the End.
+/// A certificate in which the Begin is delivered after the End.
 const LATE: &[u8] = b"{\"close\":[],\"expire\":[],\"fates\":[2,2],\"version\":1}";
 
-/// What is said of a record of two entries that is lawful.
+/// The answer on a lawful record of two entries.
 const LAWFUL: Answer = Answer {
     entry: 2,
     unheard: 0,
@@ -35,7 +35,7 @@ const OTHER: Answer = Answer {
     inner: 9,
 };
 
-/// Both ends, and a number that names none.
+/// Judges both ends, then refuses a number that is no end.
 #[test]
 fn judges(rt: HostRuntime) -> Result<(), Fail> {
     let mut answer = OTHER;
@@ -48,7 +48,7 @@ fn judges(rt: HostRuntime) -> Result<(), Fail> {
     Ok(())
 }
 
-/// A certificate by which A may have sent its part, and B may not.
+/// Replays a certificate that A may follow, and B may not.
 #[test]
 fn checks(rt: HostRuntime) -> Result<(), Fail> {
     let mut answer = OTHER;
@@ -68,7 +68,7 @@ fn checks(rt: HostRuntime) -> Result<(), Fail> {
     Ok(())
 }
 
-/// An end that is blamed, and one that is not.
+/// Blames one end, and not the other.
 #[test]
 fn blames(rt: HostRuntime) -> Result<(), Fail> {
     let mut answers = Answers {

@@ -1,4 +1,4 @@
-//! What is said of a trace that is in memory.
+//! Judges a trace in memory.
 
 ghost use Rattle.std.specs.Prelude.{◌≡◌, ◌≢◌, ◌<◌, length, Some, None, IfOk, IsErr, MatchResult};
 ghost use Rattle.tcap_traces.specs.declared.verdict.Verdict.TheVariants as Verdict;
@@ -15,20 +15,20 @@ use tcap_books::{AMBIGUOUS, Book, BookFault, CARRIED_BOOK, CLASH};
 use tcap_report::{Asked, Sinks, Stop, Sum, Watch, run_trace, tell_unread};
 use tcap_traces::Verdict;
 
-/// The name of the trace, in each line.
+/// The name of the trace in each line.
 const NAME: &str = "trace";
 
-/// The one line where memory ran out.
+/// The only line if memory runs out.
 const NO_MEMORY: &str =
     "{\"trace\":\"trace\",\"verdict\":\"error\",\"messages\":0,\"dialogues\":{\"pass\":0,\"inconc\":0,\"fail\":0,\"error\":0},\"unheard\":0,\"text\":\"out of memory\"}\n";
 
 /// The text of a table without operations.
 const NO_OPERATIONS: &[u8] = b"{\"operations\":[]}";
 
-/// The lines, as they are written.
+/// The lines of JSON so far.
 type Lines = Counted<Vec<u8>>;
 
-/// Nobody, who keeps nothing of what is said, and does not look on.
+/// A writer that drops all octets, and an observer that does nothing.
 #[derive(Drop)]
 struct Nobody;
 
@@ -46,7 +46,8 @@ impl Watch for Nobody {
     fn look(&mut self, _sum: &Sum) {}
 }
 
-/// The book of a text, where no text is that which the library carries; or what is wrong with it, in words.
+/// Reads a table set, or the carried set if the text is empty. Returns the fault if it has one, in words, and
+/// `AllocError` if memory runs out.
 fn book_of(alloc: Global, text: &[u8]) -> Result<Result<Book, String>, AllocError>
     ensures { IfOk result (λ found. IfOk found (λ _. 0 < length text.now → IsClearBook text.now)) }
 {
@@ -71,7 +72,7 @@ fn book_of(alloc: Global, text: &[u8]) -> Result<Result<Book, String>, AllocErro
     Ok(Err(why))
 }
 
-/// Writes the lines of a trace, or of why it is not judged, and answers the verdict on it.
+/// Writes the lines of a trace, or the reason why it is not judged. Returns the verdict on it.
 fn write_lines(
     alloc: Global,
     trace: Result<&[u8], &str>,
@@ -98,7 +99,7 @@ fn write_lines(
     }
 }
 
-/// What is asked of a trace, by these rules and that book.
+/// Returns the options for a trace, with the tables of `book`.
 fn asked_by(rules: Rules, book: &Book) -> Asked<'_>
     ensures of { result.of ≡ rules.of }
     ensures reuse { result.reuse ≡ rules.reuse }
@@ -116,7 +117,7 @@ fn asked_by(rules: Rules, book: &Book) -> Asked<'_>
     }
 }
 
-/// The lines of a trace, and the verdict on it.
+/// Returns the lines of a trace, and the verdict on it.
 fn lines_of(
     alloc: Global,
     trace: &[u8],
@@ -138,7 +139,8 @@ fn lines_of(
     Ok((lines.into_inner(), verdict))
 }
 
-/// Lays the lines of a trace over the room, and answers the exit status. Where memory runs out, they are one line that says so.
+/// Copies the lines of a trace to the room, and returns the exit status. If memory runs out, they are the one line that
+/// says so.
 pub(crate) fn test(
     alloc: Global,
     trace: &[u8],

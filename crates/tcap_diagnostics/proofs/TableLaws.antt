@@ -1,4 +1,4 @@
--- The text of a book that is not one of several tables is the text of an operation table.
+-- The text of a table set without the key `tables` is the text of an operation table.
 use Rattle.std.proofs.Common.{◌≡◌, ◌∙◌, ℕ, inl, inr, List, [], ◌∷◌, Result, Ok, Err, ap, sym, codes, refl}
 use Rattle.serde_json.specs.Find.{get}
 use Rattle.tcap_end.specs.declared.table.TableFault.{TableFault}
@@ -8,7 +8,7 @@ use Rattle.tcap_books.specs.Book.{NamedTable}
 use Rattle.tcap_books.specs.BookText.{IsBookOf, IsPlain, book_by, plain, refused_table}
 use Rattle.tcap_diagnostics.specs.Tables.{IsTableText}
 
--- what is read as a book of one table is a table
+-- A value that is read as a set of one table is a table.
 table_given : (book : List NamedTable) (r : Result Table TableFault)
     → then_ok (refused_table 0 r) (λ table. Ok (plain table ∷ [])) ≡ Ok book → (table : Table) × (r ≡ Ok table)
 table_given book (Ok table) e = (table, refl)

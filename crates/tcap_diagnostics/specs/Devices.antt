@@ -1,4 +1,4 @@
--- The readers and writers in others.
+-- Which reader or writer does a wrapper hold?
 use Rattle.tcap_diagnostics.specs.declared.kept.Kept.{Kept}
 use Rattle.tcap_diagnostics.specs.declared.noted.Noted.{Noted}
 use Rattle.tcap_diagnostics.specs.declared.told.Told.{Told}

@@ -1,11 +1,11 @@
-//! The octets around a place.
+//! The octets around an offset.
 
 use std::alloc::AllocError;
 
-/// So many octets are shown at most on each side of a place.
+/// The most octets shown on each side of the offset.
 pub(crate) const SIDE: usize = 8;
 
-/// Appends octets, a space behind each.
+/// Appends octets, with a space after each.
 fn push_before(text: &mut String, octets: &[u8]) -> Result<(), AllocError> {
     for octet in octets {
         let octet = *octet;
@@ -14,7 +14,7 @@ fn push_before(text: &mut String, octets: &[u8]) -> Result<(), AllocError> {
     Ok(())
 }
 
-/// Appends octets, a space before each.
+/// Appends octets, with a space before each.
 fn push_behind(text: &mut String, octets: &[u8]) -> Result<(), AllocError> {
     for octet in octets {
         let octet = *octet;
@@ -23,8 +23,8 @@ fn push_behind(text: &mut String, octets: &[u8]) -> Result<(), AllocError> {
     Ok(())
 }
 
-/// Appends the octets around the place `at`: those before it, the one that stands there in brackets, and those behind
-/// it, at most 8 on each side. The brackets are empty where none stands there.
+/// Appends the octet at offset `at` in brackets, and at most `SIDE` octets before and after it. The brackets are empty
+/// if `at` is the end.
 pub(crate) fn push_around(text: &mut String, octets: &[u8], at: usize) -> Result<(), AllocError> {
     let (before, rest) = octets.split_at(at.min(octets.len()));
     push_before(text, &before[before.len().saturating_sub(SIDE)..])?;

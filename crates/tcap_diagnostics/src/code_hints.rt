@@ -1,11 +1,13 @@
-//! Codes that stand as texts of digits, and may be meant as numbers; and linked codes of operations that a table lacks.
+//! Hints on codes: texts of digits that may be meant as numbers, and linked codes that no row has.
+//!
+//! Each function returns `AllocError` if memory runs out.
 
 use crate::table_faults::is_global;
 use crate::table_rows::order_of;
 use serde_json::Value;
 use std::alloc::{AllocError, Global};
 
-/// A code that is written as a text, and what stands around it.
+/// A code that is written as a text, and the JSON around it.
 #[derive(Clone, Copy)]
 struct Meant<'a> {
     before: &'static str,
@@ -13,7 +15,7 @@ struct Meant<'a> {
     behind: &'static str,
 }
 
-/// The digits of a global code of one or two octets, where they are decimal digits.
+/// Returns the digits of a global code of one or two octets, if they are all decimal.
 fn short_digits(alloc: Global, code: &Value) -> Result<Option<&str>, AllocError> {
     let Some(digits) = code.as_str() else {
         return Ok(None);
@@ -25,7 +27,7 @@ fn short_digits(alloc: Global, code: &Value) -> Result<Option<&str>, AllocError>
     Ok(None)
 }
 
-/// The first code of a row that may be meant as a number.
+/// Returns the first code of a row that may be meant as a number.
 fn meant_in(alloc: Global, row: &Value) -> Result<Option<Meant>, AllocError> {
     if let Some(code) = row.get("code") {
         if let Some(digits) = short_digits(alloc, code)? {
@@ -51,7 +53,7 @@ fn meant_in(alloc: Global, row: &Value) -> Result<Option<Meant>, AllocError> {
     Ok(None)
 }
 
-/// Appends what such a code is, and how the number is written.
+/// Appends what such a code is, and how to write the number.
 fn push_meant(text: &mut String, meant: Meant) -> Result<(), AllocError> {
     let Meant {
         before,
@@ -70,7 +72,8 @@ fn push_meant(text: &mut String, meant: Meant) -> Result<(), AllocError> {
     )
 }
 
-/// Appends how the line of a row begins: with the path of its file, where one is told, and the table's number where it is one of a book.
+/// Appends the beginning of a hint on a row: the path, if there is one, the table's number in a set, and the row's
+/// number.
 fn push_place(
     text: &mut String,
     path: Option<&str>,
@@ -88,7 +91,7 @@ fn push_place(
     }
 }
 
-/// The first linked code that no row of a table has, with the number of the row that lists it.
+/// Returns the first linked code that no row of a table has, and the number of the row that lists it.
 fn unlisted_in(alloc: Global, rows: &[Value]) -> Result<Option<(usize, &Value)>, AllocError> {
     let order = order_of(alloc, rows)?;
     for (row, value) in rows.iter().enumerate() {
@@ -104,7 +107,7 @@ fn unlisted_in(alloc: Global, rows: &[Value]) -> Result<Option<(usize, &Value)>,
     Ok(None)
 }
 
-/// Appends a line for the first linked code that no row of a table has; the table has that number where it is one of a book.
+/// Appends a hint on the first linked code that no row of a table has. `number` is the table's number in a set.
 fn push_unlisted_in(
     alloc: Global,
     text: &mut String,
@@ -124,8 +127,8 @@ fn push_unlisted_in(
     text.push_str("] is the code of no row\n")
 }
 
-/// Appends a line for each table, of a book or alone, that lists a linked code which no row of it has: for the first such code. A line has
-/// the path, where one is told.
+/// Appends, for each table of a set or for a single table, a hint on the first linked code that no row of that table
+/// has. A hint names the path, if there is one.
 pub(crate) fn push_unlisted(
     alloc: Global,
     text: &mut String,
@@ -141,7 +144,8 @@ pub(crate) fn push_unlisted(
     Ok(())
 }
 
-/// Appends a line for each row of a table that has such a code; the table has that number where it is one of a book.
+/// Appends a hint for each row of a table with a code that may be meant as a number. `number` is the table's number in
+/// a set.
 fn push_rows(
     alloc: Global,
     text: &mut String,
@@ -162,8 +166,8 @@ fn push_rows(
     Ok(())
 }
 
-/// Appends a line for each row of a table, or of the tables of a book, that has a code which may be meant as a number: a text of
-/// decimal digits, which is the OBJECT IDENTIFIER of one or two octets. A line has the path, where one is told.
+/// Appends a hint for each row, of a table or a table set, with a code that may be meant as a number: decimal digits
+/// that make an OBJECT IDENTIFIER of one or two octets. A hint names the path, if there is one.
 pub(crate) fn push_code_hints(
     alloc: Global,
     text: &mut String,

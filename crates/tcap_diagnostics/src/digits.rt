@@ -2,7 +2,7 @@
 
 use std::alloc::AllocError;
 
-/// Appends two digits for each octet.
+/// Appends two hexadecimal digits for each octet.
 pub(crate) fn push_hex(text: &mut String, octets: &[u8]) -> Result<(), AllocError> {
     for octet in octets {
         let octet = *octet;

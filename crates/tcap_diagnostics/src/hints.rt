@@ -1,4 +1,4 @@
-//! What input was given by mistake.
+//! Hints on files that were given by mistake.
 
 ghost use Rattle.std.specs.Prelude.{◌≡◌, OnOk, OnErr};
 ghost use Rattle.tcap_ber.specs.Device.{one_more};
@@ -6,7 +6,7 @@ ghost use Rattle.tcap_ber.specs.Device.{one_more};
 use tcap_ber::Write;
 use tcap_lines::WriteFailed;
 
-/// What octets look like.
+/// The appearance of octets.
 #[derive(Clone, Copy, PartialEq, Eq)]
 enum Look {
     /// A record.
@@ -19,23 +19,23 @@ enum Look {
     Sccp,
     /// A message of M3UA (RFC 4666).
     M3ua,
-    /// A capture, a pcap or a pcapng.
+    /// A capture in the format pcap or pcapng.
     Capture,
-    /// A file that gzip compressed (RFC 1952).
+    /// A file compressed by gzip (RFC 1952).
     Gzip,
-    /// A text behind a byte order mark of UTF-8.
+    /// A text after a byte order mark of UTF-8.
     Marked,
     /// An operation table.
     Table,
-    /// A book of operation tables.
+    /// A set of operation tables (a book).
     Book,
     /// A certificate.
     Certificate,
-    /// Another text of JSON.
+    /// Another JSON text.
     Json,
 }
 
-/// What a file is given as.
+/// The use that a file was given for.
 #[derive(Clone, Copy, Debug, PartialEq, Eq)]
 pub enum Role {
     /// A record whose entries are shown.
@@ -48,18 +48,18 @@ pub enum Role {
     Trace,
     /// One operation table.
     Table,
-    /// An operation table, or a book of them.
+    /// An operation table, or a set of them.
     Book,
     /// A certificate.
     Certificate,
 }
 
-/// Whether this is a hexadecimal digit.
+/// Returns whether an octet is a hexadecimal digit.
 fn is_digit(octet: u8) -> bool {
     octet.is_ascii_hexdigit()
 }
 
-/// What is behind the first line.
+/// Returns the octets after the first line.
 fn behind_line(octets: &[u8]) -> &[u8] {
     match octets.iter().position(|octet| *octet == b'\n') {
         Some(end) => &octets[end.saturating_add(1).min(octets.len())..],
@@ -67,8 +67,7 @@ fn behind_line(octets: &[u8]) -> &[u8] {
     }
 }
 
-/// Whether octets begin as lines of digits do: those that are skipped, and then a quiet mark, or an end, a space and a
-/// digit.
+/// Returns whether octets begin like lines of digits: lines to skip, then a quiet mark, or an end, a space and a digit.
 fn are_lines(octets: &[u8]) -> bool {
     let mut rest = octets;
     for _ in 0..octets.len() {
@@ -76,7 +75,7 @@ fn are_lines(octets: &[u8]) -> bool {
             [b'#' | b'\n', ..] | [b'\r', b'\n', ..] => rest = behind_line(rest),
             [b'Q', b'\n', ..] | [b'Q', b'\r', b'\n', ..] => return true,
             [b'A' | b'B', b' ', digit, ..] => return is_digit(*digit),
-            // Nothing but lines that are skipped, as far as it was read.
+            // As far as the octets go, there are only lines to skip.
             [] => return true,
             _ => return false,
         }
@@ -84,7 +83,7 @@ fn are_lines(octets: &[u8]) -> bool {
     rest.is_empty() && !octets.is_empty()
 }
 
-/// What is behind quiet marks.
+/// Returns the octets after quiet marks.
 fn behind_marks(octets: &[u8]) -> &[u8] {
     let mut rest = octets;
     while let [b'Q', more @ ..] = rest {
@@ -93,8 +92,8 @@ fn behind_marks(octets: &[u8]) -> &[u8] {
     rest
 }
 
-/// Whether octets begin as a message does (Q.773): the tag of one, a length, and the tag of what stands first in it, which is a
-/// transaction ID, the dialogue portion or the component portion.
+/// Returns whether octets begin like a message (Q.773): the tag of a message, a length, and the tag of a transaction
+/// ID, of the dialogue portion or of the component portion.
 fn is_message(octets: &[u8]) -> bool {
     let [0x61 | 0x62 | 0x64 | 0x65 | 0x67, length, rest @ ..] = octets else {
         return false;
@@ -109,7 +108,7 @@ fn is_message(octets: &[u8]) -> bool {
     matches!(rest.get(more), Some(0x48 | 0x49 | 0x6B | 0x6C))
 }
 
-/// Whether octets begin as a record does: quiet marks, and behind them the octet of an end and a message.
+/// Returns whether octets begin like a record: quiet marks, then the octet of an end and a message.
 fn is_record(octets: &[u8]) -> bool {
     match behind_marks(octets) {
         [b'A' | b'B', message @ ..] => is_message(message),
@@ -117,7 +116,7 @@ fn is_record(octets: &[u8]) -> bool {
     }
 }
 
-/// The first octets of what is to be a message: those behind quiet marks and the octet of an end, where they are there.
+/// Returns the octets that should be a message: those after quiet marks and the octet of an end, if there are any.
 fn message_in(octets: &[u8]) -> &[u8] {
     match behind_marks(octets) {
         [b'A' | b'B', message @ ..] => message,
@@ -125,7 +124,7 @@ fn message_in(octets: &[u8]) -> &[u8] {
     }
 }
 
-/// What stands behind white space (RFC 8259 2).
+/// Returns the octets after white space (RFC 8259 2).
 fn behind_space(octets: &[u8]) -> &[u8] {
     let mut rest = octets;
     while let [b' ' | b'\t' | b'\n' | b'\r', more @ ..] = rest {
@@ -134,7 +133,7 @@ fn behind_space(octets: &[u8]) -> &[u8] {
     rest
 }
 
-/// The first key of an object of JSON, no octets where it has none; `None` where the octets begin as no object does.
+/// Returns the first key of a JSON object, or no octets if it has none. None if the octets do not begin like an object.
 fn first_key(octets: &[u8]) -> Option<&[u8]> {
     let [b'{', behind @ ..] = behind_space(octets) else {
         return None;
@@ -146,12 +145,12 @@ fn first_key(octets: &[u8]) -> Option<&[u8]> {
     Some(&key[..end.unwrap_or(0).min(key.len())])
 }
 
-/// What a message of another protocol looks like.
+/// Returns the appearance of a message of another protocol.
 fn look_of_message(octets: &[u8]) -> Option<Look> {
     match octets {
         // A package: Unidirectional, Query, Response, Conversation, Abort.
         [0xE1..=0xE6 | 0xF6, ..] => Some(Look::Ansi),
-        // Version 1, a reserved octet, and the class of a message.
+        // Version 1, a reserved octet, and a message class.
         [0x01, 0x00, 0x00..=0x09, ..] => Some(Look::M3ua),
         // UDT, XUDT and LUDT with a protocol class of connectionless service.
         [0x09 | 0x11 | 0x13, 0x00 | 0x01 | 0x80 | 0x81, ..] => Some(Look::Sccp),
@@ -163,17 +162,17 @@ fn look_of_message(octets: &[u8]) -> Option<Look> {
     }
 }
 
-/// The keys of an operation table and of a certificate.
+/// The keys of an operation table, and (`CERTIFICATE_KEYS`) of a certificate.
 static TABLE_KEYS: [&str; 2] = ["operations", "prearranged"];
 
 static CERTIFICATE_KEYS: [&str; 4] = ["close", "expire", "fates", "version"];
 
-/// Whether a key is one of these.
+/// Returns whether a key is one of these.
 fn is_one_of(names: &[&str], key: &[u8]) -> bool {
     names.iter().any(|name| name.as_bytes() == key)
 }
 
-/// What an object of JSON looks like that has this key first.
+/// Returns the appearance of a JSON object with this first key.
 fn look_of_key(key: &[u8]) -> Look {
     if is_one_of(&TABLE_KEYS, key) {
         Look::Table
@@ -186,11 +185,12 @@ fn look_of_key(key: &[u8]) -> Look {
     }
 }
 
-/// What octets look like by which a file begins.
+/// Returns the appearance of a file that begins with these octets.
 fn look_of(octets: &[u8]) -> Option<Look> {
     match octets {
         [] => return None,
-        // The magic numbers of a pcap, with times in micro- or nanoseconds, of either order of octets, and of a pcapng.
+        // The magic numbers of pcap, with times in microseconds or nanoseconds and in either octet order, and of
+        // pcapng.
         [0xD4, 0xC3, 0xB2, 0xA1, ..]
         | [0xA1, 0xB2, 0xC3, 0xD4, ..]
         | [0x4D, 0x3C, 0xB2, 0xA1, ..]
@@ -212,7 +212,7 @@ fn look_of(octets: &[u8]) -> Option<Look> {
     }
 }
 
-/// Whether a file that looks like this may be what it is given as.
+/// Returns whether a file of this appearance can be used in this role.
 fn is_right(role: Role, look: Look) -> bool {
     match role {
         Role::Shown | Role::Record => look == Look::Record,
@@ -224,10 +224,10 @@ fn is_right(role: Role, look: Look) -> bool {
     }
 }
 
-/// How the line begins that tells what a file looks like.
+/// The beginning of a hint.
 const HINT: &str = "  hint: ";
 
-/// The words that tell it of a file that is given as something else.
+/// Returns the hint for a file of this appearance in this role.
 fn words_of(role: Role, look: Look) -> &'static str {
     match look {
         Look::Lines if role == Role::Shown => {
@@ -259,7 +259,7 @@ fn words_of(role: Role, look: Look) -> &'static str {
     }
 }
 
-/// What of that is told. Where a record or a trace is read, all objects of JSON are told alike.
+/// Returns the appearance to report. If a record or a trace is expected, all JSON objects are reported as JSON.
 fn told_of(role: Role, look: Look) -> Look {
     match (role, look) {
         (Role::Shown | Role::Trace, Look::Table | Look::Book | Look::Certificate) => Look::Json,
@@ -267,7 +267,7 @@ fn told_of(role: Role, look: Look) -> Look {
     }
 }
 
-/// The words that tell what a file looks like that begins with these octets, where that is not what it is given as.
+/// Returns the hint for a file that begins with these octets, if it cannot be used in this role.
 fn words_on(role: Role, first: &[u8]) -> Option<&'static str> {
     match look_of(first) {
         Some(look) if !is_right(role, look) => Some(words_of(role, told_of(role, look))),
@@ -275,8 +275,8 @@ fn words_on(role: Role, first: &[u8]) -> Option<&'static str> {
     }
 }
 
-/// What `first`, the first octets of what was given as a trace, look like, in words, where they look neither like lines of digits nor like a
-/// record: a hint for behind a line of fault.
+/// Returns a hint on the first octets of a trace, if they look neither like lines of digits nor like a record. The hint
+/// is for the line after a fault.
 pub fn hint_of(first: &[u8]) -> Option<&'static str> {
     words_on(Role::Trace, first)
 }
@@ -289,8 +289,11 @@ fn write<W: Write>(octets: &[u8], writer: &mut W) -> Result<(), WriteFailed>
     writer.write_all(octets).map_err(|_| WriteFailed)
 }
 
-/// Writes what a file looks like that begins with `first`, its first octets, where that is not what it is given as: a line with
-/// its path, where it has one; else nothing. It is for behind a line of fault. `WriteFailed` where the writer failed in this call.
+/// Writes a hint if a file that begins with `first` cannot be used in this role. The line names the path, if there is
+/// one, and comes after a fault.
+///
+/// # Errors
+/// `WriteFailed` if the writer fails in this call.
 pub fn write_hint<W: Write>(
     role: Role,
     path: Option<&str>,

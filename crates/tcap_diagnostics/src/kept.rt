@@ -1,4 +1,4 @@
-//! A reader of lines whose last lines are kept.
+//! A reader of lines that keeps the last lines.
 
 ghost use Rattle.std.specs.Prelude.{◌≡◌};
 ghost use Rattle.tcap_diagnostics.specs.Devices.{kept_inner};
@@ -6,21 +6,21 @@ ghost use Rattle.tcap_diagnostics.specs.Devices.{kept_inner};
 use std::alloc::Global;
 use tcap_ber::{Failed, Read};
 
-/// What a reader of lines told last.
+/// The last lines of a reader.
 #[derive(Drop)]
 pub(crate) struct Tail {
-    /// The octets from the beginning of a line on.
+    /// The octets of these lines, from the beginning of the first.
     pub(crate) octets: Vec<u8>,
-    /// How many lines were before them.
+    /// The number of lines before them.
     pub(crate) lines: u64,
-    /// Whether the reader told its end.
+    /// True if the reader has ended.
     pub(crate) ended: bool,
-    /// Whether the octets are not all that was told, since memory ran out.
+    /// True if octets are missing because memory ran out.
     pub(crate) lost: bool,
 }
 
 impl Tail {
-    /// Drops the lines that are whole: whoever reads has asked for more, so nothing was wrong with them.
+    /// Drops the finished lines. Their user has asked for more octets, so they have no fault.
     fn drop_whole(&mut self) {
         let Some(last) = self.octets.iter().rposition(|octet| *octet == b'\n') else {
             return;
@@ -33,15 +33,15 @@ impl Tail {
         self.octets.truncate(len - first);
     }
 
-    /// Keeps what was told behind that.
+    /// Keeps the octets that were read next.
     fn keep(&mut self, told: &[u8]) {
         self.ended = told.is_empty();
         self.lost = self.lost || self.octets.extend_from_slice(told).is_err();
     }
 }
 
-/// A reader that tells what another one tells, and keeps the lines that it told last: those that end in the last piece
-/// or have not ended.
+/// A reader that passes octets on from another reader, and keeps the last lines: those that end in the last piece or
+/// are unfinished.
 #[derive(Drop)]
 pub struct Kept<R> {
     reader: R,
@@ -49,7 +49,7 @@ pub struct Kept<R> {
 }
 
 impl<R> Kept<R> {
-    /// The reader over `reader`, of which nothing was kept yet.
+    /// Creates a reader over `reader` that has kept nothing yet.
     pub fn new(alloc: Global, reader: R) -> Kept<R>
         ensures { kept_inner result ≡ reader }
     {
@@ -64,14 +64,14 @@ impl<R> Kept<R> {
         }
     }
 
-    /// The reader that is kept of.
+    /// Returns the reader within.
     pub fn inner(&self) -> &R
         ensures { result.now ≡ kept_inner self.now }
     {
         &self.reader
     }
 
-    /// What it told last.
+    /// Returns the last lines.
     pub(crate) fn tail(&self) -> &Tail {
         &self.tail
     }

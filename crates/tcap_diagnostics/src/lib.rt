@@ -1,5 +1,5 @@
-//! Faults in words: where in its message a fault stands and what stands there, which rule a line of digits breaks, what
-//! an operation table holds, and what input was given by mistake.
+//! Explains faults in words: the part of a message with a fault, the rule that a line of digits breaks, and files given
+//! by mistake. Also prints operation tables.
 #![tactic(auto)]
 
 mod around;

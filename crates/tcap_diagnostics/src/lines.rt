@@ -12,10 +12,10 @@ use tcap_ber::{Counted, Failed, Read, Write};
 use tcap_lines::{Status, WriteFailed};
 use tcap_record::{FeedFault, FeedReason, LINE_LIMIT, LINES_LIMIT, PIECE_LEN, PackFault, pack};
 
-/// The greatest count of octets of a line with its end.
+/// The most octets of a line, with its end.
 const HELD_LIMIT: usize = LINE_LIMIT + 2;
 
-/// Lines as they are shown: what came of the line that has no end yet, and how many were before it.
+/// The state of showing lines: the octets of the unfinished line, and the numbers of lines and octets before.
 #[derive(Debug, Drop)]
 struct Lines {
     alloc: Global,
@@ -25,7 +25,7 @@ struct Lines {
     read: u64,
 }
 
-/// The content of a line: it without its end.
+/// Returns a line without its end.
 fn content_of(line: &[u8]) -> &[u8] {
     match line {
         [front @ .., b'\r', b'\n'] => front,
@@ -34,19 +34,19 @@ fn content_of(line: &[u8]) -> &[u8] {
     }
 }
 
-/// The record that one line stands for. `BadHexLine` where it is none.
+/// Returns the record of one line. `BadHexLine` if the line has none, `Memory` if memory runs out.
 fn packed(alloc: Global, line: &[u8]) -> Result<Vec<u8>, FeedReason> {
     let mut record = Counted::new(Vec::new(alloc));
     match pack(alloc, &mut Counted::new(line), &mut record) {
         Ok(_) => Ok(record.into_inner()),
         Err(PackFault::Fault(fault)) => Err(fault.reason),
-        // A list takes all octets but for want of memory.
+        // A vector takes all octets, unless memory runs out.
         Err(PackFault::Write) => Err(FeedReason::Memory),
     }
 }
 
 impl Lines {
-    /// The fault that the line which is held is no line of a record.
+    /// Returns the fault that the current line is bad.
     fn bad_line(&self) -> FeedFault {
         FeedFault {
             reason: FeedReason::BadHexLine,
@@ -54,7 +54,7 @@ impl Lines {
         }
     }
 
-    /// Adds octets to the line.
+    /// Adds octets to the current line. Fails if the line grows too long or memory runs out.
     fn hold(&mut self, octets: &[u8]) -> Result<(), FeedFault> {
         let room = HELD_LIMIT.saturating_sub(self.line.len());
         if octets.len() > room {
@@ -65,7 +65,7 @@ impl Lines {
         Ok(())
     }
 
-    /// Shows the line that is held, and drops it.
+    /// Shows the current line, and drops it.
     fn end_line<W: Write>(&mut self, writer: &mut W) -> Result<(), Stop>
         ensures write { result ≡ Err Stop.Write → W.failures writer.new ≡ one_more (W.failures writer.old) }
         ensures others { result ≢ Err Stop.Write → W.failures writer.new ≡ W.failures writer.old }
@@ -84,7 +84,7 @@ impl Lines {
         Ok(())
     }
 
-    /// Shows the lines that end in `piece`, and holds what is behind them.
+    /// Shows the lines that end in `piece`, and holds the octets after them.
     fn show_lines<W: Write>(&mut self, piece: &[u8], writer: &mut W) -> Result<(), Stop>
         ensures write { result ≡ Err Stop.Write → W.failures writer.new ≡ one_more (W.failures writer.old) }
         ensures others { result ≢ Err Stop.Write → W.failures writer.new ≡ W.failures writer.old }
@@ -103,7 +103,7 @@ impl Lines {
         Ok(())
     }
 
-    /// Shows all lines that `reader` tells.
+    /// Shows all lines of `reader`.
     fn show_all<R: Read, W: Write>(&mut self, reader: &mut R, writer: &mut W) -> Result<(), Stop>
         ensures write { result ≡ Err Stop.Write → W.failures writer.new ≡ one_more (W.failures writer.old) }
         ensures others { result ≢ Err Stop.Write → W.failures writer.new ≡ W.failures writer.old }
@@ -129,7 +129,7 @@ impl Lines {
         self.end_line(writer)
     }
 
-    /// The rule that the line which is held breaks.
+    /// Returns the rule that the current line breaks.
     fn broken(&self) -> Result<Option<Broken>, AllocError> {
         if self.lines >= LINES_LIMIT {
             return Ok(Some(Broken {
@@ -140,7 +140,7 @@ impl Lines {
         broken_by(self.alloc, content_of(&self.line))
     }
 
-    /// The line that says which rule the line which is held breaks.
+    /// Returns the text on the rule that the current line breaks.
     fn rule_line(&self) -> Result<String, AllocError> {
         let mut text = String::new(self.alloc);
         if let Some(broken) = self.broken()? {
@@ -149,7 +149,7 @@ impl Lines {
         Ok(text)
     }
 
-    /// Ends what was shown, and says behind the fault of a line which rule it breaks.
+    /// Ends the output. If a line of digits is bad, the rule that it breaks comes after its fault.
     fn end<W: Write>(self, ended: Result<(), Stop>, writer: &mut W) -> Result<Status, WriteFailed>
         ensures stopped { ended ≡ Err Stop.Write → IsErr result
             × (W.failures writer.new ≡ W.failures writer.old) }
@@ -173,12 +173,16 @@ impl Lines {
     }
 }
 
-/// Prints the entries of the record that the lines of digits stand for which `reader` tells up to its end: what
-/// [`run_pack`](tcap_lines::run_pack) makes of them, as [`run_show`](tcap_lines::run_show) prints it. Behind the line of
-/// the fault of a line of digits stands which rule it breaks, and in which column; with `why`, under each other line of
-/// fault one that says why in words. The status says whether a line of fault was printed. Where memory runs out, lines of
-/// the first entries are printed, whole ones, and its line. `WriteFailed` where the writer failed in this call. One line
-/// and one entry are held at a time.
+/// Prints the entries of a record that is given as lines of digits: packs the lines like
+/// [`run_pack`](tcap_lines::run_pack), and prints like [`run_show`](tcap_lines::run_show).
+///
+/// After the fault of a line of digits comes the rule that the line breaks, and the column. With `why`, each other
+/// fault is followed by a line that explains it. The status says whether a fault was printed. If memory runs out, the
+/// whole lines of the first entries are printed, then the fault for lack of memory. The run holds one line and one
+/// entry at a time.
+///
+/// # Errors
+/// `WriteFailed` if the writer fails in this call.
 pub fn run_lines<R: Read, W: Write>(
     alloc: Global,
     reader: &mut R,

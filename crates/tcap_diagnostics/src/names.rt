@@ -3,7 +3,7 @@
 use tcap_ber::Reason;
 use tcap_record::FeedReason;
 
-/// The name of a reason why octets are refused.
+/// Returns the name of a reason for refusing octets.
 pub fn name_of(reason: Reason) -> &'static str {
     match reason {
         Reason::Cut => "cut element",
@@ -27,7 +27,7 @@ pub fn name_of(reason: Reason) -> &'static str {
     }
 }
 
-/// The name of a reason why octets are refused as a record.
+/// Returns the name of a reason for refusing octets as a record.
 pub(crate) fn feed_name_of(reason: FeedReason) -> &'static str {
     match reason {
         FeedReason::Element(reason) => name_of(reason),

@@ -1,4 +1,4 @@
-//! A reader whose first octets are noted.
+//! A reader that notes the first octets.
 
 ghost use Rattle.std.specs.Prelude.{◌≡◌};
 ghost use Rattle.tcap_diagnostics.specs.Devices.{noted_inner};
@@ -6,20 +6,20 @@ ghost use Rattle.tcap_diagnostics.specs.Devices.{noted_inner};
 use std::alloc::Global;
 use tcap_ber::{Failed, Read};
 
-/// So many octets are noted.
+/// The number of octets that are noted.
 const NOTED: usize = 512;
 
-/// A reader that tells what another one tells, and notes the first 512 octets of it.
+/// A reader that passes octets on from another reader, and notes the first 512 of them.
 #[derive(Drop)]
 pub struct Noted<R> {
     reader: R,
     first: Vec<u8>,
-    // Whether memory ran out: nothing more is noted then.
+    // Memory ran out, so nothing more is noted.
     lost: bool,
 }
 
 impl<R> Noted<R> {
-    /// The reader over `reader`, of which nothing was noted yet.
+    /// Creates a reader over `reader` that has noted nothing yet.
     pub fn new(alloc: Global, reader: R) -> Noted<R>
         ensures { noted_inner result ≡ reader }
     {
@@ -30,7 +30,7 @@ impl<R> Noted<R> {
         }
     }
 
-    /// The first octets that were told, at most 512; fewer where memory ran out.
+    /// Returns the first octets that were read, at most 512, or fewer if memory ran out.
     pub fn first(&self) -> &[u8] {
         &self.first
     }

@@ -1,4 +1,4 @@
-//! The parts of messages (Q.773), in their order.
+//! The parts of messages in their order (Q.773).
 
 use crate::parts::Holder::{
     Abort, Begin, Components, ContextName, Continue, Diagnostic, DialogueAbort, DialogueExternal,
@@ -8,7 +8,7 @@ use crate::parts::Holder::{
 use crate::parts::Holds::{Any, Each, Needed, Once, Only, Others};
 use crate::parts::{Holder, Holds};
 
-/// A part: its place in the order, what may stand there, its name, and what it holds.
+/// A row of a part table: the position of the part, the elements allowed there, its name, and what it holds.
 pub(crate) type Part = (u8, Holds, &'static str, Holder);
 
 static WHOLE_PARTS: [Part; 6] = [
@@ -174,7 +174,7 @@ static REJECT_PARTS: [Part; 8] = [
 
 static OPAQUE_PARTS: [Part; 1] = [(0, Others, "element", Opaque)];
 
-/// The parts of a holder.
+/// Returns the parts of a holder.
 pub(crate) fn parts_of(holder: Holder) -> &'static [Part] {
     match holder {
         Holder::Whole => WHOLE_PARTS.as_slice(),

@@ -1,19 +1,19 @@
-//! The elements of a holder, by the parts that it has.
+//! The parts of a holder, and the elements that may be there.
 
 use crate::part_tables::parts_of;
 
-/// What holds elements.
+/// A part that holds elements.
 #[derive(Clone, Copy, PartialEq, Eq)]
 pub(crate) enum Holder {
-    /// The octets that are to be a message.
+    /// The octets of a whole message.
     Whole,
-    /// Q.773 4.2.1.
+    /// A Unidirectional; the next four are messages, too (Q.773 4.2.1).
     Unidirectional,
     Begin,
     End,
     Continue,
     Abort,
-    /// Q.773 4.2.3.
+    /// The dialogue portion; its parts follow (Q.773 4.2.3).
     DialoguePortion,
     DialogueExternal,
     DialoguePdu,
@@ -24,37 +24,37 @@ pub(crate) enum Holder {
     ResultNumber,
     Diagnostic,
     UserInformation,
-    /// Q.773 4.2.2.
+    /// The component portion; its parts follow (Q.773 4.2.2).
     Components,
     Invoke,
     ReturnResult,
     ReturnError,
     Reject,
     ResultBody,
-    /// What the message does not say: a parameter, user information.
+    /// Contents that Q.773 leaves open: a parameter, user information.
     Opaque,
     /// No elements.
     Nothing,
 }
 
-/// Which element may stand in a place of a holder.
+/// The elements that are allowed at a position of a holder.
 #[derive(Clone, Copy)]
 pub(crate) enum Holds {
-    /// One of this tag.
+    /// One element with this tag.
     Once(u8),
-    /// Any number of this tag.
+    /// Any number of elements with this tag.
     Each(u8),
-    /// One of any tag.
+    /// One element with any tag.
     Any,
-    /// Any number of any tag.
+    /// Any number of elements with any tag.
     Others,
-    /// One of those before it has to stand there.
+    /// One of the elements before this row is required.
     Needed,
-    /// None but those before it may stand there.
+    /// Only the elements before this row are allowed.
     Only,
 }
 
-/// An element of a holder: its name, the place in the order of the parts that comes next, and what it holds.
+/// An element of a holder: its name, the position of the next part, and what it holds.
 #[derive(Clone, Copy)]
 pub(crate) struct Named {
     pub(crate) name: &'static str,
@@ -62,7 +62,7 @@ pub(crate) struct Named {
     pub(crate) inside: Holder,
 }
 
-/// Whether an element of that tag may stand in the place, and whether more of it may follow there.
+/// Returns whether more elements may follow at this position, if the tag is allowed there.
 fn takes(holds: Holds, tag: u8) -> Option<bool> {
     match holds {
         Holds::Once(own) if own == tag => Some(false),
@@ -73,8 +73,8 @@ fn takes(holds: Holds, tag: u8) -> Option<bool> {
     }
 }
 
-/// What an element is whose tag begins with this octet and that stands in a holder from that place on. Where it may not
-/// stand there, it has the name of what has to; `None` where nothing more may stand there.
+/// Returns the part for an element in a holder, from position `place` on, by the first octet of its tag. If the element
+/// is not allowed, this is the part required instead. None if no further element is allowed.
 pub(crate) fn part_at(holder: Holder, place: u8, tag: u8) -> Option<Named> {
     for (at, holds, name, inside) in parts_of(holder) {
         if *at < place {
@@ -99,7 +99,7 @@ pub(crate) fn part_at(holder: Holder, place: u8, tag: u8) -> Option<Named> {
     None
 }
 
-/// The name of the part that has to stand in a holder from that place on.
+/// Returns the name of the part that a holder requires from position `place` on.
 pub(crate) fn needed_at(holder: Holder, place: u8) -> Option<&'static str> {
     for (at, holds, name, _) in parts_of(holder) {
         if *at >= place && matches!(*holds, Holds::Needed) {

@@ -1,42 +1,42 @@
-//! The path of parts to a place of a message.
+//! The path of parts to an offset in a message.
 
 use crate::parts::{Holder, Named, needed_at, part_at};
 use std::alloc::{AllocError, Global};
 use tcap_ber::{Window, next_tlv};
 
-/// A path has at most so many parts: those of a message, and the elements that may be open in a parameter.
+/// The most parts of a path: those of a message, and the open elements of a parameter.
 const PATH_LIMIT: usize = 64;
 
-/// An element as far as it stands there.
+/// An element, which may be cut off.
 #[derive(Clone, Copy, Debug)]
 struct Element<'a> {
     /// The first octet of its tag.
     tag: u8,
-    /// The place behind it.
+    /// The offset after the element.
     end: u64,
-    /// Its content.
+    /// The content, as far as it is there.
     content: Window<'a>,
-    /// What is behind it.
+    /// The octets after the element.
     behind: Window<'a>,
 }
 
-/// Elements that are held by one.
+/// The elements that a part holds.
 #[derive(Clone, Copy)]
 struct Level<'a> {
     holder: Holder,
     window: Window<'a>,
 }
 
-/// What of a level leads to a place.
+/// The part of a level that contains an offset.
 #[derive(Clone, Copy)]
 struct Found<'a> {
-    /// The element that the place lies in, by its name, and the level in it, where it holds one.
+    /// The name of the element with the offset, and the level in it, if it holds one.
     element: Option<(&'static str, Option<Level<'a>>)>,
-    /// The name of what is missing at the place, where that is the end of the level.
+    /// The name of the part that is missing at the offset, if the offset is the end of the level.
     missing: Option<&'static str>,
 }
 
-/// How many octets the tag at the front has.
+/// Returns the number of octets of the tag at the front.
 fn tag_len(octets: &[u8]) -> Option<usize> {
     let [first, more @ ..] = octets else {
         return None;
@@ -48,7 +48,7 @@ fn tag_len(octets: &[u8]) -> Option<usize> {
     Some(last.saturating_add(2))
 }
 
-/// How many octets the tag and the length at the front have.
+/// Returns the number of octets of the tag and the length at the front.
 fn header_len(octets: &[u8]) -> Option<usize> {
     let tag_len = tag_len(octets)?;
     match octets.get(tag_len) {
@@ -60,7 +60,7 @@ fn header_len(octets: &[u8]) -> Option<usize> {
     }
 }
 
-/// The element at the front of a window that has octets, also where it is not whole.
+/// Returns the element at the front of a window, even if it is cut off. None if the window is empty.
 fn element_at(window: Window) -> Option<Element> {
     let [tag, ..] = window.octets else {
         return None;
@@ -85,7 +85,8 @@ fn element_at(window: Window) -> Option<Element> {
     })
 }
 
-/// The element that the place lies in, by its name, and the level in it, where it holds one. `part` is what it is there.
+/// Returns the name of an element and, if the offset is in its content, the level in it. `part` is its part in its
+/// level.
 fn named_in<'a>(
     part: Option<Named>,
     element: Element<'a>,
@@ -102,7 +103,7 @@ fn named_in<'a>(
     Some((named.name, if goes_in { Some(inner) } else { None }))
 }
 
-/// The name of what is missing at the end of what a holder holds, behind so much of it; none elsewhere.
+/// Returns the name of the part that is missing after part `next`, if this is the end of the holder.
 fn missing_at(holder: Holder, next: u8, is_end: bool) -> Option<&'static str> {
     if is_end {
         needed_at(holder, next)
@@ -111,8 +112,8 @@ fn missing_at(holder: Holder, next: u8, is_end: bool) -> Option<&'static str> {
     }
 }
 
-/// What of a level leads to a place: the element in which its octet lies; or, where an element is missing at the place,
-/// the one that ends there.
+/// Returns the element of a level that contains the offset `place`. If an element is missing there, this is the element
+/// that ends there.
 fn find_in(level: Level, place: u64, is_missing: bool) -> Found {
     let mut rest = level.window;
     let mut next = 0;
@@ -138,8 +139,8 @@ fn find_in(level: Level, place: u64, is_missing: bool) -> Found {
     }
 }
 
-/// The names of the parts that hold the octet at that place of a message, from the outermost to the innermost. Where an
-/// element is missing there, the last one is what is missing.
+/// Returns the names of the parts that contain the octet at offset `place`, from the outermost to the innermost. If an
+/// element is missing there, its name is the last. `AllocError` if memory runs out.
 pub(crate) fn path_to(
     alloc: Global,
     octets: &[u8],

@@ -1,4 +1,4 @@
-//! Which rule a line of digits breaks, and in which column.
+//! The rule that a line of digits breaks, and the column.
 
 ghost use Rattle.std.specs.Prelude.{◌≡◌, OnOk, OnErr};
 ghost use Rattle.tcap_ber.specs.Device.{one_more};
@@ -12,39 +12,39 @@ use tcap_ber::{Outer, Reason, Write, outer};
 use tcap_lines::WriteFailed;
 use tcap_record::{LINE_LIMIT, LINES_LIMIT};
 
-/// A rule of the lines of digits.
+/// A rule for lines of digits.
 #[derive(Clone, Copy, Debug, PartialEq, Eq)]
 pub(crate) enum Rule {
     /// A line begins with an end, a quiet mark or `#`.
     End,
-    /// A space stands behind the end.
+    /// A space comes after the end.
     Space,
-    /// Nothing stands behind a quiet mark.
+    /// Nothing comes after a quiet mark.
     Mark,
-    /// A digit stands in each column behind the space, in one at least.
+    /// After the space come digits only, and at least one.
     Digit,
-    /// The digits are two for each octet.
+    /// There are two digits for each octet.
     Count,
     /// The octets are a whole element.
     Cut,
-    /// The octets are nothing more.
+    /// No octet comes after the element.
     Behind,
     /// The octets begin with an element.
     Element(Reason),
-    /// A line is not too long.
+    /// The line is not too long.
     Long,
-    /// The lines are not too many.
+    /// There are not too many lines.
     Many,
 }
 
-/// A rule that a line breaks, and the column in which it does, from 1.
+/// A broken rule, and the column of the fault, counted from 1.
 #[derive(Clone, Copy, Debug, PartialEq, Eq)]
 pub struct Broken {
     pub(crate) rule: Rule,
     pub(crate) column: usize,
 }
 
-/// The rule that is broken in the column behind so many.
+/// Returns a rule that is broken after `before` columns.
 fn broken_behind(rule: Rule, before: usize) -> Broken {
     Broken {
         rule,
@@ -52,7 +52,7 @@ fn broken_behind(rule: Rule, before: usize) -> Broken {
     }
 }
 
-/// The value of a digit.
+/// Returns the value of a hexadecimal digit.
 fn value_of(digit: u8) -> Option<u8> {
     match digit {
         b'0'..=b'9' => Some(digit - b'0'),
@@ -62,8 +62,8 @@ fn value_of(digit: u8) -> Option<u8> {
     }
 }
 
-/// The octets of hexadecimal digits, two for each; a lone one at the end is left out, and what is no digit counts as 0. `AllocError`
-/// where memory ran out.
+/// Decodes hexadecimal digits, two for each octet. A single digit at the end is left out, and other characters count as
+/// 0. `AllocError` if memory runs out.
 fn octets_of(alloc: Global, digits: &[u8]) -> Result<Vec<u8>, AllocError> {
     let mut octets = Vec::new(alloc);
     let mut rest = digits;
@@ -75,13 +75,13 @@ fn octets_of(alloc: Global, digits: &[u8]) -> Result<Vec<u8>, AllocError> {
     Ok(octets)
 }
 
-/// The column behind the end, the space and the digits of so many octets.
+/// Returns a rule that is broken after the end, the space and `count` octets.
 fn behind_octets(rule: Rule, count: u64) -> Broken {
     let before = count.min(LINE_LIMIT as u64) as usize;
     broken_behind(rule, before * 2 + 2)
 }
 
-/// The rule that digits break behind an end and a space.
+/// Returns the rule that the digits after an end and a space break, if any.
 fn broken_digits(alloc: Global, digits: &[u8]) -> Result<Option<Broken>, AllocError> {
     if let Some(at) = digits.iter().position(|digit| value_of(*digit).is_none()) {
         return Ok(Some(broken_behind(Rule::Digit, at.saturating_add(2))));
@@ -101,8 +101,11 @@ fn broken_digits(alloc: Global, digits: &[u8]) -> Result<Option<Broken>, AllocEr
     }
 }
 
-/// The rule that a line of this content, its end left out, breaks; `None` where it is a line of digits, a quiet mark, a comment or empty.
-/// `AllocError` where memory ran out.
+/// Returns the rule that a line breaks. `content` is the line without its end. None if the line is an entry, a quiet
+/// mark, a comment or empty.
+///
+/// # Errors
+/// `AllocError` if memory runs out.
 pub fn broken_by(alloc: Global, content: &[u8]) -> Result<Option<Broken>, AllocError> {
     if content.len() > LINE_LIMIT {
         return Ok(Some(broken_behind(Rule::Long, LINE_LIMIT)));
@@ -116,7 +119,7 @@ pub fn broken_by(alloc: Global, content: &[u8]) -> Result<Option<Broken>, AllocE
     }
 }
 
-/// The first line of octets, without its end, and what is behind it; or nothing, where it has no end.
+/// Returns the first line without its end, and the octets after it. None if no line ends.
 fn first_line(octets: &[u8]) -> Option<(&[u8], &[u8])> {
     let end = octets.iter().position(|octet| *octet == b'\n')?;
     let (line, behind) = octets.split_at(end.min(octets.len()));
@@ -130,7 +133,7 @@ fn first_line(octets: &[u8]) -> Option<(&[u8], &[u8])> {
     }
 }
 
-/// The rule that the first bad line breaks of those that a reader told last.
+/// Returns the rule that the first bad one of the last lines breaks.
 fn broken_in(alloc: Global, tail: &Tail) -> Result<Option<Broken>, AllocError> {
     let mut rest = tail.octets.as_slice();
     let mut lines = tail.lines;
@@ -155,7 +158,7 @@ fn broken_in(alloc: Global, tail: &Tail) -> Result<Option<Broken>, AllocError> {
     }
 }
 
-/// Appends the name of a rule, as what is wrong.
+/// Appends the fault in words.
 fn push_rule(text: &mut String, rule: Rule) -> Result<(), AllocError> {
     match rule {
         Rule::End => text.push_str("no end"),
@@ -174,21 +177,24 @@ fn push_rule(text: &mut String, rule: Rule) -> Result<(), AllocError> {
     }
 }
 
-/// Appends which rule is broken, and in which column. `AllocError` where memory ran out.
+/// Appends the broken rule and the column.
+///
+/// # Errors
+/// `AllocError` if memory runs out.
 pub fn push_broken_rule(text: &mut String, broken: Broken) -> Result<(), AllocError> {
     let column = broken.column;
     push_rule(text, broken.rule)?;
     write!(text, "; column {column}")
 }
 
-/// Appends the line that says so.
+/// Appends the line on a broken rule.
 pub(crate) fn push_broken(text: &mut String, broken: Broken) -> Result<(), AllocError> {
     text.push_str("  why: ")?;
     push_broken_rule(text, broken)?;
     text.push_str("\n")
 }
 
-/// The line that says which rule the line breaks at which a reader of lines was left; nothing where none does.
+/// Returns the line on the rule that the last lines break, or no text if they break none.
 fn rule_line(alloc: Global, tail: &Tail) -> Result<String, AllocError> {
     let mut text = String::new(alloc);
     if !tail.lost {
@@ -199,9 +205,11 @@ fn rule_line(alloc: Global, tail: &Tail) -> Result<String, AllocError> {
     Ok(text)
 }
 
-/// Writes which rule the line of digits breaks at which [`run_pack`](tcap_lines::run_pack) left `lines`, and in which
-/// column, from 1, where that is the fault which `faults` was told last; else nothing, also where memory runs out.
-/// `WriteFailed` where the writer failed in this call.
+/// Writes the rule that a line of digits breaks, and the column, if the last fault written to `faults` is a bad line.
+/// `lines` is the reader that [`run_pack`](tcap_lines::run_pack) read from. Writes nothing if memory runs out.
+///
+/// # Errors
+/// `WriteFailed` if the writer fails in this call.
 pub fn write_rule<R, W: Write>(
     alloc: Global,
     lines: &Kept<R>,

@@ -1,4 +1,4 @@
-//! The entries of a record, shown as its octets come.
+//! Shows the entries of a record while its octets are read.
 
 ghost use Rattle.std.specs.Prelude.{◌≡◌, ◌≢◌, ◌≤◌, length, Err, IfOk, IsErr, OnOk, OnErr};
 ghost use Rattle.tcap_ber.specs.Device.{one_more};
@@ -12,24 +12,25 @@ use tcap_ber::Write;
 use tcap_lines::{MEMORY_LINE, Status, WriteFailed};
 use tcap_record::{BodyView, FeedFault, FeedReason, Frames, push_fault, push_view};
 
-/// What is shown of a record as its octets come.
+/// The state of showing a record.
 #[derive(Debug, Drop)]
 pub(crate) struct Showing {
     alloc: Global,
     frames: Frames,
-    // The last octets that came: those of the entry at the front, and some before it; behind a fault, some behind it.
+    // The last octets read: the entry at the front, at most `SIDE` octets before it, and after a fault some octets
+    // after it.
     held: Vec<u8>,
-    // How many of them are behind a fault, and were not taken.
+    // The number of held octets after a fault, which were not taken.
     behind: usize,
     // The lines of one entry.
     text: String,
-    // Whether it is said why an entry or the record is refused.
+    // Whether faults are explained.
     why: bool,
     // Whether an entry was no message.
     bad: bool,
 }
 
-/// Keeps the last octets, `count` of them or all.
+/// Keeps the last `count` octets.
 fn keep_last(octets: &mut Vec<u8>, count: usize) {
     let first = octets.len().saturating_sub(count);
     if first > 0 {
@@ -38,7 +39,7 @@ fn keep_last(octets: &mut Vec<u8>, count: usize) {
     }
 }
 
-/// The octets of the message of the entry at the front, which are the last of those that are held.
+/// Returns the message of the entry at the front, which is the end of the held octets.
 fn message_of<'a>(frames: &Frames, held: &'a [u8]) -> &'a [u8] {
     match &held[held.len().saturating_sub(frames.buffered())..] {
         [_, message @ ..] => message,
@@ -46,7 +47,8 @@ fn message_of<'a>(frames: &Frames, held: &'a [u8]) -> &'a [u8] {
     }
 }
 
-/// Appends the lines of the entry at the front, where a whole one stands there, and answers whether it is bad.
+/// Appends the lines of the entry at the front, if it is whole. Returns whether it is bad, or None if there is no whole
+/// entry.
 fn push_front(
     alloc: Global,
     frames: &Frames,
@@ -68,7 +70,7 @@ fn push_front(
 }
 
 impl Showing {
-    /// Nothing was shown; `why` says whether faults are explained.
+    /// Creates the state before the first octet. `why`: faults are explained.
     pub(crate) fn new(alloc: Global, why: bool) -> Showing {
         Showing {
             alloc,
@@ -81,17 +83,17 @@ impl Showing {
         }
     }
 
-    /// How many octets were taken in all.
+    /// Returns the number of octets taken in all.
     pub(crate) fn taken(&self) -> u64 {
         self.frames.taken()
     }
 
-    /// Whether the record may end here.
+    /// Checks that the record may end here.
     pub(crate) fn finish(&self) -> Result<(), FeedFault> {
         self.frames.finish()
     }
 
-    /// Takes octets of `piece` until a whole entry is held or the piece ends, and answers how many.
+    /// Takes octets of `piece` until an entry is whole or the piece ends. Returns their number.
     fn take_some(&mut self, piece: &[u8]) -> Result<usize, FeedFault>
         ensures most { IfOk result (λ n. n ≤ length piece.now) }
     {
@@ -109,8 +111,7 @@ impl Showing {
         Ok(taken)
     }
 
-    /// Writes the lines of the entry at the front and drops it, where a whole one stands there, and answers whether one
-    /// did.
+    /// Writes the lines of the entry at the front and drops it, if it is whole. Returns whether it was.
     fn show_front<W: Write>(&mut self, writer: &mut W) -> Result<bool, Stop>
         ensures write { result ≡ Err Stop.Write → W.failures writer.new ≡ one_more (W.failures writer.old) }
         ensures others { result ≢ Err Stop.Write → W.failures writer.new ≡ W.failures writer.old }
@@ -133,7 +134,7 @@ impl Showing {
         Ok(true)
     }
 
-    /// Takes all octets of `piece`, up to a fault, and writes the lines of the entries that are whole then.
+    /// Takes all octets of `piece`, up to a fault, and writes the lines of the entries that become whole.
     pub(crate) fn show_piece<W: Write>(&mut self, piece: &[u8], writer: &mut W) -> Result<(), Stop>
         ensures write { result ≡ Err Stop.Write → W.failures writer.new ≡ one_more (W.failures writer.old) }
         ensures others { result ≢ Err Stop.Write → W.failures writer.new ≡ W.failures writer.old }
@@ -149,7 +150,8 @@ impl Showing {
         Ok(())
     }
 
-    /// Appends the line of a fault of the record, and why, where that is asked for and there is something to see.
+    /// Appends the line of a fault of the record. If `why` is set, and octets are to be seen, also appends the line
+    /// that explains it.
     fn push_end(&mut self, fault: FeedFault) -> Result<(), AllocError> {
         self.text.clear();
         push_fault(&mut self.text, fault.reason.number(), fault.place)?;
@@ -162,7 +164,7 @@ impl Showing {
         push_record_why(&mut self.text, fault, &self.held, at)
     }
 
-    /// Writes the line of a fault of the record behind the others, with what says why.
+    /// Writes the lines of a fault of the record.
     fn write_end<W: Write>(&mut self, fault: FeedFault, writer: &mut W) -> Result<(), WriteFailed>
         ensures counts { OnOk result (W.failures writer.new ≡ W.failures writer.old) }
         ensures failed { OnErr result (W.failures writer.new ≡ one_more (W.failures writer.old)) }
@@ -174,7 +176,7 @@ impl Showing {
         writer.write_all(line).map_err(|_| WriteFailed)
     }
 
-    /// Ends what was shown: writes the line of the fault where there is one, and answers how the run ended.
+    /// Ends the output: writes the lines of the fault, if there is one, and returns the status of the run.
     pub(crate) fn end<W: Write>(
         mut self,
         ended: Result<(), Stop>,

@@ -1,4 +1,4 @@
-//! Why a run goes no further.
+//! The reasons why a run ends early.
 
 ghost use Rattle.std.specs.Prelude.{◌≡◌};
 ghost use Rattle.tcap_record.specs.declared.fault.FeedReason.{FeedReason};
@@ -9,10 +9,10 @@ use std::alloc::AllocError;
 use tcap_ber::Failed;
 use tcap_record::FeedFault;
 
-/// Why the lines of a record go no further.
+/// The reason why no more lines of a record are written.
 #[derive(Clone, Copy, PartialEq, Eq)]
 pub(crate) enum Stop {
-    /// What was read has a fault, or memory ran out.
+    /// The input has a fault, the reader failed, or memory ran out.
     Fault(FeedFault),
     /// The writer failed.
     Write,

@@ -1,4 +1,6 @@
-//! What is wrong with an operation table, or with a book of them, in words.
+//! The faults of an operation table, or of a table set, in words.
+//!
+//! Each function that returns `AllocError` does so if memory runs out.
 
 use serde_json::{Map, Value};
 use std::alloc::{AllocError, Global};
@@ -7,13 +9,13 @@ use tcap_books::BookFault;
 use tcap_end::{TableFault, TableReason};
 use tcap_record::push_fault;
 
-/// The keys of a table, and behind them those that only a table of a book has.
+/// The keys of a table. Only a table of a set may have the last two.
 static TABLE_KEYS: [&str; 4] = ["operations", "prearranged", "name", "contexts"];
 
-/// The keys of a row, and behind them that which only a row of a book has.
+/// The keys of a row. Only a row of a table set may have the last.
 static ROW_KEYS: [&str; 5] = ["class", "code", "expires", "linked", "name"];
 
-/// The keys that may stand in a table.
+/// Returns the keys that a table may have.
 fn table_keys(in_book: bool) -> &'static [&'static str] {
     if in_book {
         &TABLE_KEYS
@@ -22,20 +24,20 @@ fn table_keys(in_book: bool) -> &'static [&'static str] {
     }
 }
 
-/// The keys that may stand in a row.
+/// Returns the keys that a row may have.
 fn row_keys(in_book: bool) -> &'static [&'static str] {
     if in_book { &ROW_KEYS } else { &ROW_KEYS[..4] }
 }
 
-/// The greatest count of codes in a row's list of linked operations.
+/// The most codes in a row's list of linked operations.
 const LINKED_LIMIT: usize = 1000;
 
-/// Whether a key is one of these.
+/// Returns whether a key is one of these.
 fn is_one_of(keys: &[&str], key: &str) -> bool {
     keys.contains(&key)
 }
 
-/// The first key of an object that is none of these.
+/// Returns the first key of an object that is not one of these.
 fn other_key<'a>(keys: &[&str], members: &'a Map<String, Value>) -> Option<&'a str> {
     for key in members.keys() {
         if !is_one_of(keys, key) {
@@ -45,7 +47,7 @@ fn other_key<'a>(keys: &[&str], members: &'a Map<String, Value>) -> Option<&'a s
     None
 }
 
-/// Whether a text is the digits of a global code.
+/// Returns whether a text is the digits of a global code.
 pub(crate) fn is_global(alloc: Global, digits: &str) -> Result<bool, AllocError> {
     match hex::decode(alloc, digits) {
         Ok(octets) => Ok(ObjectIdView::new(&octets).is_some()),
@@ -54,7 +56,7 @@ pub(crate) fn is_global(alloc: Global, digits: &str) -> Result<bool, AllocError>
     }
 }
 
-/// Whether a value is a code.
+/// Returns whether a value is a code.
 fn is_code(alloc: Global, value: &Value) -> Result<bool, AllocError> {
     if let Some(digits) = value.as_str() {
         return is_global(alloc, digits);
@@ -63,7 +65,7 @@ fn is_code(alloc: Global, value: &Value) -> Result<bool, AllocError> {
     Ok(whole.is_some_and(|whole| i32::try_from(whole).is_ok()))
 }
 
-/// What is wrong with the value of `linked`.
+/// Returns the fault of a value of `linked`, if there is one.
 fn linked_trouble(alloc: Global, value: &Value) -> Result<Option<&'static str>, AllocError> {
     let Some(codes) = value.as_array() else {
         return Ok(Some("\"linked\" is no list"));
@@ -79,7 +81,7 @@ fn linked_trouble(alloc: Global, value: &Value) -> Result<Option<&'static str>, 
     Ok(None)
 }
 
-/// What is wrong with the values of a row.
+/// Returns the fault of the values of a row.
 fn values_trouble(alloc: Global, row: &Value) -> Result<&'static str, AllocError> {
     let Some(code) = row.get("code") else {
         return Ok("\"code\" is missing");
@@ -113,13 +115,13 @@ fn values_trouble(alloc: Global, row: &Value) -> Result<&'static str, AllocError
     Ok("it has not the shape of a row")
 }
 
-/// Appends that a key may not stand there, which is written as a text of JSON.
+/// Appends that a key is not allowed. The key is written as a JSON text.
 fn push_other(alloc: Global, text: &mut String, key: &str) -> Result<(), AllocError> {
     let key = Value::String(String::from_str(alloc, key)?).to_string(alloc)?;
     write!(text, "no key {key} may stand there")
 }
 
-/// Appends what is wrong with the shape of a row.
+/// Appends the fault in the shape of a row.
 fn push_row_shape(
     alloc: Global,
     text: &mut String,
@@ -135,7 +137,7 @@ fn push_row_shape(
     text.push_str(values_trouble(alloc, row)?)
 }
 
-/// Appends what is wrong with the shape of the whole.
+/// Appends the fault in the shape of a table, its rows aside.
 fn push_table_shape(
     alloc: Global,
     text: &mut String,
@@ -155,7 +157,7 @@ fn push_table_shape(
     }
 }
 
-/// Whether the whole of a table has its shape, so that a fault of shape is a row's.
+/// Returns whether a table has the right shape, its rows aside. If so, a fault of shape is in a row.
 fn is_whole(table: &Value, in_book: bool) -> bool {
     let Some(members) = table.as_object() else {
         return false;
@@ -169,12 +171,12 @@ fn is_whole(table: &Value, in_book: bool) -> bool {
             .is_none_or(|value| value.as_bool().is_some())
 }
 
-/// The item of that number of a list.
+/// Returns the item `number` of a list.
 fn item_of(list: Option<&Value>, number: u64) -> Option<&Value> {
     list?.as_array()?.get(usize::try_from(number).ok()?)
 }
 
-/// Appends the number of a table of a book, and of a row, where they are given.
+/// Appends the numbers of a table and a row, if they are given.
 fn push_place(text: &mut String, table: Option<u64>, row: Option<u64>) -> Result<(), AllocError> {
     match (table, row) {
         (None, None) => Ok(()),
@@ -184,7 +186,7 @@ fn push_place(text: &mut String, table: Option<u64>, row: Option<u64>) -> Result
     }
 }
 
-/// Appends what is wrong with a table that is this value, and has that number where it is one of a book.
+/// Appends the fault of a table. `number` is its number in a set, and `table` its JSON.
 fn push_of_table(
     alloc: Global,
     text: &mut String,
@@ -212,7 +214,7 @@ fn push_of_table(
     }
 }
 
-/// Appends what is wrong with a book, or with the one table, that is this value.
+/// Appends the fault of a table set or of a single table. `book` is its JSON.
 fn push_of_book(
     alloc: Global,
     text: &mut String,
@@ -232,7 +234,7 @@ fn push_of_book(
     }
 }
 
-/// The number of the reason of a fault, and its place: the number of a row in its table, else 0.
+/// Returns the number of a fault's reason, and the number of the row, or 0 if no row has the fault.
 fn line_of(fault: BookFault) -> (u8, u64) {
     match fault {
         BookFault::NotJson => (TableReason::NotJson.number(), 0),
@@ -243,8 +245,8 @@ fn line_of(fault: BookFault) -> (u8, u64) {
     }
 }
 
-/// Appends the line of a fault of a book, or of one table, and that which says what is wrong. `book` is the value that the text
-/// is, where it is JSON.
+/// Appends the line of a fault of a table set or a table, and the line that explains it. `book` is its JSON, if the
+/// text is JSON.
 pub(crate) fn push_book_fault(
     alloc: Global,
     text: &mut String,

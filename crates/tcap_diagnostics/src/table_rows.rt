@@ -1,4 +1,6 @@
-//! The rows of operation tables.
+//! The rows of operation tables, as lines of text.
+//!
+//! Each function returns `AllocError` if memory runs out.
 
 use crate::digits::push_hex;
 use serde_json::Value;
@@ -9,7 +11,7 @@ use tcap_books::{Book, NamedTable};
 use tcap_end::Table;
 use tcap_parts::CodeView;
 
-/// The rows of a table in the order of their codes: the local ones by their numbers, then the global ones by their octets.
+/// The numbers of a table's rows, ordered by code: first local codes by number, then global codes by octets.
 #[derive(Drop)]
 pub(crate) struct Order {
     locals: BTreeMap<i32, usize>,
@@ -17,7 +19,7 @@ pub(crate) struct Order {
 }
 
 impl Order {
-    /// Whether a row has that code; also where it is none.
+    /// Returns whether a row has this code. A value that is no code counts as found.
     pub(crate) fn has(&self, alloc: Global, code: &Value) -> Result<bool, AllocError> {
         if let Some(local) = local_of(code) {
             return Ok(self.locals.contains_key(&local));
@@ -29,12 +31,12 @@ impl Order {
     }
 }
 
-/// The number of a local code.
+/// Returns the number in a value that is a local code.
 fn local_of(value: &Value) -> Option<i32> {
     i32::try_from(value.as_number()?.as_i128()?).ok()
 }
 
-/// The octets of a global code.
+/// Returns the octets in a value that is a global code.
 fn global_of(alloc: Global, value: &Value) -> Result<Option<Vec<u8>>, AllocError> {
     let Some(digits) = value.as_str() else {
         return Ok(None);
@@ -58,7 +60,7 @@ fn push_code(alloc: Global, text: &mut String, value: &Value) -> Result<(), Allo
     Ok(())
 }
 
-/// Appends the codes that are linked, in the order of the table.
+/// Appends the linked codes, in the order of the table.
 fn push_linked(alloc: Global, text: &mut String, codes: &[Value]) -> Result<(), AllocError> {
     for (number, code) in codes.iter().enumerate() {
         text.push_str(if number == 0 { " linked=" } else { "," })?;
@@ -67,7 +69,7 @@ fn push_linked(alloc: Global, text: &mut String, codes: &[Value]) -> Result<(), 
     Ok(())
 }
 
-/// The numbers of the rows, by their codes.
+/// Orders rows by their codes.
 pub(crate) fn order_of(alloc: Global, rows: &[Value]) -> Result<Order, AllocError> {
     let mut order = Order {
         locals: BTreeMap::new(alloc),
@@ -86,7 +88,7 @@ pub(crate) fn order_of(alloc: Global, rows: &[Value]) -> Result<Order, AllocErro
     Ok(order)
 }
 
-/// Appends the name of a table or a row, as a text of JSON, where it has one.
+/// Appends the name of a table or a row as a JSON text, if it has one.
 fn push_name(alloc: Global, text: &mut String, named: &Value) -> Result<(), AllocError> {
     if let Some(name) = named.get("name") {
         let name = name.to_string(alloc)?;
@@ -96,7 +98,7 @@ fn push_name(alloc: Global, text: &mut String, named: &Value) -> Result<(), Allo
     Ok(())
 }
 
-/// Appends the line of the row of an operation.
+/// Appends the line of an operation's row.
 fn push_row(
     alloc: Global,
     text: &mut String,
@@ -122,7 +124,7 @@ fn push_row(
     Ok(())
 }
 
-/// Appends the lines of the rows in the order of their codes.
+/// Appends the lines of the rows, ordered by code.
 fn push_ordered(
     alloc: Global,
     text: &mut String,
@@ -143,8 +145,8 @@ fn push_ordered(
     Ok(())
 }
 
-/// Appends the lines of a table that is this value: one for each row, in the order of the codes, and one more where
-/// transactions may be closed by prearrangement.
+/// Appends the lines of a table: its rows ordered by code, and `prearranged=true` if it allows prearranged ends (Q.774
+/// 3.3). `value` is its JSON.
 fn push_table(
     alloc: Global,
     text: &mut String,
@@ -160,8 +162,7 @@ fn push_table(
     Ok(())
 }
 
-/// Appends the lines of the table of that number of a book: one with its number and its name, one for each context, and those of
-/// the table.
+/// Appends the lines of a table of a set: its number and name, its contexts, and the table itself.
 fn push_named(
     alloc: Global,
     text: &mut String,
@@ -180,7 +181,7 @@ fn push_named(
     push_table(alloc, text, named.table(), value)
 }
 
-/// Appends the lines of a book that is this value: those of its tables in their order, or of the one table that it is.
+/// Appends the lines of a table set, or of a single table. `value` is its JSON.
 pub(crate) fn push_book(
     alloc: Global,
     text: &mut String,

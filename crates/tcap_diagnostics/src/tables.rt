@@ -1,4 +1,4 @@
-//! An operation table, or a book of them, printed.
+//! Prints an operation table or a table set.
 
 ghost use Rattle.std.specs.Prelude.{◌≡◌, ℕ, List, Ok, Err, IfOk, OnOk, OnErr};
 ghost use Rattle.std.specs.Io.KnownBytes.{Consumes, IsAtEnd};
@@ -17,15 +17,15 @@ use tcap_end::TableReason;
 use tcap_lines::{MEMORY_LINE, Status, WriteFailed};
 use tcap_record::{FeedReason, PIECE_LEN, push_fault};
 
-/// The greatest count of octets of a table.
+/// The most octets of a table.
 const TABLE_LIMIT: usize = 67_108_864;
 
-/// Why a text was not read.
+/// The reason why a text was not read.
 #[derive(Clone, Copy, PartialEq, Eq)]
 enum TextFault {
-    /// It is longer than the limit.
+    /// The text is longer than the limit.
     TooLong,
-    /// The reader failed behind so many octets.
+    /// The reader failed after this many octets.
     Read(u64),
     /// Memory ran out.
     Memory,
@@ -37,7 +37,7 @@ impl From<AllocError> for TextFault {
     }
 }
 
-/// The octets that `reader` tells up to its end, where they are no more than a table may have.
+/// Reads all octets of `reader`, at most `TABLE_LIMIT`.
 fn read_text<R: Read>(alloc: Global, reader: &mut R) -> Result<Vec<u8>, TextFault>
     ensures told { IfOk result (λ text. Consumes (R.untold reader.old) (R.untold reader.new) text.items
         × IsAtEnd (R.untold reader.new)) }
@@ -58,7 +58,7 @@ fn read_text<R: Read>(alloc: Global, reader: &mut R) -> Result<Vec<u8>, TextFaul
     Err(TextFault::TooLong)
 }
 
-/// The value that a text is; `None` where it is no JSON.
+/// Parses a JSON text. None if it is no JSON, `AllocError` if memory runs out.
 fn value_of(alloc: Global, octets: &[u8]) -> Result<Option<Value>, AllocError> {
     match Value::from_slice(alloc, octets) {
         Ok(value) => Ok(Some(value)),
@@ -67,7 +67,7 @@ fn value_of(alloc: Global, octets: &[u8]) -> Result<Option<Value>, AllocError> {
     }
 }
 
-/// Appends which two tables of a book have the same context, if two have, and answers how the run ends.
+/// Appends which two tables of a set have the same context, if two have. Returns the status of the run.
 fn push_clash(text: &mut String, book: &Book) -> Result<Status, AllocError> {
     let Some(pair) = book.clash() else {
         return Ok(Status::Fine);
@@ -78,7 +78,7 @@ fn push_clash(text: &mut String, book: &Book) -> Result<Status, AllocError> {
     Ok(Status::Fault)
 }
 
-/// Appends the lines of a book, or those of its fault, and what is told beside them, and answers how the run ends.
+/// Appends the lines of a table set, or of its fault, and the hints. Returns the status of the run.
 #[tactic(auto, using(crate::proofs::TableLaws::text_of_book))]
 fn push_text(
     alloc: Global,
@@ -108,7 +108,7 @@ fn push_text(
     }
 }
 
-/// Appends what is printed of what was read.
+/// Appends the text to print for the result of reading.
 fn push_read(
     alloc: Global,
     text: &mut String,
@@ -134,18 +134,22 @@ fn push_read(
     }
 }
 
-/// Prints the rows of the operation table, or of the book of them, that `reader` tells, one line each in the order of the codes; or
-/// the line of its fault, as the other runs print it, and behind it what is wrong in words. `faults` is told of codes that may be
-/// meant as numbers, of linked codes that no row has, and of two tables with one context; that it fails is not said. The status says
-/// whether a line of fault was printed, or two tables have one context. Where memory runs out, only its line is printed. `WriteFailed`
-/// where `writer` failed in this call.
+/// Prints an operation table or a table set: a line for each row, ordered by code; or the line of its fault and a line
+/// that explains it.
+///
+/// `faults` receives hints: codes that may be meant as numbers, linked codes that no row has, and two tables with one
+/// context. A failure of `faults` is ignored. The status says whether a fault was printed, or two tables have one
+/// context. If memory runs out, only that fault is printed.
+///
+/// # Errors
+/// `WriteFailed` if `writer` fails in this call.
 pub fn run_table<R: Read, W: Write, F: Write>(
     alloc: Global,
     reader: &mut R,
     writer: &mut W,
     faults: &mut F,
 ) -> Result<Status, WriteFailed>
-    // Where the run is fine, the reader told, up to its end, the text of an operation table or of a book.
+    // If the status is fine, all octets of the reader are the text of an operation table or of a table set.
     ensures table { result ≡ Ok Status.Fine → (told : List ℕ)
         × Consumes (R.untold reader.old) (R.untold reader.new) told × IsAtEnd (R.untold reader.new)
         × IsTableText told }
@@ -170,8 +174,8 @@ pub fn run_table<R: Read, W: Write, F: Write>(
     }
 }
 
-/// Appends the lines of the codes of a text of JSON that may be meant as numbers, and of linked codes that no row has; of a text that
-/// is no JSON nothing.
+/// Appends hints on codes that may be meant as numbers, and on linked codes that no row has. Appends nothing if the
+/// text is no JSON.
 fn push_codes(
     alloc: Global,
     text: &mut String,
@@ -187,9 +191,11 @@ fn push_codes(
     }
 }
 
-/// Writes which codes of an operation table, or of a book of them, may be meant as numbers, and which linked codes no row has: the
-/// lines that `run_table` tells of them, each with that path; where there are none, or memory runs out, nothing. `WriteFailed` where
-/// the writer failed in this call.
+/// Writes the hints that `run_table` gives on codes, each with `path`. Writes nothing if there are none, or if memory
+/// runs out.
+///
+/// # Errors
+/// `WriteFailed` if the writer fails in this call.
 pub fn write_code_hints<W: Write>(
     alloc: Global,
     path: &str,

@@ -1,14 +1,15 @@
-//! A writer of faults that is listened to.
+//! A writer of faults that remembers whether the last fault was a bad line.
 
 ghost use Rattle.std.specs.Prelude.{◌≡◌};
 ghost use Rattle.tcap_diagnostics.specs.Devices.{told_inner};
 
 use tcap_ber::{Failed, Write};
 
-/// How the line of the fault begins that a line of digits is bad.
+/// The beginning of the fault of a bad line of digits.
 const BAD_LINE: &[u8] = b"FAULT 24 ";
 
-/// A writer that writes to another one, and notes whether the last that was written is the fault of a line of digits.
+/// A writer that passes octets on to another writer, and notes whether the last ones are the fault of a bad line of
+/// digits.
 #[derive(Drop)]
 pub struct Told<W> {
     writer: W,
@@ -16,7 +17,7 @@ pub struct Told<W> {
 }
 
 impl<W> Told<W> {
-    /// The writer over `writer`, to which nothing was written yet.
+    /// Creates a writer over `writer` to which nothing was written yet.
     pub fn new(writer: W) -> Told<W>
         ensures { told_inner result ≡ writer }
     {
@@ -26,7 +27,7 @@ impl<W> Told<W> {
         }
     }
 
-    /// Whether the last that was written is the fault of a line of digits.
+    /// Returns whether the last octets written are the fault of a bad line of digits.
     pub(crate) fn is_bad_line(&self) -> bool {
         self.bad_line
     }

@@ -1,4 +1,4 @@
-//! Why an entry or a record is refused, in words.
+//! The reasons why an entry or a record is refused, in words.
 
 ghost use Rattle.std.specs.Prelude.{◌≡◌, ◌≢◌, Err, OnOk, OnErr};
 ghost use Rattle.tcap_ber.specs.Device.{one_more};
@@ -21,7 +21,7 @@ const ORIGINATING: u8 = 0x48;
 /// The tag of a destination transaction ID.
 const DESTINATION: u8 = 0x49;
 
-/// The kind of a message by its tag, and the tags of the transaction IDs that it has.
+/// Returns the kind of a message by its tag, and the tags of its transaction IDs (Q.773 4.2.1).
 fn kind_of(tag: u8) -> Option<(&'static str, &'static [u8])> {
     match tag {
         0x61 => Some(("Unidirectional", &[])),
@@ -33,7 +33,7 @@ fn kind_of(tag: u8) -> Option<(&'static str, &'static [u8])> {
     }
 }
 
-/// Appends a transaction ID, where it has one to four octets.
+/// Appends a transaction ID, if it has one to four octets.
 fn push_id(text: &mut String, tag: u8, octets: &[u8]) -> Result<(), AllocError> {
     if octets.is_empty() || octets.len() > 4 {
         return Ok(());
@@ -84,9 +84,9 @@ fn push_names(text: &mut String, names: &[&str]) -> Result<(), AllocError> {
     Ok(())
 }
 
-/// Appends the line that says why an entry is bad: `fault` is what is wrong with its message, which has these octets and
-/// begins at `place` of the record. It is the reason, the place in the message, the path of parts to it, the octets around
-/// it, and the message's kind and transaction IDs.
+/// Appends the line that explains the fault of an entry: the reason, the offset in the message, the path of parts to
+/// it, the octets around it, and the kind and IDs of the message. `octets` are the message, which begins at offset
+/// `place` of the record.
 pub(crate) fn push_entry_why(
     alloc: Global,
     text: &mut String,
@@ -106,8 +106,8 @@ pub(crate) fn push_entry_why(
     text.push_str("\n")
 }
 
-/// Appends the line that says why a record is refused: the reason, and, where it has a place, that and the octets around
-/// it; `octets` are those around it, of which the one at `at` stands at the place.
+/// Appends the line that explains why a record is refused: the reason, the offset, and the octets around it.
+/// `octets[at]` is the octet at the offset of the fault.
 pub(crate) fn push_record_why(
     text: &mut String,
     fault: FeedFault,
@@ -122,7 +122,7 @@ pub(crate) fn push_record_why(
     text.push_str("\n")
 }
 
-/// Writes the lines of the entries of the record that `reader` tells up to its end, or to the first fault.
+/// Writes the lines of the entries in `reader`, up to its end or the first fault.
 fn show_all<R: Read, W: Write>(
     showing: &mut Showing,
     reader: &mut R,
@@ -148,10 +148,14 @@ fn show_all<R: Read, W: Write>(
     Ok(())
 }
 
-/// Prints the entries of the record that `reader` tells up to its end, as [`run_show`](tcap_lines::run_show) does, and
-/// under each line of fault one line more that says why in words. The status says whether a line of fault was printed.
-/// Where memory runs out, lines of the first entries are printed, whole ones, and its line. `WriteFailed` where the
-/// writer failed in this call. One entry is held at a time.
+/// Prints the entries of a record like [`run_show`](tcap_lines::run_show), with a line after each fault that explains
+/// it.
+///
+/// The status says whether a fault was printed. If memory runs out, the whole lines of the first entries are printed,
+/// then the fault for lack of memory. The run holds one entry at a time.
+///
+/// # Errors
+/// `WriteFailed` if the writer fails in this call.
 pub fn run_why<R: Read, W: Write>(
     alloc: Global,
     reader: &mut R,

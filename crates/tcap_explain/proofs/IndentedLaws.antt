@@ -1,4 +1,4 @@
--- A text is indented one line after the other.
+-- A text is indented one line at a time.
 use Rattle.std.proofs.Common.{◌≡◌, ◌≢◌, ℕ, zero, suc, ◌<◌, ◌==◌, Bool, true, false, cond, List, [], ◌∷◌, ◌++◌, length, get_or, refl, sym, ap, ◌∙◌, arith, append_assoc}
 use Rattle.std.specs.Prelude.{OnOk, Result, Ok, Err, codes}
 use Rattle.std.proofs.lemmas.Bool.{ne_eqb}
@@ -27,21 +27,21 @@ last_on (c ∷ line) within =
     ap (λ (b : Bool). c ∷ indented_at b line) (within_on c line within)
     ∙ ap (λ (xs : List ℕ). c ∷ xs) (last_on line (later c line within))
 
--- the first line, and those after it,
+-- The first line is indented, then the rest.
 pub line_first : (line more : List ℕ) → IsWithin line → indented (line ++ 10 ∷ more) ≡ codes "  " ++ line ++ line_end ++ indented more
 line_first [] more within = refl
 line_first (c ∷ line) more within =
     ap (λ (b : Bool). codes "  " ++ c ∷ indented_at b (line ++ 10 ∷ more)) (within_on c line within)
     ∙ ap (λ (xs : List ℕ). codes "  " ++ c ∷ xs) (line_on line more (later c line within))
 
--- and the last one, which may not be ended.
+-- The last line is indented, and ended.
 pub line_last : (line : List ℕ) → IsWithin line → 0 < length line → indented line ≡ codes "  " ++ line ++ line_end
 line_last [] within some = absurd (omega (arith, some))
 line_last (c ∷ line) within some =
     ap (λ (b : Bool). codes "  " ++ c ∷ indented_at b line) (within_on c line within)
     ∙ ap (λ (xs : List ℕ). codes "  " ++ c ∷ xs) (last_on line (later c line within))
 
--- ---- as it is written
+-- ---- one line more is written
 
 pub written_first : (new old line more left : List ℕ) → new ≡ old ++ codes "  " ++ line ++ line_end → left ≡ line ++ 10 ∷ more
     → IsWithin line → new ++ indented more ≡ old ++ indented left

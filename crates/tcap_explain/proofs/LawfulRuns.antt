@@ -38,7 +38,7 @@ of_run (Some side) table c entries (Ok steps) given =
     (given.items, given.are, (events_of steps, given.run.0, given.run.1, given.run.2, given.keeps, given.left, refl))
 of_run judged table c entries (Err fault) given = tt
 
--- What is answered of a certificate, where memory did not run out.
+-- The answer on a certificate, unless memory ran out.
 module _ {A F : Type 0} (answer : A → Result (List Step) CheckFault) (judged : Option Side) (table : Table) (c : Certificate)
     (entries : List Entry) where
   abbrev AnswersSo : Result A F → Type 0
@@ -58,9 +58,9 @@ module _ {A F : Type 0} (answer : A → Result (List Step) CheckFault) (judged :
   discards_in (Ok x) so = so.discards
   discards_in (Err fault) so = tt
 
--- ---- the verdict on both ends, joined with those on each
+-- ---- the joint verdict on both ends
 
--- that both are lawful,
+-- The joint verdict is lawful if the verdict is.
 joint_lawful : (judged : Option Side) (table : Table) (entries : List Entry) (events : List Event)
     → verdict_of judged table entries ≡ lawful_by judged (length entries) events
     → joint_verdict judged table entries ≡ lawful_by judged (length entries) events
@@ -71,7 +71,7 @@ joint_lawful None table entries events is = by (is_lawful (finding table entries
     by true = refl
     by false = is
 
--- or that an entry is refuted
+-- The joint verdict is refuted if an entry is refuted.
 pub joint_named : (judged : Option Side) (table : Table) (entries : List Entry) (r : Refutation)
     → named_by judged table entries ≡ Some r → joint_verdict judged table entries ≡ Refuted r
 joint_named (Some side) table entries r is =
@@ -86,7 +86,7 @@ why_of : (judged : Option Side) (table : Table) (c : Certificate) (entries : Lis
 why_of None table c entries steps behind lines run discards = inl (steps, run, discards, lines)
 why_of (Some side) table c entries steps behind lines run discards = (steps, run, discards, lines)
 
--- What is said by the certificate that is proposed, where it gives a run and nothing is named, and why.
+-- The verdict and the reasons, if no entry is at fault and the proposed certificate gives a run.
 pub proposed_says : {A F : Type 0} (outcome : A → Outcome) (behind : A → List ℕ) (judged : Option Side) (table : Table) (c : Certificate)
     (entries : List Entry) (refused : Option CheckFault) (steps : List Step) (result : Result A F) → c ≡ proposed_by judged entries
     → named_by judged table entries ≡ None → refused ≡ None → map_ok events_of (answered refused steps) ≡ replayed_by judged table c entries
@@ -108,9 +108,9 @@ proposed_says outcome behind judged table c entries None steps (Ok x) is named n
           (why_of judged table c entries steps (behind x) lines (sym exact) (sym discards))),
     )
 
--- ---- of each end
+-- ---- each end
 
--- If an end is lawful, the certificate that is proposed for it gives a run.
+-- If an end is lawful, the certificate proposed for it gives a run.
 lawful_given : (side : Side) (table : Table) (entries : List Entry) → is_lawful (finding table entries side) ≡ true
     → (events : List Event) × (replayed_by (Some side) table (proposed_by (Some side) entries) entries ≡ Ok events)
 lawful_given side table entries =
@@ -142,7 +142,7 @@ lines_of_end side table c entries said None steps is said_is lawful exact discar
   ),
 )
 
--- ---- if an entry is named, or each end by itself is lawful
+-- ---- an entry is at fault, or each end is lawful on its own
 
 pub named_says : {A F : Type 0} (outcome : A → Outcome) (behind : A → List ℕ) (judged : Option Side) (table : Table) (c : Certificate)
     (entries : List Entry) (r : Refutation) (result : Result A F) → named_by judged table entries ≡ Some r
@@ -174,7 +174,7 @@ module _ {A F : Type 0} (outcome : A → Outcome) (behind : A → List ℕ) (tab
         subst (λ (o : Outcome). IsWhy None table c entries o (behind x)) (sym says) (inr ((fault, refused), lines)),
       )
 
--- ---- if a certificate gives no run
+-- ---- a certificate gives no run
 
 pub refused_by : (judged : Option Side) (table : Table) (c : Certificate) (entries : List Entry) (refused : Option CheckFault)
     (steps : List Step) (fault : CheckFault) → refused ≡ Some fault
@@ -219,7 +219,7 @@ module _ {A F : Type 0} (outcome : A → Outcome) (behind : A → List ℕ) (tab
             (subst (λ (e : Option Ends). EndsWithEnds table entries e (behind x)) is said.1),
       )
 
--- What a certificate says that gives a run, and why.
+-- The verdict and the reasons for a certificate that gives a run.
 pub replay_run_says : {A F : Type 0} (outcome : A → Outcome) (behind : A → List ℕ) (judged : Option Side) (table : Table) (c : Certificate)
     (entries : List Entry) (refused : Option CheckFault) (steps : List Step) (result : Result A F) → refused ≡ None
     → map_ok events_of (answered refused steps) ≡ replayed_by judged table c entries

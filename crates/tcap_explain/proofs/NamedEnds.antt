@@ -1,4 +1,5 @@
--- An entry in a finding is blamed on its end; and nobody is blamed for an entry that is refuted, if neither finding has one up to it.
+-- A finding on an end blames an entry of that end. If no finding blames an entry up to a refuted one, nobody is blamed
+-- for the refuted one.
 use Rattle.std.proofs.Common.{◌≡◌, inl, inr, ℕ, ◌<◌, Bool, true, false, ◌||◌, List, map, Option, Some, None, is_none, Result, Ok, Err, refl, sym, ap, ◌∙◌, leb-false}
 use Rattle.std.specs.Prelude.{length, slice_get}
 use Rattle.tcap_record.specs.declared.entry.End.{End as Side}
@@ -43,7 +44,7 @@ module _ (table : Table) (side : Side) (entries : List Entry) where
       by None (Ok events) is = cc
       by None (Err fault) is = cc
 
-  -- What is not said is not so.
+  -- If the finding does not blame an entry up to `number`, the first blamed entry comes later.
   not_before : (number : ℕ) → is_blamed_by number (finding table entries side) ≡ false → (r : Refutation)
       → blamed table side entries ≡ Some r → number < r.entry
   not_before number not r is =
@@ -59,7 +60,7 @@ module _ (table : Table) (entries : List Entry) (ends : Ends) (are : ends ≡ en
 
 -- ---- an entry that is refuted
 
--- It is that of its sender.
+-- An item is one of its `sender_at`, or of neither end.
 sender_for : (entries : List Entry) (n : ℕ) (x : Result Item Reason) → slice_get (map item_of entries) n ≡ Some x
     → is_for (sender_at entries n) (slice_get entries n) ≡ true
 sender_for entries n x is = let (e, there, item) = entry_at entries n x is in of e there
@@ -81,7 +82,7 @@ refuted_for table entries r is = by (at_fault table (map item_of entries) r is)
         sender_for entries r.entry (Ok (Sent f.side f.message))
         (rw (f.are, ← f.counted) (item_at f.before (Ok (Sent f.side f.message)) f.more))
 
--- Where neither end is said to be blamed up to it, nobody is.
+-- If neither finding blames an entry up to the refuted one, nobody is blamed for it.
 pub is_unblamed : (table : Table) (entries : List Entry) (r : Refutation) → refuted table (map item_of entries) ≡ Some r
     → (ends : Ends) → ends ≡ ends_of table entries → is_blamed_by r.entry ends.a ≡ false → is_blamed_by r.entry ends.b ≡ false
     → IsUnblamed table (sender_at entries r.entry) entries r.entry

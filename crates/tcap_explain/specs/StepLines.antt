@@ -1,5 +1,5 @@
--- The lines of a run, one for each step (Q.774 3.2 and 3.3): of both ends, or of one end alone, for which what it sends is not
--- followed further.
+-- How is a run printed, with a line for each step (Q.774 3.2 and 3.3)? A run of one end does not follow the messages
+-- that this end sends.
 use Rattle.std.specs.Prelude.{ℕ, ℤ, suc, Bool, true, false, List, [], ◌∷◌, ◌++◌, Option, Some, None, cond, codes}
 use Rattle.std.specs.Fmt.{decimal, signed_decimal}
 use Rattle.hex.specs.Hex.{encode_lower}
@@ -17,31 +17,33 @@ use Rattle.tcap_check.specs.declared.step.Step.{Step}
 use Rattle.tcap_check.specs.declared.step.Step.TheVariants as steps
 use Rattle.tcap_record.specs.Ends.{letter}
 
+-- the label before the own ID of a half
 unfoldable pub own_label : List ℕ
 own_label = codes "the half with otid="
 
+-- the label before the peer's ID of a half
 unfoldable pub peer_label : List ℕ
 peer_label = codes "the half with peer "
 
--- what stands above the lines of a run
+-- the line above a run
 unfoldable pub run_label : List ℕ
 run_label = codes "  one run that shows it:"
 
--- a half, by the ID that it is named by
+-- a half, by the ID in its name
 abbrev pub half_text : HalfName → List ℕ
 half_text (names.Own id) = own_label ++ encode_lower id
 half_text (names.Peer id) = peer_label ++ encode_lower id
 
--- the same where it stands behind an invocation
+-- a half, in the line of an invocation
 abbrev pub owner_text : HalfName → List ℕ
 owner_text (names.Own id) = codes "otid=" ++ encode_lower id
 owner_text (names.Peer id) = peer_label ++ encode_lower id
 
--- what an end does with an entry
+-- an end, its act, and the number of an entry
 abbrev pub deed_text : Side → List ℕ → ℕ → List ℕ
 deed_text side deed number = codes "  " ++ letter side ++ deed ++ decimal number
 
--- the line of a message that an end sends, which is the entry of that number
+-- the line of a message that an end sends as entry `number`
 abbrev pub sent_line : Side → List ℕ → ℕ → Message → List ℕ
 sent_line side deed number message = deed_text side deed number ++ codes " " ++ head_text message ++ line_end
 
@@ -52,30 +54,34 @@ discard_text faults.IdUsed = codes "the ID is used"
 discard_text faults.WrongDialogue = codes "the dialogue portion does not fit"
 discard_text reason = codes "reason " ++ decimal (fault_number reason)
 
--- an invocation of an end, and that something is said of whose it is
+-- an invocation of an end; the half follows
 unfoldable pub invocation_text : Side → ℤ → List ℕ
 invocation_text side id = codes "  " ++ letter side ++ codes ": invocation " ++ signed_decimal id ++ codes " of "
 
+-- the line of an invocation that expires unseen (Q.774 3.2)
 abbrev pub expiry_line : Side → HalfName → ℤ → List ℕ
 expiry_line side name id = invocation_text side id ++ owner_text name ++ codes " ends unseen" ++ line_end
 
+-- the line of a half that closes unseen (Q.774 3.3)
 abbrev pub closing_line : Side → HalfName → List ℕ
 closing_line side name = codes "  " ++ letter side ++ codes ": " ++ half_text name ++ codes " closes unseen" ++ line_end
 
+-- the line of a provider's answer, which is entry `number`
 abbrev pub reply_line : Side → ℕ → ℕ → List ℕ
 reply_line side answered number = deed_text side (codes "'s provider answers ") answered ++ codes " by " ++ decimal number ++ line_end
 
--- A loss; of one end alone before which end it is, and what that end sent has no line.
+-- The line of a loss. In a run of one end, it names the end, and a message that this end sent has no line.
 abbrev pub loss_line : Option Side → Side → ℕ → List ℕ
 loss_line None sender number = codes "  " ++ decimal number ++ codes " is taken as lost" ++ line_end
 loss_line (Some judged) sender number = cond (is_side judged sender) []
     (codes "  " ++ decimal number ++ codes " is taken as lost before " ++ letter judged ++ line_end)
 
+-- the line of a message that an end can't receive
 abbrev pub discard_line : Side → ℕ → EndFault → List ℕ
 discard_line sender number reason =
     deed_text (other sender) (codes " could not receive ") number ++ codes ": " ++ discard_text reason ++ line_end
 
--- the line of a step, before which so many entries were sent
+-- the line of a step after `number` sent entries
 abbrev pub step_line : Option Side → ℕ → Step → List ℕ
 step_line judged number (steps.Sends side message) = sent_line side (codes " sends ") number message
 step_line judged number (steps.Tells side message) = sent_line side (codes " tells ") number message
@@ -95,14 +101,15 @@ is_entry (steps.Replies side answered) = true
 is_entry steps.Quiet = true
 is_entry step = false
 
--- how many entries were sent behind a step, before which so many were
+-- the number of entries sent after a step, from the number before it
 abbrev pub behind_step : ℕ → Step → ℕ
 behind_step number step = cond (is_entry step) (suc number) number
 
+-- the lines of these steps, the first of which comes after `number` sent entries
 abbrev pub lines_from : Option Side → ℕ → List Step → List ℕ
 lines_from judged number [] = []
 lines_from judged number (step ∷ more) = step_line judged number step ++ lines_from judged (behind_step number step) more
 
--- the lines of a run, of both ends or of that end alone, behind one that says what they are
+-- the lines of a run of both ends or of the judged end, after their label
 abbrev pub run_lines : Option Side → List Step → List ℕ
 run_lines judged steps = run_label ++ line_end ++ lines_from judged 0 steps

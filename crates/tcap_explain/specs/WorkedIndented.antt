@@ -1,4 +1,4 @@
--- Worked texts whose lines are indented.
+-- Test vectors: texts with indented lines.
 use Rattle.std.specs.Prelude.{◌≡◌, refl, [], codes}
 use Rattle.tcap_explain.specs.Indented.{indented}
 

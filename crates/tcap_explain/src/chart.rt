@@ -1,4 +1,6 @@
-//! The chart of a run: a page of HTML, the frame with one object of JSON for the run.
+//! The chart of a run: an HTML page that holds one JSON object.
+//!
+//! Each function returns `AllocError` if memory runs out.
 
 use crate::step_lines::{is_entry, push_half, push_owner, push_reason};
 use std::alloc::{AllocError, Global};
@@ -8,11 +10,10 @@ use tcap_judge::{Outcome, push_outcome};
 use tcap_page::{FRAME_HEAD, FRAME_TAIL, push_entry, push_named};
 use tcap_record::{Body, End, Entry, Record};
 
-/// So many rows are told at most.
+/// The most rows of a chart.
 const MOST: usize = 2_000;
 
-/// What a chart is of: a record, the end that is judged alone, where it is one, and what is said: an outcome, and the lines behind
-/// that of it.
+/// The subject of a chart: a record, the end that is judged alone, if any, the outcome, and the text after its line.
 #[derive(Clone, Copy)]
 pub(crate) struct Chart<'a> {
     pub(crate) read: &'a Record,
@@ -24,13 +25,13 @@ pub(crate) struct Chart<'a> {
 /// A row of a chart.
 #[derive(Clone, Copy)]
 enum Row<'a> {
-    /// A step, before which so many entries were sent.
+    /// A step, after so many sent entries.
     Step(usize, &'a Step),
-    /// The entry of that number, which stands behind the last step.
+    /// The entry with this number, after the last step.
     Stands(usize),
 }
 
-/// The number of the entry that a row is, where it is one.
+/// Returns the number of the entry in a row, if the row has one.
 fn entry_in(row: Row) -> Option<usize> {
     match row {
         Row::Step(number, step) if is_entry(step) => Some(number),
@@ -39,7 +40,7 @@ fn entry_in(row: Row) -> Option<usize> {
     }
 }
 
-/// The rows of a run of these steps: each step, and each entry behind the last.
+/// Returns the rows of a run: each step, then each entry after the last step.
 fn rows_of<'a>(
     alloc: Global,
     read: &Record,
@@ -59,7 +60,7 @@ fn rows_of<'a>(
     Ok(rows)
 }
 
-/// The entry where an outcome falls, where it falls at one.
+/// Returns the entry that an outcome is about, if there is one.
 fn marked(outcome: Outcome) -> Option<u64> {
     match outcome {
         Outcome::Refuted(refutation) => Some(refutation.entry),
@@ -68,7 +69,8 @@ fn marked(outcome: Outcome) -> Option<u64> {
     }
 }
 
-/// The place of the row of the marked entry; where no row is that, the last or, where none is marked, the first.
+/// Returns the index of the row of the marked entry: 0 if no entry is marked, and the number of rows if no row has the
+/// entry.
 fn place_of(rows: &[Row], marked: Option<u64>) -> usize {
     let Some(marked) = marked else {
         return 0;
@@ -83,7 +85,7 @@ fn place_of(rows: &[Row], marked: Option<u64>) -> usize {
     place
 }
 
-/// How many rows are left out before those that are told: all are told, or as many before the marked one as behind it.
+/// Returns how many rows are left out before those shown, so that the row at `place` is in the middle.
 fn left_before(count: usize, place: usize) -> usize {
     place
         .saturating_sub(MOST / 2)
@@ -106,7 +108,7 @@ fn push_told(
     json.push_str("}")
 }
 
-/// Appends the entries of these rows.
+/// Appends the entries in these rows.
 fn push_entries(
     alloc: Global,
     json: &mut String,
@@ -138,13 +140,14 @@ fn push_word(json: &mut String, word: &str, end: Option<End>) -> Result<(), Allo
     }
 }
 
-/// Appends what an end does with an entry.
+/// Appends a row for what an end does with an entry.
 fn push_deed(json: &mut String, word: &str, end: End, number: u64) -> Result<(), AllocError> {
     push_word(json, word, Some(end))?;
     write!(json, ",\"entry\":{number}")
 }
 
-/// Appends what happens unseen at an end: of a half, or of an invocation of it.
+/// Appends a row for a hidden step of an end: the expiry of an invocation with this ID or, without an ID, the closing
+/// of a half.
 fn push_unseen(
     alloc: Global,
     json: &mut String,
@@ -164,7 +167,7 @@ fn push_unseen(
     write!(json, ",\"invoke\":{id}")
 }
 
-/// Appends a step, before which so many entries were sent, but for its end.
+/// Appends a step, after `number` sent entries. The row stays open.
 fn push_step(
     alloc: Global,
     json: &mut String,
@@ -195,7 +198,7 @@ fn push_step(
     }
 }
 
-/// Appends rows.
+/// Appends these rows.
 fn push_rows(alloc: Global, json: &mut String, rows: &[Row]) -> Result<(), AllocError> {
     json.push_str(",\"steps\":[")?;
     let mut first = true;
@@ -215,7 +218,8 @@ fn push_rows(alloc: Global, json: &mut String, rows: &[Row]) -> Result<(), Alloc
 }
 
 impl Chart<'_> {
-    /// Appends the line of the outcome, whose it is, where it falls, and what stands behind it, where that is no run.
+    /// Appends the head of the run: the line of the outcome, the judged end, and the entry that the outcome is about. If
+    /// there is such an entry, also appends the text after the line.
     fn push_head(self, alloc: Global, json: &mut String) -> Result<(), AllocError> {
         let mut title = String::new(alloc);
         push_outcome(&mut title, self.outcome)?;
@@ -232,8 +236,9 @@ impl Chart<'_> {
         push_named(json, "text", self.behind)
     }
 
-    /// The page of a run of these steps. Where it has over 2,000 rows, which are its steps and the entries behind the last, those about
-    /// the entry where the outcome falls are told, or the first, and it is said how many are left out before and behind them.
+    /// Returns the page of a run. A run of over 2,000 rows, with the entries after its last step, is shown in part: the
+    /// rows around the entry that the outcome is about, or the first ones. The page says how many rows are left out
+    /// before and after.
     pub(crate) fn of_steps(self, alloc: Global, steps: &[Step]) -> Result<String, AllocError> {
         let rows = rows_of(alloc, self.read, steps)?;
         let before = left_before(rows.len(), place_of(&rows, marked(self.outcome)));

@@ -1,4 +1,4 @@
-//! What is said of a record, and why.
+//! Judges a record and explains the verdict.
 
 ghost use Rattle.std.specs.Prelude.{◌≡◌, ◌⊎◌, ◌≤◌, ◌&&◌, [], ℕ, List, true, false, None, Some, Ok, Err, IfOk, IfSome, OnOk, OnErr, length};
 ghost use Rattle.std.specs.String.{string_bytes};
@@ -33,27 +33,27 @@ use tcap_lines::{Status, WriteFailed};
 use tcap_record::{End, Record, read_record};
 use tcap_refute::Refutation;
 
-/// What is said, and why.
+/// A verdict, with its explanation.
 #[derive(Drop)]
 struct Why {
     outcome: Outcome,
-    // The lines behind that of the outcome.
+    // The text after the line of the verdict.
     behind: String,
-    // The run as a page; empty where none is asked for, or there is no record.
+    // The run as a page; empty if none is asked for, or if there is no record.
     chart: String,
 }
 
-/// What a run is asked beside its files.
+/// The options of a run.
 #[derive(Clone, Copy, Debug)]
 pub struct Asked {
-    /// The end that is judged alone, where it is one.
+    /// The end that is judged alone, or None for both.
     pub judged: Option<End>,
-    /// Whether a chart is asked for.
+    /// True if a chart is asked for.
     pub with_chart: bool,
 }
 
 impl Why {
-    /// That is said, and nothing stands behind it.
+    /// Returns this verdict with no text after it.
     fn alone(alloc: Global, outcome: Outcome) -> Why
         ensures outcome { result.outcome ≡ outcome }
         ensures behind { string_bytes result.behind ≡ [] }
@@ -65,7 +65,7 @@ impl Why {
         }
     }
 
-    /// That is said of what was given in place of a record, a table or a certificate, and which it is.
+    /// Returns the verdict on a file with a fault, with a text that names the file.
     fn of_fault(alloc: Global, outcome: Outcome) -> Why
         ensures outcome { result.outcome ≡ outcome }
         ensures behind { IsFaultBehind outcome (string_bytes result.behind) }
@@ -81,7 +81,7 @@ impl Why {
     }
 }
 
-/// How many of its peer's messages an end is taken not to have received in a run.
+/// Returns how many of its peer's messages an end does not receive in a run.
 fn count_unheard(end: End, steps: &[Step]) -> u64
     ensures { result ≡ unheard_of end (events_of steps.now) }
 {
@@ -94,7 +94,7 @@ fn count_unheard(end: End, steps: &[Step]) -> u64
     unheard
 }
 
-/// What is said of so many entries that have this run.
+/// Returns the verdict on `count` entries with this run.
 fn said_of(judged: Option<End>, count: usize, steps: &[Step]) -> Outcome
     ensures { result ≡ lawful_by judged count (events_of steps.now) }
 {
@@ -104,7 +104,7 @@ fn said_of(judged: Option<End>, count: usize, steps: &[Step]) -> Outcome
     }
 }
 
-/// The chart of a run of these steps, where one is asked for.
+/// Returns the chart of these steps, or an empty text if none is asked for.
 fn chart_of(
     alloc: Global,
     read: &Record,
@@ -126,7 +126,7 @@ fn chart_of(
     .of_steps(alloc, steps)
 }
 
-/// That a record is lawful, and the run that shows it.
+/// Explains that a record is lawful, by the run that shows it.
 fn explain_run(
     alloc: Global,
     read: &Record,
@@ -148,8 +148,8 @@ fn explain_run(
     })
 }
 
-/// Explains an outcome of a record for which the certificate gives no run: where its run stops, and the findings on
-/// these ends. The ends of the run may be changed.
+/// Explains an outcome for which the certificate gives no run: the stop of its run, and the findings on `ends`. May
+/// change the ends of the run.
 fn explain_stop(
     alloc: Global,
     read: &Record,
@@ -174,8 +174,7 @@ fn explain_stop(
     })
 }
 
-/// Explains that a record is lawful, of which each end by itself is, by the run that shows it for each: two lawful ends
-/// may have sent it then.
+/// Explains that a record is lawful by a run of each end. Two ends that are each lawful may have sent it together.
 fn explain_ends(
     alloc: Global,
     read: &Record,
@@ -199,7 +198,7 @@ fn explain_ends(
     })
 }
 
-/// Returns these ends, if each by itself is lawful.
+/// Returns these ends, if each is lawful on its own.
 fn lawful_both(ends: Option<Ends>) -> Option<Ends>
     ensures some { IfSome result (λ both. (ends ≡ Some both) × ((is_lawful both.a && is_lawful both.b) ≡ true)) }
     ensures none { result ≡ None → IfSome ends (λ both. (is_lawful both.a && is_lawful both.b) ≡ false) }
@@ -210,8 +209,8 @@ fn lawful_both(ends: Option<Ends>) -> Option<Ends>
     }
 }
 
-/// Explains the verdict on a record of which no entry is named, and for which the certificate that is proposed gives no
-/// run: that it is lawful, if each of its ends by itself is; else where the run stops.
+/// Explains the verdict on a record in which no entry is at fault, and for which the proposed certificate gives no run.
+/// The record is lawful if each end is lawful on its own; else it is undecided.
 fn explain_other(
     alloc: Global,
     read: &Record,
@@ -246,7 +245,7 @@ fn explain_other(
     }
 }
 
-/// That an entry is at fault, and why. The certificate that is proposed is needed for the chart alone.
+/// Explains that an entry is at fault. Only the chart needs the proposed certificate.
 fn explain_refuted(
     alloc: Global,
     read: &Record,
@@ -275,7 +274,7 @@ fn explain_refuted(
     })
 }
 
-/// What is said of a record of which no entry is named: what the certificate that is proposed shows, and why.
+/// Explains the verdict on a record in which no entry is at fault, by the proposed certificate.
 fn explain_by_search(
     alloc: Global,
     read: &Record,
@@ -297,7 +296,7 @@ fn explain_by_search(
     }
 }
 
-/// The verdict on a record, and why.
+/// Judges a record, and explains the verdict. `AllocError` if memory runs out.
 fn explain_verdict(
     alloc: Global,
     read: &Record,
@@ -316,7 +315,7 @@ fn explain_verdict(
     }
 }
 
-/// What a certificate shows of a record, and why.
+/// Explains what a certificate shows of a record. `AllocError` if memory runs out.
 fn explain_replay(
     alloc: Global,
     read: &Record,
@@ -351,7 +350,7 @@ fn explain_replay(
     }
 }
 
-/// What is said of the record that `reader` tells, and why.
+/// Judges the record in `reader`, and explains the verdict.
 fn explain_told<R: Read>(alloc: Global, reader: &mut R, table: &Table, asked: Asked) -> Why
     ensures { GivesWhy asked.judged table.now (device R.untold R.failures reader.old reader.new) result.outcome (string_bytes result.behind) }
 {
@@ -364,7 +363,7 @@ fn explain_told<R: Read>(alloc: Global, reader: &mut R, table: &Table, asked: As
     }
 }
 
-/// The same by a certificate.
+/// Explains what a certificate shows of the record in `reader`.
 fn explain_told_by<R: Read>(
     alloc: Global,
     reader: &mut R,
@@ -383,7 +382,7 @@ fn explain_told_by<R: Read>(
     }
 }
 
-/// What is said of a record and a table, each of which a reader tells, and why.
+/// Judges a record by a table, both from readers, and explains the verdict.
 fn explain_both<R: Read, T: Read>(
     alloc: Global,
     entries: &mut R,
@@ -399,7 +398,7 @@ fn explain_both<R: Read, T: Read>(
     }
 }
 
-/// What is said of a record, a table and a certificate, each of which a reader tells, and why.
+/// Explains what a certificate shows of a record, all three files from readers.
 fn explain_all<R: Read, T: Read, C: Read>(
     alloc: Global,
     entries: &mut R,
@@ -421,18 +420,23 @@ fn explain_all<R: Read, T: Read, C: Read>(
     }
 }
 
-/// Judges the record that `entries` returns by the operation table that `table` returns, one end alone or, if none is
-/// named, both. It writes the line of `judge`, or that the record is lawful if each end by itself is, and then why: for a
-/// record that is lawful, the run that shows it, step by step (Q.774 3.2 and 3.3), or else the run of each end; if an
-/// entry is at fault, what it does and on which entries that rests; else where the run stops, and what the end knows
-/// there. After REFUTED and UNDECIDED, if both ends are judged, it writes what `blame` finds of each, and why. The status
-/// is that of the first line. `chart` becomes the chart of the run, a page of HTML, if one is asked for and the record,
-/// the table and the certificate have no fault, and else empty. All memory is taken before the first octet is written;
-/// if it runs out, `FAULT 99 0` is the only line.
+/// Judges the record in `entries` by the operation table in `table`, and writes the verdict and the reasons.
+///
+/// The first line is that of `judge`, except that a record is also LAWFUL if each end is lawful on its own. The reasons
+/// are:
+///
+/// - LAWFUL: the run that shows it, step by step (Q.774 3.2 and 3.3), or a run of each end.
+/// - REFUTED: the rule that the entry breaks, and the entries that show it.
+/// - UNDECIDED: the point at which the run stops, and what the end knows there.
+///
+/// After REFUTED and UNDECIDED, if both ends are judged, come the findings of `blame` on each, with the reasons. The
+/// status is that of the first line. `chart` becomes an HTML page of the run if one is asked for and no file has a
+/// fault, and else empty. All memory is taken before the first octet is written; if it runs out, `FAULT 99 0` is the
+/// only line.
 ///
 /// # Errors
 ///
-/// `WriteFailed` if the writer failed.
+/// `WriteFailed` if the writer fails.
 pub fn run_explain<R: Read, T: Read, W: Write>(
     alloc: Global,
     entries: &mut R,
@@ -452,7 +456,14 @@ pub fn run_explain<R: Read, T: Read, W: Write>(
     write_outcome(alloc, why.outcome, &why.behind, writer)
 }
 
-/// The same by the certificate that `certificate` tells: the line is that of `check`, and so is the status.
+/// Writes what the certificate in `certificate` shows of a record, and the reasons.
+///
+/// The first line and the status are those of `check`; NOT SHOWN has the reasons of UNDECIDED. For the rest, see
+/// [`run_explain`].
+///
+/// # Errors
+///
+/// `WriteFailed` if the writer fails.
 pub fn run_explain_check<R: Read, T: Read, C: Read, W: Write>(
     alloc: Global,
     entries: &mut R,

@@ -1,4 +1,4 @@
-//! What is wrong with what was given in place of a record, a table or a certificate.
+//! Faults of the files: the record, the table or the certificate.
 
 ghost use Rattle.std.specs.Prelude.{◌≡◌, IfOk};
 ghost use Rattle.std.specs.String.{string_bytes};
@@ -7,7 +7,7 @@ ghost use Rattle.tcap_explain.specs.Faults.{fault_lines, fault_words};
 use std::alloc::{AllocError, Global};
 use tcap_judge::Outcome;
 
-/// What is at fault, and what shows where, by the number of the fault.
+/// Returns the file at fault, and the command that shows more, by the number of the fault.
 #[tactic(auto, unfolding(crate::specs::Faults::fault_words))]
 fn words_of(number: u8) -> &'static str
     ensures { result.now ≡ fault_words number }
@@ -23,8 +23,8 @@ fn words_of(number: u8) -> &'static str
     }
 }
 
-/// The line behind a line of fault: which of the files it is, as far as the number says it, and what shows more. None where
-/// memory ran out.
+/// Returns the line after a fault, which names the file as far as the number shows it. Empty if `outcome` is no fault,
+/// or if memory ran out.
 pub(crate) fn fault_text(alloc: Global, outcome: Outcome) -> Result<String, AllocError>
     ensures { IfOk result (λ text. string_bytes text ≡ fault_lines outcome) }
 {

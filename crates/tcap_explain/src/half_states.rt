@@ -1,4 +1,6 @@
-//! What an end knows of a half, in words.
+//! The state of a half, in words.
+//!
+//! Each function that returns `AllocError` does so if memory runs out.
 
 use std::alloc::{AllocError, Global};
 use tcap_end::{EndState, HalfName, InvocationState, OpenHalf, Phase, Standing};
@@ -6,10 +8,10 @@ use tcap_msg::TransactionId;
 use tcap_parts::{CodeView, ComponentView};
 use tcap_record::{End, push_component, push_hex};
 
-/// How many operations of one invoke ID are told.
+/// The most operations of one invoke ID that are listed.
 const MOST: usize = 8;
 
-/// A phase in words (Q.774 3.3).
+/// Returns the words for a phase (Q.774 3.3).
 fn phase_words(phase: Phase) -> &'static str {
     match phase {
         Phase::Sent => "it sent its Begin",
@@ -19,7 +21,7 @@ fn phase_words(phase: Phase) -> &'static str {
     }
 }
 
-/// How far a dialogue is, in words (Q.774 3.2).
+/// Returns the words for a dialogue state (Q.774 3.2).
 fn standing_words(standing: Standing) -> &'static str {
     match standing {
         Standing::Without => "no dialogue",
@@ -39,7 +41,7 @@ fn push_code(text: &mut String, code: CodeView) -> Result<(), AllocError> {
     }
 }
 
-/// Appends a transaction ID behind a label, where it is known.
+/// Appends a label and a transaction ID, if the ID is known.
 fn push_id(text: &mut String, label: &str, id: Option<&TransactionId>) -> Result<(), AllocError> {
     match id {
         Some(id) => {
@@ -50,7 +52,7 @@ fn push_id(text: &mut String, label: &str, id: Option<&TransactionId>) -> Result
     }
 }
 
-/// Appends the name of a half.
+/// Appends the ID in the name of a half.
 fn push_name(text: &mut String, name: &HalfName) -> Result<(), AllocError> {
     match name {
         HalfName::Own(id) => push_id(text, " otid=", Some(id)),
@@ -58,7 +60,7 @@ fn push_name(text: &mut String, name: &HalfName) -> Result<(), AllocError> {
     }
 }
 
-/// Appends the own invocation of an invoke ID.
+/// Appends the own invocation with an invoke ID.
 fn push_own(text: &mut String, half: &OpenHalf, id: i8) -> Result<(), AllocError> {
     match (half.own_operation(id), half.own_state(id)) {
         (Some(code), Some(state)) => {
@@ -73,7 +75,8 @@ fn push_own(text: &mut String, half: &OpenHalf, id: i8) -> Result<(), AllocError
     }
 }
 
-/// Appends the operations that were received under an invoke ID and are not answered, the first of them.
+/// Appends the number of invocations that were received under an invoke ID and are not answered, and the first of their
+/// operations.
 fn push_codes(text: &mut String, codes: &[CodeView]) -> Result<(), AllocError> {
     let count = codes.len();
     write!(text, "; invocations received and not answered {count}")?;
@@ -87,7 +90,7 @@ fn push_codes(text: &mut String, codes: &[CodeView]) -> Result<(), AllocError> {
     Ok(())
 }
 
-/// Appends how many of the answers that were received under an invoke ID may be rejected.
+/// Appends how many of the results and errors received under an invoke ID may be rejected.
 fn push_answers(text: &mut String, answers: &[bool]) -> Result<(), AllocError> {
     let mut results = 0u32;
     let mut errors = 0u32;
@@ -101,7 +104,7 @@ fn push_answers(text: &mut String, answers: &[bool]) -> Result<(), AllocError> {
     writeln!(text, "; results received {results}, errors {errors}")
 }
 
-/// Appends what a half has under an invoke ID.
+/// Appends what a half knows under an invoke ID.
 fn push_under(alloc: Global, text: &mut String, half: &OpenHalf, id: i8) -> Result<(), AllocError> {
     write!(text, "    before this message, under {id}: ")?;
     push_own(text, half, id)?;
@@ -111,7 +114,7 @@ fn push_under(alloc: Global, text: &mut String, half: &OpenHalf, id: i8) -> Resu
     push_answers(text, &answers)
 }
 
-/// The invoke ID that a component speaks of, and the linked ID.
+/// Returns the invoke ID and the linked ID of a component.
 fn ids_of(component: ComponentView) -> (Option<i8>, Option<i8>) {
     match component {
         ComponentView::Invoke { id, linked, .. } => (Some(id), linked),
@@ -121,7 +124,7 @@ fn ids_of(component: ComponentView) -> (Option<i8>, Option<i8>) {
     }
 }
 
-/// Appends a component, and what a half has under its IDs, where it is open.
+/// Appends a component and, if the half is open, what the half knows under its IDs.
 pub(crate) fn push_component_state(
     alloc: Global,
     text: &mut String,
@@ -142,7 +145,7 @@ pub(crate) fn push_component_state(
     Ok(())
 }
 
-/// Appends what an end knows of the half of that name: its phase, its IDs and its dialogue; or that it is closed, or not there.
+/// Appends the phase, the IDs and the dialogue state of a half, or that the half is closed or unknown.
 pub(crate) fn push_half_state(
     text: &mut String,
     end: End,

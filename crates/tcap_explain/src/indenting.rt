@@ -7,7 +7,7 @@ ghost use Rattle.tcap_explain.specs.Indented.{indented};
 
 use std::alloc::AllocError;
 
-/// Appends a line, with two blanks before it.
+/// Appends a line, with two spaces before it.
 fn push_line(text: &mut String, line: &str) -> Result<(), AllocError>
     ensures { OnOk result (string_bytes text.new ≡ string_bytes text.old ++ codes "  " ++ line.now ++ line_end) }
 {
@@ -16,7 +16,7 @@ fn push_line(text: &mut String, line: &str) -> Result<(), AllocError>
     text.push_str("\n")
 }
 
-/// Appends each of these lines with two blanks before it, and ends the last one.
+/// Appends these lines with two spaces before each, and ends the last one.
 pub(crate) fn push_indented(text: &mut String, lines: &str) -> Result<(), AllocError>
     ensures { OnOk result (string_bytes text.new ≡ string_bytes text.old ++ indented lines.now) }
 {

@@ -1,5 +1,5 @@
-//! Verdicts in words: the run that shows a record lawful, step by step, and why a record is refuted, undecided, or one end
-//! is blamed (Q.774 3.2 and 3.3).
+//! Explains verdicts in words: the run that shows a record lawful, step by step, and why a record is refuted or
+//! undecided or an end is blamed (Q.774 3.2 and 3.3).
 #![tactic(auto)]
 
 mod chart;

@@ -1,9 +1,9 @@
-//! The names of reasons, and what they say.
+//! The names of reasons, and their meanings.
 
 use tcap_check::Reason;
 use tcap_end::EndFault;
 
-/// The name of a reason of a certificate, and what it says of its entry.
+/// Returns the name of a certificate's reason, and its meaning for the entry.
 pub(crate) fn reason_words(reason: Reason) -> (&'static str, &'static str) {
     match reason {
         Reason::CertificateShape => ("CertificateShape", "the text is no certificate"),
@@ -32,7 +32,7 @@ pub(crate) fn reason_words(reason: Reason) -> (&'static str, &'static str) {
     }
 }
 
-/// The name of a reason of an end, and what it says.
+/// Returns the name of an end's reason, and its meaning.
 pub(crate) fn fault_words(fault: EndFault) -> (&'static str, &'static str) {
     match fault {
         EndFault::NoTransaction => ("NoTransaction", "no half has its ID, or fits it"),

@@ -1,14 +1,14 @@
-//! Which component of a message an end refuses to send.
+//! The component of a message that an end refuses to send.
 
 use std::alloc::{AllocError, Global};
 use tcap_end::{EndFault, EndState, Table};
 use tcap_msg::{Message, MessageParts};
 use tcap_parts::Portion;
 
-/// The most components of a message of which the one that is refused is looked for.
+/// The most components of a message that is searched for the refused one.
 pub(crate) const MANY: usize = 64;
 
-/// Whether a component may be what is refused for that reason.
+/// Returns whether a fault may be that of a single component.
 pub(crate) fn is_of_component(fault: EndFault) -> bool {
     matches!(
         fault,
@@ -23,7 +23,7 @@ pub(crate) fn is_of_component(fault: EndFault) -> bool {
     )
 }
 
-/// The first components of a message, so many; none where there are none.
+/// Returns the first `count` components of a message, or None if there are none.
 fn portion_of(
     alloc: Global,
     message: &Message,
@@ -36,7 +36,7 @@ fn portion_of(
     Ok(Portion::new(components))
 }
 
-/// The message with so many of its components, the first ones; `None` where it may not be without one.
+/// Returns the message with its first `count` components. None if its type does not allow that.
 fn front_of(alloc: Global, message: &Message, count: usize) -> Result<Option<Message>, AllocError> {
     let portion = portion_of(alloc, message, count)?;
     match (message.to_message(alloc)?, portion) {
@@ -74,8 +74,9 @@ fn front_of(alloc: Global, message: &Message, count: usize) -> Result<Option<Mes
     }
 }
 
-/// The place of the component for which an end refuses to send a message: the one behind the longest front of the message that it
-/// sends. `None` where it refuses the message without components too. Where it sends a front, the end is as it is behind that.
+/// Returns the number of the component for which an end refuses to send a message: the one after the longest front of
+/// the message that the end sends. None if the end refuses the message even without components. If the end sends a
+/// front, `state` is its state afterwards.
 pub(crate) fn refused_component(
     alloc: Global,
     state: &mut EndState,

@@ -1,4 +1,6 @@
-//! Why an entry is refuted, and what is said of each end.
+//! Why an entry is refuted, and the findings on each end.
+//!
+//! Each function that returns `AllocError` does so if memory runs out.
 
 ghost use Rattle.std.specs.Prelude.{◌≡◌, ◌++◌, ◌≤◌, Some, None, length, map, IfOk, IfSome, OnOk};
 ghost use Rattle.std.specs.String.{string_bytes};
@@ -18,7 +20,7 @@ use tcap_judge::{Ends, Finding, find_both, push_finding, stands_behind};
 use tcap_record::{End, Record};
 use tcap_refute::Refutation;
 
-/// The end that sent an entry; A where none did.
+/// Returns the end that sent an entry, or A if neither did.
 fn sender_of(read: &Record, entry: u64) -> End
     ensures { result ≡ sender_at read.now.entries.items entry }
 {
@@ -32,7 +34,7 @@ fn sender_of(read: &Record, entry: u64) -> End
     }
 }
 
-/// Whether it was shown.
+/// Returns whether this refutation was printed already.
 fn is_shown(shown: Option<Refutation>, refutation: Refutation) -> bool
     ensures { result ≡ is_shown shown refutation }
 {
@@ -44,7 +46,7 @@ fn is_shown(shown: Option<Refutation>, refutation: Refutation) -> bool
     }
 }
 
-/// Appends that nothing is looked at from that entry on, which is no message.
+/// Appends that the entry `count` is no message, so the search ends there.
 #[tactic(auto, unfolding(crate::specs::Refuted::unread_words))]
 fn push_unread(text: &mut String, count: usize) -> Result<(), AllocError>
     ensures { OnOk result (string_bytes text.new ≡ string_bytes text.old ++ unread_words count) }
@@ -55,7 +57,7 @@ fn push_unread(text: &mut String, count: usize) -> Result<(), AllocError>
     )
 }
 
-/// That no fault is found.
+/// Returns the words for an end without a fault.
 #[tactic(auto, unfolding(crate::specs::Refuted::none_found_words))]
 fn none_found_words() -> &'static str
     ensures { result.now ≡ none_found_words }
@@ -63,7 +65,7 @@ fn none_found_words() -> &'static str
     "  no fault is found; that does not clear it\n"
 }
 
-/// Appends that of so many entries that were looked at, of so many, none is blamed.
+/// Appends why none of `all` entries is blamed, if the first `count` were searched.
 fn push_not_blamed(text: &mut String, count: usize, all: usize) -> Result<(), AllocError>
     ensures { OnOk result (string_bytes text.new ≡ string_bytes text.old ++ unblamed_words count all) }
 {
@@ -74,7 +76,7 @@ fn push_not_blamed(text: &mut String, count: usize, all: usize) -> Result<(), Al
     }
 }
 
-/// Appends why, where an entry is blamed on an end other than what was shown.
+/// Appends the reasons for a finding, unless it is the refutation `shown` already.
 fn push_behind(
     alloc: Global,
     text: &mut String,
@@ -100,7 +102,7 @@ fn push_behind(
     }
 }
 
-/// Appends what is said of an end, and why.
+/// Appends the line of a finding on an end, and the reasons.
 fn push_end(
     alloc: Global,
     text: &mut String,
@@ -118,7 +120,7 @@ fn push_end(
     push_behind(alloc, text, read, table, end, finding, shown)
 }
 
-/// Appends that of both, and why, but for what was shown.
+/// Appends the findings on both ends, and the reasons that were not `shown` already.
 fn push_both(
     alloc: Global,
     text: &mut String,
@@ -140,7 +142,7 @@ fn push_both(
     }
 }
 
-/// Returns what `blame` finds of both ends, if both are judged.
+/// Returns what `blame` finds for both ends, if both are judged.
 pub(crate) fn ends_asked(
     alloc: Global,
     read: &Record,
@@ -158,7 +160,7 @@ pub(crate) fn ends_asked(
     }
 }
 
-/// Appends these findings, and why.
+/// Appends these findings, and the reasons.
 pub(crate) fn push_asked(
     alloc: Global,
     text: &mut String,
@@ -175,7 +177,7 @@ pub(crate) fn push_asked(
     }
 }
 
-/// Whether an end is blamed, for that entry or one before it.
+/// Returns whether an end is blamed for entry `number` or an earlier one.
 fn is_blamed_by(finding: Finding, number: u64) -> bool
     ensures { result ≡ is_blamed_by number finding }
 {
@@ -185,7 +187,7 @@ fn is_blamed_by(finding: Finding, number: u64) -> bool
     }
 }
 
-/// Appends why nobody is blamed for an entry that is refuted, where that is so.
+/// Appends why nobody is blamed for a refuted entry, if nobody is.
 fn push_where_unblamed(
     alloc: Global,
     text: &mut String,
@@ -208,7 +210,7 @@ fn push_where_unblamed(
     push_unblamed(alloc, text, read, table, end, number)
 }
 
-/// Appends the lines of a record that is refuted.
+/// Appends the lines of a record that is refuted, if both ends are judged.
 fn push_refuted(
     alloc: Global,
     text: &mut String,
@@ -228,7 +230,7 @@ fn push_refuted(
     push_both(alloc, text, read, table, ends, Some(refutation))
 }
 
-/// The lines behind that of a record that is refuted, of both ends or of the one that is judged.
+/// Returns the lines after REFUTED, for both ends or for the judged end.
 pub(crate) fn refuted_text(
     alloc: Global,
     read: &Record,

@@ -1,4 +1,4 @@
-//! Runs that certificates give, and the lines of those of both ends.
+//! The runs that certificates give, and the lines of the runs of both ends.
 
 ghost use Rattle.std.specs.Prelude.{◌≡◌, ◌≤◌, ◌++◌, ◌&&◌, ℕ, List, true, IfOk, OnOk, length, map};
 ghost use Rattle.std.specs.String.{string_bytes};
@@ -18,8 +18,8 @@ use tcap_end::Table;
 use tcap_judge::{Ends, Finding, propose, push_finding};
 use tcap_record::{End, Record};
 
-/// The run that a certificate gives for a record, as far as it goes, of both ends or of the one that is judged, and why
-/// it gives none, where it gives none.
+/// Returns the run that a certificate gives for a record, as far as it goes, and why it stops, if it does. The run is
+/// of both ends, or of the judged end.
 pub(crate) fn run_so_far(
     alloc: Global,
     read: &Record,
@@ -37,8 +37,7 @@ pub(crate) fn run_so_far(
     run_until(alloc, read, table, certificate, judged)
 }
 
-/// Appends the line of an end that is lawful, and the lines of the run that the certificate which is proposed for it
-/// gives.
+/// Appends the line of a lawful end, and the run that the certificate proposed for this end gives.
 fn push_lawful_end(
     alloc: Global,
     text: &mut String,
@@ -60,7 +59,7 @@ fn push_lawful_end(
     Ok(())
 }
 
-/// Returns the lines of both ends of a record, each of which by itself is lawful, with the run that shows it.
+/// Returns the lines of two ends that are each lawful, with the run that shows it for each.
 pub(crate) fn lawful_ends_text(
     alloc: Global,
     read: &Record,

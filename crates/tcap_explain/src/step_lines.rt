@@ -13,7 +13,7 @@ use tcap_end::{EndFault, HalfName};
 use tcap_msg::Message;
 use tcap_record::{End, push_head, push_hex};
 
-/// Whether a step is the loss of a message that an end sent.
+/// Returns whether a step is the loss, or the discard, of a message from this end.
 pub(crate) fn is_lost_from(side: End, step: &Step) -> bool
     ensures { result ≡ is_lost_from side (event_of step.now) }
 {
@@ -23,7 +23,7 @@ pub(crate) fn is_lost_from(side: End, step: &Step) -> bool
     }
 }
 
-/// What stands before the ID by which a half is named, its own one.
+/// Returns the label before the own ID of a half.
 #[tactic(auto, unfolding(crate::specs::StepLines::own_label))]
 fn own_label() -> &'static str
     ensures { result.now ≡ own_label }
@@ -31,7 +31,7 @@ fn own_label() -> &'static str
     "the half with otid="
 }
 
-/// The same before its peer's.
+/// Returns the label before the peer's ID of a half.
 #[tactic(auto, unfolding(crate::specs::StepLines::peer_label))]
 fn peer_label() -> &'static str
     ensures { result.now ≡ peer_label }
@@ -39,7 +39,7 @@ fn peer_label() -> &'static str
     "the half with peer "
 }
 
-/// What stands above the lines of a run.
+/// Returns the line above a run.
 #[tactic(auto, unfolding(crate::specs::StepLines::run_label))]
 fn run_label() -> &'static str
     ensures { result.now ≡ run_label }
@@ -47,7 +47,7 @@ fn run_label() -> &'static str
     "  one run that shows it:"
 }
 
-/// Appends an ID behind a label.
+/// Appends a label and an ID.
 fn push_labelled(text: &mut String, label: &str, id: &[u8]) -> Result<(), AllocError>
     ensures { OnOk result (string_bytes text.new ≡ string_bytes text.old ++ label.now ++ encode_lower id.now) }
 {
@@ -55,7 +55,7 @@ fn push_labelled(text: &mut String, label: &str, id: &[u8]) -> Result<(), AllocE
     push_hex(text, id)
 }
 
-/// Appends the name of a half, as it stands behind an invocation.
+/// Appends the name of a half, in the line of an invocation.
 pub(crate) fn push_owner(text: &mut String, name: &HalfName) -> Result<(), AllocError>
     ensures { OnOk result (string_bytes text.new ≡ string_bytes text.old ++ owner_text name.now) }
 {
@@ -75,7 +75,7 @@ pub(crate) fn push_half(text: &mut String, name: &HalfName) -> Result<(), AllocE
     }
 }
 
-/// Appends what an end does with an entry.
+/// Appends an end, its act, and the number of an entry.
 fn push_deed(text: &mut String, end: End, deed: &str, number: u64) -> Result<(), AllocError>
     ensures { OnOk result (string_bytes text.new ≡ string_bytes text.old ++ deed_text end deed.now number) }
 {
@@ -117,7 +117,7 @@ pub(crate) fn push_reason(text: &mut String, reason: EndFault) -> Result<(), All
     }
 }
 
-/// Appends an invocation of an end, and that something is said of whose it is.
+/// Appends an invocation of an end; the half follows.
 #[tactic(auto, unfolding(crate::specs::StepLines::invocation_text))]
 fn push_invocation(text: &mut String, end: End, id: i8) -> Result<(), AllocError>
     ensures { OnOk result (string_bytes text.new ≡ string_bytes text.old ++ invocation_text end id) }
@@ -129,7 +129,7 @@ fn push_invocation(text: &mut String, end: End, id: i8) -> Result<(), AllocError
     text.push_str(" of ")
 }
 
-/// Appends the line of an invocation that ends unseen.
+/// Appends the line of an invocation that expires unseen.
 fn push_expiry(text: &mut String, end: End, name: &HalfName, id: i8) -> Result<(), AllocError>
     ensures { OnOk result (string_bytes text.new ≡ string_bytes text.old ++ expiry_line end name.now id) }
 {
@@ -158,7 +158,7 @@ fn push_reply(text: &mut String, end: End, answered: u64, number: u64) -> Result
     writeln!(text, "{number}")
 }
 
-/// Appends the line of a loss, where it has one.
+/// Appends the line of a loss, if it has one.
 fn push_loss(
     text: &mut String,
     judged: Option<End>,
@@ -192,7 +192,7 @@ fn push_discard(
     text.push_str("\n")
 }
 
-/// Appends the line of a step, before which so many entries were sent.
+/// Appends the line of a step after `number` sent entries.
 fn push_step(
     text: &mut String,
     judged: Option<End>,
@@ -217,7 +217,7 @@ fn push_step(
     }
 }
 
-/// Whether a step is an entry.
+/// Returns whether a step is an entry.
 pub(crate) fn is_entry(step: &Step) -> bool
     ensures { result ≡ is_entry step.now }
 {
@@ -227,7 +227,7 @@ pub(crate) fn is_entry(step: &Step) -> bool
     )
 }
 
-/// Appends a line for each step of a run: of both ends, or of the one that is judged.
+/// Appends a line for each step of a run of both ends or of the judged end.
 fn push_all(text: &mut String, judged: Option<End>, steps: &[Step]) -> Result<(), AllocError>
     ensures { OnOk result (string_bytes text.new ≡ string_bytes text.old ++ lines_from judged 0 steps.now) }
 {
@@ -241,7 +241,7 @@ fn push_all(text: &mut String, judged: Option<End>, steps: &[Step]) -> Result<()
     Ok(())
 }
 
-/// Appends the lines of a run, of both ends or of the one that is judged, behind one that says what they are.
+/// Appends the lines of a run of both ends or of the judged end, after their label.
 pub(crate) fn push_steps(
     text: &mut String,
     judged: Option<End>,

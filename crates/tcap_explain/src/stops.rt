@@ -1,4 +1,6 @@
-//! Why a certificate shows nothing: the reason, the entry, and what the end knows there.
+//! Why a certificate shows nothing: the reason, the entry, and the end's state there.
+//!
+//! Each function that returns `AllocError` does so if memory runs out.
 
 ghost use Rattle.std.specs.Prelude.{◌≡◌, IfOk, IfSome};
 ghost use Rattle.std.specs.String.{string_bytes};
@@ -19,10 +21,10 @@ use tcap_msg::{Kind, Message, MessageParts};
 use tcap_parts::ComponentView;
 use tcap_record::{Body, End, Record, push_view};
 
-/// How many halves, or numbers, are told.
+/// The most halves, or numbers, that are listed.
 const MOST: usize = 8;
 
-/// Where the run of a certificate stops.
+/// The point at which the run of a certificate stops.
 #[derive(Clone, Copy)]
 struct Stop<'a> {
     read: &'a Record,
@@ -31,7 +33,7 @@ struct Stop<'a> {
     fault: CheckFault,
 }
 
-/// Appends what a reason says, and its name behind it.
+/// Appends the meaning of a reason, and its name in parentheses.
 fn push_words(text: &mut String, words: (&str, &str)) -> Result<(), AllocError> {
     let (name, meaning) = words;
     text.push_str(meaning)?;
@@ -55,7 +57,7 @@ fn push_reason(text: &mut String, reason: Reason) -> Result<(), AllocError> {
     text.push_str("\n")
 }
 
-/// Appends what is to be known of octets that are no message.
+/// Appends advice on octets that are no message.
 fn push_bad(text: &mut String, fault: Fault) -> Result<(), AllocError> {
     text.push_str("`tcapjudge show --why RECORD` says what is wrong with them\n")?;
     if is_limit(fault.reason.number()) {
@@ -64,12 +66,13 @@ fn push_bad(text: &mut String, fault: Fault) -> Result<(), AllocError> {
     Ok(())
 }
 
-/// Whether octets are refused for that reason by a limit of this profile alone.
+/// Returns whether octets are refused for this reason only because of a limit of this profile.
 fn is_limit(number: u8) -> bool {
     matches!(number, 2..=4 | 12 | 13 | 16..=18)
 }
 
-/// The name of the half over which a message is sent: by its own ID where the end knows that, or of a Begin; else by its peer's.
+/// Returns the half over which a message is sent. Its name is the own ID if the end knows it or the message is a Begin,
+/// else the peer's ID.
 fn sending_name(message: &Message, state: &EndState) -> Option<HalfName> {
     let own = message
         .otid()
@@ -81,7 +84,7 @@ fn sending_name(message: &Message, state: &EndState) -> Option<HalfName> {
     }
 }
 
-/// The name of the half over which a message is received.
+/// Returns the half over which a message is received.
 fn receiving_name(message: &Message) -> Option<HalfName> {
     match message.kind() {
         Kind::Unidirectional => None,
@@ -90,7 +93,7 @@ fn receiving_name(message: &Message) -> Option<HalfName> {
     }
 }
 
-/// The name of the half over which a message is sent, where there is one or should be: not that of a Begin whose ID is new.
+/// Returns the half over which a message is sent, if its state is worth printing: not for a Begin with a new ID.
 fn name_to_tell(message: &Message, state: &EndState) -> Option<HalfName> {
     let name = sending_name(message, state)?;
     if message.kind() == Kind::Begin && !state.knows(&name) {
@@ -99,7 +102,7 @@ fn name_to_tell(message: &Message, state: &EndState) -> Option<HalfName> {
     Some(name)
 }
 
-/// Each component of a message in words, with what an end knows of its invoke ID over the half of that name, where that is open.
+/// Describes each component of a message and, if the half with this name is open, what the end knows of its invoke ID.
 fn words_of_components(
     alloc: Global,
     state: &EndState,
@@ -119,8 +122,8 @@ fn words_of_components(
     Ok(all)
 }
 
-/// Appends which component of a message an end refuses to send, where it is one, and what it knows of it. The end is used up: it may have
-/// sent the components before that one.
+/// Appends which component of a message an end refuses to send, if it is one, and what the end knows of it. Do not use
+/// `state` afterwards: it may have sent the components before that one.
 fn push_refused(
     alloc: Global,
     text: &mut String,
@@ -143,7 +146,7 @@ fn push_refused(
     text.push_str(words)
 }
 
-/// The end's state behind the run as far as it goes.
+/// Returns the state of an end after the run, as far as the run goes.
 fn state_of(run: &mut Partial, end: End) -> &mut EndState {
     match end {
         End::A => &mut run.a,
@@ -151,7 +154,7 @@ fn state_of(run: &mut Partial, end: End) -> &mut EndState {
     }
 }
 
-/// Appends why an end can't receive a message, where that is so.
+/// Appends why an end can't receive a message, if it can't.
 fn push_refusal(text: &mut String, refused: Result<(), EndFault>) -> Result<(), AllocError> {
     match refused {
         Ok(()) => Ok(()),
@@ -163,7 +166,7 @@ fn push_refusal(text: &mut String, refused: Result<(), EndFault>) -> Result<(), 
     }
 }
 
-/// Whether a message is refused for Rejects in a Unidirectional, which the standard leaves to the user.
+/// Returns whether the fault is a Reject in a Unidirectional, which the standard leaves to the user.
 fn is_left_to_user(message: &Message, fault: EndFault) -> bool {
     message.kind() == Kind::Unidirectional
         && fault == EndFault::NothingToAnswer
@@ -173,7 +176,7 @@ fn is_left_to_user(message: &Message, fault: EndFault) -> bool {
         ))
 }
 
-/// Appends what the end knows that sends a message, and which component it refuses.
+/// Appends what the sender of a message knows, and which component it refuses.
 fn push_sender(
     alloc: Global,
     text: &mut String,
@@ -200,7 +203,7 @@ fn push_sender(
     }
 }
 
-/// Appends what the end knows that can't receive a message, and why.
+/// Appends what the receiver of a message knows, and why it can't receive the message.
 fn push_receiver(
     text: &mut String,
     run: &mut Partial,
@@ -215,14 +218,14 @@ fn push_receiver(
     push_refusal(text, state.receive(table, message))
 }
 
-/// Whether the certificate ties a message to the entry.
+/// Returns whether the certificate names the entry as an answer.
 fn is_tied(stop: &Stop) -> bool {
     stop.certificate.fates().iter().any(
         |fate| matches!(fate, Fate::By(reply) if u64::from(*reply) == stop.fault.entry),
     )
 }
 
-/// Appends which messages the certificate ties to the entry.
+/// Appends the messages that the entry answers by the certificate. `is_answer`: the entry is a provider's answer.
 fn push_tied(text: &mut String, stop: &Stop, is_answer: bool) -> Result<(), AllocError> {
     text.push_str(if is_answer {
         "it is a provider's answer, and the messages that the certificate says it answers are"
@@ -242,7 +245,7 @@ fn push_tied(text: &mut String, stop: &Stop, is_answer: bool) -> Result<(), Allo
     text.push_str(if found == 0 { " none\n" } else { "\n" })
 }
 
-/// Appends the entry behind a gap.
+/// Appends the entry after a gap.
 fn push_behind(text: &mut String, stop: &Stop, gap: u32) -> Result<(), AllocError> {
     match stop.read.entries.get(gap as usize) {
         Some(entry) => push_view(text, gap as usize, &entry.view()),
@@ -250,7 +253,7 @@ fn push_behind(text: &mut String, stop: &Stop, gap: u32) -> Result<(), AllocErro
     }
 }
 
-/// Appends what the certificate lists of the entry, the first of it, each with the entry before which it stands.
+/// Appends the first hidden steps that the certificate lists for the entry, each with the entry after its gap.
 fn push_listed(text: &mut String, stop: &Stop) -> Result<(), AllocError> {
     let mut found = 0;
     for x in stop.certificate.closings() {
@@ -278,7 +281,7 @@ fn push_listed(text: &mut String, stop: &Stop) -> Result<(), AllocError> {
     Ok(())
 }
 
-/// Appends the halves of an end that are open, the first of them.
+/// Appends the first open halves of an end.
 fn push_open(
     alloc: Global,
     text: &mut String,
@@ -295,7 +298,7 @@ fn push_open(
     Ok(())
 }
 
-/// Appends what the end knows that sends the message of an entry, or that receives it, where the run stops.
+/// Appends what the sender or the receiver of the entry knows when the run stops.
 fn push_known(
     alloc: Global,
     text: &mut String,
@@ -316,7 +319,7 @@ fn push_known(
     }
 }
 
-/// Appends where the run stops: the reason, the entry, and what the end knows there that sends or receives it.
+/// Appends the stop of a run: the reason, the entry, and what its sender or receiver knows there.
 fn push_stop(
     alloc: Global,
     text: &mut String,
@@ -344,8 +347,8 @@ fn push_stop(
     Ok(())
 }
 
-/// Returns the lines that explain a record of which the certificate shows nothing: where its run stops, each line with
-/// two blanks before it, and then the findings on these ends. The ends of the run may be changed; its steps are not.
+/// Returns the text after UNDECIDED or NOT SHOWN: the stop of the certificate's run, indented by two spaces, then the
+/// findings on `ends`. May change the ends of the run, but not its steps.
 pub(crate) fn stop_text(
     alloc: Global,
     read: &Record,

@@ -1,4 +1,4 @@
-//! An entry as an object of JSON.
+//! An entry of a record as a JSON object.
 
 use crate::json::{push_named, push_octets, push_text};
 use std::alloc::{AllocError, Global};
@@ -7,7 +7,7 @@ use tcap_msg::{Message, MessageParts, TransactionIdView};
 use tcap_parts::{CodeView, ComponentView};
 use tcap_record::{Body, End, Entry, push_head, push_hex, push_view};
 
-/// Appends an operation, by its name where the table has one.
+/// Appends an operation code, after the operation's name if the table has one.
 fn push_operation(
     text: &mut String,
     table: Option<&NamedTable>,
@@ -27,8 +27,11 @@ fn push_operation(
     }
 }
 
-/// Appends a component in a few words: what it is (Q.773 4.2.2), its invoke ID, and the operation of an Invoke, by its name too where
-/// the table has one. `AllocError` where memory ran out: what `text` holds then is not said.
+/// Appends a component in a few words: its type (Q.773 4.2.2), its invoke ID and, for an Invoke, the operation and its
+/// name, if `table` has one.
+///
+/// # Errors
+/// `AllocError` if memory runs out. `text` may then hold part of the words.
 pub fn push_component(
     text: &mut String,
     table: Option<&NamedTable>,
@@ -53,7 +56,7 @@ pub fn push_component(
     }
 }
 
-/// Appends a transaction ID, where there is one.
+/// Appends a transaction ID, if there is one.
 fn push_id(json: &mut String, name: &str, id: Option<TransactionIdView>) -> Result<(), AllocError> {
     match id {
         Some(id) => push_octets(json, name, id.octets),
@@ -89,7 +92,7 @@ fn push_components(
     json.push_str("]")
 }
 
-/// Appends what `show` prints of an entry.
+/// Appends the text that `show` prints for an entry.
 fn push_shown(
     alloc: Global,
     json: &mut String,
@@ -101,10 +104,15 @@ fn push_shown(
     push_named(json, "show", &lines)
 }
 
-/// Begins the object of an entry, as docs/report.schema.json has those of messages: its number and its end; the kind of a message, its
-/// transaction IDs and its components, with the names that the table has for operations; or `fault`, why its octets are no message; and
-/// what `show` prints of it. The object stays open: whoever knows more of the entry appends it, and then `}`. `AllocError` where memory
-/// ran out: what `json` holds then is not said.
+/// Appends the object of an entry without its closing `}`, so that the caller can add fields. docs/report.schema.json
+/// describes it.
+///
+/// The object has the number and the end of the entry, and the text that `show` prints. A message has its kind, its
+/// transaction IDs and its components, with the names that `table` has for operations. Octets that are no message have
+/// `fault`, the reason.
+///
+/// # Errors
+/// `AllocError` if memory runs out. `json` may then hold part of the object.
 pub fn push_entry(
     alloc: Global,
     json: &mut String,

@@ -1,12 +1,12 @@
-//! Texts and fields of objects of JSON (RFC 8259).
+//! Texts and fields of JSON objects (RFC 8259).
 
 ghost use Rattle.std.specs.Prelude.{◌≡◌, ◌<◌, ◌≤◌, ◌⊎◌, ◌↔◌, IsTrue};
 
 use std::alloc::AllocError;
 use tcap_record::push_hex;
 
-/// Whether a character stands in a text of JSON by its number: what controls a line or a text, and `<`, so that the text may stand
-/// in a page of HTML.
+/// Returns whether a character is escaped by its number: control characters, line and paragraph separators, and `<`, so
+/// that the text is safe in an HTML page.
 fn is_told_by_number(code: u32) -> bool
     ensures { IsTrue result ↔ ((code < 32) ⊎ (code ≡ 60) ⊎ ((127 ≤ code) × (code < 160)) ⊎ (code ≡ 8232) ⊎ (code ≡ 8233)) }
 {
@@ -17,8 +17,10 @@ fn is_told_by_number(code: u32) -> bool
         || code == 0x2029
 }
 
-/// Appends a text of JSON: what controls a line or a text stands in it by its number, and so does `<`, so that it may stand in a page of
-/// HTML. `AllocError` where memory ran out: what `json` holds then is not said.
+/// Appends a JSON text that is safe in an HTML page: control characters and `<` are escaped.
+///
+/// # Errors
+/// `AllocError` if memory runs out. `json` may then hold part of the text.
 pub fn push_text(json: &mut String, text: &str) -> Result<(), AllocError> {
     json.push_str("\"")?;
     for c in text.chars() {
@@ -36,20 +38,26 @@ pub fn push_text(json: &mut String, text: &str) -> Result<(), AllocError> {
     json.push_str("\"")
 }
 
-/// Appends a name, behind another field.
+/// Appends a comma and the name of a field.
 fn push_name(json: &mut String, name: &str) -> Result<(), AllocError> {
     json.push_str(",\"")?;
     json.push_str(name)?;
     json.push_str("\":")
 }
 
-/// Appends a name and a text behind it, behind another field. `AllocError` where memory ran out.
+/// Appends a comma and a field with a text.
+///
+/// # Errors
+/// `AllocError` if memory runs out.
 pub fn push_named(json: &mut String, name: &str, text: &str) -> Result<(), AllocError> {
     push_name(json, name)?;
     push_text(json, text)
 }
 
-/// Appends a name and octets behind it, by their digits, behind another field. `AllocError` where memory ran out.
+/// Appends a comma and a field with octets, as hexadecimal digits.
+///
+/// # Errors
+/// `AllocError` if memory runs out.
 pub fn push_octets(json: &mut String, name: &str, octets: &[u8]) -> Result<(), AllocError> {
     push_name(json, name)?;
     json.push_str("\"")?;
@@ -57,13 +65,19 @@ pub fn push_octets(json: &mut String, name: &str, octets: &[u8]) -> Result<(), A
     json.push_str("\"")
 }
 
-/// Appends a name, and whether it is so, behind another field. `AllocError` where memory ran out.
+/// Appends a comma and a field that is true or false.
+///
+/// # Errors
+/// `AllocError` if memory runs out.
 pub fn push_flag(json: &mut String, name: &str, so: bool) -> Result<(), AllocError> {
     push_name(json, name)?;
     json.push_str(if so { "true" } else { "false" })
 }
 
-/// Appends numbers as a list. `AllocError` where memory ran out.
+/// Appends a list of numbers.
+///
+/// # Errors
+/// `AllocError` if memory runs out.
 pub fn push_numbers(json: &mut String, numbers: &[u64]) -> Result<(), AllocError> {
     json.push_str("[")?;
     let mut first = true;

@@ -1,4 +1,4 @@
-//! The page that the program writes: its frame, and the texts, fields and entries of the objects of JSON that stand in it.
+//! The HTML page that the program writes: its frame, and the texts, fields and entries of the JSON objects in it.
 #![tactic(auto)]
 
 mod entry;

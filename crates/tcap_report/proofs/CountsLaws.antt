@@ -1,4 +1,4 @@
--- Verdicts that are counted, one after the other.
+-- Counting two lists of verdicts one after the other counts their concatenation.
 use Rattle.std.proofs.Common.{◌≡◌, List, [], ◌∷◌, ◌++◌, refl, sym, ap, ◌∙◌}
 use Rattle.tcap_traces.specs.declared.verdict.Verdict.{Verdict}
 use Rattle.tcap_report.specs.declared.sum.Counts.{Counts}

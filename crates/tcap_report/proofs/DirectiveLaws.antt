@@ -1,4 +1,4 @@
--- Octets without the blanks at their end.
+-- Removal of blanks at the end of octets.
 use Rattle.std.proofs.Common.{◌≡◌, ℕ, suc, ◌-◌, arith, true, List, [], ◌∷◌, ◌++◌, cond, length, reverse, slice_index_or, take, refl, sym, ap, subst, ◌∙◌}
 use Rattle.std.proofs.lemmas.List.{reverse-append}
 use Rattle.tcap_report.specs.Directive.{after_blanks, is_blank}
@@ -19,7 +19,7 @@ at_length x xs d blank =
     ∙ ap (λ b. cond b (after_blanks (reverse front)) (last ∷ reverse front)) blank
     )
 
--- a blank at the end is passed over
+-- A blank at the end is dropped.
 pub blank_at_end : (octets : List ℕ) (d : ℕ) → is_blank (slice_index_or octets (length octets - 1) d) ≡ true
     → after_blanks (reverse (take (length octets - 1) octets)) ≡ after_blanks (reverse octets)
 blank_at_end [] d blank = refl

@@ -1,4 +1,4 @@
--- What is noted and known of transaction IDs, as one more changes.
+-- Steps that add or change one more transaction ID.
 use Rattle.std.proofs.Common.{◌≡◌, ℕ, Bool, true, false, cond, List, [], ◌∷◌, ◌++◌, Some, bytes_eq, refl, sym, ap, ◌∙◌}
 use Rattle.std.specs.Prelude.{◌&&◌, ◌||◌, not}
 use Rattle.std.specs.BTreeMap as tree
@@ -49,7 +49,7 @@ one_more keys key q =
     list_any-append (is_at (octets_cmp q)) keys (key ∷ [])
     ∙ ap (λ b. is_one keys q || b) (or_none (is_at (octets_cmp q) key) ∙ is_eq-slice_cmp q key)
 
--- ---- a set to which those of these IDs are added that pass
+-- ---- a set to which the passing ones of these IDs are added
 
 abbrev pub Adds : (List ℕ → Bool) → List (List ℕ) → BTreeSet (List ℕ) → BTreeSet (List ℕ) → Type 0
 Adds passes keys old new = (q : List ℕ) → set.contains octets_cmp new q ≡ (is_one keys q && passes q) || set.contains octets_cmp old q
@@ -85,7 +85,7 @@ module _ (passes : List ℕ → Bool) (keys : List (List ℕ)) (key : List ℕ) 
       by true same = passed_both p is same
       by false same = ap (λ x. (x && passes q) || had) (sym (or_none (is_one keys q)))
 
--- The next one passes, and is added;
+-- If the next ID passes, it is added.
 pub adds_one : (passes : List ℕ → Bool) (keys : List (List ℕ)) (key : List ℕ) (old now new : BTreeSet (List ℕ))
     → Adds passes keys old now → passes key ≡ true
     → ((q : List ℕ) → set.contains octets_cmp new q ≡ cond (is_at (octets_cmp key) q) true (set.contains octets_cmp now q))
@@ -94,19 +94,19 @@ adds_one passes keys key old now new so_far is puts q =
     puts q ∙ ap (λ b. cond b true (set.contains octets_cmp now q)) (at_octets key q ∙ sym (and_all (bytes_eq q key)))
     ∙ passed_at passes keys key old now so_far q true (bytes_eq q key) is refl
 
--- or it does not pass, and is left out.
+-- If the next ID does not pass, it is left out.
 pub adds_none : (passes : List ℕ → Bool) (keys : List (List ℕ)) (key : List ℕ) (old now : BTreeSet (List ℕ))
     → Adds passes keys old now → passes key ≡ false → Adds passes (keys ++ key ∷ []) old now
 adds_none passes keys key old now so_far is q =
     ap (λ b. cond b true (set.contains octets_cmp now q)) (sym (and_none (bytes_eq q key)))
     ∙ passed_at passes keys key old now so_far q false (bytes_eq q key) is refl
 
--- If all pass, these are added.
+-- If all IDs pass, all are added.
 pub adds_all : (keys : List (List ℕ)) (old new : BTreeSet (List ℕ)) → Adds (λ q. true) keys old new → (q : List ℕ)
     → set.contains octets_cmp new q ≡ is_one keys q || set.contains octets_cmp old q
 adds_all keys old new adds q = adds q ∙ ap (λ b. b || set.contains octets_cmp old q) (and_all (is_one keys q))
 
--- ---- what is known of these IDs changes
+-- ---- a change of what is known of these IDs
 
 abbrev pub Changes : List (List ℕ) → Change → EndMarks → EndMarks → Type 0
 Changes keys change old new = (q : List ℕ) → known_in new q ≡ cond (is_one keys q) (changed change (known_in old q)) (known_in old q)
@@ -167,7 +167,7 @@ open_after false false false k = sym (and_all k.open)
 abbrev made : Bool → Bool → Before
 made sent is_open = record { sent = sent; «open» = is_open }
 
--- What is known after it is what was noted.
+-- After the mark, what was noted is known.
 pub marks : (old one two three : EndMarks)
     → ((q : List ℕ) → known_in one q ≡ after changes.Closed (set.contains octets_cmp old.closed q) (known_in old q))
     → ((q : List ℕ) → known_in two q ≡ after changes.Opened (set.contains octets_cmp old.opened q) (known_in one q))

@@ -1,4 +1,4 @@
--- What is kept of a trace, through each of its steps.
+-- Each step of the reading of a trace keeps what `Progress` states.
 use Rattle.std.proofs.Common.{arith, ◌≡◌, ℕ, ◌+◌, ◌-◌, ◌^◌, ◌≤◌, min, cond, Bool, true, false, List, [], ◌∷◌, ◌++◌, length, map, refl, sym, ap, subst, ◌∙◌}
 use Rattle.std.specs.Prelude.{◌||◌, not, Option, None, Some, Result, Ok, Err, IfOk, count_by, filter, is_some}
 use Rattle.std.specs.Io.KnownBytes.{Consumes}
@@ -59,18 +59,18 @@ readable_push a hs h =
 
 -- ---- dialogues that are judged
 
--- What holds of two lists holds of both behind each other.
+-- A property of all items of two lists holds for all items of their concatenation.
 all_both : {A : Type 0} (P : A → Type 0) (xs ys : List A) → AllByRecursion P xs → AllByRecursion P ys → AllByRecursion P (xs ++ ys)
 all_both P [] ys one two = two
 all_both P (x ∷ xs) ys one two = (one.0, all_both P xs ys one.1 two)
 
--- What is noted of dialogues is so, whichever trace is asked that is asked the same.
+-- Equal options make equal demands on what is noted.
 noted_by : (one two : Asked) (judged : List Dialogue) → one ≡ two → AllByRecursion (IsNoted one.settled one.complete) judged
     → AllByRecursion (IsNoted two.settled two.complete) judged
 noted_by one two judged same noted =
     subst (λ (a : Asked). AllByRecursion (IsNoted a.settled a.complete) judged) same noted
 
--- What holds of all holds of those that are left;
+-- A property of all items holds for all items that a filter keeps.
 all_left : {A : Type 0} (P : A → Type 0) (p : A → Bool) (xs : List A) → AllByRecursion P xs → AllByRecursion P (filter p xs)
 all_left P p [] all = tt
 all_left P p (x ∷ xs) all = by (p x) (all_left P p xs all.1)
@@ -79,12 +79,12 @@ all_left P p (x ∷ xs) all = by (p x) (all_left P p xs all.1)
     by true left = (all.0, left)
     by false left = left
 
--- and all are left of which each is to be.
+-- A filter that is always true keeps all items.
 none_left_out : {A : Type 0} (xs : List A) → filter (λ x. true) xs ≡ xs
 none_left_out [] = refl
 none_left_out (x ∷ xs) = ap (λ l. x ∷ l) (none_left_out xs)
 
--- the verdicts on those that are told
+-- the verdicts on the dialogues that are reported
 abbrev verdicts_told : Bool → Option Side → List Dialogue → List Verdict
 verdicts_told fault of judged = map (verdict_on of) (filter (is_told_if fault of) judged)
 
@@ -112,7 +112,7 @@ more_judged fault xs ys a b c one two = record {
   readable = two.readable ∙ one.readable;
 }
 
--- A dialogue is told, by what comes after it: if it is over, other entries alone.
+-- A dialogue that is over counts as followed by other entries, so it is reported.
 pub told_behind : (over fails : Bool) (behind : Behind)
     → not (is_fault (cond over behinds.More behind)) || fails ≡ not (is_fault behind) || (over || fails)
 told_behind true fails behind = by (is_fault behind)
@@ -122,7 +122,7 @@ told_behind true fails behind = by (is_fault behind)
     by false = refl
 told_behind false fails behind = refl
 
--- One is judged, and its verdict is counted if it is told.
+-- One dialogue is judged, and its verdict is counted if it is reported.
 pub one_judged : (fault : Bool) (d : Dialogue) (old new : Trace) → new.asked ≡ old.asked → new.cut ≡ old.cut
     → new.messages ≡ old.messages → new.readable ≡ old.readable → IsNoted old.asked.settled old.asked.complete d
     → new.dialogues ≡ cond (is_told_if fault old.asked.of d) (with_one (verdict_on old.asked.of d) old.dialogues) old.dialogues
@@ -143,7 +143,7 @@ one_judged fault d old new asked cut messages readable noted counted = record {
     by true = refl
     by false = refl
 
--- A verdict is told, by what comes after the dialogue.
+-- The test in the code agrees with `is_told_if`.
 pub told_as : (behind case_behind : Behind) (of : Option Side) (d : Dialogue) (verdict : Verdict) (told : Bool)
     → case_behind ≡ cond (is_some d.gathered.over) behinds.More behind → verdict ≡ verdict_on of d
     → told ≡ not (is_fault case_behind) || is_fail verdict → told ≡ is_told_if (is_fault behind) of d
@@ -152,7 +152,7 @@ told_as behind case_behind of d verdict told is_behind is_verdict is =
     ∙ told_behind (is_some d.gathered.over) (is_fail verdict) behind
     ∙ ap (λ v. not (is_fault behind) || (is_some d.gathered.over || is_fail v)) is_verdict
 
--- What is noted is so of more entries, too,
+-- Circumstances for m entries also fit n entries, if m ≤ n.
 grown : (settled complete is_earlier : Bool) (over : Option ℕ) (m n : ℕ) (c : Circumstances) → m ≤ n
     → IsNotedOf settled complete is_earlier over m c → IsNotedOf settled complete is_earlier over n c
 grown settled complete is_earlier over m n c few noted = record {
@@ -165,7 +165,7 @@ grown settled complete is_earlier over m n c few noted = record {
   is_cut = λ is. let many = noted.is_cut is in omega arith;
 }
 
--- and of a dialogue that is asked the same.
+-- Circumstances for one dialogue also fit one with equal options, equal gathering, and as many entries or more.
 pub noted_of : (settled other_settled complete other_complete : Bool) (g h : Gathered) (m n : ℕ) (c : Circumstances)
     → settled ≡ other_settled → complete ≡ other_complete → g ≡ h → m ≤ n
     → IsNotedOf settled complete (is_some g.earlier) g.over m c
@@ -183,7 +183,7 @@ nothing_gathered = record {
   apart = λ i j n g h at also has hers. cc;
 }
 
--- Of a reader that has nothing to tell nothing is told.
+-- A reader that has nothing returns nothing.
 pub nothing_told : (old new : Option (List ℕ)) (told : List ℕ) → old ≡ Some [] → Consumes old new told → (told ≡ []) × (new ≡ Some [])
 nothing_told old new told nothing consumes = by new told (subst (λ known. Consumes known new told) nothing consumes)
   where
@@ -205,10 +205,10 @@ pub reads_fault : (asked : Asked) (halt : Halt) (t : Trace) → IsWithin asked t
 reads_fault asked (halts.Form fault) t within = within
 reads_fault asked (halts.Stop stop) t within = tt
 
--- ---- steps of a trace
+-- ---- the steps of a trace
 
 module _ (asked : Asked) where
-  -- What is judged more and told is counted, and is of the segment.
+  -- the further dialogues that are judged and reported, which belong to the segment
   abbrev told_in : (fault : Bool) {given : List Gathered} {one new : Trace} → Judges fault given one new → List Dialogue
   told_in fault j = filter (is_told_if fault asked.of) j.judged
 
@@ -236,7 +236,7 @@ module _ (asked : Asked) where
       (all_left (IsNoted asked.settled asked.complete) (is_told_if fault asked.of) j.judged
       (noted_by one.asked asked j.judged (asks ∙ has.asks) j.noted))
 
-  -- The first entry of a stretch may come.
+  -- The first entry of a segment may come.
   pub begins : (t : Trace) → IsBetween asked t → IsWithin asked t
   begins t b = record {
     stretch = record { headings = []; judged = [] };
@@ -263,7 +263,7 @@ module _ (asked : Asked) where
     readable = readable ∙ has.readable;
   }
 
-  -- Something else changes, within a segment,
+  -- A change of other fields keeps `IsWithin`.
   pub still_within : (t u : Trace) → u.asked ≡ t.asked → u.cut ≡ t.cut → u.dialogues ≡ t.dialogues → u.messages ≡ t.messages
       → u.readable ≡ t.readable → IsWithin asked t → IsWithin asked u
   still_within t u asks cut dialogues messages readable w = record {
@@ -275,7 +275,7 @@ module _ (asked : Asked) where
     cut = subst (IsCut asked.reuse w.stretch.headings) (sym cut) w.cut;
   }
 
-  -- or between two.
+  -- A change of other fields keeps `IsBetween`.
   pub still_between : (t u : Trace) → u.asked ≡ t.asked → u.cut ≡ t.cut → u.dialogues ≡ t.dialogues → u.messages ≡ t.messages
       → u.readable ≡ t.readable → IsBetween asked t → IsBetween asked u
   still_between t u asks cut dialogues messages readable b = record {
@@ -285,7 +285,7 @@ module _ (asked : Asked) where
     cut = subst (IsCut asked.reuse []) (sym cut) b.cut;
   }
 
-  -- An entry comes, and the dialogues are judged whose IDs are free then.
+  -- An entry comes, and the dialogues whose IDs become free are judged.
   pub comes : (old one new : Trace) (h : Heading) (given : List Gathered) (w : IsWithin asked old) → one.asked ≡ old.asked
       → one.dialogues ≡ old.dialogues → one.messages ≡ more old.messages 1
       → one.readable ≡ cond (is_some h.kind) (more old.readable 1) old.readable
@@ -311,7 +311,7 @@ module _ (asked : Asked) where
         cut = subst (IsCut asked.reuse (hs ++ h ∷ [])) (sym j.cut) cut;
       }
 
-  -- A stretch ends: all its dialogues that are live are judged.
+  -- The segment ends, and all its live dialogues are judged.
   pub ends : (old one new : Trace) (given : List Gathered) (w : IsWithin asked old) → one ≡ record old { cut = one.cut }
       → IsCut old.asked.reuse [] one.cut → AreGathered (courses_so_far asked.reuse w.stretch.headings).live given
       → Judges false given one new → IsBetween asked new
@@ -333,7 +333,7 @@ module _ (asked : Asked) where
         cut = subst (IsCut asked.reuse []) (sym j.cut) (subst (λ k. IsCut k.reuse [] one.cut) w.has.asks cut);
       }
 
-  -- A fault breaks it off: all that are live are judged, and those are told that are over or fail.
+  -- A fault breaks off the segment. All live dialogues are judged; those that are over or fail are reported.
   pub stops : (old one new : Trace) (live : List Gathered) (w : IsWithin asked old) → one ≡ record old { cut = one.cut }
       → AreGathered (courses_so_far asked.reuse w.stretch.headings).live live
       → Judges true live one new → IsStopped asked new
@@ -358,7 +358,7 @@ module _ (asked : Asked) where
     };
   }
 
-  -- ---- what is said of it
+  -- ---- the verdict on a trace
 
   verdict_is : (stretches : List Stretch) (t : Trace) (is_faulty : Bool) (verdict : Verdict) → HasRead asked stretches t
       → verdict ≡ trace_verdict is_faulty t.readable t.dialogues.worst

@@ -1,4 +1,4 @@
--- What is known of transaction IDs at the beginning of a segment, by the segments before it, and what is noted of the segment.
+-- Which transaction IDs does a segment find in use, given the segments before its quiet mark?
 use Rattle.std.specs.Prelude.{◌≡◌, ◌⊎◌, ℕ, Bool, true, false, List, ◌&&◌, ◌||◌, not, Option, Some, None}
 use Rattle.std.specs.BTreeMap as tree
 use Rattle.std.specs.BTreeSet as set
@@ -18,21 +18,23 @@ use Rattle.tcap_report.specs.declared.before_marks.EndMarks.{EndMarks}
 
 -- ---- the IDs of one end
 
+-- what is known of an ID; nothing, if no note of it exists
 abbrev pub known_by : Option Before → Before
 known_by None = record { sent = false; «open» = false }
 known_by (Some before) = before
 
--- what is known of an ID
+-- what is known of an ID at the beginning of the segment
 abbrev pub known_in : EndMarks → List ℕ → Before
 known_in marks octets = known_by (tree.get octets_cmp marks.known octets)
 
+-- what is known of an ID after a change
 abbrev pub changed : Change → Before → Before
 changed changes.Closed before = record before { «open» = false }
 changed changes.Opened before = record before { «open» = true }
 changed changes.Sent before = record before { sent = true }
 
--- What is known of an ID after a quiet mark: whether its owner sent from it in a segment before the mark; and whether the last segment that
--- names it had it in a dialogue that may go on. Of IDs that were not open only those are noted that are.
+-- What is known of an ID after the next quiet mark. `sent`: its owner sent from it before the mark. `open`: the last
+-- segment that carries it has it in a dialogue that may go on. Only IDs that were open before are noted as closed.
 abbrev pub known_after : EndMarks → List ℕ → Before
 known_after marks octets = record {
   sent = (known_in marks octets).sent || set.contains octets_cmp marks.sent octets;
@@ -40,7 +42,7 @@ known_after marks octets = record {
       || ((known_in marks octets).open && not (set.contains octets_cmp marks.closed octets));
 }
 
--- It was in use: its owner sent from it, or it is open.
+-- The ID was in use: its owner sent from it, or it is open.
 abbrev pub IsInUse : Before → Type 0
 IsInUse before = (before.sent ≡ true) ⊎ (before.open ≡ true)
 
@@ -48,16 +50,18 @@ IsInUse before = (before.sent ≡ true) ⊎ (before.open ≡ true)
 abbrev pub has_open : EndMarks → BTreeSet (List ℕ) → Bool
 has_open marks ids = list_any (λ octets. (known_in marks octets).open) ids.keys
 
--- ---- of both ends
+-- ---- the IDs of both ends
 
--- whether the owner of the destination ID of a heading sent from it in an earlier segment
+-- whether an ID's owner sent from it in an earlier segment; false if there is no ID
 abbrev pub is_sent_from : EndMarks → Option (List ℕ) → Bool
 is_sent_from marks None = false
 is_sent_from marks (Some octets) = (known_in marks octets).sent
 
+-- whether the peer of a heading's sender sent from the destination ID in an earlier segment
 abbrev pub is_sent_to : BeforeMarks → Heading → Bool
 is_sent_to marks h = is_sent_from (by_end (other h.sender) marks.a marks.b) h.dtid
 
--- Whether a dialogue seems to go on after the quiet mark before it, by its first entry and its IDs.
+-- Whether a dialogue seems to continue one from before the quiet mark, by the heading of its first entry and by its
+-- IDs.
 abbrev pub is_in_use : BeforeMarks → Heading → Gathered → Bool
 is_in_use marks first g = is_sent_to marks first || (has_open marks.a g.a || has_open marks.b g.b)

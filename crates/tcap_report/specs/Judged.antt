@@ -1,4 +1,4 @@
--- What is said of a trace.
+-- What is the verdict on a trace?
 use Rattle.std.specs.Prelude.{◌≡◌, ℕ, Bool, ◌||◌, List}
 use Rattle.tcap_traces.specs.declared.verdict.Verdict.{Verdict}
 use Rattle.tcap_traces.specs.Verdict.{trace_verdict}
@@ -7,9 +7,9 @@ use Rattle.tcap_report.specs.declared.trace.Asked.{Asked}
 use Rattle.tcap_report.specs.Counts.{with_read, with_verdict}
 use Rattle.tcap_report.specs.Stretch.{AreJudged, AreNoted, Stretch, counts_in, messages_in, readable_in}
 
--- The verdict on a trace, by what is asked of it, and the sum before and after it. It has segments whose dialogues are judged, by what
--- is noted of them; the verdict is that of the worst of these, or an error if a fault of its form ends the trace, if it says of itself that
--- it is broken off, or if of no entry a kind could be read. The sum has their verdicts more, their entries, and the verdict on the trace.
+-- The verdict on a trace and the sum after it. The trace has segments, whose dialogues were judged. The verdict is the
+-- worst of theirs. It is an error if the form has a fault, if the trace says that it is broken off, or if no entry has
+-- a readable kind. The sum gains the verdicts on the dialogues, the number of entries, and the verdict on the trace.
 pub record IsJudged (asked : Asked) (verdict : Verdict) (before after : Sum) : Type 0 where
   pub stretches : List Stretch
   pub unheard : ℕ

@@ -1,4 +1,4 @@
--- What is kept of a trace as it is read.
+-- What does the program keep of a trace while it reads the trace?
 use Rattle.std.specs.List.{AllByRecursion}
 use Rattle.std.specs.Prelude.{◌≡◌, Bool, true, false, not, ◌||◌, List, [], ◌∷◌, Option, Result, Ok, Err, filter, map}
 use Rattle.tcap_record.specs.declared.entry.End.{End as Side}
@@ -16,7 +16,7 @@ use Rattle.tcap_report.specs.Counts.{with_each}
 use Rattle.tcap_report.specs.Dialogue.{Dialogue, IsNoted, verdict_on}
 use Rattle.tcap_report.specs.Stretch.{AreNoted, AreWhole, IsBrokenOff, Stretch, counts_in, is_told, messages_in, readable_in, those_judged}
 
--- What was asked, and what is noted and counted of these segments, the last one first.
+-- The options, and what was noted and counted of these segments, the last one first.
 pub record HasRead (asked : Asked) (stretches : List Stretch) (trace : Trace) : Type 0 where
   pub asks : trace.asked ≡ asked
   pub noted : AreNoted asked.settled asked.complete stretches
@@ -24,14 +24,14 @@ pub record HasRead (asked : Asked) (stretches : List Stretch) (trace : Trace) : 
   pub messages : trace.messages ≡ messages_in stretches
   pub readable : trace.readable ≡ readable_in stretches
 
--- All stretches so far are whole, and the next one has no entry yet.
+-- All segments so far are whole, and the next segment has no entry yet.
 pub record IsBetween (asked : Asked) (trace : Trace) : Type 0 where
   pub stretches : List Stretch
   pub whole : AreWhole asked.reuse stretches
   pub has : HasRead asked stretches trace
   pub cut : IsCut asked.reuse [] trace.cut
 
--- A segment is under way: of its dialogues those whose IDs are free are judged.
+-- A segment is being read. Those of its dialogues whose IDs are free are judged.
 pub record IsWithin (asked : Asked) (trace : Trace) : Type 0 where
   pub stretch : Stretch
   pub before : List Stretch
@@ -40,7 +40,7 @@ pub record IsWithin (asked : Asked) (trace : Trace) : Type 0 where
   pub has : HasRead asked (stretch ∷ before) trace
   pub cut : IsCut asked.reuse stretch.headings trace.cut
 
--- The last one is broken off.
+-- A fault broke off the last segment.
 pub record IsStopped (asked : Asked) (trace : Trace) : Type 0 where
   pub stretch : Stretch
   pub before : List Stretch
@@ -48,17 +48,18 @@ pub record IsStopped (asked : Asked) (trace : Trace) : Type 0 where
   pub broken : IsBrokenOff asked stretch
   pub has : HasRead asked (stretch ∷ before) trace
 
--- whether that is a fault which ends the trace
+-- whether a fault of the trace's form follows, and ends the trace
 abbrev pub is_fault : Behind → Bool
 is_fault behinds.Fault = true
 is_fault behind = false
 
--- whether a dialogue that was judged is told: if a fault ends the trace before the dialogue's IDs are free, only if it is over or fails
+-- Whether a judged dialogue is reported. If a fault ends the trace before the dialogue's IDs are free, it is reported
+-- only if it is over or fails.
 abbrev pub is_told_if : Bool → Option Side → Dialogue → Bool
 is_told_if fault of d = not fault || is_told of d
 
--- The dialogues of which these were gathered are judged, by what is noted of them, one after the other, and those that are told are
--- counted. Nothing else changes that is counted.
+-- The `given` dialogues are judged in this order, by what is noted of them, and those reported are counted. No other
+-- count changes.
 pub record Judges (fault : Bool) (given : List Gathered) (old new : Trace) : Type 0 where
   pub judged : List Dialogue
   pub those : map (λ d. d.gathered) judged ≡ given
@@ -70,12 +71,12 @@ pub record Judges (fault : Bool) (given : List Gathered) (old new : Trace) : Typ
   pub messages : new.messages ≡ old.messages
   pub readable : new.readable ≡ old.readable
 
--- that holds, unless the run stops
+-- This holds, unless the run stops for lack of memory or a failed write.
 abbrev pub UnlessStopped : Result (Unit {0}) Halt → Type 0 → Type 0
 UnlessStopped (Err (halts.Stop stop)) P = Unit {0}
 UnlessStopped result P = P
 
--- All stretches were read; or the form of the trace has a fault in one; or the run stops.
+-- All segments were read; or the form of the trace has a fault in one; or the run stops.
 abbrev pub Reads : Asked → Result (Unit {0}) Halt → Trace → Type 0
 Reads asked (Ok _) trace = IsBetween asked trace
 Reads asked (Err (halts.Form fault)) trace = IsWithin asked trace

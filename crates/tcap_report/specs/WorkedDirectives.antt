@@ -1,4 +1,4 @@
--- Worked rows: which lines are directives, what they say, and what may come after them.
+-- Test vectors: which lines are directives, what they say, and what may follow them.
 use Rattle.std.specs.Prelude.{◌≡◌, Bool, true, false, [], ◌∷◌, ◌++◌, codes, Some, None, refl}
 use Rattle.tcap_record.specs.declared.entry.End.TheVariants as sides
 use Rattle.tcap_report.specs.declared.entries.Course.{Course}
@@ -24,7 +24,7 @@ pub of_an_end : (directive_of (codes "#: A pc=101 ssn=8") ≡ Some (About sides.
     × (directive_of (codes "#:B  a test, twice ") ≡ Some (About sides.B (codes "a test, twice")))
 of_an_end = (refl, refl)
 
--- The words are these alone: a count has digits and its noun, and there is something to say of an end.
+-- Other words are unknown directives: a count needs digits and its noun, and the letter of an end needs a text.
 pub of_unknown_words : (directive_of (codes "#:") ≡ Some Unknown) × (directive_of (codes "#:  ") ≡ Some Unknown)
     × (directive_of (codes "#: Under way") ≡ Some Unknown) × (directive_of (codes "#: under  way") ≡ Some Unknown)
     × (directive_of (codes "#: under way.") ≡ Some Unknown)
@@ -45,13 +45,15 @@ of_unknown_ends = (refl, refl, refl, refl)
 
 -- ---- what may come
 
--- nothing was read; an entry was; and the trace is broken off
+-- the course before the first entry
 abbrev fresh : Course
 fresh = record { begun = false; a = false; b = false; broken_off = false }
 
+-- the course after an entry
 abbrev begun : Course
 begun = record fresh { begun = true }
 
+-- the course after `broken off`
 abbrev over : Course
 over = noted (BrokenOff []) begun
 

@@ -15,40 +15,43 @@ use tcap_dialogues::{Cut, Gathered, HeadingView};
 use tcap_msg::{TransactionId, TransactionIdView};
 use tcap_record::End;
 
-/// What is known of a transaction ID at the beginning of a segment.
+/// The knowledge about a transaction ID at the beginning of a segment.
 #[derive(Clone, Copy)]
 pub(crate) struct Before {
-    /// Whether its owner sent from it in an earlier segment.
+    /// True if its owner sent from it in an earlier segment.
     pub(crate) sent: bool,
-    /// Whether the last earlier segment that names it had it in a dialogue that may go on after that segment's quiet mark.
+    /// True if the last earlier segment that carries it has it in a dialogue that may continue after that segment's
+    /// quiet mark.
     pub(crate) open: bool,
 }
 
-/// What becomes known of transaction IDs at a quiet mark.
+/// A change of what is known of transaction IDs at a quiet mark.
 #[derive(Clone, Copy)]
 pub(crate) enum Change {
-    /// A dialogue that names them may not go on.
+    /// A dialogue with the IDs does not continue.
     Closed,
-    /// A dialogue that names them may go on.
+    /// A dialogue with the IDs may continue.
     Opened,
-    /// Their owner sent from them.
+    /// The owner of the IDs sent from them.
     Sent,
 }
 
-/// What is known of the transaction IDs of one end.
+/// The knowledge about the transaction IDs of one end.
 #[derive(Drop)]
 pub(crate) struct EndMarks {
     alloc: Global,
-    // What is known of each ID. Of the others nothing is known.
+    // What is known of each ID. Nothing is known of an ID that is missing here.
     known: BTreeMap<TransactionId, Before>,
-    // The IDs of the segment's dialogues that may go on after it, and those of others that were open before it.
+    // The IDs of the segment's dialogues that may continue after it, and (`closed`) those of the other dialogues that
+    // were open before it.
     opened: BTreeSet<TransactionId>,
     closed: BTreeSet<TransactionId>,
-    // The IDs from which the end sent in the segment, once it has ended.
+    // The IDs from which the end sent in the segment, once the segment has ended.
     sent: BTreeSet<TransactionId>,
 }
 
-/// What is known of the transaction IDs of both ends. It changes at quiet marks alone: before the first one nothing is known.
+/// The knowledge about the transaction IDs of both ends. It changes only at quiet marks, and before the first one
+/// nothing is known.
 #[derive(Drop)]
 pub(crate) struct BeforeMarks {
     a: EndMarks,
@@ -63,7 +66,7 @@ pub(crate) struct InUse {
 }
 
 impl Before {
-    /// What is known after a change.
+    /// Returns what is known after a change.
     fn changed(self, change: Change) -> Before
         ensures { result ≡ changed change self }
     {
@@ -79,7 +82,7 @@ impl Before {
 }
 
 impl EndMarks {
-    /// Nothing is known.
+    /// Creates the state in which nothing is known.
     fn new(alloc: Global) -> EndMarks {
         EndMarks {
             alloc,
@@ -116,7 +119,7 @@ impl EndMarks {
         None
     }
 
-    /// Notes the IDs of a dialogue of the segment, which may go on after the segment.
+    /// Notes the IDs of a dialogue of the segment that may continue after the segment.
     fn note_open(&mut self, ids: &BTreeSet<TransactionId>) -> Result<(), AllocError>
         ensures noted { OnOk result ((octets : List ℕ) → set.contains octets_cmp self.new.opened octets
             ≡ set.contains octets_cmp ids.now octets || set.contains octets_cmp self.old.opened octets) }
@@ -128,7 +131,7 @@ impl EndMarks {
         Ok(())
     }
 
-    /// Notes the IDs of a dialogue of the segment, which does not go on after the segment: those that are open.
+    /// Notes those IDs that are open, of a dialogue of the segment that does not continue after it.
     fn note_closed(&mut self, ids: &BTreeSet<TransactionId>) -> Result<(), AllocError>
         ensures noted { OnOk result ((octets : List ℕ) → set.contains octets_cmp self.new.closed octets
             ≡ (set.contains octets_cmp ids.now octets && (known_in self.old octets).open)
@@ -143,7 +146,7 @@ impl EndMarks {
         Ok(())
     }
 
-    /// What is known of these IDs changes.
+    /// Changes what is known of these IDs.
     fn change(&mut self, ids: &BTreeSet<TransactionId>, change: Change) -> Result<(), AllocError>
         ensures known { OnOk result ((octets : List ℕ) → known_in self.new octets
             ≡ cond (set.contains octets_cmp ids.now octets) (changed change (known_in self.old octets)) (known_in self.old octets)) }
@@ -156,7 +159,7 @@ impl EndMarks {
         Ok(())
     }
 
-    /// A quiet mark comes: what was noted of the segment is known from here on.
+    /// Passes a quiet mark, after which what was noted of the segment is known.
     fn mark(&mut self) -> Result<(), AllocError>
         ensures known { OnOk result ((octets : List ℕ) → known_in self.new octets ≡ known_after self.old octets) }
         ensures nothing { OnOk result ((octets : List ℕ) → known_after self.new octets ≡ known_in self.new octets) }
@@ -171,7 +174,7 @@ impl EndMarks {
 }
 
 impl BeforeMarks {
-    /// No quiet mark came yet.
+    /// Creates the state before the first quiet mark.
     pub(crate) fn new(alloc: Global) -> BeforeMarks {
         BeforeMarks {
             a: EndMarks::new(alloc),
@@ -179,7 +182,7 @@ impl BeforeMarks {
         }
     }
 
-    /// What is known of the IDs of an end.
+    /// Returns what is known of the IDs of an end.
     fn of(&self, end: End) -> &EndMarks
         ensures { result.now ≡ by_end «end» self.now.a self.now.b }
     {
@@ -189,7 +192,7 @@ impl BeforeMarks {
         }
     }
 
-    /// Returns the destination ID of an entry, if its owner sent from it in an earlier segment.
+    /// Returns the destination ID of an entry, if the ID's owner sent from it in an earlier segment.
     pub(crate) fn sent_to<'a>(&self, heading: HeadingView<'a>) -> Option<TransactionIdView<'a>>
         ensures found { IfSome result (λ id. (known_in (by_end (other heading.entry.sender) self.now.a self.now.b) id.octets.now).sent ≡ true) }
         ensures none { IfNone result (is_sent_to self.now (heading_read heading.entry) ≡ false) }
@@ -203,8 +206,8 @@ impl BeforeMarks {
         }
     }
 
-    /// Returns the ID by which a dialogue seems to go on after the quiet mark before it: that to which its first entry goes, if its
-    /// owner sent from it in an earlier segment; or the first of its IDs that is open.
+    /// Returns an ID that suggests that a dialogue continues one from before the quiet mark. This is the destination ID of
+    /// its first entry, if the ID's owner sent from it in an earlier segment; or the first of its IDs that is open.
     pub(crate) fn in_use(&self, first: HeadingView, gathered: &Gathered) -> Option<InUse>
         ensures found { IfSome result (λ it. IsInUse (known_in (by_end it.«end» self.now.a self.now.b) it.id)) }
         ensures none { IfNone result (is_in_use self.now (heading_read first.entry) gathered.now ≡ false) }
@@ -222,7 +225,7 @@ impl BeforeMarks {
         })
     }
 
-    /// Notes a dialogue of the segment, which may go on after the segment or not.
+    /// Notes a dialogue of the segment. `goes_on`: it may continue after the segment.
     pub(crate) fn note(&mut self, gathered: &Gathered, goes_on: bool) -> Result<(), AllocError> {
         if goes_on {
             self.a.note_open(&gathered.a)?;
@@ -239,7 +242,7 @@ impl BeforeMarks {
         cut.sent_from(End::B, &mut self.b.sent)
     }
 
-    /// A quiet mark comes, and the dialogues before it were noted.
+    /// Passes a quiet mark, after the dialogues before it were noted.
     pub(crate) fn mark(&mut self) -> Result<(), AllocError> {
         self.a.mark()?;
         self.b.mark()

@@ -1,4 +1,4 @@
-//! A dialogue that is judged.
+//! A dialogue, and how it is judged.
 
 ghost use Rattle.std.specs.Prelude.{◌≡◌, ◌≤◌, true, false, None, IfOk, OnOk, is_some, length, option_map};
 ghost use Rattle.tcap_traces.specs.declared.said.Circumstances.{Circumstances as Known};
@@ -17,23 +17,23 @@ use tcap_traces::{Circumstances, Ends, Verdict, judge_dialogue};
 /// The most entries of a dialogue that are judged.
 pub(crate) const MOST: usize = 100_000;
 
-/// An entry that is held until its dialogue is judged.
+/// An entry that waits until its dialogue is judged.
 #[derive(Drop)]
 pub(crate) struct Held {
-    /// As a record has it.
+    /// The octet of its end, then an element.
     pub(crate) octets: Vec<u8>,
-    /// Its line; 0 where it has none.
+    /// Its line number, or 0 if the trace is a record.
     pub(crate) line: u64,
-    /// The comment above it.
+    /// The comment above it, or nothing.
     pub(crate) comment: Vec<u8>,
 }
 
-/// What comes after the entries of a dialogue.
+/// The item after the entries of a dialogue.
 #[derive(Clone, Copy, PartialEq, Eq)]
 pub(crate) enum Behind {
-    /// Other entries of its segment, or nothing that concerns it since it is over.
+    /// Other entries of the segment; or the dialogue is over, and what follows does not matter.
     More,
-    /// A quiet mark: its line, 0 where it has none, and its number in the trace.
+    /// A quiet mark: its line number or 0, and its number in the trace.
     Mark { line: u64, number: u64 },
     /// The end of the trace.
     End,
@@ -41,28 +41,28 @@ pub(crate) enum Behind {
     Fault,
 }
 
-/// A dialogue that is judged, with its entries.
+/// A dialogue with its entries, and all that is noted of it.
 #[derive(Drop)]
 pub(crate) struct Case {
-    /// What is asked of it.
+    /// The options for it.
     pub(crate) rules: Rules,
     /// Its entries, in their order.
     pub(crate) entries: Vec<Held>,
-    /// What was gathered of it: the numbers of its entries in the stretch, and its IDs.
+    /// Its entry numbers in the segment, and its IDs.
     pub(crate) gathered: Gathered,
-    /// How many entries of the trace stand before its stretch.
+    /// The number of entries of the trace before the segment.
     pub(crate) before: u64,
-    /// How it came to be judged.
+    /// The item after its entries.
     pub(crate) behind: Behind,
-    /// The ID by which it seems to go on after the quiet mark before its segment.
+    /// The ID that suggests that it continues a dialogue from before the last quiet mark.
     pub(crate) in_use: Option<InUse>,
-    /// The number in the segment of the first entry that can't be read and may have been one of it.
+    /// The number in the segment of the first unreadable entry that may belong to it.
     pub(crate) unread: Option<u64>,
-    /// The number in the segment of the first entry after the directive that says that dialogues may have been under way.
+    /// The number in the segment of the first entry after the directive `under way`.
     pub(crate) under_way: Option<u64>,
 }
 
-/// What is read of an entry to find its dialogue.
+/// Reads the heading of an entry: its sender, and its kind and IDs as far as they can be read.
 pub(crate) fn heading_of(octets: &[u8]) -> HeadingView<'_> {
     match octets {
         [b'B', element @ ..] => read_heading(End::B, element),
@@ -71,33 +71,33 @@ pub(crate) fn heading_of(octets: &[u8]) -> HeadingView<'_> {
     }
 }
 
-/// What is said of a dialogue.
+/// The verdict on a dialogue, and what it was judged by.
 #[derive(Drop)]
 pub(crate) struct Judged<'a> {
     pub(crate) record: Record,
-    /// The application context name by which its table was chosen.
+    /// The application context name that chose the table.
     pub(crate) context: Option<Vec<u8>>,
     pub(crate) table: Option<&'a NamedTable>,
-    /// What is said of its ends; nothing where there is no table.
+    /// The result for each end, or None if there is no table.
     pub(crate) ends: Option<Ends>,
     pub(crate) verdict: Verdict,
 }
 
-/// What is asked of dialogues.
+/// The options for dialogues.
 #[derive(Clone, Copy)]
 pub(crate) struct Rules {
-    /// The end whose verdict is asked, or both.
+    /// The end whose verdict is asked, or None for both.
     pub(crate) of: Option<End>,
-    /// Whether nothing of a dialogue was under way when one of its IDs came again.
+    /// True if none of a dialogue's messages is in transit when one of its IDs is used again.
     pub(crate) settled: bool,
-    /// Whether dialogues are to be complete.
+    /// True if a dialogue that is open is inconclusive.
     pub(crate) complete: bool,
-    /// Whether transaction IDs come once between two quiet marks.
+    /// True if a transaction ID is used once at most between two quiet marks.
     pub(crate) once: bool,
 }
 
 impl Case {
-    /// The number of its first entry in the trace.
+    /// Returns its number, which is that of its first entry in the trace.
     pub(crate) fn number(&self) -> u64 {
         match self.gathered.numbers.first() {
             Some(first) => self.before.saturating_add(*first),
@@ -105,8 +105,7 @@ impl Case {
         }
     }
 
-    /// If an earlier dialogue of the segment had one of its IDs, the number of the last such dialogue: that of its first entry in the
-    /// trace.
+    /// Returns the number of the last earlier dialogue of the segment with one of its IDs, if there is one.
     pub(crate) fn earlier(&self) -> Option<u64> {
         match self.gathered.earlier {
             Some(earlier) => Some(self.before.saturating_add(earlier)),
@@ -114,25 +113,25 @@ impl Case {
         }
     }
 
-    /// Whether it has more entries than are judged.
+    /// Returns whether it has more entries than are judged. A quiet mark after it counts as an entry.
     pub(crate) fn is_cut(&self) -> bool
         ensures { result ≡ true → 100000 ≤ length self.now.entries.items }
     {
         self.entries.len() > MOST || (self.is_marked() && self.entries.len() == MOST)
     }
 
-    /// Whether a quiet mark ends it.
+    /// Returns whether a quiet mark ends it.
     pub(crate) fn is_marked(&self) -> bool {
         matches!(self.behind, Behind::Mark { .. })
     }
 
-    /// Whether an entry of it carries an ID.
+    /// Returns whether one of its entries carries an ID.
     pub(crate) fn has_ids(&self) -> bool {
         !self.gathered.a.is_empty() || !self.gathered.b.is_empty()
     }
 
-    /// Returns whether its trace ends before its transaction, or a quiet mark comes before that; but with prearranged ends the
-    /// transaction may have ended in silence before the mark.
+    /// Returns whether the trace, or the segment, ends before its transaction. With prearranged ends (Q.774 3.3) the
+    /// transaction may have ended unseen before a quiet mark, so there it is not open.
     pub(crate) fn is_open(&self, table: Option<&NamedTable>) -> bool
         ensures { result ≡ true → self.now.gathered.over ≡ None }
     {
@@ -147,7 +146,7 @@ impl Case {
         }
     }
 
-    /// The octets of the record of it.
+    /// Returns the octets of its record, with at most `MOST` entries.
     fn octets(&self, alloc: Global) -> Result<Vec<u8>, AllocError> {
         let mut octets = Vec::new(alloc);
         for held in self.entries.iter().take(MOST) {
@@ -159,8 +158,8 @@ impl Case {
         Ok(octets)
     }
 
-    /// Returns whether it may lack its Begin, which then came before its trace: it comes after the directive that dialogues may have been
-    /// under way, none of its IDs came again, and its first entry is a message with a destination ID.
+    /// Returns whether its Begin may have come before the trace: its first entry is a message with a destination ID
+    /// after the directive `under way`, and no earlier dialogue of the segment had one of its IDs.
     fn may_be_under_way(&self, record: &Record) -> bool
         ensures { result ≡ true → is_some self.now.gathered.earlier ≡ false }
     {
@@ -171,7 +170,7 @@ impl Case {
         self.is_after_directive() && self.gathered.earlier.is_none() && is_to_one
     }
 
-    /// Returns whether its first entry comes after the directive that dialogues may have been under way.
+    /// Returns whether its first entry comes after the directive `under way`.
     fn is_after_directive(&self) -> bool {
         match (self.under_way, self.gathered.numbers.first()) {
             (Some(from), Some(first)) => from <= *first,
@@ -179,8 +178,8 @@ impl Case {
         }
     }
 
-    /// Returns the end whose Begin is its first entry, if that comes after the directive that dialogues may have been under way, and it is
-    /// not said that IDs have settled.
+    /// Returns the sender of its first entry if that is a Begin after the directive `under way`, unless the option
+    /// `settled` is set.
     fn began(&self) -> Option<End>
         ensures { self.now.rules.settled ≡ true → result ≡ None }
     {
@@ -192,8 +191,9 @@ impl Case {
         }
     }
 
-    /// Returns whether an ID of it came again, and a message of an earlier use of the ID may have been under way. If it is said that IDs
-    /// have settled, none was if the dialogue begins by a Begin and the owner of each such ID had sent from it.
+    /// Returns whether one of its IDs was used before, and a message of the earlier use may have been in transit. With
+    /// the option `settled` none was if the dialogue begins with a Begin and the owner of each such ID had sent from
+    /// it.
     fn comes_again(&self) -> bool
         ensures only { result ≡ true → is_some self.now.gathered.earlier ≡ true }
         ensures unsettled { self.now.rules.settled ≡ false → result ≡ is_some self.now.gathered.earlier }
@@ -202,7 +202,7 @@ impl Case {
         self.gathered.earlier.is_some() && !(is_settled && begins(&self.entries).is_some())
     }
 
-    /// What is noted of it beside its entries, which were read as that record; and whether its table is unsure.
+    /// Returns the circumstances of the dialogue, whose entries were read as `record`.
     fn circumstances(&self, record: &Record, chosen: &Chosen) -> Circumstances
         ensures { IsNotedOf self.now.rules.settled self.now.rules.complete (is_some self.now.gathered.earlier) self.now.gathered.over
             (length self.now.entries.items) result }
@@ -219,7 +219,7 @@ impl Case {
         }
     }
 
-    /// Returns the number of the first of its entries after one that can't be read and may have been one of it.
+    /// Returns the number of its first entry after the first unreadable entry that may belong to it.
     fn unread_from(&self) -> Option<u64> {
         let unread = self.unread?;
         let found = self
@@ -233,14 +233,14 @@ impl Case {
         }
     }
 
-    /// Returns whether it may go on after its segment: a quiet mark comes before it is over, and both ends sent entries of it; or it goes
-    /// on with IDs of earlier segments itself.
+    /// Returns whether it may continue after its segment: it is not over at a quiet mark and both ends sent entries of
+    /// it, or it seems to continue a dialogue from before the last quiet mark itself.
     pub(crate) fn may_go_on(&self) -> bool {
         self.in_use.is_some()
             || (self.is_marked() && self.has_sent(End::A) && self.has_sent(End::B))
     }
 
-    /// Whether an end sent one of its entries.
+    /// Returns whether an end sent one of its entries.
     fn has_sent(&self, end: End) -> bool {
         self.entries
             .iter()
@@ -248,7 +248,7 @@ impl Case {
     }
 }
 
-/// Returns the end that sent the first of these entries, if that is a Begin as far as its heading can be read.
+/// Returns the sender of the first of these entries if its heading is that of a Begin.
 pub(crate) fn begins(entries: &[Held]) -> Option<End> {
     let heading = heading_of(&entries.first()?.octets);
     if heading.kind == Some(Form::Begin) {
@@ -259,7 +259,7 @@ pub(crate) fn begins(entries: &[Held]) -> Option<End> {
 }
 
 impl Judged<'_> {
-    /// The name of the table, where it has one.
+    /// Returns the name of the table, if it has one.
     pub(crate) fn table_name(&self) -> Option<&str> {
         match self.table {
             Some(table) => table.name(),
@@ -268,7 +268,7 @@ impl Judged<'_> {
     }
 }
 
-/// How many entries an end sent.
+/// Returns how many entries of a record an end sent.
 pub(crate) fn sent_by(record: &Record, end: End) -> usize {
     record
         .entries
@@ -277,7 +277,7 @@ pub(crate) fn sent_by(record: &Record, end: End) -> usize {
         .count()
 }
 
-/// The message of the first entry, where it is one.
+/// Returns the message of the first entry, if it is one.
 pub(crate) fn first_message(record: &Record) -> Option<&tcap_msg::Message> {
     match record.entries.first() {
         Some(
@@ -290,7 +290,7 @@ pub(crate) fn first_message(record: &Record) -> Option<&tcap_msg::Message> {
     }
 }
 
-/// The record of octets that were read as entries, of no more than are judged: but for want of memory it has no fault.
+/// Reads a record of at most `MOST` entries. Its octets have no fault, so this fails only if memory runs out.
 fn record_of(alloc: Global, octets: &[u8]) -> Result<Record, AllocError>
     ensures few { IfOk result (λ made. length made.entries.items ≤ 100000) }
 {
@@ -311,7 +311,7 @@ fn record_of(alloc: Global, octets: &[u8]) -> Result<Record, AllocError>
     Ok(Record { entries })
 }
 
-/// What is said of both ends, by the table, where there is one. The entries stay as they are.
+/// Returns the result for each end, or None if there is no table. Leaves the entries as they are.
 fn ends_of(
     alloc: Global,
     read: &mut Record,
@@ -329,7 +329,7 @@ fn ends_of(
     }
 }
 
-/// The verdict by that.
+/// Returns the verdict for the ends that are asked.
 fn verdict_of(ends: Option<Ends>, of: Option<End>) -> Verdict
     ensures { result ≡ verdict_by of ends }
 {
@@ -339,7 +339,7 @@ fn verdict_of(ends: Option<Ends>, of: Option<End>) -> Verdict
     }
 }
 
-/// Judges a dialogue.
+/// Judges a dialogue by the table that the book has for it. Returns `Stop::Memory` if memory runs out.
 pub(crate) fn judge<'a>(alloc: Global, case: &Case, book: &'a Book) -> Result<Judged<'a>, Stop>
     ensures said { IfOk result (λ judged. (c : Known) × (judged.ends
         ≡ ends_by (option_map (λ table. table.now.table) judged.table) c judged.record.entries.items)

@@ -6,7 +6,7 @@ use tcap_books::{Book, Context, NamedTable};
 use tcap_msg::{Kind as Form, MessageParts};
 use tcap_record::{Body, Record};
 
-/// The table by which a dialogue is judged, its application context name, and whether it is unsure that this table is its own.
+/// The table and the application context name of a dialogue, and whether the choice of the table is unsure.
 #[derive(Drop)]
 pub(crate) struct Chosen<'a> {
     pub(crate) table: Option<&'a NamedTable>,
@@ -14,7 +14,8 @@ pub(crate) struct Chosen<'a> {
     pub(crate) unsure: bool,
 }
 
-/// The application context names of a dialogue's Begins and Unidirectionals, without the same one behind itself; `None` for one without.
+/// Returns the application context names of a dialogue's Begins and Unidirectionals, or None for one without a name. A
+/// name that equals the name before it is left out.
 fn contexts_of(alloc: Global, record: &Record) -> Result<Vec<Option<Vec<u8>>>, AllocError> {
     let mut contexts = Vec::new(alloc);
     for entry in &record.entries {
@@ -31,7 +32,7 @@ fn contexts_of(alloc: Global, record: &Record) -> Result<Vec<Option<Vec<u8>>>, A
     Ok(contexts)
 }
 
-/// The context that the first message has which has one.
+/// Returns the first application context name in the messages.
 fn first_context(alloc: Global, record: &Record) -> Result<Option<Vec<u8>>, AllocError> {
     for entry in &record.entries {
         if let Body::Good(message) = &entry.body {
@@ -44,7 +45,7 @@ fn first_context(alloc: Global, record: &Record) -> Result<Option<Vec<u8>>, Allo
     Ok(None)
 }
 
-/// The table of a context.
+/// Returns the table for an application context name, or for no name.
 fn table_of<'a>(book: &'a Book, context: &Option<Vec<u8>>) -> Option<&'a NamedTable> {
     match context {
         Some(context) => book.table_of(Some(context.as_slice())),
@@ -52,8 +53,8 @@ fn table_of<'a>(book: &'a Book, context: &Option<Vec<u8>>) -> Option<&'a NamedTa
     }
 }
 
-/// The table of a dialogue without a Begin or a Unidirectional: that of the first context that a message of it has, or the first table
-/// if none has one. It is sure only if the tables are one table without contexts.
+/// Returns the table of a dialogue without a Begin or a Unidirectional: that of the first context name in its messages,
+/// or the first table of the set. It is sure only if the set has one table, which lists no contexts.
 fn without_begin<'a>(
     alloc: Global,
     book: &'a Book,
@@ -74,7 +75,8 @@ fn without_begin<'a>(
     })
 }
 
-/// Whether two tables of a book that contexts have, or the lack of one, are one. Of two tables with the same contexts none has the second.
+/// Returns whether two look-ups in a table set found the same table, or no table. They compare contexts: of two tables with
+/// equal contexts, a look-up never finds the second.
 fn are_one(one: Option<&NamedTable>, other: Option<&NamedTable>) -> bool {
     match (one, other) {
         (Some(one), Some(other)) => have_same(one.contexts(), other.contexts()),
@@ -83,7 +85,7 @@ fn are_one(one: Option<&NamedTable>, other: Option<&NamedTable>) -> bool {
     }
 }
 
-/// Whether these are the same contexts in the same order.
+/// Returns whether these are the same contexts in the same order.
 fn have_same(ones: &[Context], others: &[Context]) -> bool {
     ones.len() == others.len()
         && ones
@@ -92,8 +94,8 @@ fn have_same(ones: &[Context], others: &[Context]) -> bool {
             .all(|(one, other)| one.octets() == other.octets())
 }
 
-/// Chooses the table of a dialogue: that of its first Begin or Unidirectional, by its context or its lack of one. If others of them have
-/// other tables it is unsure.
+/// Chooses the table of a dialogue by the context name, or its absence, of the first Begin or Unidirectional. The
+/// choice is unsure if others of them lead to other tables.
 pub(crate) fn choose<'a>(
     alloc: Global,
     book: &'a Book,

@@ -6,16 +6,16 @@ ghost use Rattle.tcap_report.specs.Directive.{about, broken_off, directive_in, d
 
 use tcap_record::End;
 
-/// What a directive says.
+/// A directive.
 #[derive(Clone, Copy)]
 pub(crate) enum Directive<'a> {
     /// Dialogues may have been under way.
     UnderWay,
-    /// The trace was broken off. The text is empty, or says how many messages are missing, after a comma.
+    /// The trace was broken off. The text is empty, or gives, after a comma, the number of missing messages.
     BrokenOff(&'a [u8]),
-    /// What an end is.
+    /// A description of an end.
     About(End, &'a [u8]),
-    /// Nothing that is known.
+    /// An unknown directive.
     Unknown,
 }
 
@@ -65,7 +65,7 @@ fn are_digits(octets: &[u8]) -> bool
     rest.is_empty()
 }
 
-/// Returns whether octets say how many messages are missing, after a comma.
+/// Returns whether octets are `, 1 message missing` or `, N messages missing`.
 fn is_missing(octets: &[u8]) -> bool
     ensures { result ≡ is_missing octets.now }
 {
@@ -81,7 +81,7 @@ fn is_missing(octets: &[u8]) -> bool
     }
 }
 
-/// Returns what a directive says, by the octets after the words `broken off`.
+/// Returns the directive, given the octets after the words `broken off`.
 fn broken_off(octets: &[u8]) -> Directive
     ensures { said_of result ≡ broken_off octets.now }
 {
@@ -92,7 +92,7 @@ fn broken_off(octets: &[u8]) -> Directive
     }
 }
 
-/// Returns what a directive says, by the octets after the letter of an end.
+/// Returns the directive, given the octets after the letter of an end.
 fn about(end: End, octets: &[u8]) -> Directive
     ensures { said_of result ≡ about end octets.now }
 {
@@ -102,7 +102,7 @@ fn about(end: End, octets: &[u8]) -> Directive
     }
 }
 
-/// Returns what a directive of this text says.
+/// Returns the directive with this text.
 fn directive_in(text: &[u8]) -> Directive
     ensures { said_of result ≡ directive_in text.now }
 {
@@ -119,7 +119,7 @@ fn directive_in(text: &[u8]) -> Directive
     }
 }
 
-/// Returns what a line says if it is a directive. Its end is left out.
+/// Returns the directive in a line, given without its line end; None if the line is no directive.
 pub(crate) fn directive_of(line: &[u8]) -> Option<Directive>
     ensures { option_map said_of result ≡ directive_of line.now }
 {

@@ -1,4 +1,4 @@
-//! What is said of a trace that was read.
+//! The end of a trace: its verdict, its line, and its share in the sum.
 
 ghost use Rattle.std.specs.Prelude.{◌≡◌, [], ◌∷◌, is_some, IfOk, OnOk};
 ghost use Rattle.tcap_traces.specs.declared.verdict.Verdict.TheVariants as verdicts;
@@ -14,7 +14,7 @@ use std::alloc::{AllocError, Global};
 use tcap_ber::Write;
 use tcap_traces::{Verdict, trace_verdict};
 
-/// The line with the fault, where one has it.
+/// Returns the line of the fault, if the fault has one.
 fn line_in(fault: &Option<FormFault>) -> Option<u64> {
     match fault {
         Some(fault) => fault.line,
@@ -22,7 +22,7 @@ fn line_in(fault: &Option<FormFault>) -> Option<u64> {
     }
 }
 
-/// Appends what is wrong with a trace, with so many entries of which a kind can be read, where something is.
+/// Appends what is wrong with a trace, if anything is. A trace without an entry of a readable kind is wrong, too.
 fn push_fault(
     text: &mut String,
     fault: &Option<FormFault>,
@@ -50,7 +50,7 @@ fn push_fault(
 }
 
 impl Trace<'_> {
-    /// The sum of the traces before and of this one, as far as it was read.
+    /// Returns the sum of the traces before and of this one, as far as it was read.
     pub(crate) fn so_far(&self, before: &Sum) -> Sum
         ensures { result ≡ with_read self.now.dialogues self.now.messages self.now.unheard before.now }
     {
@@ -61,7 +61,10 @@ impl Trace<'_> {
         sum
     }
 
-    /// Says what is said of the trace.
+    /// Reports the verdict on the trace, counts it in the sum, and returns it.
+    ///
+    /// `fault` is a fault of its form, and `hint` what its octets look like. Fails with `Stop` if memory runs out or a
+    /// sink fails.
     pub(crate) fn end<W: Write, J: Lines, P: Watch>(
         &self,
         fault: Option<FormFault>,
@@ -98,7 +101,7 @@ impl Trace<'_> {
         Ok(verdict)
     }
 
-    /// Says what is said of a trace that was read to its end, which may say of itself that it is broken off.
+    /// Reports the verdict on a trace that was read to its end. It may have said that it is broken off.
     pub(crate) fn end_whole<W: Write, J: Lines, P: Watch>(
         &mut self,
         sinks: &mut Sinks<W, J, P>,
@@ -115,7 +118,7 @@ impl Trace<'_> {
         }
     }
 
-    /// Appends the line of the trace.
+    /// Appends the line of the trace: its name, its verdict, `why` and its counts.
     fn push_line(&self, text: &mut String, verdict: Verdict, why: &str) -> Result<(), AllocError> {
         text.push_str(self.asked.name)?;
         text.push_str(": ")?;
@@ -129,7 +132,10 @@ impl Trace<'_> {
     }
 }
 
-/// Says that a trace can't be read, and why, and answers the verdict on it.
+/// Reports a trace that can't be read as an error, and returns that verdict. `why` is the text to print.
+///
+/// # Errors
+/// `Stop::Memory` if memory runs out, `Stop::Write` if a sink fails.
 pub fn tell_unread<W: Write, J: Lines, P: Watch>(
     alloc: Global,
     asked: Asked,

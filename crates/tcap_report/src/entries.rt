@@ -1,4 +1,4 @@
-//! The entries of a trace: lines of hexadecimal digits, or a record, told apart by the first octets.
+//! The pieces of a trace of either form: lines of hexadecimal digits, or a record.
 
 ghost use Rattle.std.specs.Prelude.{◌≡◌, ◌+◌, ◌<◌, ◌≤◌, [], None, Ok, true, false, drop, length, IfOk, IsErr, MatchResult, OnOk};
 ghost use Rattle.tcap_record.specs.HexLines.{line_limit};
@@ -15,7 +15,7 @@ use tcap_ber::{Outer, outer};
 use tcap_diagnostics::{broken_by, hint_of, name_of, push_broken_rule};
 use tcap_record::{End, LINE_LIMIT, Line, LineFault, read_line};
 
-/// What a trace is, by its first octets.
+/// The form of a trace, known from its first octets.
 #[derive(Clone, Copy, PartialEq, Eq)]
 enum Form {
     Unknown,
@@ -23,64 +23,66 @@ enum Form {
     Record,
 }
 
-/// A piece of a trace that was read.
+/// A piece of a trace.
 #[derive(Drop)]
 pub(crate) enum Piece {
-    /// An entry, as a record has it: the octet of its end and an element. With its line, where it has one, and the comment above it.
+    /// An entry as a record has it (the octet of its end, then an element), its line number or 0, and the comment above
+    /// it.
     Entry(Vec<u8>, u64, Vec<u8>),
-    /// A quiet mark, with its line, where it has one.
+    /// A quiet mark, with its line number or 0.
     Mark(u64),
-    /// A directive: dialogues may have been under way.
+    /// The directive `under way`: dialogues may have been under way.
     UnderWay,
-    /// The trace says of itself that it is broken off: the text to print. No piece comes after it.
+    /// The directive `broken off`, with the text to print. No piece comes after it.
     BrokenOff(String),
-    /// What an end is, in words.
+    /// A directive that describes an end.
     About(End, String),
 }
 
-/// What was read of a trace of lines, as far as a directive or an entry is a fault after it.
+/// The progress of a trace of lines, as far as it decides whether an entry or a directive may follow.
 #[derive(Drop)]
 pub(crate) struct Course {
     // Whether an entry or a quiet mark was read.
     begun: bool,
-    // Whether a directive said what A is, and what B is.
+    // Whether a directive described A, and (`b`) whether one described B.
     a: bool,
     b: bool,
-    // Whether a directive said that the trace was broken off.
+    // Whether the directive `broken off` was read.
     broken_off: bool,
 }
 
-/// A trace that is read.
+/// A reader of pieces, which is fed with octets.
 #[derive(Drop)]
 pub(crate) struct Entries {
     alloc: Global,
     form: Form,
-    // What was read and belongs to no piece yet, from `from` on.
+    // The octets that were read; those from `from` on belong to no piece yet.
     held: Vec<u8>,
     from: usize,
-    // How many lines were before that.
+    // The number of lines before `from`.
     lines: u64,
-    // The place of the first octet that is held, in a record.
+    // The offset of `from` in the trace.
     place: u64,
-    // The comment of the line before.
+    // The comment in the last line read; empty if that line is no comment.
     comment: Vec<u8>,
-    // Whether all was read.
+    // Whether all octets were read.
     ended: bool,
-    // The first octets.
+    // The first octets of the trace, at most `FIRST`.
     first: Vec<u8>,
     course: Course,
 }
 
-/// So many of the first octets are kept.
+/// The number of first octets that are kept.
 const FIRST: usize = 64;
 
-/// The form of a trace that begins so, where it can be told.
+/// Returns the form of a trace that begins with these octets, if they are enough to decide. `ended`: the trace ends
+/// after them.
 fn form_of(first: &[u8], ended: bool) -> Form
     ensures { first.now ≡ [] → result ≡ forms.Unknown }
 {
     match first {
         [b'#' | b'\n' | b'\r', ..] => Form::Lines,
-        // No message's tag is the code of a digit.
+        // No message has a blank or a digit as its tag.
         [b'A' | b'B', b' ' | b'\t' | b'0'..=b'9', ..] => Form::Lines,
         [b'Q', b'\n' | b'\r' | b' ', ..] => Form::Lines,
         [b'A' | b'B' | b'Q'] if !ended => Form::Unknown,
@@ -90,7 +92,7 @@ fn form_of(first: &[u8], ended: bool) -> Form
     }
 }
 
-/// The line at the front, and how many octets it takes with its end.
+/// Returns the first line, without its end, and its length with the end. None if more octets are needed.
 fn line_in(octets: &[u8], ended: bool) -> Option<(&[u8], usize)> {
     match octets.iter().position(|octet| *octet == b'\n') {
         Some(end) => {
@@ -105,7 +107,7 @@ fn line_in(octets: &[u8], ended: bool) -> Option<(&[u8], usize)> {
     }
 }
 
-/// The entry of an element that an end sent.
+/// Returns the entry of an element that an end sent.
 fn entry_of(alloc: Global, end: End, element: &[u8]) -> Result<Vec<u8>, AllocError> {
     let mut octets = Vec::with_capacity(alloc, element.len().saturating_add(1))?;
     octets.push(match end {
@@ -116,7 +118,7 @@ fn entry_of(alloc: Global, end: End, element: &[u8]) -> Result<Vec<u8>, AllocErr
     Ok(octets)
 }
 
-/// Returns the text of a comment, without its sign and the blank after it. A directive is no comment.
+/// Returns the text of a comment without `#` and the space after it, and no text if the line is a directive.
 fn comment_of(line: &[u8]) -> &[u8] {
     match line {
         [b'#', b':', ..] => &[],
@@ -126,7 +128,7 @@ fn comment_of(line: &[u8]) -> &[u8] {
     }
 }
 
-/// The fault of the line of that number, in words.
+/// Returns the fault `what` in the line `number`.
 fn fault_in(alloc: Global, number: u64, what: &str) -> Result<Halt, AllocError>
     ensures { IfOk result IsWrong }
 {
@@ -138,7 +140,7 @@ fn fault_in(alloc: Global, number: u64, what: &str) -> Result<Halt, AllocError>
     }))
 }
 
-/// The fault of the line of that number, which is none.
+/// Returns the fault in the line `number`: the rule of the format that the line breaks.
 fn fault_of(alloc: Global, number: u64, line: &[u8]) -> Result<Halt, AllocError> {
     let mut text = String::new(alloc);
     if let Some(broken) = broken_by(alloc, line)? {
@@ -150,7 +152,7 @@ fn fault_of(alloc: Global, number: u64, line: &[u8]) -> Result<Halt, AllocError>
     }))
 }
 
-/// The text that says that the trace was broken off, by the line of that number.
+/// Returns the text to print for a directive `broken off` in the line `number`.
 fn broken_off_text(alloc: Global, number: u64, missing: &[u8]) -> Result<String, AllocError> {
     let missing = String::from_utf8_lossy(alloc, missing)?;
     let mut text = String::new(alloc);
@@ -160,7 +162,7 @@ fn broken_off_text(alloc: Global, number: u64, missing: &[u8]) -> Result<String,
 }
 
 impl Course {
-    /// Notes an entry or a quiet mark in the line of that number.
+    /// Notes an entry or a quiet mark in the line `number`.
     ///
     /// # Errors
     /// A fault of the line if the trace was broken off before.
@@ -177,7 +179,7 @@ impl Course {
         Ok(())
     }
 
-    /// Notes that a directive says what an end is. Returns whether an earlier one did.
+    /// Notes that a directive describes this end. Returns whether an earlier one did.
     fn name(&mut self, end: End) -> bool
         ensures before { result ≡ has_named end self.old }
         ensures after { self.new ≡ named end self.old }
@@ -188,7 +190,7 @@ impl Course {
         }
     }
 
-    /// Takes a directive in the line of that number.
+    /// Takes a directive in the line `number`.
     ///
     /// # Errors
     /// A fault of the line if the directive may not come here.
@@ -231,7 +233,7 @@ impl Course {
 }
 
 impl Entries {
-    /// A trace of which nothing was read.
+    /// Creates a reader that has no octets yet.
     pub(crate) fn new(alloc: Global) -> Entries
         ensures { HasNothing result }
     {
@@ -254,7 +256,7 @@ impl Entries {
         }
     }
 
-    /// Octets come, or none where the trace is at its end.
+    /// Takes the next octets, or none if the trace has ended.
     pub(crate) fn feed(&mut self, octets: &[u8]) -> Result<(), AllocError>
         ensures { HasNothing self.old → octets.now ≡ [] → OnOk result (HasNothing self.new) }
     {
@@ -272,25 +274,25 @@ impl Entries {
         Ok(())
     }
 
-    /// What the first octets look like, in words, where that is neither lines of digits nor a record.
+    /// Returns what the first octets look like, in words, if they look like neither lines of digits nor a record.
     pub(crate) fn hint(&self) -> Option<&'static str> {
         hint_of(&self.first)
     }
 
-    /// What is held.
+    /// Returns the octets that belong to no piece yet.
     fn rest(&self) -> &[u8]
         ensures { result.now ≡ drop self.now.from self.now.held.items }
     {
         &self.held[self.from.min(self.held.len())..]
     }
 
-    /// So many octets of it are read.
+    /// Passes over `count` octets, which belong to a piece.
     fn pass(&mut self, count: usize) {
         self.from = self.from.saturating_add(count);
         self.place = self.place.saturating_add(count as u64);
     }
 
-    /// The next piece, as far as it is held.
+    /// Returns the next piece, or None if more octets are needed.
     pub(crate) fn next(&mut self) -> Result<Option<Piece>, Halt>
         ensures { HasNothing self.old → IfOk result (λ piece. piece ≡ None) × HasNothing self.new }
     {
@@ -301,7 +303,7 @@ impl Entries {
         }
     }
 
-    /// That of lines.
+    /// Returns the next piece of a trace of lines.
     fn next_line(&mut self) -> Result<Option<Piece>, Halt> {
         for _ in 0..u64::MAX {
             let Some((line, count)) = line_in(
@@ -340,11 +342,11 @@ impl Entries {
         Ok(None)
     }
 
-    /// Returns nothing yet if the line that is held may still end within the limit: its last octet may be a carriage
-    /// return that is of its end.
+    /// Returns None if the unfinished line may still end within the limit. Its last octet may be a carriage return,
+    /// which belongs to its end.
     ///
     /// # Errors
-    /// The fault of a line that is too long, whatever its end will be.
+    /// The fault of a line that is too long, no matter how it ends.
     fn too_long(&self) -> Result<Option<Piece>, Halt>
         ensures short { length (drop self.now.from self.now.held.items) ≤ line_limit + 1 → result ≡ Ok None }
         ensures long { line_limit + 1 < length (drop self.now.from self.now.held.items) → IsErr result }
@@ -356,7 +358,7 @@ impl Entries {
         Err(fault_of(self.alloc, number, self.rest())?)
     }
 
-    /// That of a record.
+    /// Returns the next piece of a record.
     fn next_entry(&mut self) -> Result<Option<Piece>, Halt> {
         let len = match self.rest() {
             [] => return Ok(None),
@@ -389,7 +391,7 @@ impl Entries {
         Ok(Some(Piece::Entry(octets, 0, Vec::new(self.alloc))))
     }
 
-    /// The fault of a record at that place.
+    /// Returns a fault of a record at this offset.
     fn record_fault(&self, what: &str, place: u64) -> Result<Halt, AllocError> {
         let mut text = String::new(self.alloc);
         text.push_str(what)?;

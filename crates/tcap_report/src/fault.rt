@@ -1,4 +1,4 @@
-//! Why the reading of a trace stops.
+//! The reasons why the reading of a trace stops.
 
 ghost use Rattle.std.specs.Prelude.{◌≡◌};
 ghost use Rattle.tcap_report.specs.declared.fault.Halt.TheVariants as halts;
@@ -6,12 +6,12 @@ ghost use Rattle.tcap_report.specs.declared.fault.Stop.TheVariants as stops;
 
 use std::alloc::AllocError;
 
-/// Why a run stops.
+/// The reason why a run stops.
 #[derive(Clone, Copy, Debug, PartialEq, Eq)]
 pub enum Stop {
     /// Memory ran out.
     Memory,
-    /// What is said could not be written.
+    /// A report could not be written.
     Write,
 }
 
@@ -21,19 +21,19 @@ impl From<AllocError> for Stop {
     }
 }
 
-/// What is wrong with the form of a trace.
+/// A fault of the form of a trace.
 #[derive(Drop)]
 pub(crate) struct FormFault {
-    /// The number of the line, from 1, where it has lines.
+    /// The line number, counted from 1, if the trace has lines.
     pub(crate) line: Option<u64>,
-    /// What is wrong, in words.
+    /// The fault in words.
     pub(crate) text: String,
 }
 
-/// Why a trace is read no further.
+/// The reason why a trace is read no further.
 #[derive(Drop)]
 pub(crate) enum Halt {
-    /// Its form has a fault.
+    /// The form of the trace has a fault, or the reader failed.
     Form(FormFault),
     /// The run stops.
     Stop(Stop),

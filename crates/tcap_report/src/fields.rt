@@ -1,9 +1,9 @@
-//! Fields of objects of JSON: sums, and numbers that may be missing.
+//! Fields of JSON objects: sums, and numbers that may be missing.
 
 use crate::sum::Counts;
 use std::alloc::AllocError;
 
-/// Appends a number with its name, where there is one, before another field.
+/// Appends the field `name` and a comma, if there is a number.
 pub(crate) fn push_some(
     json: &mut String,
     name: &str,
@@ -15,7 +15,7 @@ pub(crate) fn push_some(
     }
 }
 
-/// Appends how many there are of each verdict.
+/// Appends an object with the number of each verdict.
 pub(crate) fn push_verdicts(json: &mut String, counts: &Counts) -> Result<(), AllocError> {
     let Counts {
         pass,
@@ -28,7 +28,7 @@ pub(crate) fn push_verdicts(json: &mut String, counts: &Counts) -> Result<(), Al
     write!(json, "\"fail\":{fail},\"error\":{error}}}")
 }
 
-/// Appends how many messages and dialogues there are, and how many of these pass unheard.
+/// Appends the numbers of messages, of dialogues by verdict, and of dialogues that pass unheard or unanswered.
 pub(crate) fn push_sums(
     json: &mut String,
     messages: u64,

@@ -1,4 +1,4 @@
-//! What the faults of a dialogue rest on.
+//! The evidence for the faults of a dialogue.
 
 use crate::case::Judged;
 use crate::listed::blamed_by;
@@ -9,19 +9,19 @@ use tcap_evidence::{Evidence, find_evidence};
 use tcap_record::End;
 use tcap_traces::Said;
 
-/// So many of the entries that show a thing are named.
+/// The most entries of a ground, and the most invocations, that are named.
 const MOST: usize = 8;
 
-/// What the fault of each end rests on, where one is asked and at fault.
+/// The evidence for the fault of each end, if the end is asked and at fault.
 #[derive(Drop)]
 pub(crate) struct Grounds {
     a: Option<Evidence>,
     b: Option<Evidence>,
-    /// The end whose fault comes later than that of the other, and may follow from it.
+    /// The end whose fault comes later than the other's and may follow from it.
     pub(crate) later: Option<End>,
 }
 
-/// That of an end.
+/// Finds the evidence for the fault of an end, if the end is asked and at fault.
 fn evidence_of(
     alloc: Global,
     judged: &Judged,
@@ -42,7 +42,7 @@ fn evidence_of(
     }
 }
 
-/// Adds the first entries that show each thing, and those of the first invocations whose operations it rests on.
+/// Adds the first entries of each ground, and the entries of the first invocations.
 fn add_shown(named: &mut BTreeSet<u64>, evidence: &Option<Evidence>) -> Result<(), AllocError> {
     let Some(evidence) = evidence else {
         return Ok(());
@@ -59,7 +59,7 @@ fn add_shown(named: &mut BTreeSet<u64>, evidence: &Option<Evidence>) -> Result<(
 }
 
 impl Grounds {
-    /// Those of a dialogue.
+    /// Finds the evidence for both ends of a dialogue. `AllocError` if memory runs out.
     pub(crate) fn of(
         alloc: Global,
         judged: &Judged,
@@ -75,7 +75,7 @@ impl Grounds {
         })
     }
 
-    /// That of an end.
+    /// Returns the evidence for the fault of an end.
     pub(crate) fn at(&self, end: End) -> &Option<Evidence> {
         match end {
             End::A => &self.a,
@@ -83,7 +83,8 @@ impl Grounds {
         }
     }
 
-    /// The numbers of the entries that are named: those at fault, one that is no message, and of those that show a thing the first.
+    /// Returns the numbers of the entries to show: those at fault, one that is no message, and the first ones of the
+    /// evidence.
     pub(crate) fn named(
         &self,
         alloc: Global,
@@ -103,7 +104,7 @@ impl Grounds {
     }
 }
 
-/// The entry that is named of an end.
+/// Returns the entry that the result for an end is about.
 fn named_by(said: Said) -> Option<u64> {
     match said {
         Said::Behind(number) => Some(number),

@@ -1,4 +1,6 @@
-//! What is said of a dialogue that does not pass in one line, which is of no great length whatever its trace has.
+//! One line on a dialogue that does not pass. The length of the line does not depend on the length of the trace.
+//!
+//! Each function returns `AllocError` if memory runs out.
 
 use crate::case::{Case, Judged};
 use crate::order::{in_order, is_asked};
@@ -11,7 +13,7 @@ use tcap_record::End;
 use tcap_refute::Refutation;
 use tcap_traces::Said;
 
-/// Appends the line of an entry, or its number where it has no line.
+/// Appends the line number of an entry, or the entry's number if the trace has no lines.
 fn push_line(text: &mut String, case: &Case, entry: u64) -> Result<(), AllocError> {
     let line = line_of(case, entry);
     if line > 0 {
@@ -21,7 +23,7 @@ fn push_line(text: &mut String, case: &Case, entry: u64) -> Result<(), AllocErro
     }
 }
 
-/// Appends what an end is blamed for.
+/// Appends the entry, the kind and the reason of a blame.
 fn push_blame(
     alloc: Global,
     text: &mut String,
@@ -36,7 +38,7 @@ fn push_blame(
     push_sentence(alloc, text, case, judged, end, at)
 }
 
-/// Appends the first reason that is said of an end.
+/// Appends the first reason why an end does not pass.
 fn push_end(
     alloc: Global,
     text: &mut String,
@@ -68,7 +70,7 @@ fn push_end(
     }
 }
 
-/// Appends what is said first of an end of which the dialogue has its verdict; or that no table is there.
+/// Appends the reason for the first end that has the dialogue's verdict, or that the dialogue has no table.
 pub(crate) fn push_headline(
     alloc: Global,
     text: &mut String,

@@ -1,4 +1,6 @@
-//! What is said, as lines of JSON (NDJSON): one object for each dialogue, then one for its trace.
+//! Reports as lines of JSON (NDJSON): an object for each dialogue, then one for its trace.
+//!
+//! Each function returns `AllocError` if memory runs out.
 
 use crate::case::{Behind, Case, Judged, sent_by};
 use crate::fields::{push_some, push_sums, push_verdicts};
@@ -60,7 +62,7 @@ fn push_entries(json: &mut String, case: &Case) -> Result<(), AllocError> {
     json.push_str("]")
 }
 
-/// Appends what is said of an end that is blamed.
+/// Appends the fields of an end that is blamed.
 fn push_blamed(
     alloc: Global,
     json: &mut String,
@@ -86,7 +88,7 @@ fn push_blamed(
     push_evidence(alloc, json, end, grounds.at(end))
 }
 
-/// Appends what a blame rests on: the component at fault, the invoke ID that is counted, and what entries show.
+/// Appends the evidence for a blame: the component at fault, the invoke ID, and what the entries show.
 fn push_evidence(
     alloc: Global,
     json: &mut String,
@@ -114,7 +116,7 @@ fn push_evidence(
     json.push_str("]}")
 }
 
-/// The number of a component.
+/// Converts the number of a component.
 fn number_of(component: Option<u64>) -> Option<i64> {
     match component {
         Some(number) => i64::try_from(number).ok(),
@@ -122,7 +124,7 @@ fn number_of(component: Option<u64>) -> Option<i64> {
     }
 }
 
-/// An invoke ID.
+/// Converts an invoke ID.
 fn id_of(id: Option<i8>) -> Option<i64> {
     match id {
         Some(id) => Some(i64::from(id)),
@@ -130,7 +132,7 @@ fn id_of(id: Option<i8>) -> Option<i64> {
     }
 }
 
-/// Appends what is said of an end.
+/// Appends the result for an end.
 fn push_end(
     alloc: Global,
     json: &mut String,
@@ -164,7 +166,7 @@ fn push_end(
     json.push_str("}")
 }
 
-/// Appends the context and the table, where there are such.
+/// Appends the application context name and the name of the table, if there are any.
 fn push_table(json: &mut String, judged: &Judged) -> Result<(), AllocError> {
     if let Some(context) = &judged.context {
         push_octets(json, "context", context)?;
@@ -175,7 +177,8 @@ fn push_table(json: &mut String, judged: &Judged) -> Result<(), AllocError> {
     Ok(())
 }
 
-/// Appends what is said of the ends that are asked, and what the dialogue waits for that is open; or that no table is there.
+/// Appends the result for each end that is asked and what an open dialogue waits for, or that the dialogue has no
+/// table.
 fn push_ends(
     alloc: Global,
     json: &mut String,
@@ -205,7 +208,7 @@ fn push_ends(
     push_named(json, "text", &text)
 }
 
-/// Appends the object of a dialogue, with its messages where it does not pass.
+/// Appends the object of a dialogue. It lists the messages if the dialogue does not pass.
 pub(crate) fn push_case(
     alloc: Global,
     json: &mut String,
@@ -255,7 +258,7 @@ pub(crate) fn push_trace(json: &mut String, told: Told) -> Result<(), AllocError
     json.push_str("}\n")
 }
 
-/// Appends the object of all traces, and how many dialogues that do not pass are not told.
+/// Appends the object of all traces. `left_out` is the number of dialogues that do not pass and found no room.
 pub(crate) fn push_total(json: &mut String, sum: &Sum, left_out: u64) -> Result<(), AllocError> {
     json.push_str("{\"total\":{\"traces\":")?;
     push_verdicts(json, &sum.traces)?;

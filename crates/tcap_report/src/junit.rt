@@ -1,4 +1,4 @@
-//! What is said, as JUnit XML: a testsuite for each trace.
+//! Reports as JUnit XML, with a testsuite for each trace.
 
 use crate::case::{Case, Judged};
 use crate::headline::push_headline;
@@ -8,7 +8,7 @@ use std::alloc::{AllocError, Global};
 use tcap_record::End;
 use tcap_traces::Verdict;
 
-/// How many testcases there are, and how many of them fail or have an error.
+/// The number of testcases, and how many of them fail or have an error.
 #[derive(Clone, Copy, Debug)]
 struct Tally {
     tests: u64,
@@ -20,16 +20,17 @@ struct Tally {
 #[derive(Debug, Drop)]
 pub struct Junit {
     alloc: Global,
-    // Those that are whole.
+    // The finished testsuites.
     suites: String,
-    // The testcases of the one that is under way.
+    // The testcases of the current testsuite.
     cases: String,
-    // Of the one that is under way, and of those that are whole.
+    // The tally of the current testsuite, and (`sum`) of the finished ones.
     tally: Tally,
     sum: Tally,
 }
 
-/// Appends text as XML has it. What XML has no sign for is told by U+FFFD.
+/// Appends text with XML's special characters escaped. A character that XML does not allow, or a carriage return,
+/// becomes U+FFFD.
 fn push_xml(xml: &mut String, text: &str) -> Result<(), AllocError> {
     for c in text.chars() {
         match c {
@@ -48,7 +49,7 @@ fn push_xml(xml: &mut String, text: &str) -> Result<(), AllocError> {
 }
 
 impl Tally {
-    /// None.
+    /// Creates a tally of zero.
     fn new() -> Tally {
         Tally {
             tests: 0,
@@ -57,12 +58,12 @@ impl Tally {
         }
     }
 
-    /// So many more that pass.
+    /// Counts `count` more testcases, which pass.
     fn add_passing(&mut self, count: u64) {
         self.tests = self.tests.saturating_add(count);
     }
 
-    /// One more, which fails or has an error.
+    /// Counts one more testcase, which fails if the verdict is a fail, and else has an error.
     fn add(&mut self, verdict: Verdict) {
         self.tests = self.tests.saturating_add(1);
         match verdict {
@@ -71,14 +72,14 @@ impl Tally {
         }
     }
 
-    /// Those of others more.
+    /// Adds the tally of `others`.
     fn add_all(&mut self, others: Tally) {
         self.tests = self.tests.saturating_add(others.tests);
         self.failures = self.failures.saturating_add(others.failures);
         self.errors = self.errors.saturating_add(others.errors);
     }
 
-    /// Appends the attributes that say so.
+    /// Appends the tally as attributes.
     fn push(self, xml: &mut String) -> Result<(), AllocError> {
         let Tally {
             tests,
@@ -91,7 +92,7 @@ impl Tally {
 }
 
 impl Junit {
-    /// Of no trace.
+    /// Creates the testsuites of no trace.
     pub fn new(alloc: Global) -> Junit {
         Junit {
             alloc,
@@ -134,7 +135,8 @@ impl Junit {
         xml.push_str(">\n    </testcase>\n")
     }
 
-    /// A dialogue that does not pass, with what is said of it as text. Its name has no transaction IDs, which are others each night.
+    /// Adds a dialogue that does not pass, with the text on it. The name of the testcase has no transaction IDs, since
+    /// these change from run to run.
     pub(crate) fn add_case(
         &mut self,
         trace: &str,
@@ -151,7 +153,7 @@ impl Junit {
         self.push_case(trace, &name, judged.verdict, &message, text)
     }
 
-    /// A fault of a trace's form, with a hint, where there is one.
+    /// Adds a fault of a trace's form, with a hint, if there is one.
     pub(crate) fn add_fault(
         &mut self,
         trace: &str,
@@ -168,7 +170,7 @@ impl Junit {
         self.push_case(trace, "trace", Verdict::Error, message, &text)
     }
 
-    /// The trace ends, of which so many dialogues pass, so many of them unheard or unanswered.
+    /// Ends the testsuite of a trace. Its dialogues that pass share one testcase.
     pub(crate) fn end_trace(
         &mut self,
         trace: &str,
@@ -201,7 +203,10 @@ impl Junit {
         Ok(())
     }
 
-    /// The whole text.
+    /// Returns the XML text of all testsuites.
+    ///
+    /// # Errors
+    /// `AllocError` if memory runs out.
     pub fn text(&self) -> Result<String, AllocError> {
         let mut xml = String::new(self.alloc);
         xml.push_str("<?xml version=\"1.0\" encoding=\"UTF-8\"?>\n<testsuites")?;

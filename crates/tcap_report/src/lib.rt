@@ -1,4 +1,5 @@
-//! What `tcapjudge test` reads and says: traces, their dialogues and the verdicts on them, as text, JSON, JUnit XML and a page.
+//! Reads traces for `tcapjudge test` and reports the verdicts on their dialogues as text, JSON, JUnit XML and an HTML
+//! page.
 #![tactic(auto)]
 
 mod before_marks;

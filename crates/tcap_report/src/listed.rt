@@ -5,7 +5,7 @@ ghost use Rattle.std.specs.Prelude.{◌<◌, ◌≤◌, ◌+◌, ◌⊎◌, ◌�
 use crate::case::Judged;
 use tcap_traces::Said;
 
-/// The number of the entry by which an end is at fault.
+/// Returns the number of the entry at which an end is at fault.
 pub(crate) fn blamed_by(said: Said) -> Option<u64> {
     match said {
         Said::Fail(at) | Said::Doubtful(at, _) => Some(at.entry),
@@ -13,7 +13,7 @@ pub(crate) fn blamed_by(said: Said) -> Option<u64> {
     }
 }
 
-/// The number of the last entry that is listed: the last one at fault, or the last of all.
+/// Returns the number of the last entry listed: the last one at fault, or the last of all if no end is at fault.
 pub(crate) fn last_listed(judged: &Judged) -> usize {
     let last = judged.record.entries.len().saturating_sub(1);
     let Some(ends) = judged.ends else {
@@ -26,7 +26,8 @@ pub(crate) fn last_listed(judged: &Judged) -> usize {
     }
 }
 
-/// Whether an entry is one of so many first ones, or the last one that is listed, or one of so many before that.
+/// Returns whether an entry is among the `first` ones, is the `last` one listed, or is among the `before` ones before
+/// that.
 pub(crate) fn is_near(number: usize, first: usize, before: usize, last: usize) -> bool
     ensures { IsTrue result ↔ ((number < first) ⊎ ((number ≤ last) × (last ≤ number + before))) }
 {

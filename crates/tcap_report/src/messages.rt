@@ -1,4 +1,4 @@
-//! The messages of a dialogue, as objects of JSON.
+//! The messages of a dialogue, as JSON objects.
 
 use crate::case::{Case, Judged};
 use crate::grounds::Grounds;
@@ -9,12 +9,12 @@ use std::alloc::{AllocError, Global};
 use tcap_page::{push_entry, push_named, push_octets};
 use tcap_record::{Body, Entry};
 
-/// So many entries are listed of the beginning of a dialogue, and before the last one at fault.
+/// The number of entries listed at the beginning of a dialogue, and (`BEFORE`) before the last one at fault.
 const FIRST: usize = 16;
 
 const BEFORE: usize = 63;
 
-/// The octets of an entry, where it is a message's: those that are held behind that of its end.
+/// Returns the octets of an entry without the octet of its end. None for a quiet mark.
 fn octets_of(case: &Case, number: usize) -> Option<&[u8]> {
     match case.entries.get(number)?.octets.as_slice() {
         [_, octets @ ..] => Some(octets),
@@ -48,14 +48,14 @@ fn push_message(
     json.push_str("}")
 }
 
-/// How many entries a dialogue has, with the quiet mark that ends it.
+/// Returns how many entries a dialogue has, with the quiet mark that ends it.
 fn count_of(case: &Case) -> usize {
     let marks = if case.is_marked() { 1 } else { 0 };
     case.entries.len().saturating_add(marks)
 }
 
-/// Appends the messages of a dialogue, of a long one the first, those that are named, and those up to the last one at fault; and how many
-/// entries are left out, where some are.
+/// Appends the messages of a dialogue, and how many entries are left out, if any. Of a long dialogue, the messages are
+/// the first ones, those that the evidence names, and those up to the last one at fault.
 pub(crate) fn push_messages(
     alloc: Global,
     json: &mut String,

@@ -1,14 +1,14 @@
-//! Why an entry is no message, in words.
+//! The reasons why an entry is no message, in words.
 
 use crate::case::Case;
 use std::alloc::{AllocError, Global};
 use tcap_ber::{Counted, Fault};
 use tcap_diagnostics::{name_of, run_why};
 
-/// How the line begins in which `show --why` says why.
+/// The beginning of the line in which `show --why` gives the reason.
 const WHY: &str = "  why: ";
 
-/// Appends why an entry whose element begins at that place is no message: the reason and the octet.
+/// Appends the reason why an entry is no message, and the octet. `place` is the offset of the entry's element.
 pub(crate) fn push_no_message(
     text: &mut String,
     place: u64,
@@ -19,18 +19,18 @@ pub(crate) fn push_no_message(
     write!(text, ", at octet {place} of it")
 }
 
-/// What `show --why` prints of a record.
+/// Returns what `show --why` prints for a record.
 fn shown(alloc: Global, record: &[u8]) -> Result<String, AllocError> {
     let mut printed = Counted::new(Vec::new(alloc));
-    // A list takes all octets but for want of memory.
+    // A vector takes all octets, unless memory runs out.
     if run_why(alloc, &mut Counted::new(record), &mut printed).is_err() {
         return Err(AllocError);
     }
     String::from_utf8_lossy(alloc, &printed.into_inner())
 }
 
-/// Appends the line in which `show --why` says why an entry of a dialogue is no message: the reason, its place, the path of parts to
-/// it, the octets around it, and what can be read of the kind and the IDs.
+/// Appends the line in which `show --why` explains why an entry of a dialogue is no message. It has the reason, the
+/// offset, the path of parts to it, the octets around it, and what can be read of the kind and the IDs.
 pub(crate) fn push_why(
     alloc: Global,
     text: &mut String,
@@ -47,6 +47,6 @@ pub(crate) fn push_why(
             return text.push_str("\n");
         }
     }
-    // An entry that is no message has that line but for want of memory.
+    // The line is there for each entry that is no message, unless memory ran out.
     Err(AllocError)
 }

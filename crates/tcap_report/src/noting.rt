@@ -1,4 +1,4 @@
-//! What is noted of an entry and of a dialogue, by the trace before them.
+//! What a trace notes of an entry and of a dialogue.
 
 ghost use Rattle.std.specs.Prelude.{◌≡◌, ◌≤◌, cond, is_some, length, IfOk};
 ghost use Rattle.tcap_report.specs.declared.case.Behind.TheVariants as behinds;
@@ -11,7 +11,7 @@ use tcap_dialogues::{Gathered, HeadingView, Reuse};
 use tcap_msg::Kind as Form;
 
 impl Trace<'_> {
-    /// Returns what is known of an entry to find its dialogue: what is read of it, and of the trace before it.
+    /// Returns the heading of an entry, with what the trace before it says.
     pub(crate) fn heading_of<'o>(&self, octets: &'o [u8]) -> HeadingView<'o> {
         let heading = heading_of(octets);
         HeadingView {
@@ -21,8 +21,8 @@ impl Trace<'_> {
         }
     }
 
-    /// Returns the ID by which a dialogue with these entries seems to go on after the quiet mark before it; `None` if one of its IDs came
-    /// again in its segment.
+    /// Returns the ID that suggests that a dialogue with these entries continues one from before the last quiet mark. None
+    /// if one of its IDs was used before in its segment.
     fn in_use(&self, gathered: &Gathered, entries: &[Held]) -> Option<InUse> {
         if gathered.earlier.is_some() {
             return None;
@@ -31,8 +31,9 @@ impl Trace<'_> {
             .in_use(heading_of(&entries.first()?.octets), gathered)
     }
 
-    /// Returns the number of the first entry that can't be read and may have been one of a dialogue with these entries: one after its
-    /// first entry, or any of the segment, if that is no Begin. There is none if no entry of the dialogue carries an ID.
+    /// Returns the number of the first unreadable entry that may belong to a dialogue with these entries. It is one
+    /// after the dialogue's first entry, or any of the segment if the first entry is no Begin. None if no entry of the
+    /// dialogue carries an ID.
     fn unread_for(&self, gathered: &Gathered, entries: &[Held]) -> Option<u64> {
         if gathered.a.is_empty() && gathered.b.is_empty() {
             return None;
@@ -43,7 +44,7 @@ impl Trace<'_> {
         }
     }
 
-    /// Returns what is asked of its dialogues.
+    /// Returns the options for the trace's dialogues.
     fn rules(&self) -> Rules
         ensures sides { result.of ≡ self.now.asked.of }
         ensures settled { result.settled ≡ self.now.asked.settled }
@@ -57,7 +58,8 @@ impl Trace<'_> {
         }
     }
 
-    /// The dialogue of which this was gathered, with what is noted of it. A mark, or the end of the trace, is its own if it is not over.
+    /// Returns a dialogue with its entries and all that is noted of it. Unless the dialogue is over, `behind` comes
+    /// after it.
     pub(crate) fn case_of(&mut self, gathered: Gathered, behind: Behind) -> Result<Case, AllocError>
         ensures is { IfOk result (λ case. (case.gathered ≡ gathered)
             × (case.behind ≡ cond (is_some gathered.over) behinds.More behind)

@@ -1,10 +1,10 @@
-//! The ends of a dialogue in the order in which it is said of them.
+//! The order in which the ends of a dialogue are reported.
 
 use crate::listed::blamed_by;
 use tcap_record::End;
 use tcap_traces::{Ends, Said};
 
-/// Whether an end is asked.
+/// Returns whether the verdict on an end is asked.
 pub(crate) fn is_asked(of: Option<End>, end: End) -> bool {
     match of {
         Some(asked) => asked == end,
@@ -12,7 +12,7 @@ pub(crate) fn is_asked(of: Option<End>, end: End) -> bool {
     }
 }
 
-/// The end that is blamed for a later entry than the other, where both are asked and blamed.
+/// Returns the end that is blamed for the later entry, if both ends are asked and blamed for different entries.
 pub(crate) fn later_end(ends: Ends, of: Option<End>) -> Option<End> {
     match (of, blamed_by(ends.a), blamed_by(ends.b)) {
         (None, Some(a), Some(b)) if a < b => Some(End::B),
@@ -21,8 +21,7 @@ pub(crate) fn later_end(ends: Ends, of: Option<End>) -> Option<End> {
     }
 }
 
-/// The last end that is asked and of which it is said that the dialogue is open: then no two are blamed, and that of B is said behind
-/// that of A.
+/// Returns the last end that is asked and open. If an end is open, at most one is blamed, so B comes after A.
 pub(crate) fn last_open(ends: Ends, of: Option<End>) -> Option<End> {
     if is_asked(of, End::B) && ends.b == Said::Open {
         Some(End::B)
@@ -33,7 +32,7 @@ pub(crate) fn last_open(ends: Ends, of: Option<End>) -> Option<End> {
     }
 }
 
-/// The ends in their order: where both are asked and blamed, that of the lower entry stands first.
+/// Returns the ends in the order of their reports: A before B, unless A's fault comes later than B's.
 pub(crate) fn in_order(ends: Ends, of: Option<End>) -> [End; 2] {
     match later_end(ends, of) {
         Some(End::A) => [End::B, End::A],

@@ -1,4 +1,4 @@
-//! The page: a file of HTML that shows what is said of dialogues that do not pass.
+//! The page: an HTML file that shows the dialogues that do not pass.
 
 use crate::fault::Stop;
 use crate::json::push_total;
@@ -8,21 +8,25 @@ use std::alloc::Global;
 use tcap_ber::Write;
 use tcap_page::{FRAME_HEAD, FRAME_TAIL};
 
-/// So many dialogues are in a page.
+/// The most dialogues in a page.
 const MOST: u64 = 10_000;
 
-/// A page that is being written: its frame, and in it the objects of JSON of traces and of the first dialogues that do not pass.
+/// A page that is being written: the frame, and within it the JSON objects of the traces and of the first dialogues
+/// that do not pass.
 #[derive(Debug, Drop)]
 pub struct Page<'a, J> {
     writer: &'a mut J,
-    // For how many dialogues there is room yet.
+    // How many more dialogues have room.
     room: u64,
-    // How many found none.
+    // How many dialogues had no room.
     left_out: u64,
 }
 
 impl<'a, J: Write> Page<'a, J> {
-    /// The page that `writer` takes, with its frame up to where the objects stand. `Stop::Write` where the writer failed.
+    /// Writes the frame to `writer`, up to the place of the objects, and returns the page.
+    ///
+    /// # Errors
+    /// `Stop::Write` if the writer fails.
     pub fn begin(writer: &'a mut J) -> Result<Page<'a, J>, Stop> {
         write_text(writer, FRAME_HEAD)?;
         Ok(Page {
@@ -32,7 +36,7 @@ impl<'a, J: Write> Page<'a, J> {
         })
     }
 
-    /// Whether there is room for a dialogue more. It takes the room; where there is none, it is left out.
+    /// Takes the room of one dialogue. Returns false, and counts the dialogue as left out, if there is none.
     pub(crate) fn takes_dialogue(&mut self) -> bool {
         if self.room == 0 {
             self.left_out = self.left_out.saturating_add(1);
@@ -47,8 +51,10 @@ impl<'a, J: Write> Page<'a, J> {
         write_text(self.writer, line)
     }
 
-    /// Writes the object of all traces, and the rest of the frame. `Stop::Write` where the writer failed, `Stop::Memory` where memory
-    /// ran out.
+    /// Writes the object with the sum of all traces, and the rest of the frame.
+    ///
+    /// # Errors
+    /// `Stop::Write` if the writer fails, `Stop::Memory` if memory runs out.
     pub fn end(&mut self, alloc: Global, sum: &Sum) -> Result<(), Stop> {
         let mut line = String::new(alloc);
         push_total(&mut line, sum, self.left_out)?;

@@ -1,4 +1,6 @@
-//! What a blame rests on, in words.
+//! The reasons for a blame, in words.
+//!
+//! Each function returns `AllocError` if memory runs out.
 
 use crate::case::{Case, Judged};
 use crate::no_message::push_why;
@@ -8,12 +10,12 @@ use tcap_evidence::{find_evidence, push_fault};
 use tcap_record::End;
 use tcap_refute::{Kind, Refutation};
 
-/// The first line of a text.
+/// Returns the first line of a text.
 fn first_line(text: &str) -> &str {
     text.lines().next().unwrap_or("")
 }
 
-/// Appends what a blame for octets that are no message rests on: that line of what it rests on which says so, and why they are none.
+/// Appends the first of the evidence's `lines` for octets that are no message, and why they are none.
 fn push_of_octets(
     alloc: Global,
     text: &mut String,
@@ -26,7 +28,7 @@ fn push_of_octets(
     push_why(alloc, text, case, at.entry)
 }
 
-/// Appends what the blame rests on: what shows it, and which fault of its kind it is.
+/// Appends the reasons for a blame: the evidence, and which fault of its kind it is.
 pub(crate) fn push_reason(
     alloc: Global,
     text: &mut String,
@@ -50,7 +52,7 @@ pub(crate) fn push_reason(
     push_which(text, judged, table, at, &found)
 }
 
-/// Appends what the fault is in one sentence: what stands in the first line of what the blame rests on, behind the entry.
+/// Appends the fault in one sentence: the first line of the reasons, without the entry before its colon.
 pub(crate) fn push_sentence(
     alloc: Global,
     text: &mut String,

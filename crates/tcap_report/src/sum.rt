@@ -6,14 +6,14 @@ ghost use Rattle.tcap_report.specs.Counts.{all_of, no_counts, no_sum, with_all, 
 use std::alloc::AllocError;
 use tcap_traces::Verdict;
 
-/// Appends how many there are of a thing.
+/// Appends a count and the noun for what it counts, in the plural unless the count is 1.
 pub(crate) fn push_count(text: &mut String, count: u64, thing: &str) -> Result<(), AllocError> {
     write!(text, "{count} ")?;
     text.push_str(thing)?;
     text.push_str(if count == 1 { "" } else { "s" })
 }
 
-/// Appends how many messages and dialogues there are, and what of.
+/// Appends the numbers of messages, of dialogues by verdict, and of dialogues that pass unheard or unanswered.
 pub(crate) fn push_counts(
     text: &mut String,
     messages: u64,
@@ -28,7 +28,7 @@ pub(crate) fn push_counts(
     writeln!(text, "; {unheard} pass unheard or unanswered")
 }
 
-/// How many there are of each verdict, and the worst.
+/// The number of each verdict, and the worst verdict.
 #[derive(Clone, Copy, Debug)]
 pub(crate) struct Counts {
     pub(crate) pass: u64,
@@ -39,7 +39,7 @@ pub(crate) struct Counts {
 }
 
 impl Counts {
-    /// None.
+    /// Creates counts of zero. The worst verdict is pass.
     pub(crate) fn new() -> Counts
         ensures { result ≡ no_counts }
     {
@@ -52,7 +52,7 @@ impl Counts {
         }
     }
 
-    /// One more.
+    /// Counts one more verdict.
     pub(crate) fn add(&mut self, verdict: Verdict)
         ensures { self.new ≡ with_one verdict self.old }
     {
@@ -65,7 +65,7 @@ impl Counts {
         }
     }
 
-    /// Those of others more.
+    /// Adds the counts of `others`.
     pub(crate) fn add_all(&mut self, others: Counts)
         ensures { self.new ≡ with_all others self.old }
     {
@@ -76,7 +76,7 @@ impl Counts {
         self.worst = self.worst.worse(others.worst);
     }
 
-    /// How many there are.
+    /// Returns the number of verdicts.
     pub(crate) fn all(&self) -> u64
         ensures { result ≡ all_of self.now }
     {
@@ -87,7 +87,7 @@ impl Counts {
         judged.saturating_add(self.error)
     }
 
-    /// Appends how many there are of each.
+    /// Appends the number of each verdict.
     pub(crate) fn push(&self, text: &mut String) -> Result<(), AllocError> {
         let Counts {
             pass,
@@ -101,7 +101,7 @@ impl Counts {
     }
 }
 
-/// What is said of all traces.
+/// The sum over all traces.
 #[derive(Clone, Copy, Debug)]
 pub struct Sum {
     pub(crate) traces: Counts,
@@ -111,7 +111,7 @@ pub struct Sum {
 }
 
 impl Sum {
-    /// Of none.
+    /// Creates the sum over no trace.
     pub fn new() -> Sum
         ensures { result ≡ no_sum }
     {
@@ -123,14 +123,17 @@ impl Sum {
         }
     }
 
-    /// The worst verdict on a trace; pass where there is none.
+    /// Returns the worst verdict on a trace, or pass if there was none.
     pub fn worst(&self) -> Verdict
         ensures { result ≡ worst_of self.now }
     {
         self.traces.worst
     }
 
-    /// Appends the lines of all traces.
+    /// Appends the line with the sum over all traces.
+    ///
+    /// # Errors
+    /// `AllocError` if memory runs out.
     pub fn push(&self, text: &mut String) -> Result<(), AllocError> {
         push_count(text, self.traces.all(), "trace")?;
         text.push_str(": ")?;

@@ -1,4 +1,4 @@
-//! Where it is said what is said of traces and of their dialogues.
+//! The sinks of the reports on traces and their dialogues.
 
 ghost use Rattle.std.specs.Prelude.{◌≡◌};
 
@@ -14,9 +14,12 @@ use tcap_ber::{Counted, Failed, Write};
 use tcap_record::End;
 use tcap_traces::Verdict;
 
-/// A writer of lines, which may keep some of them back for a while.
+/// A writer of lines that may keep some of them back for a while.
 pub trait Lines: Write {
-    /// Writes those that are kept back. `Failed` where that could not be done.
+    /// Writes the lines that are kept back.
+    ///
+    /// # Errors
+    /// `Failed` if the writer fails.
     fn flush(&mut self) -> Result<(), Failed>;
 }
 
@@ -26,24 +29,24 @@ impl<T: io::Write> Lines for Counted<T> {
     }
 }
 
-/// Where it is said.
+/// The sinks of the reports, and the sum.
 #[derive(Debug, Drop)]
 pub struct Sinks<'a, W, J, P> {
-    /// As text.
+    /// The text.
     pub text: &'a mut W,
-    /// As lines of JSON.
+    /// The lines of JSON.
     pub json: Option<&'a mut J>,
-    /// As a page.
+    /// The HTML page.
     pub page: Option<Page<'a, J>>,
-    /// As JUnit XML.
+    /// The JUnit XML.
     pub junit: Option<&'a mut Junit>,
-    /// The sum of all traces.
+    /// The sum over all traces.
     pub sum: &'a mut Sum,
-    /// Who looks on.
+    /// The observer of progress.
     pub watch: &'a mut P,
 }
 
-/// What is said of a trace.
+/// The report on a trace.
 #[derive(Clone, Copy)]
 pub(crate) struct Told<'a> {
     pub(crate) name: &'a str,
@@ -51,21 +54,21 @@ pub(crate) struct Told<'a> {
     pub(crate) messages: u64,
     pub(crate) dialogues: Counts,
     pub(crate) unheard: u64,
-    /// What is wrong with it, where something is.
+    /// The fault of the trace, in words; empty if there is none.
     pub(crate) why: &'a str,
-    /// The line with the fault.
+    /// The line of the fault.
     pub(crate) line: Option<u64>,
-    /// What it looks like, where that is no trace.
+    /// A guess at what the octets are, if they do not look like a trace.
     pub(crate) hint: Option<&'a str>,
 }
 
-/// Writes a text.
+/// Writes a text. Returns `Stop::Write` if the writer fails.
 pub(crate) fn write_text<W: Write>(writer: &mut W, text: &str) -> Result<(), Stop> {
     writer.write_all(text.as_bytes()).map_err(|_| Stop::Write)
 }
 
 impl<W: Write, J: Lines, P> Sinks<'_, W, J, P> {
-    /// Says what is said of a dialogue.
+    /// Reports the verdict on a dialogue. The text, the page and JUnit XML have only dialogues that do not pass.
     pub(crate) fn tell_case(
         &mut self,
         alloc: Global,
@@ -97,7 +100,7 @@ impl<W: Write, J: Lines, P> Sinks<'_, W, J, P> {
         write_text(self.text, &lines)
     }
 
-    /// Writes the line of an object to the lines of JSON, and to the page where it is shown there.
+    /// Writes the line of an object to the lines of JSON and, if `shown` is set, to the page.
     fn tell_object(&mut self, line: &str, shown: bool) -> Result<(), Stop>
         ensures { self.new.sum ≡ self.old.sum }
     {
@@ -120,7 +123,7 @@ impl<W: Write, J: Lines, P> Sinks<'_, W, J, P> {
         }
     }
 
-    /// Says what is said of a trace, as JSON and as JUnit XML.
+    /// Reports the verdict on a trace as JSON, on the page, and as JUnit XML.
     pub(crate) fn tell_trace(&mut self, alloc: Global, told: Told) -> Result<(), Stop>
         ensures { self.new.sum ≡ self.old.sum }
     {

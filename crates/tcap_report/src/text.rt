@@ -1,4 +1,6 @@
-//! What is said of a dialogue that does not pass, as text.
+//! The text on a dialogue that does not pass.
+//!
+//! Each function returns `AllocError` if memory runs out.
 
 use crate::case::{Case, Judged};
 use crate::listed::{is_near, last_listed};
@@ -15,12 +17,12 @@ use tcap_record::{Body, End, Entry, push_head, push_hex};
 use tcap_refute::Refutation;
 use tcap_traces::{Said, Verdict};
 
-/// So many entries are listed of the beginning of a dialogue, and before the last one at fault.
+/// The number of entries listed at the beginning of a dialogue, and (`BEFORE`) before the last one at fault.
 const FIRST: usize = 8;
 
 const BEFORE: usize = 16;
 
-/// Appends the IDs of the ends that have some.
+/// Appends the letter and the IDs of each end that has some.
 fn push_all_ids(text: &mut String, case: &Case) -> Result<(), AllocError> {
     for end in [End::A, End::B] {
         if !ids_of(case, end).is_empty() {
@@ -32,7 +34,7 @@ fn push_all_ids(text: &mut String, case: &Case) -> Result<(), AllocError> {
     Ok(())
 }
 
-/// Appends the context and the table.
+/// Appends the application context name and the name of the table, if there are any.
 fn push_table(text: &mut String, judged: &Judged) -> Result<(), AllocError> {
     if let Some(context) = &judged.context {
         text.push_str(", context ")?;
@@ -45,7 +47,7 @@ fn push_table(text: &mut String, judged: &Judged) -> Result<(), AllocError> {
     Ok(())
 }
 
-/// Appends the line of a dialogue.
+/// Appends the line of a dialogue: its trace, number, IDs, table and verdict.
 fn push_dialogue(
     text: &mut String,
     trace: &str,
@@ -62,7 +64,7 @@ fn push_dialogue(
     text.push_str("\n")
 }
 
-/// Appends where an entry stands in the trace.
+/// Appends the line number of an entry and the comment above it, if there are any.
 fn push_place(alloc: Global, text: &mut String, case: &Case, entry: u64) -> Result<(), AllocError> {
     let line = line_of(case, entry);
     if line > 0 {
@@ -77,7 +79,7 @@ fn push_place(alloc: Global, text: &mut String, case: &Case, entry: u64) -> Resu
     Ok(())
 }
 
-/// Appends that the other end is blamed for an earlier entry, where that is so.
+/// Appends, if `later` is set, that the peer is blamed for an earlier entry.
 fn push_later(text: &mut String, end: End, later: bool) -> Result<(), AllocError> {
     if !later {
         return Ok(());
@@ -109,7 +111,7 @@ fn push_blamed(
     text.push_str("\n")
 }
 
-/// Appends why nothing is shown of an end, and no entry is blamed on it.
+/// Appends why the result for an end is undecided, if no entry is blamed on it.
 pub(crate) fn push_undecided(
     alloc: Global,
     text: &mut String,
@@ -125,7 +127,7 @@ pub(crate) fn push_undecided(
     text.push_str("\n")
 }
 
-/// Appends what is said of an end that does not pass.
+/// Appends the result for an end, unless it passes.
 fn push_end(
     alloc: Global,
     text: &mut String,
@@ -157,7 +159,7 @@ fn push_end(
     }
 }
 
-/// Appends what an entry is.
+/// Appends the contents of an entry.
 fn push_body(
     text: &mut String,
     table: Option<&NamedTable>,
@@ -181,7 +183,7 @@ fn push_body(
     }
 }
 
-/// Appends an entry of a dialogue.
+/// Appends the line of an entry.
 fn push_entry(
     alloc: Global,
     text: &mut String,
@@ -201,7 +203,7 @@ fn push_entry(
     text.push_str("\n")
 }
 
-/// Appends the entries of a dialogue, of a long one the first and those up to the last one at fault.
+/// Appends the entries of a dialogue. Of a long one, these are the first ones and those up to the last one at fault.
 fn push_entries(
     alloc: Global,
     text: &mut String,
@@ -220,7 +222,7 @@ fn push_entries(
     Ok(())
 }
 
-/// That no table is there for a dialogue, in words.
+/// Returns the words for a dialogue without a table.
 pub(crate) fn no_table_words(judged: &Judged) -> &'static str {
     if judged.context.is_some() {
         "no table is for this application context name"
@@ -229,14 +231,14 @@ pub(crate) fn no_table_words(judged: &Judged) -> &'static str {
     }
 }
 
-/// Appends that no table is there for a dialogue.
+/// Appends the line of a dialogue without a table.
 fn push_no_table(text: &mut String, judged: &Judged) -> Result<(), AllocError> {
     text.push_str("  ")?;
     text.push_str(no_table_words(judged))?;
     text.push_str("\n")
 }
 
-/// Appends all that is said of a dialogue that does not pass.
+/// Appends the whole text on a dialogue that does not pass.
 pub(crate) fn push_case(
     alloc: Global,
     text: &mut String,
@@ -250,8 +252,8 @@ pub(crate) fn push_case(
     push_entries(alloc, text, case, judged)
 }
 
-/// Appends what stands behind the line of a dialogue: what is said of each end that is asked, and once what the dialogue waits for that is
-/// open. Where both are blamed the lower entry stands first.
+/// Appends the text after the line of a dialogue: the result for each end that is asked, and once what an open dialogue
+/// waits for. If both ends are blamed, the end with the lower entry comes first.
 pub(crate) fn push_behind(
     alloc: Global,
     text: &mut String,

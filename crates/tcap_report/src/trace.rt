@@ -1,4 +1,4 @@
-//! A trace, judged dialogue by dialogue as it is read.
+//! Reads a trace and judges each of its dialogues as soon as no entry of it can follow.
 
 ghost use Rattle.std.specs.Io.KnownBytes.{IsAtEnd};
 ghost use Rattle.std.specs.Prelude.{◌≡◌, ◌⊎◌, ◌||◌, ◌≤◌, [], ◌∷◌, List, Some, cond, false, not, is_some, length, IfOk, OnOk};
@@ -31,56 +31,56 @@ use tcap_dialogues::{Cut, Gathered, HeadingView, Reuse};
 use tcap_record::{End, PIECE_LEN};
 use tcap_traces::Verdict;
 
-/// What is asked of a trace.
+/// The options for a trace.
 #[derive(Clone, Copy, Debug)]
 pub struct Asked<'a> {
     /// The name of the trace.
     pub name: &'a str,
-    /// The end whose verdicts are asked; both where it is none.
+    /// The end whose verdicts are asked, or None for both.
     pub of: Option<End>,
-    /// How transaction IDs may come again.
+    /// The rule for using transaction IDs again.
     pub reuse: Reuse,
-    /// Whether nothing of a dialogue was under way when one of its IDs came again.
+    /// True if none of a dialogue's messages is in transit when one of its IDs is used again.
     pub settled: bool,
-    /// Whether a dialogue that is open at the end of the trace, or at a quiet mark, is inconclusive.
+    /// True if a dialogue that is open at the end of the trace, or at a quiet mark, is inconclusive.
     pub complete: bool,
     /// The operation tables.
     pub book: &'a Book,
 }
 
-/// Who looks on while traces are read.
+/// An observer of progress while traces are read.
 pub trait Watch {
-    /// Some octets were read, or a dialogue was judged; that is the sum so far.
+    /// Called when some octets were read or a dialogue was judged, with the sum so far.
     fn look(&mut self, sum: &Sum);
 }
 
-/// A trace as it is read.
+/// The state of a trace that is being read.
 #[derive(Drop)]
 pub(crate) struct Trace<'a> {
     pub(crate) alloc: Global,
     pub(crate) asked: Asked<'a>,
     cut: Cut,
-    // The entries of the segment that are not judged, by their numbers in it.
+    // The entries of the segment that wait to be judged, by their numbers in the segment.
     pub(crate) held: BTreeMap<u64, Held>,
-    // How many entries the segment has, and the trace before it, quiet marks included.
+    // The number of entries of the segment and, in `before`, of the trace before the segment, quiet marks included.
     count: u64,
     pub(crate) before: u64,
     pub(crate) unread: Unread,
-    // The number in the segment of the first entry after the directive that says that dialogues may have been under way.
+    // The number in the segment of the first entry after the directive `under way`.
     pub(crate) under_way: Option<u64>,
     // The transaction IDs that were in use before the segment.
     pub(crate) marks: BeforeMarks,
-    // What the trace says of itself if it is broken off.
+    // The text to print if the trace says that it is broken off.
     pub(crate) broken_off: Option<String>,
     pub(crate) messages: u64,
-    // Those of which a kind can be read.
+    // The entries whose kind can be read.
     pub(crate) readable: u64,
     pub(crate) dialogues: Counts,
     pub(crate) unheard: u64,
 }
 
 impl<'a> Trace<'a> {
-    /// Of which nothing was read.
+    /// Creates the state before the first octet.
     pub(crate) fn new(alloc: Global, asked: Asked<'a>) -> Trace<'a>
         ensures between { IsBetween asked.entry result }
         ensures nothing { (result.readable ≡ 0) × (result.messages ≡ 0) × (result.unheard ≡ 0) × (result.dialogues ≡ no_counts) }
@@ -103,7 +103,7 @@ impl<'a> Trace<'a> {
         }
     }
 
-    /// An entry comes.
+    /// Takes an entry, and judges the dialogues whose IDs are free after it.
     fn enter<W: Write, J: Lines, P: Watch>(
         &mut self,
         octets: Vec<u8>,
@@ -137,7 +137,7 @@ impl<'a> Trace<'a> {
         self.judge_all(done, Behind::More, sinks)
     }
 
-    /// Counts an entry, of which that is read.
+    /// Counts an entry with this heading.
     fn note(&mut self, heading: HeadingView)
         ensures messages { self.new.messages ≡ more self.old.messages 1 }
         ensures readable { self.new.readable ≡ cond (is_some heading.entry.kind) (more self.old.readable 1) self.old.readable }
@@ -149,7 +149,7 @@ impl<'a> Trace<'a> {
         }
     }
 
-    /// The live dialogues of the stretch, which is over.
+    /// Returns the live dialogues of the segment, which has ended.
     fn finished(&mut self) -> Result<Vec<Gathered>, AllocError>
         ensures live { (reuse : Reusing) (headings : List Heading) → IsCut reuse headings self.old.cut
             → IfOk result (λ given. AreGathered (courses_so_far reuse headings).live given.items) }
@@ -162,7 +162,7 @@ impl<'a> Trace<'a> {
         Ok(given)
     }
 
-    /// What comes after a segment that ends: the quiet mark in that line, if there is one, or the end of the trace.
+    /// Returns what follows a segment that ends: the quiet mark in line `mark`, or the end of the trace.
     fn ending(&self, mark: Option<u64>) -> Behind
         ensures { is_fault result ≡ false }
     {
@@ -175,7 +175,7 @@ impl<'a> Trace<'a> {
         }
     }
 
-    /// The segment ends: by a quiet mark, of which that is the line, or with the trace.
+    /// Ends the segment, at the quiet mark in line `mark` or with the trace, and judges its live dialogues.
     fn end_stretch<W: Write, J: Lines, P: Watch>(
         &mut self,
         mark: Option<u64>,
@@ -194,7 +194,7 @@ impl<'a> Trace<'a> {
         Ok(())
     }
 
-    /// A quiet mark comes, in that line.
+    /// Takes a quiet mark in this line.
     fn pass_mark<W: Write, J: Lines, P: Watch>(
         &mut self,
         line: u64,
@@ -209,8 +209,8 @@ impl<'a> Trace<'a> {
         Ok(())
     }
 
-    /// A fault of its form ends the trace: the dialogues that are over are judged. Of the others more may have been to come, so only
-    /// those that fail are told.
+    /// Judges the live dialogues after a fault of the trace's form. Those that are not over may lack entries, so they
+    /// are reported only if they fail.
     fn judge_over<W: Write, J: Lines, P: Watch>(
         &mut self,
         sinks: &mut Sinks<W, J, P>,
@@ -222,7 +222,7 @@ impl<'a> Trace<'a> {
         self.judge_all(given, Behind::Fault, sinks)
     }
 
-    /// Judges these dialogues, one after the other.
+    /// Judges these dialogues, one after another.
     fn judge_all<W: Write, J: Lines, P: Watch>(
         &mut self,
         given: Vec<Gathered>,
@@ -239,7 +239,7 @@ impl<'a> Trace<'a> {
         Ok(())
     }
 
-    /// The entries of a dialogue, which are held no longer.
+    /// Takes the entries of a dialogue out of those that wait.
     pub(crate) fn taken(&mut self, gathered: &Gathered) -> Result<Vec<Held>, AllocError>
         ensures few { IfOk result (λ entries. length entries.items ≤ length gathered.now.numbers.items) }
         ensures rest { self.new ≡ record self.old { held = self.new.held } }
@@ -253,7 +253,7 @@ impl<'a> Trace<'a> {
         Ok(entries)
     }
 
-    /// Judges a dialogue, and says what is said of it.
+    /// Judges a dialogue and reports the verdict.
     fn judge<W: Write, J: Lines, P: Watch>(
         &mut self,
         gathered: Gathered,
@@ -268,8 +268,8 @@ impl<'a> Trace<'a> {
         self.tell(&case, &judged, sinks)
     }
 
-    /// Counts the verdict on a dialogue, and says what is said of it. If a fault ends the trace before the dialogue is over, that is done
-    /// of a fail alone.
+    /// Counts and reports the verdict on a dialogue. If a fault ends the trace before the dialogue is over, only a fail
+    /// is counted and reported.
     fn tell<W: Write, J: Lines, P: Watch>(
         &mut self,
         case: &Case,
@@ -302,7 +302,7 @@ impl<'a> Trace<'a> {
         }
     }
 
-    /// Reads the pieces that are held.
+    /// Takes each piece in the octets read so far.
     fn read_on<W: Write, J: Lines, P: Watch>(
         &mut self,
         entries: &mut Entries,
@@ -323,7 +323,7 @@ impl<'a> Trace<'a> {
         Ok(())
     }
 
-    /// Takes a piece.
+    /// Takes a piece of the trace.
     fn take_piece<W: Write, J: Lines, P: Watch>(
         &mut self,
         piece: Piece,
@@ -347,7 +347,9 @@ impl<'a> Trace<'a> {
         }
     }
 
-    /// Reads all.
+    /// Reads the trace to its end, and judges each of its dialogues.
+    ///
+    /// Returns `Halt::Form` if the trace's form has a fault or the reader fails, and `Halt::Stop` if the run stops.
     fn read_all<R: Read, W: Write, J: Lines, P: Watch>(
         &mut self,
         reader: &mut R,
@@ -380,7 +382,7 @@ impl<'a> Trace<'a> {
         Err(self.unreadable()?)
     }
 
-    /// The fault that it can't be read.
+    /// Returns the fault that the trace can't be read.
     fn unreadable(&self) -> Result<Halt, AllocError> {
         let mut text = String::new(self.alloc);
         text.push_str("it can't be read")?;
@@ -388,7 +390,8 @@ impl<'a> Trace<'a> {
     }
 }
 
-/// Returns whether a judged dialogue is told: if a fault ends the trace before it is over, only if it fails.
+/// Returns whether a judged dialogue is reported: always, unless a fault ends the trace before the dialogue is over and
+/// the dialogue does not fail.
 fn is_told(case: &Case, judged: &Judged) -> bool
     ensures { result ≡ not (is_fault case.now.behind) || is_fail judged.now.verdict }
 {
@@ -399,9 +402,13 @@ fn is_told(case: &Case, judged: &Judged) -> bool
     }
 }
 
-/// Judges each dialogue of the trace that `reader` tells, says of each one that does not pass why, and answers the verdict on the
-/// trace. A fault of its form ends the reading: the dialogues that are over by then are judged, and of the others those that fail are
-/// told.
+/// Judges each dialogue of the trace in `reader`, reports to `sinks`, and returns the verdict on the trace.
+///
+/// A fault of the trace's form ends the reading, and the verdict is an error. The dialogues that are over by then are
+/// reported; the others are reported only if they fail.
+///
+/// # Errors
+/// `Stop::Memory` if memory runs out, `Stop::Write` if a sink fails.
 pub fn run_trace<R: Read, W: Write, J: Lines, P: Watch>(
     alloc: Global,
     reader: &mut R,

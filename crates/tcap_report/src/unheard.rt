@@ -5,7 +5,7 @@ use crate::order::is_asked;
 use tcap_record::End;
 use tcap_traces::Said;
 
-/// Whether an end did not hear all that its peer sent, or sent nothing.
+/// Returns whether an end passes but missed a message of its peer, or sent nothing.
 fn is_silent(judged: &Judged, end: End, said: Said) -> bool {
     match said {
         Said::Pass(0) => sent_by(&judged.record, end) == 0,
@@ -14,7 +14,7 @@ fn is_silent(judged: &Judged, end: End, said: Said) -> bool {
     }
 }
 
-/// Whether one that is asked did, or did so.
+/// Returns whether this holds for an end that is asked.
 pub(crate) fn is_unheard(judged: &Judged, of: Option<End>) -> bool {
     match judged.ends {
         Some(ends) => [End::A, End::B].iter().any(|end| is_asked(of, *end)

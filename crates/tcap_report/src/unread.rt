@@ -1,20 +1,20 @@
-//! The entries of a segment of which nothing can be read.
+//! The entries of a segment whose kind and IDs can't be read.
 
 use std::alloc::{AllocError, Global};
 use tcap_dialogues::HeadingView;
 
-/// The numbers of the entries of a segment of which nothing can be read, as far as a dialogue may need them: of those between which no
-/// dialogue with IDs begins only the first is kept.
+/// The numbers of the unreadable entries of a segment, as far as a dialogue may need them: one for each run of entries
+/// in which no dialogue with IDs begins.
 #[derive(Drop)]
 pub(crate) struct Unread {
-    // In ascending order.
+    // Ascending.
     numbers: Vec<u64>,
-    // Whether a dialogue with IDs began after the last one of them, or there is none.
+    // Whether a dialogue with IDs began since the last of them, or there is none yet.
     has_begun: bool,
 }
 
 impl Unread {
-    /// Of a segment without entries.
+    /// Creates the list of a segment without entries.
     pub(crate) fn new(alloc: Global) -> Unread {
         Unread {
             numbers: Vec::new(alloc),
@@ -22,7 +22,7 @@ impl Unread {
         }
     }
 
-    /// The next entry comes, of that number. It may be the first of one more dialogue that has IDs.
+    /// Notes the next entry. `begins`: it is the first entry of a dialogue with IDs.
     pub(crate) fn note(
         &mut self,
         number: u64,
@@ -38,7 +38,7 @@ impl Unread {
         Ok(())
     }
 
-    /// Returns the number of the first one after an entry of that number, or the first of all.
+    /// Returns the first unreadable entry after entry `number`, or the first of all if there is no number.
     pub(crate) fn first_after(&self, number: Option<u64>) -> Option<u64> {
         let at = match number {
             Some(number) => self.numbers.partition_point(|other| *other <= number),

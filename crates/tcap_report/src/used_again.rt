@@ -1,4 +1,4 @@
-//! An ID that is used again where no ID is free: by `--ids once`.
+//! IDs that are used again under `--ids once`, which never frees an ID before a quiet mark.
 
 use crate::case::{Case, heading_of};
 use crate::words::line_of;
@@ -13,12 +13,12 @@ use tcap_record::{End, push_hex};
 struct Uses {
     /// All of them.
     named: BTreeSet<TransactionId>,
-    /// Those of a Begin that its peer has not answered.
+    /// The IDs of Begins that the peer has not answered.
     begun: BTreeSet<TransactionId>,
 }
 
 impl Uses {
-    /// None.
+    /// Creates the state before the first entry.
     fn new(alloc: Global) -> Uses {
         Uses {
             named: BTreeSet::new(alloc),
@@ -26,8 +26,8 @@ impl Uses {
         }
     }
 
-    /// Notes an entry of the end. Returns whether it is a Begin, or a Continue that accepts the peer's Begin, from an ID that an earlier
-    /// entry has.
+    /// Notes an entry of the end. Returns whether it begins or accepts a transaction from an ID that an earlier entry
+    /// carries.
     fn note(&mut self, peer: &mut Uses, heading: HeadingView) -> Result<bool, AllocError> {
         let mut accepts = false;
         if let Some(dtid) = heading.dtid {
@@ -46,8 +46,8 @@ impl Uses {
     }
 }
 
-/// Returns the number in the dialogue of the first entry after the dialogue was over that begins or accepts a transaction from an ID
-/// which an earlier entry has.
+/// Returns the number in the dialogue of the first entry that uses an ID again. It comes after an End or an Abort, and
+/// begins or accepts a transaction from an ID that an earlier entry carries.
 fn used_again(alloc: Global, case: &Case) -> Result<Option<u64>, AllocError> {
     let mut a = Uses::new(alloc);
     let mut b = Uses::new(alloc);
@@ -68,7 +68,7 @@ fn used_again(alloc: Global, case: &Case) -> Result<Option<u64>, AllocError> {
     Ok(None)
 }
 
-/// Appends, by `--ids once`, which ID is used again in a dialogue that was over, if one is.
+/// Appends, under `--ids once`, which ID is used again after the dialogue was over, if one is.
 pub(crate) fn push_used_again(
     alloc: Global,
     text: &mut String,

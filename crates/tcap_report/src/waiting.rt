@@ -1,4 +1,4 @@
-//! What an open dialogue waits for.
+//! The answers that an open dialogue waits for.
 
 use crate::case::Judged;
 use std::alloc::{AllocError, Global};
@@ -7,30 +7,30 @@ use tcap_msg::{Kind as Form, Message, MessageParts};
 use tcap_parts::ComponentView;
 use tcap_record::{Body, End, Entry};
 
-/// So many things are told that it waits for.
+/// The most answers that are listed.
 const MOST: usize = 8;
 
-/// An answer that is waited for.
+/// An answer that the dialogue waits for.
 #[derive(Clone, Copy, PartialEq, Eq)]
 struct Wait {
-    /// The end that is to answer.
+    /// The end that has to answer.
     of: End,
-    /// The entry of what it is to answer.
+    /// The number of the entry to answer.
     entry: usize,
-    /// The invocation of that ID in the entry; where there is none, the Begin.
+    /// The ID of the invocation to answer; None if the Begin is to be answered.
     invocation: Option<i8>,
 }
 
-/// What an end sent behind an entry.
+/// The answers that an end sent after an entry.
 #[derive(Drop)]
 struct Answers {
-    /// Something.
+    /// True if it sent a message.
     any: bool,
-    /// Answers to invocations of these IDs.
+    /// The IDs of the invocations that it answered.
     answered: Vec<i8>,
 }
 
-/// The message of an entry and its sender, where it is one.
+/// Returns the sender and the message of an entry, if it has both.
 fn sent(entry: &Entry) -> Option<(End, &Message)> {
     match (entry.side, &entry.body) {
         (Some(end), Body::Good(message)) => Some((end, message)),
@@ -38,7 +38,7 @@ fn sent(entry: &Entry) -> Option<(End, &Message)> {
     }
 }
 
-/// The ID of an invocation that a component answers for good.
+/// Returns the ID of the invocation to which a component is the last answer.
 fn answered_by(component: ComponentView) -> Option<i8> {
     match component {
         ComponentView::ReturnResult { last: true, id, .. }
@@ -49,7 +49,7 @@ fn answered_by(component: ComponentView) -> Option<i8> {
 }
 
 impl Answers {
-    /// None.
+    /// Creates the state of an end that sent nothing.
     fn new(alloc: Global) -> Answers {
         Answers {
             any: false,
@@ -57,7 +57,7 @@ impl Answers {
         }
     }
 
-    /// A message more, before the others.
+    /// Notes a message that comes before those noted so far.
     fn note(&mut self, message: &Message) -> Result<(), AllocError> {
         self.any = true;
         for component in message.components() {
@@ -71,7 +71,8 @@ impl Answers {
     }
 }
 
-/// The invocation that a component is, by its ID, of a class that reports both success and failure (1), so that an answer comes.
+/// Returns the ID of an Invoke whose operation is of class 1. Such an operation reports both success and failure (Q.771
+/// 3.1), so an answer has to come.
 fn asking(judged: &Judged, component: ComponentView) -> Option<i8> {
     let ComponentView::Invoke { id, code, .. } = component else {
         return None;
@@ -82,7 +83,8 @@ fn asking(judged: &Judged, component: ComponentView) -> Option<i8> {
     }
 }
 
-/// What the message of an entry waits for of the end that receives it, which sent that behind it.
+/// Returns the answers that the end `of` owes to the message of an entry. `behind` is what that end sent after the
+/// entry.
 fn waits_of(
     alloc: Global,
     judged: &Judged,
@@ -112,7 +114,7 @@ fn waits_of(
     Ok(waits)
 }
 
-/// What is waited for of both ends, the last first.
+/// Returns the answers that both ends owe, the last first.
 fn all_waits(alloc: Global, judged: &Judged) -> Result<Vec<Wait>, AllocError> {
     let mut waits = Vec::new(alloc);
     let mut by_a = Answers::new(alloc);
@@ -136,7 +138,7 @@ fn all_waits(alloc: Global, judged: &Judged) -> Result<Vec<Wait>, AllocError> {
     Ok(waits)
 }
 
-/// Appends one thing that it waits for; where no answer is waited for, that it ends.
+/// Appends one answer that the dialogue waits for; without one, that it waits for its end.
 fn push_wait(text: &mut String, wait: Option<Wait>) -> Result<(), AllocError> {
     let Some(
         Wait {
@@ -156,14 +158,15 @@ fn push_wait(text: &mut String, wait: Option<Wait>) -> Result<(), AllocError> {
     }
 }
 
-/// Appends a line with one thing that it waits for.
+/// Appends a line with one answer that the dialogue waits for.
 fn push_line(text: &mut String, wait: Option<Wait>) -> Result<(), AllocError> {
     text.push_str("  ")?;
     push_wait(text, wait)?;
     text.push_str("\n")
 }
 
-/// Appends what it waits for, of both ends: answers to Begins and to invocations of class 1; or else that it ends.
+/// Appends the answers that both ends owe, to Begins and to invocations of class 1. If there are none, the dialogue
+/// waits for its end.
 pub(crate) fn push_waiting(
     alloc: Global,
     text: &mut String,
@@ -184,7 +187,7 @@ pub(crate) fn push_waiting(
     Ok(())
 }
 
-/// Appends the first thing that it waits for.
+/// Appends the first answer that the dialogue waits for.
 pub(crate) fn push_first_wait(
     alloc: Global,
     text: &mut String,

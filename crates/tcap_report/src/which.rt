@@ -1,5 +1,7 @@
-//! Which fault of its kind it is: what an answer answers, and what it names (F6); which invocations an Invoke, an answer or a Reject is
-//! compared with (F10 to F13); what is wrong with a dialogue portion (F9).
+//! Details of a fault, in words. F6: the operations that an answer answers and names. F9: what is wrong with a dialogue
+//! portion. F10 to F13: the invocations that an Invoke, an answer or a Reject is compared with.
+//!
+//! Each function returns `AllocError` if memory runs out.
 
 use crate::case::Judged;
 use std::alloc::AllocError;
@@ -11,19 +13,19 @@ use tcap_parts::{CodeView, ComponentView, DialogueView};
 use tcap_record::{Body, Entry, Record, push_hex};
 use tcap_refute::{Kind, Refutation};
 
-/// So many invocations of an ID are named.
+/// The most invocations of an ID that are listed.
 const MOST: usize = 8;
 
-/// An answer.
+/// A component that answers an invocation.
 #[derive(Clone, Copy)]
 struct Answer<'a> {
-    /// Whether it is a Return Result; else it is a Return Error.
+    /// True for a Return Result, false for a Return Error.
     is_result: bool,
     /// The operation that a Return Result names.
     named: Option<CodeView<'a>>,
 }
 
-/// The answer that a component is, where it is one.
+/// Returns the answer in a component, if it is a Return Result or a Return Error.
 fn answer_in(component: ComponentView) -> Option<Answer> {
     match component {
         ComponentView::ReturnResult { body, .. } => Some(Answer {
@@ -41,7 +43,8 @@ fn answer_in(component: ComponentView) -> Option<Answer> {
     }
 }
 
-/// What an answer is that operations of a class do not allow; nothing where they allow it (Q.771 3.1).
+/// Returns words on an answer that the class of its operation does not allow, or an empty text if the class allows it
+/// (Q.771 3.1).
 fn not_allowed(class: u8, is_result: bool) -> &'static str {
     match (reports(is_result, class), is_result) {
         (true, _) => "",
@@ -50,7 +53,7 @@ fn not_allowed(class: u8, is_result: bool) -> &'static str {
     }
 }
 
-/// Appends an operation, by its name too where the table has one.
+/// Appends an operation code, after the operation's name if the table has one.
 fn push_operation(text: &mut String, table: &NamedTable, code: CodeView) -> Result<(), AllocError> {
     if let Some(name) = table.name_of(code) {
         text.push_str(name)?;
@@ -62,7 +65,7 @@ fn push_operation(text: &mut String, table: &NamedTable, code: CodeView) -> Resu
     }
 }
 
-/// Appends an invocation of that ID: its entry, its operation, by its name too where the table has one, and its class.
+/// Appends an invocation of `id`: its entry, its operation and its class.
 fn push_invocation(
     text: &mut String,
     table: &NamedTable,
@@ -79,8 +82,8 @@ fn push_invocation(
     }
 }
 
-/// Appends what an answer is that the operation of an invocation does not allow, where one of its ID is at fault; else what the
-/// invocation is linked to.
+/// Appends what is wrong with the answer at fault, if there is one; else the ID that the invocation is linked to, if
+/// any.
 fn push_behind(
     text: &mut String,
     invocation: &Invocation,
@@ -94,8 +97,8 @@ fn push_behind(
     }
 }
 
-/// Appends the invocations whose operations and links a fault rests on, the first ones, and how many more there are; of F6, by the answer
-/// at fault.
+/// Appends the first `MOST` invocations that a fault rests on, and how many more there are. `answer` is the answer at
+/// fault of F6.
 fn push_invocations(
     text: &mut String,
     table: &NamedTable,
@@ -119,7 +122,7 @@ fn push_invocations(
     Ok(())
 }
 
-/// F6: appends what an answer answers, and what it names.
+/// Appends, for F6, the invocations that an answer answers and the operation that it names.
 fn push_answered(
     text: &mut String,
     table: &NamedTable,
@@ -135,7 +138,8 @@ fn push_answered(
     Ok(())
 }
 
-/// Appends what a Unidirectional invokes, which is not of class 4; nothing of what the table lacks.
+/// Appends the operation that a Unidirectional invokes and its class, which is not 4. Appends nothing if the table
+/// lacks the operation.
 fn push_of_unidirectional(
     text: &mut String,
     table: &NamedTable,
@@ -152,7 +156,7 @@ fn push_of_unidirectional(
     )
 }
 
-/// F6: appends which operations are meant.
+/// Appends, for F6, the operations that the fault is about.
 fn push_operations(
     text: &mut String,
     table: &NamedTable,
@@ -171,7 +175,7 @@ fn push_operations(
     }
 }
 
-/// F9: what is wrong with the dialogue portion of a message, in words. An AARE that is no answer to an AARQ is F7.
+/// Returns words on what is wrong with a dialogue portion (F9). An AARE that does not answer an AARQ is F7.
 fn dialogue_words(message: &Message) -> &'static str {
     match (message.kind(), message.dialogue()) {
         (Form::Continue | Form::End, None) => {
@@ -187,7 +191,7 @@ fn dialogue_words(message: &Message) -> &'static str {
     }
 }
 
-/// The message of that entry, where it is one.
+/// Returns the message in entry `number`, if it is one.
 fn message_at(record: &Record, number: u64) -> Option<&Message> {
     match record.entries.get(number as usize) {
         Some(
@@ -200,12 +204,12 @@ fn message_at(record: &Record, number: u64) -> Option<&Message> {
     }
 }
 
-/// The component of that number.
+/// Returns the component with this number, counted from 0.
 fn component_at(message: &Message, number: Option<u64>) -> Option<ComponentView<'_>> {
     message.components().nth(number? as usize)
 }
 
-/// Appends which fault of its kind it is, where more can be said than what shows it.
+/// Appends which fault of its kind this is, if there is more to say than the evidence.
 pub(crate) fn push_which(
     text: &mut String,
     judged: &Judged,

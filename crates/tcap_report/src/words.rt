@@ -1,4 +1,6 @@
-//! Words for what is said.
+//! Words for results and doubts.
+//!
+//! Each function that returns `AllocError` does so if memory runs out.
 
 use crate::case::{Behind, Case};
 use crate::used_again::push_used_again;
@@ -9,7 +11,7 @@ use tcap_parts::DialogueView;
 use tcap_record::{End, push_hex};
 use tcap_traces::{Doubt, Said};
 
-/// The application context name that a message's dialogue portion has.
+/// Returns the application context name in a message's dialogue portion, if it has one.
 pub(crate) fn context_in(alloc: Global, message: &Message) -> Result<Option<Vec<u8>>, AllocError> {
     let found = match message.dialogue() {
         Some(
@@ -24,11 +26,11 @@ pub(crate) fn context_in(alloc: Global, message: &Message) -> Result<Option<Vec<
     Ok(Some(octets))
 }
 
-/// That a dialogue may have begun before its trace, in words.
+/// The words for a dialogue that may have begun before its trace.
 const UNDER_WAY: &str =
     "its first message goes to an ID that was never sent in the trace: dialogues may have been under way when it began";
 
-/// Appends that the quiet mark before a dialogue may have come too early, and why.
+/// Appends that the quiet mark before a dialogue may have come too early, and the ID that suggests it.
 fn push_early_mark(text: &mut String, case: &Case) -> Result<(), AllocError> {
     text.push_str("the quiet mark before this dialogue may have come too early")?;
     let Some(in_use) = &case.in_use else {
@@ -41,7 +43,7 @@ fn push_early_mark(text: &mut String, case: &Case) -> Result<(), AllocError> {
     text.push_str(" was in use before it")
 }
 
-/// Appends that an ID of a dialogue came again, and which dialogue had it.
+/// Appends that an earlier dialogue had an ID of this one, and which dialogue.
 fn push_came_again(text: &mut String, case: &Case) -> Result<(), AllocError> {
     text.push_str(
         "an ID of the dialogue was one of an earlier one, of which a message may have been under way",
@@ -74,7 +76,7 @@ pub(crate) fn push_doubt(
     push_used_again(alloc, text, case)
 }
 
-/// Appends what is said of an end that is undecided; nothing of the others.
+/// Appends why an end is undecided. `said` is neither a pass nor a blame.
 pub(crate) fn push_said(
     alloc: Global,
     text: &mut String,
@@ -91,7 +93,7 @@ pub(crate) fn push_said(
     push_used_again(alloc, text, case)
 }
 
-/// What makes a blame inconclusive, in words; nothing of what has others for each dialogue.
+/// Returns the words for a doubt, or no words if they differ from dialogue to dialogue.
 fn doubt_words(doubt: Doubt) -> &'static str {
     match doubt {
         Doubt::UnderWay => UNDER_WAY,
@@ -108,7 +110,7 @@ fn doubt_words(doubt: Doubt) -> &'static str {
     }
 }
 
-/// What is said of an end that is undecided, in words; nothing of the others, and of what has others for each dialogue.
+/// Returns the words for an undecided end, or no words if they differ from dialogue to dialogue.
 fn undecided_words(said: Said) -> &'static str {
     match said {
         Said::Undecided =>
@@ -125,7 +127,7 @@ fn undecided_words(said: Said) -> &'static str {
     }
 }
 
-/// Appends the line of a hint, where there is one.
+/// Appends the line of a hint, if there is one.
 pub(crate) fn push_hint(text: &mut String, hint: Option<&str>) -> Result<(), AllocError> {
     let Some(hint) = hint else {
         return Ok(());
@@ -135,7 +137,7 @@ pub(crate) fn push_hint(text: &mut String, hint: Option<&str>) -> Result<(), All
     text.push_str("\n")
 }
 
-/// The IDs of an end.
+/// Returns the IDs of an end.
 pub(crate) fn ids_of(case: &Case, end: End) -> &BTreeSet<TransactionId> {
     match end {
         End::A => &case.gathered.a,
@@ -143,7 +145,7 @@ pub(crate) fn ids_of(case: &Case, end: End) -> &BTreeSet<TransactionId> {
     }
 }
 
-/// Appends the IDs of an end, each behind a blank.
+/// Appends the IDs of an end, each after a space.
 pub(crate) fn push_ids(text: &mut String, case: &Case, end: End) -> Result<(), AllocError> {
     for id in ids_of(case, end) {
         text.push_str(" ")?;
@@ -152,7 +154,7 @@ pub(crate) fn push_ids(text: &mut String, case: &Case, end: End) -> Result<(), A
     Ok(())
 }
 
-/// The line of an entry of a dialogue; 0 where it has none.
+/// Returns the line number of an entry of a dialogue, or of the quiet mark after it; 0 if there is none.
 pub(crate) fn line_of(case: &Case, entry: u64) -> u64 {
     match case.entries.get(entry as usize) {
         Some(held) => held.line,
@@ -163,7 +165,7 @@ pub(crate) fn line_of(case: &Case, entry: u64) -> u64 {
     }
 }
 
-/// The comment above it, as text.
+/// Returns the comment above an entry, as text.
 pub(crate) fn comment_of(alloc: Global, case: &Case, entry: u64) -> Result<String, AllocError> {
     match case.entries.get(entry as usize) {
         Some(held) => String::from_utf8_lossy(alloc, &held.comment),

@@ -1,4 +1,4 @@
-//! The word `explain`: a verdict, why it is so, and a chart of the run.
+//! The subcommand `explain`: a verdict, its reasons, and a chart of the run.
 
 use crate::opening::{is_fault, is_same, status_of, tell};
 use crate::source::Source;
@@ -8,7 +8,7 @@ use tcap_diagnostics::{Noted, Role};
 use tcap_explain::{Asked, run_explain, run_explain_check};
 use tcap_lines::{Status, WriteFailed};
 
-/// The paths that are named.
+/// The paths on the command line.
 #[derive(Clone, Copy)]
 pub(crate) struct Paths<'a> {
     pub(crate) entries: &'a str,
@@ -17,8 +17,8 @@ pub(crate) struct Paths<'a> {
     pub(crate) chart: Option<&'a str>,
 }
 
-/// Writes the chart to the file of that path, where there is one of either, and answers how the run ends: a chart that could not
-/// be written is a fault.
+/// Writes the chart to the file with this path, if there are both, and returns the exit status. A chart that can't be
+/// written is a fault.
 fn finish(
     rt: &HostRuntime,
     path: Option<&str>,
@@ -40,7 +40,7 @@ fn finish(
     }
 }
 
-/// Explains the verdict on a record by searching for a certificate.
+/// Explains the verdict on a record, with a certificate that is searched for. Returns the exit status.
 fn explained(
     rt: &HostRuntime,
     entries: &mut Noted<Source>,
@@ -59,7 +59,7 @@ fn explained(
     finish(rt, paths.chart, &chart, ended)
 }
 
-/// Explains what the certificate of the file `path` shows of a record.
+/// Explains what the certificate in the file `path` shows of a record. Returns the exit status.
 fn explained_check(
     rt: &HostRuntime,
     entries: &mut Noted<Source>,
@@ -89,7 +89,7 @@ fn explained_check(
     finish(rt, paths.chart, &chart, ended)
 }
 
-/// Whether the file of the chart is one of those that are read.
+/// Returns whether the file of the chart is one of the input files.
 fn is_overwritten(rt: &HostRuntime, paths: Paths) -> bool {
     let Some(chart) = paths.chart else {
         return false;
@@ -103,9 +103,11 @@ fn is_overwritten(rt: &HostRuntime, paths: Paths) -> bool {
     }
 }
 
-/// Explains the verdict on the record of the file `paths.entries`, by the table of the file `paths.table`. The files are opened in the
-/// order in which they are read: the table, the record, the certificate. If the chart would take the place of one of these files,
-/// nothing is read, and standard error says so. Returns the exit status.
+/// Explains the verdict on the record in the file `paths.entries`, by the table in the file `paths.table`. Returns the
+/// exit status.
+///
+/// The files are opened in the order in which they are read: the table, the record, the certificate. If the chart would
+/// overwrite one of them, nothing is read, and standard error says so.
 pub(crate) fn explain(rt: &HostRuntime, paths: Paths, asked: Asked) -> u8 {
     if is_overwritten(rt, paths) {
         let _ = eprintln!(rt; "error: the chart would be written over a file that is read");

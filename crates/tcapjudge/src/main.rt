@@ -1,5 +1,5 @@
-//! The program `tcapjudge`: its words, its files and standard streams, and its exit status. What it does stands in
-//! the library `tcap_judge`.
+//! The program `tcapjudge`: its command line, its files and standard streams, and its exit status. Other crates do the
+//! work.
 #![tactic(auto)]
 
 mod explaining;
@@ -29,27 +29,27 @@ use tcap_explain::Asked;
 use tcap_lines::{MEMORY_LINE, Status, WriteFailed, run_pack, run_show};
 use tcap_words::{Request, WordsFault, request};
 
-/// The exit status where a word of the command is not text, so that it is not for `clap` to say.
+/// The exit status if a word of the command line is not text, which `clap` cannot report.
 const NO_TEXT: u8 = 4;
 
-/// What is done with the octets of one file.
+/// A task for the octets of one file.
 #[derive(Clone, Copy)]
 enum Task {
-    /// They are a record, of which the entries are printed.
+    /// Print the entries of a record.
     Show,
-    /// The same, and it is said in words why an entry or the record is refused.
+    /// Print the entries of a record, and explain why an entry or the record is refused.
     Why,
-    /// They are lines of hex digits, of which a record is made.
+    /// Make a record from lines of hexadecimal digits.
     Pack,
-    /// They are such lines, of which the record's entries are printed; and whether it is said why one is refused.
+    /// Print the entries of such lines. If true, explain why an entry or the record is refused.
     Lines(bool),
-    /// They are an operation table, or a book of them, of which the rows are printed.
+    /// Print the rows of an operation table or of a table set.
     Table,
-    /// The rows of the book that the program carries are printed, and nothing is read.
+    /// Print the rows of the table set that the program carries; nothing is read.
     Carried,
 }
 
-/// Asks what the words behind the program's name ask for, and does it.
+/// Parses the command line and runs the request. Returns the exit status.
 fn run(rt: &HostRuntime) -> io::Result<u8> {
     let alloc = rt.alloc();
     let args = match env::args(rt) {
@@ -76,7 +76,7 @@ fn run(rt: &HostRuntime) -> io::Result<u8> {
     }
 }
 
-/// Does what is asked for.
+/// Runs a request.
 fn answer(rt: &HostRuntime, request: Request) -> io::Result<u8> {
     match request {
         Request::Show(path, why, true) => over_path(rt, Task::Lines(why), path),
@@ -115,7 +115,7 @@ fn answer(rt: &HostRuntime, request: Request) -> io::Result<u8> {
     }
 }
 
-/// Does the task over the file with this path; if there is no path, over the standard input.
+/// Runs a task over the file with this path, or over the standard input if there is no path.
 fn over_path(rt: &HostRuntime, task: Task, path: Option<&str>) -> io::Result<u8> {
     let source = match path {
         Some(path) => Source::open(rt, path),
@@ -124,8 +124,8 @@ fn over_path(rt: &HostRuntime, task: Task, path: Option<&str>) -> io::Result<u8>
     over(rt, task, path, source)
 }
 
-/// Prints the rows of the table, or of the book of tables, in the file with this path; if there is no path, of the book that the
-/// program carries.
+/// Prints the rows of the table or the table set in the file with this path. Without a path, prints those of the set that
+/// the program carries.
 fn show_table(rt: &HostRuntime, path: Option<&str>) -> io::Result<u8> {
     let task = match path {
         Some(_) => Task::Table,
@@ -134,7 +134,7 @@ fn show_table(rt: &HostRuntime, path: Option<&str>) -> io::Result<u8> {
     over_path(rt, task, path)
 }
 
-/// Says that there is no memory, where faults of the task go.
+/// Reports a lack of memory on the stream that takes the task's faults.
 fn no_memory(rt: &HostRuntime, task: Task) -> io::Result<u8> {
     match task {
         Task::Pack => eprint!(rt; "{MEMORY_LINE}")?,
@@ -143,7 +143,7 @@ fn no_memory(rt: &HostRuntime, task: Task) -> io::Result<u8> {
     Ok(Status::Fault.number())
 }
 
-/// Does the task with what `source` reads: the file with this path, or the standard input. Returns the exit status.
+/// Runs a task over `source`: the file with this path, or the standard input. Returns the exit status.
 fn over(rt: &HostRuntime, task: Task, path: Option<&str>, source: Source) -> io::Result<u8> {
     let Ok(buffer) = BufWriter::new(rt.alloc(), io::writer(rt)) else {
         return no_memory(rt, task);
@@ -152,19 +152,19 @@ fn over(rt: &HostRuntime, task: Task, path: Option<&str>, source: Source) -> io:
     let faults = Counted::new(rt.stderr());
     let noted = Noted::new(rt.alloc(), source);
     let ended = done(rt.alloc(), task, path, noted, &mut writer, faults);
-    // Where standard error takes nothing, what was packed goes out all the same.
+    // A failure of standard error does not keep the packed record from being written.
     let is_written = writer.failures() == 0 && writer.flush().is_ok();
     let status = match ended {
         Ok(status) if is_written => status,
         _ => Status::Fault,
     };
-    // Behind a failure nothing more is written: what the buffer still holds is dropped.
+    // Nothing is written after a failure, so drop what the buffer still holds.
     let _ = writer.into_inner().into_parts();
     Ok(status.number())
 }
 
-/// Does the task with what `reader` reads, and says after a fault what else is known: which rule a line of digits breaks, and what
-/// the octets look like where they are not what they are given as.
+/// Runs a task over `reader`. After a fault, also writes the rule that a line of digits breaks, and a hint if the
+/// octets look like another kind of file.
 fn done<W: Write, F: Write + Drop>(
     alloc: Global,
     task: Task,
@@ -199,7 +199,8 @@ fn done<W: Write, F: Write + Drop>(
     }
 }
 
-/// Behind a fault `faults` is told what the file of that path, or the standard input, looks like, where it is not what it is given as.
+/// After a fault, writes to `faults` what the file with this path, or the standard input, looks like, if that does not
+/// fit its role.
 fn hint<F: Write>(
     status: Status,
     role: Role,
@@ -213,7 +214,7 @@ fn hint<F: Write>(
     Ok(status)
 }
 
-/// Makes a record of lines; behind the fault of a line `faults` is told which rule it breaks.
+/// Makes a record of lines. After the fault of a line, writes to `faults` the rule that the line breaks.
 fn make_record<W: Write, F: Write + Drop>(
     alloc: Global,
     path: Option<&str>,

@@ -1,4 +1,4 @@
-//! Files that are read, and what is said of those that were given by mistake.
+//! Input files, and hints on files that were given by mistake.
 
 use crate::source::Source;
 use std::fs;
@@ -8,10 +8,10 @@ use tcap_ber::{Counted, Read};
 use tcap_diagnostics::{Noted, Role, write_code_hints, write_hint};
 use tcap_lines::{Status, WriteFailed};
 
-/// So many octets of a file are looked at.
+/// The number of octets of a file that a hint looks at.
 const LOOKED_AT: usize = 512;
 
-/// Whether that path is a directory's.
+/// Returns whether a path is that of a directory.
 pub(crate) fn is_folder(rt: &HostRuntime, path: &str) -> bool {
     match fs::metadata(rt, path) {
         Ok(found) => found.is_dir(),
@@ -19,7 +19,7 @@ pub(crate) fn is_folder(rt: &HostRuntime, path: &str) -> bool {
     }
 }
 
-/// Whether that path is that of a plain file, of which reading waits for nobody.
+/// Returns whether a path is that of a plain file, which can be read without waiting.
 pub(crate) fn is_plain(rt: &HostRuntime, path: &str) -> bool {
     match fs::metadata(rt, path) {
         Ok(found) => found.is_file(),
@@ -27,12 +27,12 @@ pub(crate) fn is_plain(rt: &HostRuntime, path: &str) -> bool {
     }
 }
 
-/// Whether these are of one file: its number on its device is the same.
+/// Returns whether these are one file: the same device and inode.
 fn is_one(one: &Metadata, other: &Metadata) -> bool {
     one.dev() == other.dev() && one.ino() == other.ino()
 }
 
-/// Whether two paths are those of one file, by whatever links.
+/// Returns whether two paths lead to one file, through any links.
 pub(crate) fn is_same(rt: &HostRuntime, one: &str, other: &str) -> bool {
     if one == other {
         return true;
@@ -43,8 +43,8 @@ pub(crate) fn is_same(rt: &HostRuntime, one: &str, other: &str) -> bool {
     }
 }
 
-/// Behind a line of fault, says on standard error what the file of that path looks like, where it is not what it is given as. Of a
-/// plain file of which nothing was read the first octets are read for it.
+/// Writes on standard error, after a fault, what the file with this path looks like, if that does not fit its role. If
+/// nothing of a plain file was read yet, reads its first octets.
 pub(crate) fn tell(rt: &HostRuntime, role: Role, path: &str, reader: &mut Noted<Source>) {
     if reader.first().is_empty() && is_plain(rt, path) {
         let mut piece = [0; LOOKED_AT];
@@ -53,24 +53,24 @@ pub(crate) fn tell(rt: &HostRuntime, role: Role, path: &str, reader: &mut Noted<
     tell_text(rt, role, path, reader.first());
 }
 
-/// The same of a file that begins with these octets.
+/// Writes on standard error what a file that begins with these octets looks like, if that does not fit its role.
 pub(crate) fn tell_text(rt: &HostRuntime, role: Role, path: &str, octets: &[u8]) {
     let mut faults = Counted::new(rt.stderr());
     let _ = write_hint(role, Some(path), octets, &mut faults);
 }
 
-/// Says on standard error which codes of the table of that path may be meant as numbers.
+/// Writes hints on the codes of the table with this path to standard error.
 pub(crate) fn tell_codes(rt: &HostRuntime, path: &str, table: &[u8]) {
     let mut faults = Counted::new(rt.stderr());
     let _ = write_code_hints(rt.alloc(), path, table, &mut faults);
 }
 
-/// Whether a run ended with a line of fault.
+/// Returns whether a run ended with a fault.
 pub(crate) fn is_fault(ended: &Result<Status, WriteFailed>) -> bool {
     matches!(ended, Ok(Status::Fault))
 }
 
-/// The exit status of a run.
+/// Returns the exit status of a run.
 pub(crate) fn status_of(ended: Result<Status, WriteFailed>) -> u8 {
     match ended {
         Ok(status) => status.number(),

@@ -1,4 +1,4 @@
-//! The files that `test` writes, and that none of them is one that it reads, or another one that it writes.
+//! The output files of `test`. None of them may be a file that it reads, or another output file.
 
 use crate::opening::{is_plain, is_same};
 use crate::writing::Output;
@@ -7,16 +7,16 @@ use std::fs::File;
 use tcap_report::Stop;
 use tcap_words::Test;
 
-/// The path of standard input.
+/// The path of the standard input.
 pub(crate) const INPUT: &str = "/dev/stdin";
 
-/// That of standard output.
+/// The path of the standard output.
 const PRINTED: &str = "/dev/stdout";
 
-/// That of standard error.
+/// The path of the standard error.
 const FAULTS: &str = "/dev/stderr";
 
-/// The files that it goes to.
+/// The output files.
 #[derive(Drop)]
 pub(crate) struct Outputs {
     pub(crate) json: Option<Output>,
@@ -24,7 +24,8 @@ pub(crate) struct Outputs {
     pub(crate) junit: Option<Output>,
 }
 
-/// A file in the place of a standard stream, where that is closed. It can't be written, as the stream can't.
+/// Opens a file in the place of a standard stream, if the stream is closed. The file is read-only, so it cannot be
+/// written either.
 fn stand_in(rt: &HostRuntime, stream: &str) -> Option<File> {
     match fs::metadata(rt, stream) {
         Ok(_) => None,
@@ -32,7 +33,8 @@ fn stand_in(rt: &HostRuntime, stream: &str) -> Option<File> {
     }
 }
 
-/// Files in the place of the standard streams that are closed: while these are there, no file that is opened is taken for a stream.
+/// Opens files in the place of the standard streams that are closed. While they are open, no other file is taken for a
+/// stream.
 pub(crate) fn stand_ins(rt: &HostRuntime) -> [Option<File>; 3] {
     [
         stand_in(rt, INPUT),
@@ -41,12 +43,13 @@ pub(crate) fn stand_ins(rt: &HostRuntime) -> [Option<File>; 3] {
     ]
 }
 
-/// Whether a standard stream is the plain file of that path. A terminal may be both.
+/// Returns whether a standard stream is the plain file with this path. A terminal does not count: a stream and an output
+/// may share it.
 fn is_stream(rt: &HostRuntime, stream: &str, path: &str) -> bool {
     is_plain(rt, stream) && is_same(rt, stream, path)
 }
 
-/// Whether the trace of a path is read from the file of another one.
+/// Returns whether the trace is read from the file `path`.
 fn is_trace(rt: &HostRuntime, trace: &str, path: &str) -> bool {
     match trace {
         "-" => is_stream(rt, INPUT, path),
@@ -54,7 +57,7 @@ fn is_trace(rt: &HostRuntime, trace: &str, path: &str) -> bool {
     }
 }
 
-/// The path of what is read from the file of that path, or is written to it too; `written` are the paths that were looked at.
+/// Returns the path of an input, or of an earlier output in `written`, that is the file `path`.
 fn taken_by<'a>(
     rt: &HostRuntime,
     test: &Test<'a>,
@@ -84,7 +87,7 @@ fn taken_by<'a>(
     None
 }
 
-/// Says on standard error that the file of a path is not written, since it is that of the other one.
+/// Reports on standard error that a file is not written, because it is the file `other`.
 fn tell_overwritten(rt: &HostRuntime, path: &str, other: &str) {
     let _ = eprint!(rt;
         "error: what is said would be written over a file that is read, or twice into one: {path}"
@@ -95,7 +98,7 @@ fn tell_overwritten(rt: &HostRuntime, path: &str, other: &str) {
     let _ = eprintln!(rt; "");
 }
 
-/// Whether a file that is written is one of those that are read, or two of them are one. Standard error says which.
+/// Returns whether an output file is an input file or another output file. Standard error says which.
 fn is_overwritten(rt: &HostRuntime, test: &Test) -> bool {
     let written = [test.json, test.junit, test.html];
     for (number, path) in written.iter().enumerate() {
@@ -110,15 +113,15 @@ fn is_overwritten(rt: &HostRuntime, test: &Test) -> bool {
     false
 }
 
-/// Makes a file empty that could be opened.
+/// Empties a file, if it was opened.
 fn emptied(rt: &HostRuntime, opened: Result<Option<Output>, Stop>) -> Result<Option<Output>, Stop> {
     Output::emptied(rt, opened?)
 }
 
 impl Outputs {
-    /// Opens the files, and makes all empty that can be opened, if none is another one or one that is read. That is asked before, and
-    /// once more when they are all there, since two paths of a file that is missing are told apart no sooner. Standard error says what
-    /// is wrong.
+    /// Opens the output files and empties all that could be opened, if each is a file of its own. Two paths of one
+    /// missing file look different, so this is checked again when all files exist. If this fails, standard error says
+    /// why.
     pub(crate) fn open(rt: &HostRuntime, test: &Test) -> Result<Outputs, Stop> {
         if is_overwritten(rt, test) {
             return Err(Stop::Write);

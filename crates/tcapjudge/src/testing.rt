@@ -1,4 +1,4 @@
-//! The word `test`: each dialogue of traces is judged.
+//! The subcommand `test`, which judges each dialogue of traces.
 
 ghost use Rattle.std.specs.Prelude.{◌≡◌, [], ◌∷◌, true, is_some, IfOk, OnErr, OnOk, length};
 ghost use Rattle.tcap_traces.specs.declared.verdict.Verdict.TheVariants as verdicts;
@@ -22,7 +22,7 @@ use tcap_report::{Asked, Junit, Lines, Page, Sinks, Stop, Sum, Watch, run_trace,
 use tcap_traces::Verdict;
 use tcap_words::{Ids, Test};
 
-/// Says on standard error, once a second, how far the run is.
+/// A progress report on standard error, once a second.
 #[derive(Drop)]
 struct Progress<'a> {
     rt: &'a HostRuntime,
@@ -31,7 +31,7 @@ struct Progress<'a> {
 }
 
 impl<'a> Progress<'a> {
-    /// Nothing was said.
+    /// Creates a progress report that has written nothing yet.
     fn new(rt: &'a HostRuntime, test: &Test) -> Progress<'a> {
         Progress {
             rt,
@@ -62,22 +62,22 @@ impl Watch for Progress<'_> {
     }
 }
 
-/// The tables that dialogues are judged by.
+/// The tables that judge the dialogues.
 #[derive(Drop)]
 struct Tables {
-    /// One book of them all. If a table is refused, a book without operations, which no dialogue is judged by.
+    /// All tables as one set. If a table is refused, a set without operations, by which nothing is judged.
     book: Book,
-    /// Why a table is refused, in words.
+    /// The reason why a table is refused.
     refused: Option<String>,
 }
 
-/// The name of the carried book in messages.
+/// The name of the carried table set in messages.
 const CARRIED: &str = "the book that the program carries";
 
-/// The text of a book without operations.
+/// The text of a table without operations.
 const NO_OPERATIONS: &str = "{\"operations\":[]}";
 
-/// Reads the books of those paths, or the one that the program carries if there is no path.
+/// Reads the table sets in these files, or the carried set if there is no path.
 fn tables_of(rt: &HostRuntime, paths: &[&str]) -> Result<Tables, Stop> {
     match book_of(rt, paths)? {
         Ok(book) => Ok(Tables {
@@ -94,7 +94,7 @@ fn tables_of(rt: &HostRuntime, paths: &[&str]) -> Result<Tables, Stop> {
     }
 }
 
-/// Tables that were given, with the files that they are from.
+/// The tables of several files.
 #[derive(Drop)]
 struct Given {
     /// All tables, those of the first file first.
@@ -104,7 +104,7 @@ struct Given {
 }
 
 impl Given {
-    /// Holds the tables of the first file.
+    /// Creates the list from the tables of the first file.
     fn new(rt: &HostRuntime, book: Book) -> Result<Given, AllocError> {
         let mut firsts = Vec::new(rt.alloc());
         firsts.push(0)?;
@@ -117,7 +117,7 @@ impl Given {
         self.book.add(book)
     }
 
-    /// Returns the number of the file of the table with this number, and the table's number in that file.
+    /// Returns the number of a table's file, and the table's number in that file.
     fn place_of(&self, number: usize) -> (usize, usize) {
         let mut found = (0, number);
         for (file, first) in self.firsts.iter().enumerate() {
@@ -128,7 +128,7 @@ impl Given {
         found
     }
 
-    /// Appends the number and the name of a table, and the path of its file. The paths are those of all files.
+    /// Appends the number and the name of a table, and the path of its file. `paths` are those of all files.
     fn push_table(
         &self,
         text: &mut String,
@@ -144,7 +144,7 @@ impl Given {
         Ok(())
     }
 
-    /// Returns a text that names the two tables that have the same context. The paths are those of all files.
+    /// Returns a text that names the two tables with the same context. `paths` are those of all files.
     fn clash_words(
         &self,
         rt: &HostRuntime,
@@ -162,7 +162,7 @@ impl Given {
     }
 }
 
-/// Reads the book of the file with this path. Returns what is wrong with it, which standard error says too.
+/// Reads the table set in the file with this path. Returns the fault if it has one, and writes it on standard error.
 fn read_path(rt: &HostRuntime, path: &str) -> Result<Result<Book, String>, Stop> {
     let octets = match fs::read(rt, path) {
         Ok(octets) => octets,
@@ -175,8 +175,8 @@ fn read_path(rt: &HostRuntime, path: &str) -> Result<Result<Book, String>, Stop>
     Ok(read)
 }
 
-/// Reads the books of those paths as one book; if there is no path, the book that the program carries. Returns what is
-/// wrong with a table, which standard error says too.
+/// Reads the table sets in these files as one set, or the carried set if there is no path. Returns the fault if there
+/// is one, and writes it on standard error.
 fn book_of(rt: &HostRuntime, paths: &[&str]) -> Result<Result<Book, String>, Stop> {
     let [first, others @ ..] = paths else {
         return read_book(rt, CARRIED, CARRIED_BOOK.as_bytes());
@@ -194,8 +194,8 @@ fn book_of(rt: &HostRuntime, paths: &[&str]) -> Result<Result<Book, String>, Sto
     clear_book(rt, paths, given)
 }
 
-/// Returns the given tables, which are those of the files with these paths, as a book, if each dialogue has at most one
-/// table in it. Else returns why, which standard error says too.
+/// Returns the given tables as one set, if each dialogue has at most one table in it. Else returns the reason, and
+/// writes it on standard error. `paths` are those of all files.
 fn clear_book(
     rt: &HostRuntime,
     paths: &[&str],
@@ -211,7 +211,7 @@ fn clear_book(
     Ok(Ok(given.book))
 }
 
-/// Reads the book of that text. Returns what is wrong with it, which standard error says too.
+/// Reads the table set in this text. Returns the fault if it has one, and writes it on standard error.
 fn read_book(rt: &HostRuntime, name: &str, text: &[u8]) -> Result<Result<Book, String>, Stop> {
     match Book::from_json(rt.alloc(), text) {
         Ok(book) => Ok(Ok(book)),
@@ -223,7 +223,7 @@ fn read_book(rt: &HostRuntime, name: &str, text: &[u8]) -> Result<Result<Book, S
     }
 }
 
-/// Says on standard error what is wrong with the table of that name, or with all tables together. Returns that text.
+/// Writes a fault of the table `name`, or of all tables together, on standard error. Returns the text.
 fn told_fault<E: Display>(rt: &HostRuntime, name: Option<&str>, fault: &E) -> Result<String, Stop> {
     let mut why = String::new(rt.alloc());
     if let Some(name) = name {
@@ -237,10 +237,10 @@ fn told_fault<E: Display>(rt: &HostRuntime, name: Option<&str>, fault: &E) -> Re
     Ok(why)
 }
 
-/// Why a directory is no trace.
+/// The reason why a directory is no trace.
 const IS_FOLDER: &str = "it is a directory";
 
-/// Judges the trace of that path. If a table is refused, that is why the trace is an error, and it is not read.
+/// Judges the trace with this path. If a table is refused, the trace is not read, and is an error for that reason.
 fn test_path<W: Write, J: Lines, P: Watch>(
     rt: &HostRuntime,
     path: &str,
@@ -274,7 +274,7 @@ fn test_path<W: Write, J: Lines, P: Watch>(
     }
 }
 
-/// Judges all traces, and says the sum, in which a verdict on each is counted. Answers the worst.
+/// Judges all traces, writes the line of the sum, and returns the worst verdict on a trace.
 fn test_all<W: Write, J: Lines, P: Watch>(
     rt: &HostRuntime,
     test: &Test,
@@ -306,7 +306,7 @@ fn test_all<W: Write, J: Lines, P: Watch>(
     Ok(sinks.sum.worst())
 }
 
-/// Writes the JUnit XML, where it is asked for. `Stop::Write` where the file failed, which keeps why.
+/// Writes the JUnit XML, if it is asked for. Returns `Stop::Write` if the file fails, which keeps the error.
 fn write_junit(output: Option<&mut Output>, junit: &Junit) -> Result<(), Stop> {
     let Some(output) = output else {
         return Ok(());
@@ -315,7 +315,7 @@ fn write_junit(output: Option<&mut Output>, junit: &Junit) -> Result<(), Stop> {
     output.write_all(text.as_bytes()).map_err(|_| Stop::Write)
 }
 
-/// Judges all traces, and says it to what is lent.
+/// Judges all traces with these sinks, and ends the page.
 fn test_over<W: Write, P: Watch>(
     rt: &HostRuntime,
     test: &Test,
@@ -332,7 +332,7 @@ fn test_over<W: Write, P: Watch>(
     Ok(verdict)
 }
 
-/// Begins the page, where it is asked for.
+/// Begins the page, if it is asked for.
 fn begun<'a>(html: Option<&'a mut Output>) -> Result<Option<Page<'a, Output>>, Stop> {
     match html {
         Some(output) => Ok(Some(Page::begin(output)?)),
@@ -340,7 +340,8 @@ fn begun<'a>(html: Option<&'a mut Output>) -> Result<Option<Page<'a, Output>>, S
     }
 }
 
-/// Judges all traces by those tables, and counts the verdicts. Standard error says why standard output can't be written.
+/// Judges all traces by these tables, and counts the verdicts. If standard output can't be written, standard error says
+/// why.
 fn tested(
     rt: &HostRuntime,
     test: &Test,
@@ -370,7 +371,7 @@ fn tested(
     ended
 }
 
-/// Reads the tables, and judges all traces by them.
+/// Reads the tables, judges all traces by them, and writes the JUnit XML.
 fn judged(
     rt: &HostRuntime,
     test: &Test,
@@ -388,7 +389,8 @@ fn judged(
     Ok(verdict)
 }
 
-/// Judges all traces. The files that it goes to are there, and empty, before the first table is read, so that none is of a run before.
+/// Judges all traces. The output files are opened and emptied before the first table is read, so that none is left from
+/// an earlier run.
 fn written(rt: &HostRuntime, test: &Test, sum: &mut Sum) -> Result<Verdict, Stop>
     ensures { IfOk result (λ verdict. IsWorst (length test.now.traces.items) sum.old sum.new verdict) }
 {
@@ -408,10 +410,10 @@ fn written(rt: &HostRuntime, test: &Test, sum: &mut Sum) -> Result<Verdict, Stop
     Ok(verdict)
 }
 
-/// The exit status where the words are wrong.
+/// The exit status for a wrong command line.
 const WRONG_WORDS: u8 = 4;
 
-/// Judges each dialogue of the traces, and answers the exit status: that of the worst verdict.
+/// Judges each dialogue of the traces. Returns the exit status, which is that of the worst verdict.
 pub(crate) fn test(rt: &HostRuntime, test: &Test) -> u8
     ensures { IsStatus (length test.now.traces.items) result }
 {
@@ -429,7 +431,7 @@ pub(crate) fn test(rt: &HostRuntime, test: &Test) -> u8
     status(rt, ended)
 }
 
-/// The exit status of a run: that of the worst verdict, or of an error where the run stopped.
+/// Returns the exit status of a run: that of the worst verdict, or that of an error if the run stopped.
 fn status(rt: &HostRuntime, ended: Result<Verdict, Stop>) -> u8
     ensures worst { IfOk ended (λ verdict. result ≡ status_of verdict) }
     ensures stopped { OnErr ended (result ≡ status_of verdicts.Error) }

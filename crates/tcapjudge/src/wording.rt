@@ -1,12 +1,12 @@
-//! The words of the command, where one of them is not text.
+//! Command lines with a word that is not text.
 
 use std::env::Env;
 use std::str;
 
-/// The system takes no word of more octets.
+/// The most octets of a word that the system takes.
 const LONGEST: usize = 131_072;
 
-/// The number of the first word behind the program's name that is not text, from 1.
+/// Returns the number of the first word after the program's name that is not text, counted from 1.
 fn no_text(rt: &HostRuntime) -> Option<usize> {
     let mut room = Vec::new(rt.alloc());
     room.resize(LONGEST, 0u8).ok()?;
@@ -21,7 +21,7 @@ fn no_text(rt: &HostRuntime) -> Option<usize> {
     None
 }
 
-/// Says on standard error that a word is not text, and which one.
+/// Reports on standard error which word is not text.
 pub(crate) fn tell_no_text(rt: &HostRuntime) {
     let _ = match no_text(rt) {
         Some(number) => eprintln!(rt; "error: a word of the command is not text: word {number}"),

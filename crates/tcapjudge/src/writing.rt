@@ -1,4 +1,4 @@
-//! Where `test` writes: files, and standard output.
+//! The writers of `test`: files, and the standard output.
 
 ghost use Rattle.std.specs.Prelude.{None};
 
@@ -8,7 +8,7 @@ use std::io::{BufWriter, Write as _};
 use tcap_ber::{Failed, Write};
 use tcap_report::{Lines, Stop};
 
-/// A writer, and why it failed, the last time that it did.
+/// A writer that keeps the error of its last failure.
 #[derive(Drop)]
 pub(crate) struct Sink<W> {
     writer: W,
@@ -17,7 +17,7 @@ pub(crate) struct Sink<W> {
 }
 
 impl<W: io::Write> Sink<W> {
-    /// Over a writer that did not fail.
+    /// Creates a sink over a writer that has not failed.
     pub(crate) fn new(writer: W) -> Sink<W> {
         Sink {
             writer,
@@ -56,8 +56,8 @@ impl<W: io::Write> Write for Sink<W> {
     }
 }
 
-/// Says on standard error why standard output can't be written, if it can't. Nothing is said of a pipe that its reader
-/// closed, as `head` does.
+/// Reports on standard error why standard output can't be written, if it can't. A pipe that its reader closed, as
+/// `head` does, is not reported.
 pub(crate) fn tell_unprinted<W>(rt: &HostRuntime, sink: &Sink<W>) {
     match &sink.error {
         Some(error) if error.kind() != io::ErrorKind::BrokenPipe => {
@@ -67,7 +67,7 @@ pub(crate) fn tell_unprinted<W>(rt: &HostRuntime, sink: &Sink<W>) {
     }
 }
 
-/// A file that is written, and its path.
+/// An output file, and its path.
 #[derive(Drop)]
 pub(crate) struct Output {
     path: String,
@@ -90,13 +90,13 @@ impl Lines for Output {
     }
 }
 
-/// Says on standard error that the file of that path can't be written, and why.
+/// Reports on standard error why the file with this path can't be written.
 fn unwritten(rt: &HostRuntime, path: &str, error: io::Error) -> Stop {
     let _ = eprintln!(rt; "error: {path}: {error}");
     Stop::Write
 }
 
-/// Makes a file empty, where it is a plain one: others keep nothing.
+/// Empties a plain file. Other files keep nothing.
 fn empty(file: &File) -> io::Result<()> {
     if file.metadata()?.is_file() {
         return file.set_len(0);
@@ -105,8 +105,8 @@ fn empty(file: &File) -> io::Result<()> {
 }
 
 impl Output {
-    /// Opens the file of that path, where there is a path, and makes it where there is no file; what is in it stays. Where it can't,
-    /// standard error says why.
+    /// Opens the file with this path, if there is a path, and creates it if it is missing. Keeps its contents. If this
+    /// fails, standard error says why.
     pub(crate) fn open(rt: &HostRuntime, path: Option<&str>) -> Result<Option<Output>, Stop> {
         let Some(path) = path else {
             return Ok(None);
@@ -126,7 +126,7 @@ impl Output {
         }))
     }
 
-    /// Makes a file empty that is there. Where it can't, standard error says why.
+    /// Empties a file, if there is one. If this fails, standard error says why.
     pub(crate) fn emptied(
         rt: &HostRuntime,
         output: Option<Output>,
@@ -140,7 +140,7 @@ impl Output {
         }
     }
 
-    /// Writes what is left of a file that is there. Where it could not be written, standard error says why.
+    /// Writes the rest of a file, if there is one. If a write failed, standard error says why.
     pub(crate) fn finish(rt: &HostRuntime, output: Option<Output>) -> Result<(), Stop> {
         let Some(output) = output else {
             return Ok(());
@@ -155,7 +155,7 @@ impl Output {
             Some(error) => Err(error),
             None => buffer.flush(),
         };
-        // Behind a failure nothing more is written: what the buffer still holds is dropped.
+        // Nothing is written after a failure, so drop what the buffer still holds.
         let _ = buffer.into_parts();
         match ended {
             Ok(()) => Ok(()),

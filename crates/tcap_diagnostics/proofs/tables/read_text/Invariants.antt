@@ -1,6 +1,6 @@
 use Rattle.std.specs.Io.KnownBytes.{Consumes}
 use Rattle.tcap_diagnostics.proofs.tables.read_text.Given as goal
 
--- the text is what the reader told
+-- The text so far is what the reader returned.
 abbrev pub invariant-loop : goal.invariant-loop
 invariant-loop g l = Consumes (g.R.Read.untold l.fn.reader) (g.R.Read.untold l.reader) l.text.items

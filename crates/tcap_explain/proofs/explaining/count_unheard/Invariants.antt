@@ -1,4 +1,4 @@
--- Those so far, and those of the steps that are left, are all.
+-- The count so far, plus the count in the remaining steps, is the whole count.
 use Rattle.std.proofs.Common.{◌≡◌, ◌≤◌, ◌+◌, drop}
 use Rattle.tcap_certificate.specs.Unheard.{unheard_of}
 use Rattle.tcap_check.specs.Told.{events_of}

@@ -1,4 +1,4 @@
--- What was written, and what is left set in, is all.
+-- The text so far, with the rest indented, is the whole text.
 use Rattle.std.proofs.Common.{◌≡◌, ◌++◌, length}
 use denote.Text.{Utf8}
 use denote.Shadow.{shadow}

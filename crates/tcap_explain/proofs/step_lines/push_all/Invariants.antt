@@ -1,4 +1,4 @@
--- The lines of the steps so far, and those of the steps that are left, are all.
+-- The lines so far, with the lines of the remaining steps, are all lines.
 use Rattle.std.proofs.Common.{◌≡◌, ◌≤◌, ◌++◌, drop}
 use Rattle.std.specs.String.{string_bytes}
 use Rattle.tcap_explain.specs.StepLines.{lines_from}

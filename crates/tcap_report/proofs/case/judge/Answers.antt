@@ -7,7 +7,7 @@ use Rattle.tcap_traces.specs.declared.said.Circumstances.{Circumstances}
 use Rattle.tcap_report.specs.Dialogue.{ends_by}
 use Rattle.tcap_report.proofs.case.judge.Goals as goal
 
--- it is said of the entries as they are left
+-- The results hold for the entries as `ends_of` leaves them.
 left : (table : Option Table) (c : Circumstances) (old new : List Entry) (ends : Option Ends)
     → ends ≡ ends_by table c old → new ≡ old → ends ≡ ends_by table c new
 left table c old new ends said stays = said ∙ ap (ends_by table c) (sym stays)

@@ -8,7 +8,7 @@ invariant-loop-rest l = after_blanks l.rest ≡ after_blanks l.octets
 abbrev pub decreases-loop-rest : goal.decreases-loop-rest
 decreases-loop-rest l = length l.rest
 
--- The front has no blanks: what is cut is at the end.
+-- The front has no blanks, so blanks are dropped only at the end.
 abbrev pub invariant-loop-rest-2 : goal.invariant-loop-rest-2
 invariant-loop-rest-2 l = after_blanks (reverse l.rest) ≡ after_blanks (reverse (after_blanks l.octets))
 

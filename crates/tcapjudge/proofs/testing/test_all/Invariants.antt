@@ -1,4 +1,4 @@
--- a verdict on each trace so far is counted
+-- A verdict on each trace so far is counted.
 use Rattle.tcapjudge.specs.Tested.{AreCounted}
 use Rattle.tcapjudge.proofs.testing.test_all.Given as goal
 

@@ -1,4 +1,4 @@
--- What is known of the IDs so far changed.
+-- What is known of the IDs so far has changed.
 use Rattle.std.proofs.Common.{◌≡◌, map}
 use Rattle.tcap_report.proofs.MarksLaws.{Changes}
 use Rattle.tcap_report.proofs.before_marks.EndMarks.change.Given as goal

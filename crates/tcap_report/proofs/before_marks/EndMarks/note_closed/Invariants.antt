@@ -1,4 +1,4 @@
--- Those of the IDs so far that are open were added.
+-- The open ones among the IDs so far were added.
 use Rattle.std.proofs.Common.{◌≡◌, map}
 use Rattle.tcap_report.specs.BeforeMarks.{known_in}
 use Rattle.tcap_report.proofs.MarksLaws.{Adds}

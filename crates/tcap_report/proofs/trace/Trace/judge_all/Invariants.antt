@@ -1,4 +1,4 @@
--- those so far are judged, and the sum is as it was
+-- The dialogues so far are judged, and the sum is unchanged.
 use Rattle.std.proofs.Common.{◌≡◌}
 use Rattle.tcap_report.specs.Progress.{Judges, is_fault}
 use Rattle.tcap_report.proofs.trace.Trace.judge_all.Given as goal

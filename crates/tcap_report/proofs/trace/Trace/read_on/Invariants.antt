@@ -1,4 +1,4 @@
--- the trace is within a stretch, and the sum as it was; of a trace of which no octet was read no entry is read
+-- The trace is within a segment, and the sum is unchanged. If no octet was read, no entry is read.
 use Rattle.std.proofs.Common.{◌≡◌}
 use Rattle.tcap_report.specs.declared.trace.Asked.{Asked}
 use Rattle.tcap_report.specs.Progress.{IsWithin}

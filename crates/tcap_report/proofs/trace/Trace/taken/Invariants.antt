@@ -1,4 +1,4 @@
--- no more entries than numbers so far; and but for the entries that are held nothing changes
+-- There are at most as many entries as numbers so far, and only `held` changes.
 use Rattle.std.proofs.Common.{◌≡◌, ◌≤◌, length}
 use Rattle.tcap_report.proofs.trace.Trace.taken.Given as goal
 
