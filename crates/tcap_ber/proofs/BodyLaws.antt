@@ -1,4 +1,4 @@
--- Readers of the bodies of elements: INTEGERs, and other values made of the same octets.
+-- Readers of element bodies: INTEGERs, and values made from other bodies.
 use Rattle.std.proofs.Common.{◌≡◌, ℕ, ◌<◌, ◌⊎◌, true, false, List, [], ◌∷◌, length, Ok, Err, refl, sym, ap, subst, ◌∙◌, inl, inr, arith, ℤ, Result}
 use Rattle.std.specs.Prelude.{not, ◌&&◌, nat_lt, ◌==◌}
 use Rattle.std.proofs.lemmas.Bool.{ltb-true, ltb-false, lt-ltb, le-ltb, eqb-true, eq-eqb, and_parts, and_from, both_ways, not-true, not_from_false, false_from_ne_true}
@@ -12,7 +12,7 @@ use Rattle.tcap_ber.specs.Reading.{◌>>=◌, fault, Element, is_integer, intege
 use Rattle.tcap_ber.proofs.Steps.{chosen, bind_ok, bind_err, ok_is, err_is}
 use Rattle.tcap_ber.proofs.FaultLaws.{refused_by}
 
--- the test whether these are the contents of an INTEGER, and what it means
+-- `is_integer` decides `IsInteger`
 pub is_integer_sound : (octets : List ℕ) → is_integer octets ≡ true → IsInteger octets
 is_integer_sound [] e = absurd cc
 is_integer_sound (first ∷ []) e = tt
@@ -38,7 +38,7 @@ is_integer_complete (first ∷ second ∷ more) h =
         let above = ltb-true 127 second both.1 in
         h.1 (eqb-true first 255 both.0, omega (arith, above))
 
--- the same octets, of which another value is made
+-- a reader whose value is mapped
 pub reads_made : {V W : Type 0} (make : V → W) (body : Body V) (read : Element → Result V Fault) → ReadsBody body read
     → ReadsBody (made make body) (λ e. read e >>= λ v. Ok (make v))
 reads_made {V} {W} make body read reads = record {

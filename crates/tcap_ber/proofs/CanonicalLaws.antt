@@ -1,4 +1,4 @@
--- The canonical spellings of headers, of integers and of parts of structures are such spellings.
+-- The canonical spellings of headers, integers and parts of structures are spellings by the grammar.
 use Rattle.std.proofs.Common.{◌≡◌, ◌≢◌, ℕ, ◌+◌, ◌-◌, ◌/◌, ◌%◌, ◌^◌, ◌<◌, ◌≤◌, ◌⊎◌, true, false, cond, List, [], ◌∷◌, ◌++◌, length, Option, Some, None, refl, sym, ap, subst, ◌∙◌, inl, inr, arith, ℤ, append_assoc}
 use Rattle.std.specs.Prelude.{nat_lt, nat_le, pos, negsuc}
 use Rattle.std.proofs.lemmas.Bool.{ltb-true, ltb-false, lt-ltb, le-ltb, leb-true}
@@ -13,7 +13,6 @@ use Rattle.tcap_ber.proofs.ElementLaws.{definite_element}
 
 -- ---- headers
 
--- one number is below another, or not
 abbrev Side : ℕ → ℕ → Type 0
 Side a b = (a < b) ⊎ (b ≤ a)
 
@@ -41,13 +40,13 @@ header_is_element tag content short w = definite_element (tag ∷ []) content (s
 
 -- ---- integers
 
--- octets that are written for a number
+-- the octets written for a number
 pub record Writes (n : ℤ) (count : ℕ) (octets : List ℕ) : Type 0 where
   pub is_integer : IsInteger octets
   pub count_is : length octets ≡ count
   pub value : signed octets ≡ n
 
--- octets that begin below 128 stand for their number, others for a negative one
+-- octets below 128 at the front spell a non-negative number
 signed-low : (first : ℕ) (more : List ℕ) (n : ℕ) → first < 128 → number (first ∷ more) ≡ n → signed (first ∷ more) ≡ pos n
 signed-low first more n h e = rw (lt-ltb first 128 h) (ap pos e)
 
@@ -81,7 +80,7 @@ four_low n l h = record {
 one_high : (n : ℕ) → n < 0x80 → Writes (negsuc n) 1 (number_octets 1 (256 ^ 1 - 1 - n))
 one_high n h = record { is_integer = tt; count_is = refl; value = signed-high ((256 ^ 1 - 1 - n) % 256) [] n (omega arith) (omega arith) }
 
--- t is the number that is written for -1 - n
+-- t is the number written for -1 - n
 two_high : (n t : ℕ) → 0x80 ≤ n → n < 0x8000 → t + n + 1 ≡ 65536 → Writes (negsuc n) 2 (number_octets 2 t)
 two_high n t l h e = record {
   is_integer = (λ z. omega (arith, z.0, z.1), λ z. omega (arith, z.0, z.1));
@@ -103,7 +102,7 @@ four_high n t l h e = record {
   value = signed-high (t / 256 / 256 / 256 % 256) (t / 256 / 256 % 256 ∷ t / 256 % 256 ∷ t % 256 ∷ []) n (omega arith) (omega arith);
 }
 
--- the octets that are written for a number of 32 bits
+-- the octets written for a 32-bit number
 pub integer_written : (n : ℤ) → magnitude n < 2 ^ 31 → Writes n (integer_len n) (integer_octets n)
 integer_written (pos n) w =
     elim (side n 0x80) [
@@ -163,7 +162,7 @@ integer_one n h = (integer_written n (omega arith)).count_is ∙ rw (lt-ltb (mag
 abbrev pub there : List ℕ → Option (List ℕ)
 there x = Some x
 
--- what an element around a content is
+-- the spelling of an element with this content
 pub record IsAround (tag : ℕ) (x : Option (List ℕ)) (octets : List ℕ) : Type 0 where
   pub content : List ℕ
   pub is_some : x ≡ Some content
@@ -181,7 +180,7 @@ element_around-is tag (Some content) octets e =
       | inr h ↦ absurd cc
     ]
 
--- an element around what such a content is, is one
+-- an element around a content that spells a value spells it too
 pub element_around-spells : (tag : ℕ) (spells : List ℕ → Type 0) (x : Option (List ℕ)) (octets : List ℕ) → tag % 32 ≢ 31
     → ((content : List ℕ) → x ≡ Some content → spells content) → element_around tag x ≡ Some octets → IsElementOf tag spells octets
 element_around-spells tag spells x octets short inside e =
@@ -192,7 +191,7 @@ element_around-spells tag spells x octets short inside e =
       inside = inside a.content a.is_some;
     }
 
--- what two parts are
+-- the spelling of two parts
 pub record IsJoin (x y : Option (List ℕ)) (octets : List ℕ) : Type 0 where
   pub front : List ℕ
   pub rest : List ℕ
@@ -205,7 +204,7 @@ join-is None y octets e = absurd cc
 join-is (Some front) None octets e = absurd cc
 join-is (Some front) (Some rest) octets e = record { front = front; rest = rest; is_front = refl; is_rest = refl; octets_are = sym (some_is (front ++ rest) octets e) }
 
--- an element around a content that is there
+-- an element around a given content
 pub element_of-spells : (tag : ℕ) (spells : List ℕ → Type 0) (content octets : List ℕ) → tag % 32 ≢ 31 → spells content
     → element_around tag (Some content) ≡ Some octets → IsElementOf tag spells octets
 element_of-spells tag spells content octets short inside e =
@@ -213,18 +212,16 @@ element_of-spells tag spells content octets short inside e =
 
 -- ---- choices
 
--- tags of one octet differ where the octets do
 pub apart : {a b : ℕ} → a ≢ b → a ∷ [] ≢ b ∷ []
 apart other e = other cc
 
--- an element around what such a content is, is one of the choice
+-- an element around a content of the choice is one of the choice
 pub one_around-spells : {V : Type 0} (choice : Choice V) (v : V) (tag : ℕ) (x : Option (List ℕ)) (octets : List ℕ) → tag % 32 ≢ 31
     → ((content : List ℕ) → x ≡ Some content → choice.spells v (tag ∷ []) content) → element_around tag x ≡ Some octets → IsOneOf choice v octets
 one_around-spells choice v tag x octets short inside e =
     let a = element_around-spells tag (choice.spells v (tag ∷ [])) x octets short inside e in
     record { tag = tag ∷ []; content = a.content; is_element = a.is_element; inside = a.inside }
 
--- an element around a content that is there
 pub one_of-spells : {V : Type 0} (choice : Choice V) (v : V) (tag : ℕ) (content octets : List ℕ) → tag % 32 ≢ 31
     → choice.spells v (tag ∷ []) content → element_around tag (Some content) ≡ Some octets → IsOneOf choice v octets
 one_of-spells choice v tag content octets short inside e =
@@ -243,7 +240,6 @@ join_assoc (Some a) None z = refl
 join_assoc (Some a) (Some b) None = refl
 join_assoc (Some a) (Some b) (Some c) = ap there (append_assoc a b c)
 
--- a part, and what stands behind it, which it decides
 pub decides-spells : {V W : Type 0} (first : Field V) (others : V → Content W) (v : V) (w : W) (x y : Option (List ℕ)) (octets : List ℕ)
     → ((front rest : List ℕ) → x ≡ Some front → y ≡ Some rest → first.spells v front rest) → ((rest : List ℕ) → y ≡ Some rest → (others v).spells w rest)
     → x ⧺ y ≡ Some octets → (first ⨾▹ others).spells (v, w) octets
@@ -251,16 +247,13 @@ decides-spells first others v w x y octets is_first are_others e =
     let j = join-is x y octets e in
     record { front = j.front; rest = j.rest; joined = j.octets_are; is_first = is_first j.front j.rest j.is_front j.is_rest; are_others = are_others j.rest j.is_rest }
 
--- a part, and what stands behind it
 pub then-spells : {V W : Type 0} (first : Field V) (others : Content W) (v : V) (w : W) (x y : Option (List ℕ)) (octets : List ℕ)
     → ((front rest : List ℕ) → x ≡ Some front → y ≡ Some rest → first.spells v front rest) → ((rest : List ℕ) → y ≡ Some rest → others.spells w rest)
     → x ⧺ y ≡ Some octets → (first ⨾ others).spells (v, w) octets
 then-spells first others = decides-spells first (λ _. others)
 
--- a part, and nothing behind it
 pub last-spells : {V : Type 0} (first : Field V) (v : V) (octets : List ℕ) → first.spells v octets [] → (first ⨾ ended).spells (v, tt) octets
 last-spells first v octets is_first = record { front = octets; rest = []; joined = sym (append-nil octets); is_first = is_first; are_others = refl }
 
--- this one part
 pub single-spells : {V : Type 0} (part : Field V) (v : V) (octets : List ℕ) → part.spells v octets [] → (single part).spells v octets
 single-spells part v octets is_part = ((v, tt), refl, last-spells part v octets is_part)

@@ -1,5 +1,4 @@
--- Readers of a choice: what they read is spelled so, what is spelled so they read, what they refuse is
--- faulty there, and what is faulty there they refuse by that fault.
+-- Readers of a choice are exact, in the sense of `specs/Reads.antt`.
 use Rattle.std.proofs.Common.{◌≡◌, ◌≢◌, ℕ, ◌+◌, ◌⊎◌, true, false, List, [], ◌∷◌, ◌++◌, length, Result, Ok, Err, refl, sym, ap, subst, ◌∙◌, inl, inr, arith}
 use Rattle.std.specs.Prelude.{◌==◌, ◌↔◌, IsOk}
 use Rattle.std.proofs.lemmas.Bool.{eq-eqb, eqb-true, eqb-false, ne_eqb, false_from_ne_true}
@@ -20,9 +19,8 @@ use Rattle.tcap_ber.proofs.ElementLaws.{element_len_at_least, next_sound, next_c
 use Rattle.tcap_ber.proofs.FaultLaws.{refused_by, element_fault_some}
 use Rattle.tcap_ber.proofs.GrammarLaws.{joint, is_tag-true, is_tag-false, is_tag-itself, not_none}
 
--- ---- the elements of a choice
+-- ---- the alternatives of a choice
 
--- an element with another tag has not this one
 is_tag-other : (tag : ℕ) (octets : List ℕ) → octets ≢ tag ∷ [] → is_tag tag octets ≡ false
 is_tag-other tag octets other = false_from_ne_true (is_tag tag octets) (λ e. other (is_tag-true tag octets e))
 
@@ -62,9 +60,9 @@ reads_others {V} refusal = record {
   stops = λ e f h. refused_by f refusal e.place h.0 h.1;
 }
 
--- ---- one of them
+-- ---- an element of the choice
 
--- an element that has to be there, of any tag
+-- a required element of any tag
 pub some_sound : (s : Span) (x : Element × Span) → some_at s ≡ Ok x → FindsElement s x.0 x.1
 unfolding some_at
 some_sound s x e =
@@ -73,7 +71,7 @@ some_sound s x e =
       | inr h ↦ next_sound s x h.1
     ]
 
--- the element of this tag and content in these octets
+-- the element with this tag and content in these octets
 abbrev pub any_element_in : ℕ → List ℕ → List ℕ → List ℕ → Element
 any_element_in place tag content octets = record { tag = tag; content = record { octets = content; place = place + content_start tag content octets }; place = place }
 

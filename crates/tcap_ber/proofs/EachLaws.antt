@@ -1,4 +1,4 @@
--- Items one after the other: how reading them goes on, and that it is exact.
+-- Reading items one after the other is exact.
 use Rattle.std.proofs.Common.{zero, suc, ◌≡◌, ℕ, ◌+◌, ◌<◌, ◌≤◌, List, [], ◌∷◌, length, Result, Ok, Err, refl, sym, ap, subst, ◌∙◌, inl, inr, arith}
 use Rattle.std.specs.Prelude.{◌==◌, if◌then◌else◌}
 use Rattle.std.proofs.lemmas.Bool.{eqb-true, eqb-false, eq-eqb, ne_eqb}
@@ -12,34 +12,33 @@ use Rattle.tcap_ber.specs.Reading.{◌>>=◌, each_at, each_of}
 use Rattle.tcap_ber.proofs.Steps.{chosen, bind_ok, bind_err, ok_is, ok_not_err}
 use Rattle.tcap_ber.proofs.GrammarLaws.{is_after, not_none}
 
--- two chains are one where they go on alike behind what was read
+-- two chains are equal if their continuations agree on the value read
 bind_same : {A B : Type 0} (r : Result A Fault) (f g : A → Result B Fault) → ((x : A) → r ≡ Ok x → f x ≡ g x) → (r >>= f) ≡ (r >>= g)
 bind_same (Ok x) f g same = same x refl
 bind_same (Err e) f g same = refl
 
--- an item has at least one octet
 abbrev pub HasOctets : {V : Type 0} → Field V → Type 0
 HasOctets {V} item = (v : V) (front rest : List ℕ) → item.spells v front rest → 0 < length front
 
--- behind an item fewer octets are left
+-- after an item, fewer octets are left
 pub item_is_shorter : {V : Type 0} (item : Field V) (read : Span → Result (V × Span) Fault) → ReadsField item read → HasOctets item
     → (s : Span) (x : V × Span) → read s ≡ Ok x → length x.1.octets < length s.octets
 item_is_shorter item read reads has s x e =
     let t = reads.sound s x.0 x.1 e in
     omega (arith, ap length t.joined, length-append t.front x.1.octets, has x.0 t.front x.1.octets t.is_part)
 
--- where an item is wrong, some octets are left
+-- if an item is faulty, octets are left
 pub wrong_after_some : {V : Type 0} (item : Field V) → HasOctets item → (vs : List V) (s : Span) (reason : Reason) (place : ℕ)
     → IsFaultyAfter item vs s reason place → 0 < length s.octets
 wrong_after_some item has [] s reason place h = h.0
 wrong_after_some item has (v ∷ vs) s reason place h = omega (arith, ap length h.2, length-append h.0 h.1, has v h.0 h.1 h.3)
 
--- of an empty window no items are read
+-- an empty window has no items
 each_at-empty : {V : Type 0} (read : Span → Result (V × Span) Fault) (n : ℕ) (s : Span) → length s.octets ≡ 0 → each_at read n s ≡ Ok []
 each_at-empty read zero s e = rw (eq-eqb (length s.octets) 0 e) refl
 each_at-empty read (suc n) s e = rw (eq-eqb (length s.octets) 0 e) refl
 
--- as many items as octets are enough
+-- the octet count is enough as a bound on the items
 each_at-enough : {V : Type 0} (item : Field V) (read : Span → Result (V × Span) Fault) → ReadsField item read → HasOctets item
     → (n m : ℕ) (s : Span) → length s.octets ≤ n → length s.octets ≤ m → each_at read n s ≡ each_at read m s
 each_at-enough item read reads has zero m s a b =
@@ -51,12 +50,11 @@ each_at-enough {V} item read reads has (suc n) (suc m) s a b =
     let less = item_is_shorter item read reads has s x e in
     ap (λ (r : Result (List V) Fault). r >>= λ vs. Ok (x.0 ∷ vs)) (each_at-enough item read reads has n m x.1 (omega (arith, less, a)) (omega (arith, less, b)))))
 
--- an empty window has no items
 pub each_of-empty : {V : Type 0} (read : Span → Result (V × Span) Fault) (s : Span) → length s.octets ≡ 0 → each_of read s ≡ Ok []
 unfolding each_of
 each_of-empty read s e = each_at-empty read (length s.octets) s e
 
--- the first item and the others
+-- the first item, and then the others
 pub each_of-step : {V : Type 0} (item : Field V) (read : Span → Result (V × Span) Fault) → ReadsField item read → HasOctets item → (s : Span) → 0 < length s.octets
     → each_of read s ≡ (read s >>= λ x. each_of read x.1 >>= λ vs. Ok (x.0 ∷ vs))
 unfolding each_of

@@ -1,4 +1,4 @@
--- What reading makes of the element at the front of a window is what stands there.
+-- Reading an element returns the element at the front of the window.
 use Rattle.std.proofs.Common.{◌≡◌, ℕ, zero, suc, ◌+◌, ◌-◌, ◌*◌, ◌<◌, ◌≤◌, ◌⊎◌, Bool, true, false, List, [], ◌∷◌, ◌++◌, length, take, drop, Option, Some, None, Result, Ok, Err, refl, sym, ap, subst, ◌∙◌, inl, inr, arith, append_assoc}
 use Rattle.std.specs.Prelude.{nat_lt, if◌then◌else◌}
 use Rattle.std.proofs.lemmas.List.{take_at, drop_at, length-append}
@@ -26,7 +26,7 @@ use Rattle.tcap_ber.proofs.WalkLaws.{walk_stops}
 use Rattle.tcap_ber.proofs.WalkedStepLaws.{nothing_walked}
 use Rattle.tcap_ber.proofs.OuterLaws.{outer_whole, outer_of_element, outer_fault, outer_refused, is_unfinished, place_there, innermost_sound, innermost_unique}
 
--- what stands in an element of indefinite length
+-- an element inside one of indefinite length
 abbrev pub IsInner : ℕ → List ℕ → Type 0
 IsInner depth item = (inner_tag inner : List ℕ) × IsNested depth inner_tag inner item
 
@@ -58,7 +58,7 @@ pub indefinite_len : (IsItem : List ℕ → Type 0) (tag content octets : List �
 indefinite_len IsItem tag content octets e =
     omega (arith, ap length e.joined, length-append (tag ++ 0x80 ∷ content) ending, length-append tag (0x80 ∷ content))
 
--- an element is not empty: a tag and a length have octets
+-- an element has at least two octets, of its tag and its length
 pub element_len_at_least : (tag content octets : List ℕ) → IsElement tag content octets → 2 ≤ length octets
 element_len_at_least tag content octets e =
     elim (element_form tag content octets e) [
@@ -101,16 +101,16 @@ content_within tag content octets e =
       | inr i ↦ omega (arith, indefinite_start (IsInner i.0) tag content octets i.1, indefinite_len (IsInner i.0) tag content octets i.1)
     ]
 
--- ---- the element that stands there is read
+-- ---- an element at the front is read
 
--- what reading answers of it
+-- the result of reading the element
 abbrev pub read_element : ℕ → List ℕ → List ℕ → List ℕ → List ℕ → Element × Span
 read_element place tag content octets rest = (
   record { tag = tag; content = record { octets = content; place = place + content_start tag content octets }; place = place },
   record { octets = rest; place = place + length octets },
 )
 
--- the same, by its parts
+-- the result of reading the element, by its parts
 abbrev parts : ℕ → List ℕ → List ℕ → ℕ → List ℕ → ℕ → Element × Span
 parts place tag content start rest len = (
   record { tag = tag; content = record { octets = content; place = place + start }; place = place },
@@ -180,7 +180,7 @@ definite_not h tag e = cc
 tag_is : (n tag : ℕ) → (let a : Result (Option Opening) Fault = Ok (Some (Indefinite n)) in a) ≡ Ok (Some (Indefinite tag)) → n ≡ tag
 tag_is n tag e = cc
 
--- how many octets an element has whose header is a tag of so many octets and the octet 80
+-- the length of an element with this header of indefinite length
 pub indefinite_bounds : (s : Span) (tag n : ℕ) → opening_at s ≡ Ok (Some (Indefinite tag)) → BeginsElement s.octets n → (tag + 3 ≤ n) × (n ≤ length s.octets)
 indefinite_bounds s tag n e b =
     let there : opening_at (from s.place (b.element ++ b.rest)) ≡ Ok (Some (Indefinite tag)) = ap (λ (x : List ℕ). opening_at (from s.place x)) (sym b.joined) ∙ e in
@@ -197,9 +197,9 @@ indefinite_bounds s tag n e b =
       )
     ]
 
--- ---- what is wrong with it, or with its fit, is answered
+-- ---- a fault of the element is returned
 
--- where the walk stops before the first element
+-- a walk that stops before the first element
 at_start : (octets : List ℕ) → goes at_first octets ≡ None → innermost_at octets ≡ 0
 at_start octets stop = place_there octets octets [] (nothing_walked octets) stop
 
@@ -219,11 +219,11 @@ definite_stops : (octets : List ℕ) (h : Header) → opening_at (from 0 octets)
 unfolding goes
 definite_stops octets h e = rw e (either_way (nat_lt (length octets) (0 + (h.len + h.content_len) - 0)) None)
 
--- what the walk would go on with
+-- a continuation for a walk that does not go on
 abbrev other : Progress → List ℕ → Result Outer Fault
 other p octets = Ok (Need 0)
 
--- where it stops before the first element, that is what it answers
+-- a walk that stops before the first element returns the opening's result
 stopped_outer : (octets : List ℕ) (found : Result (Option Opening) Fault) → opening_at (from 0 octets) ≡ found → goes at_first octets ≡ None → outer_at octets ≡ (found >>= gone_on other at_first octets)
 unfolding outer_at
 stopped_outer octets found e stop = walk_stops at_first octets other stop ∙ ap (λ (r : Result (Option Opening) Fault). r >>= gone_on other at_first octets) e
@@ -231,7 +231,7 @@ stopped_outer octets found e stop = walk_stops at_first octets other stop ∙ ap
 outer_none : (octets : List ℕ) → opening_at (from 0 octets) ≡ Ok None → outer_at octets ≡ Ok (Need (0 + length octets + 1))
 outer_none octets e = stopped_outer octets (Ok None) e (none_stops octets e)
 
--- a whole header of definite length: too few octets, or enough
+-- the result for a header of definite length, if octets are missing or not
 abbrev by_count : List ℕ → Header → Bool → Result Outer Fault
 by_count octets h short = if short then Ok (Need (0 + (h.len + h.content_len) + 2 * 0)) else Ok (Whole (0 + (h.len + h.content_len)))
 
@@ -245,7 +245,7 @@ counted_ok octets h false g e = ok_not_err _ g e
 whole_not_need : (n m : ℕ) → (let a : Result Outer Fault = Ok (Whole n) in a) ≡ Ok (Need m) → ⊥
 whole_not_need n m e = cc
 
--- what is wrong with the octets is answered, at its place
+-- reading returns the walk's fault, at its place in the window
 pub next_of_fault : (s : Span) (g : Fault) → outer_at s.octets ≡ Err g → next_at s ≡ Err (fault g.reason (s.place + g.place))
 unfolding next_at
 next_of_fault s g e = of (opening_at s) refl
@@ -260,7 +260,7 @@ next_of_fault s g e = of (opening_at s) refl
     of (Ok (Some (Definite h))) a = absurd (counted_ok s.octets h _ g (sym (outer_definite s.octets h (opening_moves s.place 0 s.octets (Some (Definite h)) a)) ∙ e))
     of (Ok (Some (Indefinite tag))) a = ap (indefinite_at s tag) e
 
--- octets that end before the element does are answered, at the innermost element that is not whole
+-- if the walk needs octets, reading returns Overrun at the innermost incomplete element
 pub next_of_need : (s : Span) (n : ℕ) → outer_at s.octets ≡ Ok (Need n) → next_at s ≡ Err (fault Overrun (s.place + innermost_at s.octets))
 unfolding next_at
 next_of_need s n e = of (opening_at s) refl
@@ -284,7 +284,7 @@ next_of_need s n e = of (opening_at s) refl
         rw (lt-ltb (length s.octets) (h.len + h.content_len) short) (first (definite_stops s.octets h there))
     of (Ok (Some (Indefinite tag))) a = ap (indefinite_at s tag) e
 
--- ---- what reading answers
+-- ---- the result of reading
 
 outer_is : (octets : List ℕ) → ((n : ℕ) × (outer_at octets ≡ Ok (Whole n))) ⊎ ((n : ℕ) × (outer_at octets ≡ Ok (Need n))) ⊎ ((g : Fault) × (outer_at octets ≡ Err g))
 outer_is octets = of (outer_at octets) refl
@@ -294,7 +294,7 @@ outer_is octets = of (outer_at octets) refl
     of (Ok (Need n)) e = inr (inl (n, e))
     of (Err g) e = inr (inr (g, e))
 
--- a whole element is read as it stands there
+-- if the walk finds a whole element, reading returns it
 pub next_of_whole : (s : Span) (n : ℕ) → outer_at s.octets ≡ Ok (Whole n) → (x : Element × Span) × (next_at s ≡ Ok x) × FindsElement s x.0 x.1
 next_of_whole s n e =
     let b = outer_whole s.octets n e in
@@ -329,7 +329,7 @@ next_fault s f some e =
           (k.0.place, refl, inl (outer_fault s.octets k.0 k.1))
     ]
 
--- what is wrong with the element at the front is what reading it answers
+-- reading a faulty element returns its fault
 pub next_refused : (s : Span) (f : Fault) → IsElementFault s f.reason f.place → next_at s ≡ Err f
 next_refused s f (offset, place_is, inl wrong) =
     next_of_fault s (fault f.reason offset) (outer_refused s.octets f.reason offset wrong) ∙ ap (λ (p : ℕ). Err (fault f.reason p)) (sym place_is)

@@ -1,4 +1,4 @@
--- The way back from a fault to a refusal: what the grammar's word says is wrong is what reading answers.
+-- A fault of the grammar is the fault that reading returns.
 use Rattle.std.proofs.Common.{◌≡◌, ◌≢◌, ℕ, ◌<◌, ◌⊎◌, false, List, [], ◌∷◌, length, Result, Err, refl, sym, ap, ◌∙◌, inl, inr, arith}
 use Rattle.std.proofs.lemmas.Bool.{eq-eqb, ne_eqb}
 use Rattle.std.proofs.lemmas.List.{length-append}
@@ -11,31 +11,29 @@ use Rattle.tcap_ber.specs.Reading.{fault, next_at, is_tag, required_at, raw_at}
 use Rattle.tcap_ber.proofs.OuterLaws.{walk_fault_within}
 use Rattle.tcap_ber.proofs.ElementLaws.{element_len_at_least, next_complete, next_refused}
 
--- a fault is its reason at its place
 pub fault_is : (f : Fault) (reason : Reason) (place : ℕ) → f.reason ≡ reason → f.place ≡ place → fault reason place ≡ f
 fault_is f reason place r p = ap (λ (x : Reason). fault x place) (sym r) ∙ ap (λ (x : ℕ). fault f.reason x) (sym p)
 
--- a fault of that reason at that place, as an answer
 pub refused_by : {A : Type 0} (f : Fault) (reason : Reason) (place : ℕ) → f.reason ≡ reason → f.place ≡ place → (let a : Result A Fault = Err (fault reason place) in a) ≡ Err f
 refused_by f reason place r p = ap (λ (x : Fault). Err x) (fault_is f reason place r p)
 
--- where an element is wrong, some of it is there
+-- a faulty element has octets
 pub element_fault_some : (s : Span) (reason : Reason) (place : ℕ) → IsElementFault s reason place → 0 < length s.octets
 element_fault_some s reason place (offset, place_is, inl wrong) = omega (arith, walk_fault_within s.octets reason offset wrong)
 element_fault_some s reason place (offset, place_is, inr overrun) = overrun.1
 
--- the first element as its octets is refused as the element is
+-- reading an element verbatim fails as reading it does
 pub raw_refused : (s : Span) (f : Fault) → IsElementFault s f.reason f.place → raw_at s ≡ Err f
 unfolding raw_at
 raw_refused s f wrong = rw (next_refused s f wrong) refl
 
--- another tag fails the test whether the octet is the whole tag
+-- `is_tag` is false for another tag
 is_tag-other : (tag : ℕ) (octets : List ℕ) → octets ≢ tag ∷ [] → is_tag tag octets ≡ false
 is_tag-other tag [] other = refl
 is_tag-other tag (first ∷ []) other = ne_eqb first tag (λ e. other (ap (λ (x : ℕ). x ∷ []) e))
 is_tag-other tag (first ∷ second ∷ more) other = refl
 
--- and so where an element with this tag is required, but for its inside
+-- reading a required element fails if it is missing, faulty or has another tag
 pub required_refused : (tag : ℕ) (s : Span) (f : Fault) → IsMissing s f.reason f.place ⊎ IsElementFault s f.reason f.place ⊎ IsUnexpected tag s f.reason f.place
     → required_at tag s ≡ Err f
 unfolding required_at

@@ -1,6 +1,5 @@
--- Readers of parts, contents and bodies: what they read is spelled so, what is spelled so they read, what
--- they refuse is faulty there, and what is faulty there they refuse by that fault. One law for each word
--- of the grammar.
+-- Readers of parts, contents and bodies are exact, in the sense of `specs/Reads.antt`: one law for each combinator of
+-- the grammar.
 use Rattle.std.proofs.Common.{◌≡◌, ◌≢◌, ℕ, ◌+◌, ◌<◌, ◌⊎◌, true, false, List, [], ◌∷◌, ◌++◌, length, Option, Some, None, Result, Ok, Err, refl, sym, ap, subst, ◌∙◌, inl, inr, arith}
 use Rattle.std.specs.Prelude.{◌==◌, if◌then◌else◌}
 use Rattle.std.proofs.lemmas.Bool.{eqb-true, eqb-false, eq-eqb, ne_eqb}
@@ -18,17 +17,17 @@ use Rattle.tcap_ber.proofs.ElementLaws.{element_form, element_len_at_least, next
 use Rattle.tcap_ber.proofs.FaultLaws.{refused_by, element_fault_some, raw_refused, required_refused}
 use Rattle.tcap_ber.proofs.RawLaws.{raw_sound, raw_complete}
 
--- the window where this front stands before this rest
+-- the window of a front and the rest after it
 abbrev pub joint : ℕ → List ℕ → List ℕ → Span
 joint place front rest = record { octets = front ++ rest; place = place }
 
--- a window behind a front is known by its octets and its place
+-- a window after a front is given by its octets and its place
 pub is_after : (place : ℕ) (front : List ℕ) (s : Span) → s.place ≡ place + length front → s ≡ after place front s.octets
 is_after place front s e = ap (λ (p : ℕ). let w : Span = record { octets = s.octets; place = p } in w) e
 
 -- ---- elements with a tag
 
--- the test whether the octet is the whole tag, and what it means
+-- `is_tag` decides whether the octet is the whole tag
 pub is_tag-true : (tag : ℕ) (octets : List ℕ) → is_tag tag octets ≡ true → octets ≡ tag ∷ []
 is_tag-true tag [] e = absurd cc
 is_tag-true tag (first ∷ []) e = ap (λ (x : ℕ). x ∷ []) (eqb-true first tag e)
@@ -40,7 +39,7 @@ is_tag-itself tag = eq-eqb tag tag refl
 pub is_tag-false : (tag : ℕ) (octets : List ℕ) → is_tag tag octets ≡ false → octets ≢ tag ∷ []
 is_tag-false tag octets e same = let k : true ≡ false = sym (is_tag-itself tag) ∙ sym (ap (is_tag tag) same) ∙ e in cc
 
--- an element that was read where one with this tag is required has it
+-- a required element that was read has the tag
 pub required_sound : (tag : ℕ) (s : Span) (x : Element × Span) → required_at tag s ≡ Ok x → FindsElement s x.0 x.1 × (x.0.tag ≡ tag ∷ [])
 unfolding required_at
 required_sound tag s x e =
@@ -54,11 +53,11 @@ required_sound tag s x e =
           ]
     ]
 
--- the element of this content in these octets
+-- the element with this tag and content in these octets
 abbrev pub element_in : ℕ → ℕ → List ℕ → List ℕ → Element
 element_in place tag content octets = record { tag = tag ∷ []; content = record { octets = content; place = place + content_start (tag ∷ []) content octets }; place = place }
 
--- an element of the tag is read where it is required
+-- a required element of the tag is read
 pub required_complete : (place tag : ℕ) (content octets rest : List ℕ) → IsElement (tag ∷ []) content octets
     → required_at tag (joint place octets rest) ≡ Ok (element_in place tag content octets, after place octets rest)
 unfolding required_at
@@ -66,15 +65,13 @@ required_complete place tag content octets rest e =
     let some : length (octets ++ rest) ≡ 0 → ⊥ = λ (z : length (octets ++ rest) ≡ 0). omega (arith, z, length-append octets rest, element_len_at_least (tag ∷ []) content octets e) in
     rw (ne_eqb (length (octets ++ rest)) 0 some, next_complete place (tag ∷ []) content octets rest e, is_tag-itself tag) refl
 
--- a count that is not zero
 some_left : (n : ℕ) → (n ≡ 0 → ⊥) → 0 < n
 some_left n h = omega (arith, h)
 
--- and the way back
 pub not_none : (n : ℕ) → 0 < n → n ≡ 0 → ⊥
 not_none n some none = omega (arith, some, none)
 
--- what is wrong where an element with this tag is required, but for its inside
+-- the faults of reading a required element, apart from its content
 pub required_fault : (tag : ℕ) (s : Span) (f : Fault) → required_at tag s ≡ Err f
     → IsMissing s f.reason f.place ⊎ IsElementFault s f.reason f.place ⊎ IsUnexpected tag s f.reason f.place
 unfolding required_at
@@ -161,7 +158,7 @@ reads_required {V} tag body read reads = record {
         let there = ap (λ (x : List ℕ). required_at tag (record { octets = x; place = s.place })) h.joined ∙ required_complete s.place tag h.content h.octets h.rest h.is_element in
         rw (there, reads.stops (element_in s.place tag h.content h.octets) f h.inside) refl
 
--- the test whether the first octet is this one, and what it means
+-- `is_next` decides `BeginsWith`
 pub is_next-true : (tag : ℕ) (octets : List ℕ) → is_next tag octets ≡ true → BeginsWith tag octets
 is_next-true tag [] e = absurd cc
 is_next-true tag (first ∷ more) e = eqb-true first tag e
@@ -185,11 +182,10 @@ is_next-element tag content octets rest e =
       | inr i ↦ ap (λ (x : List ℕ). is_next tag (x ++ rest)) i.1.joined ∙ eq-eqb tag tag refl
     ]
 
--- nothing stands before this window
 nothing_before : (s : Span) → s ≡ after s.place [] s.octets
 nothing_before s = is_after s.place [] s (omega arith)
 
--- the value of an element with this tag
+-- the value of a required element
 abbrev value_at : {V : Type 0} → ℕ → (Element → Result V Fault) → Span → Result (V × Span) Fault
 value_at tag read s = required_at tag s >>= with_body read
 
@@ -227,7 +223,7 @@ reads_optional {V} tag body read reads = record {
     complete place None [] rest h = rw (is_next-none tag rest h.1) (ap (λ (s : Span). Ok (None, s)) (nothing_before (record { octets = rest; place = place })))
     complete place None (first ∷ more) rest h = absurd cc
 
--- what is wrong where any element is read
+-- the faults of reading an element verbatim
 pub raw_fault : (s : Span) (f : Fault) → 0 < length s.octets → raw_at s ≡ Err f → IsElementFault s f.reason f.place
 unfolding raw_at
 raw_fault s f some e =

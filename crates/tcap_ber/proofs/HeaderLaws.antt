@@ -1,4 +1,4 @@
--- What reading makes of the header at the front is what stands there.
+-- Reading a header returns the header at the front, or its fault.
 use Rattle.std.proofs.Common.{◌≡◌, ℕ, ◌+◌, ◌-◌, ◌<◌, ◌≤◌, ◌⊎◌, List, [], ◌∷◌, ◌++◌, length, take, drop, Option, Some, None, Result, Ok, Err, refl, sym, ap, subst, ◌∙◌, inl, inr, arith, append_assoc}
 use Rattle.std.specs.Prelude.{nat_lt, ◌==◌}
 use Rattle.std.proofs.lemmas.List.{take_at, drop_at, take-append-drop, length-append, length-take-le}
@@ -14,17 +14,16 @@ use Rattle.tcap_ber.specs.HeaderReading.{fault, ◌>>=◌, tag_in, tag_at, lengt
 use Rattle.tcap_ber.proofs.Steps.{chosen, bind_ok, bind_err, err_is}
 use Rattle.tcap_ber.proofs.TagLaws.{FindsTag, tag_sound, tag_complete, tag_fault, tag_long}
 
--- the length behind a tag of so many octets
+-- the length after a tag of this many octets
 abbrev pub behind_tag : Span → Option ℕ → Result (Option Header) Fault
 behind_tag s None = Ok None
 behind_tag s (Some tag) = length_at (behind tag s) >>= header_of s.place tag
 
--- the header of definite length at the front; None where the octets end before it does
+-- the header of definite length at the front, or None if the octets end before it does
 unfoldable pub header_at : Span → Result (Option Header) Fault
 header_at s = tag_at s >>= behind_tag s
 
--- What is wrong with the header of definite length that the octets begin with, as far as it stands there; the place is
--- counted from its first octet.
+-- The faults of the header of definite length that the octets begin with; the place is counted from its first octet.
 abbrev pub IsHeaderFault : List ℕ → Reason → ℕ → Type 0
 IsHeaderFault octets reasons.TagForm place = HasLongTag octets × (place ≡ 0)
 IsHeaderFault octets reasons.LengthForm place = (octet : ℕ) × (132 < octet) × HasLengthOctet octet octets place
@@ -86,7 +85,7 @@ length_complete place n (first ∷ more) rest (inr h) =
     rw (le-ltb first 128 (omega arith), ne_eqb first 128 (λ e. omega arith), le-ltb 132 first (omega arith), le-ltb (length (more ++ rest)) (first - 128) room)
     (rw (one, taken) refl)
 
--- a length octet that is no form of a definite length
+-- a length octet that begins no definite length
 pub length_fault : (place : ℕ) (octets : List ℕ) (f : Fault) → length_in place octets ≡ Err f
     → (octet : ℕ) × (rest : List ℕ) × (octets ≡ octet ∷ rest) × (((octet ≡ 128) × (f ≡ fault reasons.Indefinite place)) ⊎ ((132 < octet) × (f ≡ fault reasons.LengthForm place)))
 length_fault place [] f e = absurd cc
@@ -111,7 +110,7 @@ length_indefinite place rest = refl
 pub length_form : (place octet : ℕ) (rest : List ℕ) → 132 < octet → length_in place (octet ∷ rest) ≡ Err (fault reasons.LengthForm place)
 length_form place octet rest h = rw (le-ltb octet 128 (omega arith), ne_eqb octet 128 (λ e. omega arith), lt-ltb 132 octet h) refl
 
--- a header with a content within the limit, at the front
+-- a header at the front whose content is within the limit
 pub record FindsHeader (octets : List ℕ) (h : Header) : Type 0 where
   pub tag : List ℕ
   pub length_octets : List ℕ
@@ -239,7 +238,7 @@ long_tag : (place : ℕ) (octets : List ℕ) → HasLongTag octets → header_at
 unfolding header_at tag_at
 long_tag place octets h = rw (tag_long place octets h) refl
 
--- what is wrong with the header is what reading answers
+-- reading a faulty header returns its fault
 pub header_refused : (place offset : ℕ) (octets : List ℕ) (reason : Reason) → IsHeaderFault octets reason offset
     → header_at (record { octets = octets; place = place }) ≡ Err (fault reason (place + offset))
 header_refused place offset octets reasons.TagForm h = long_tag place octets h.0 ∙ ap (λ (p : ℕ). Err (fault reasons.TagForm p)) (omega (arith, h.1))

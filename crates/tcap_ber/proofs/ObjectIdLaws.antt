@@ -1,4 +1,4 @@
--- The test whether octets are the contents of an OBJECT IDENTIFIER, and what it means; and the law of their reader.
+-- `is_object_id` decides `IsObjectId`, and the reader of OBJECT IDENTIFIERs is exact.
 use Rattle.std.proofs.Common.{◌≡◌, ◌≢◌, ℕ, Bool, true, false, List, [], ◌∷◌, ◌++◌, length, Ok, Err, refl, sym, ap, ◌∙◌, inl, inr, arith}
 use Rattle.std.specs.Prelude.{not, ◌&&◌, nat_lt, ◌==◌, ◌↔◌, IsTrue}
 use Rattle.std.specs.List.{AllByRecursion, concat}
@@ -14,7 +14,7 @@ use Rattle.tcap_ber.proofs.FaultLaws.{refused_by}
 
 -- ---- the test
 
--- one octet passes where no subidentifier begins with it or it is not 80
+-- an octet passes the test unless it is 80 and begins a subidentifier
 octet_sound : (start : Bool) (octet : ℕ) → not (start && (octet == 128)) ≡ true → start ≡ true → octet ≡ 128 → ⊥
 octet_sound start octet e s o = both_ways _ (not-true _ e) (and_from start (octet == 128) s (eq-eqb octet 128 o))
 
@@ -22,7 +22,7 @@ octet_complete : (start : Bool) (octet : ℕ) → (start ≡ true → octet ≡ 
 octet_complete start octet h =
     not_from_false _ (false_from_ne_true _ (λ t. let both = and_parts start (octet == 128) t in h both.0 (eqb-true octet 128 both.1)))
 
--- behind an octet of a subidentifier stand what is left of it and then others
+-- after an octet of a subidentifier come its other octets and further subidentifiers
 record Split (octet : ℕ) (more : List ℕ) : Type 0 where
   pub tail : List ℕ
   pub others : List (List ℕ)
@@ -53,7 +53,6 @@ split octet (next ∷ more) e =
       }
     ]
 
--- where there are octets, they are tested as subidentifiers
 some_octets : (octet : ℕ) (more : List ℕ) → is_object_id (octet ∷ more) ≡ are_subidentifiers true (octet ∷ more)
 some_octets octet more = rw (ne_eqb (length (octet ∷ more)) 0 (λ z. omega (arith, z))) refl
 
@@ -68,7 +67,7 @@ is_object_id_sound (octet ∷ more) e =
       ap (λ (x : List ℕ). octet ∷ x) s.joined,
     )
 
--- octets up to the last of a subidentifier, and others behind it
+-- the octets of one subidentifier, with others after it
 joined_complete : (start : Bool) (octet : ℕ) (more others : List ℕ) → IsContinued (octet ∷ more) → (start ≡ true → octet ≡ 128 → ⊥) → are_subidentifiers true others ≡ true
     → are_subidentifiers start (octet ∷ more ++ others) ≡ true
 joined_complete start octet [] others c h e = and_from _ _ (octet_complete start octet h) (rw (lt-ltb octet 128 c) e)

@@ -1,4 +1,4 @@
--- Headers of either length: what is found stands there, and what is wrong does.
+-- Reading a header of definite or indefinite length returns the header at the front, or its fault.
 use Rattle.std.proofs.Common.{◌≡◌, ℕ, ◌+◌, ◌-◌, ◌/◌, ◌%◌, ◌<◌, ◌≤◌, Bool, true, false, List, [], ◌∷◌, ◌++◌, length, drop, Option, Some, None, Result, Ok, Err, refl, sym, ap, subst, ◌∙◌, inl, inr, arith, append_assoc}
 use Rattle.std.proofs.lemmas.List.{drop_at}
 use Rattle.std.proofs.lemmas.Bool.{eqb-true, eq-eqb, ne_eqb}
@@ -29,7 +29,7 @@ pub record FindsIndefinite (octets : List ℕ) (count : ℕ) : Type 0 where
   pub joined : octets ≡ tag ++ 0x80 ∷ rest
   pub count_is : count ≡ length tag
 
--- what is wrong with the header that the octets begin with; the place is counted from its first octet
+-- the faults of the header that the octets begin with; the place is counted from its first octet
 abbrev pub IsOpeningFault : List ℕ → Reason → ℕ → Type 0
 IsOpeningFault octets reasons.TagForm offset = HasLongTag octets × (offset ≡ 0)
 IsOpeningFault octets reasons.LengthForm offset = (octet : ℕ) × (132 < octet) × HasLengthOctet octet octets offset
@@ -39,57 +39,54 @@ IsOpeningFault octets _ offset = ⊥
 
 -- ---- parts
 
--- what is left behind a tag that was found
+-- the octets after a tag that was found
 pub behind_found : (octets : List ℕ) (n : ℕ) (f : FindsTag octets n) → drop n octets ≡ f.rest
 behind_found octets n f = ap (drop n) f.joined ∙ drop_at f.tag f.rest n (sym f.count)
 
--- an octet that is next stands there
+-- an octet that `is_next` finds is at the front
 pub next_sound : (octet : ℕ) (octets : List ℕ) → is_next octet octets ≡ true → (rest : List ℕ) × (octets ≡ octet ∷ rest)
 next_sound octet [] e = absurd cc
 next_sound octet (first ∷ more) e = (more, ap (λ (x : ℕ). x ∷ more) (eqb-true first octet e))
 
--- a definite length does not begin with 80
 pub no_indefinite : (n : ℕ) (length_octets rest : List ℕ) → IsLength n length_octets → is_next 0x80 (length_octets ++ rest) ≡ false
 no_indefinite n [] rest l = absurd l
 no_indefinite n (first ∷ more) rest (inl h) = ne_eqb first 128 (λ e. omega (arith, e, h.0))
 no_indefinite n (first ∷ more) rest (inr h) = ne_eqb first 128 (λ e. omega (arith, e, h.0, h.1))
 
--- the tag at the front is that of a constructed element
+-- `is_constructed` decides `IsConstructed` for the tag at the front
 pub constructed_sound : (tag rest : List ℕ) → IsTag tag → is_constructed (tag ++ rest) ≡ true → IsConstructed tag
 constructed_sound [] rest t e = absurd t
 constructed_sound (first ∷ more) rest t e = eqb-true (first / 32 % 2) 1 e
 
--- and the other way round
+-- the converse of `constructed_sound`
 pub constructed_complete : (tag rest : List ℕ) → IsConstructed tag → is_constructed (tag ++ rest) ≡ true
 constructed_complete [] rest c = absurd c
 constructed_complete (first ∷ more) rest c = eq-eqb (first / 32 % 2) 1 c
 
--- a tag of a primitive element is not that of a constructed one
 pub primitive_complete : (tag rest : List ℕ) → IsTag tag → (IsConstructed tag → ⊥) → is_constructed (tag ++ rest) ≡ false
 primitive_complete [] rest t c = absurd t
 primitive_complete (first ∷ more) rest t c = ne_eqb (first / 32 % 2) 1 c
 
--- a tag has an octet at least, and five at most
+-- a tag has one to five octets
 pub tag_length : (tag : List ℕ) → IsTag tag → (1 ≤ length tag) × (length tag ≤ 5)
 tag_length [] t = absurd t
 tag_length (first ∷ more) (inl h) = (omega arith, omega (arith, ap length h.1))
 tag_length (first ∷ more) (inr h) = (omega arith, omega (arith, h.2))
 
--- a length has an octet at least
+-- a length has at least one octet
 pub length_some : (n : ℕ) (length_octets : List ℕ) → IsLength n length_octets → 1 ≤ length length_octets
 length_some n [] l = absurd l
 length_some n (first ∷ more) l = omega arith
 
--- what was found of a definite header, as an opening
+-- a header of definite length, as an opening
 abbrev pub found_definite : Option Header → Result (Option Opening) Fault
 found_definite h = Ok (definite_of h)
 
--- a definite header that was found
 pub definite_is : (x : Option Header) (h : Header) → found_definite x ≡ Ok (Some (Definite h)) → x ≡ Some h
 definite_is None h e = absurd cc
 definite_is (Some k) h e = let same : k ≡ h = cc in ap (λ (y : Header). Some y) same
 
--- where the octet behind the tag is not 80, the header is of definite length
+-- if the octet after the tag is not 80, the header is of definite length
 pub plain : (place : ℕ) (tag rest : List ℕ) → IsTag tag → is_next 0x80 rest ≡ false
     → opening_at (from place (tag ++ rest)) ≡ (header_at (from place (tag ++ rest)) >>= found_definite)
 unfolding opening_at header_at tag_at
@@ -97,9 +94,9 @@ plain place tag rest t e =
     let behind_it : drop (length tag) (tag ++ rest) ≡ rest = drop_at tag rest (length tag) refl in
     rw (tag_complete place tag rest t, behind_it, e) refl
 
--- ---- what is found stands there
+-- ---- a header that is found is at the front
 
--- behind a tag a definite header is what header_at finds
+-- after a tag, the header of definite length is that of `header_at`
 pub definite_part : (s : Span) (n : ℕ) (h : Header) → tag_in s.place s.octets ≡ Ok (Some n) → opening_behind s (Some n) ≡ Ok (Some (Definite h)) → header_at s ≡ Ok (Some h)
 unfolding header_at tag_at
 definite_part s n h t b =
@@ -122,12 +119,11 @@ definite_sound place octets h e =
     of_tag None t b = absurd cc
     of_tag (Some n) t b = header_sound (from place octets) h (definite_part (from place octets) n h t b)
 
--- no header of indefinite length comes of one of definite length
+-- a header of definite length is not one of indefinite length
 pub not_definite : (x : Option Header) (tag : ℕ) → found_definite x ≡ Ok (Some (Indefinite tag)) → ⊥
 not_definite None tag e = absurd cc
 not_definite (Some k) tag e = absurd cc
 
--- the tags of equal answers are equal
 pub indefinite_is : (n m : ℕ) → (let a : Result (Option Opening) Fault = Ok (Some (Indefinite n)) in a) ≡ Ok (Some (Indefinite m)) → n ≡ m
 indefinite_is n m e = cc
 
@@ -172,19 +168,18 @@ indefinite_complete place tag rest is_tag is_constructed =
     let behind_it : drop (length tag) (tag ++ 0x80 ∷ rest) ≡ 0x80 ∷ rest = drop_at tag (0x80 ∷ rest) (length tag) refl in
     rw (tag_complete place tag (0x80 ∷ rest) is_tag, behind_it, constructed_complete tag (0x80 ∷ rest) is_constructed) refl
 
--- ---- what is wrong stands there
+-- ---- a fault that is returned is there
 
--- and so are the counts of a tag
 pub tag_is : (n m : ℕ) → (let a : Result (Option ℕ) Fault = Ok (Some n) in a) ≡ Ok (Some m) → n ≡ m
 tag_is n m e = cc
 
--- a length octet 80 behind a tag is next to it
+-- a length octet 80 comes right after the tag
 pub next_is_80 : (place n offset : ℕ) (octets : List ℕ) → tag_in place octets ≡ Ok (Some n) → HasLengthOctet 0x80 octets offset → is_next 0x80 (drop n octets) ≡ true
 next_is_80 place n offset octets t h =
     let same : length h.tag ≡ n = tag_is (length h.tag) n (sym (ap (tag_in place) h.joined ∙ tag_complete place h.tag (0x80 ∷ h.rest) h.is_tag) ∙ t) in
     ap (is_next 0x80) (ap (drop n) h.joined ∙ drop_at h.tag (0x80 ∷ h.rest) n same)
 
--- where the length octet is not 80, a fault of a definite header is one of a header
+-- if the length octet is not 80, a fault of the header of definite length is a fault of the header
 pub of_header_fault : (octets : List ℕ) (reason : Reason) (offset : ℕ) → (HasLengthOctet 0x80 octets offset → ⊥) → IsHeaderFault octets reason offset → IsOpeningFault octets reason offset
 of_header_fault octets reasons.TagForm offset other h = h
 of_header_fault octets reasons.LengthForm offset other h = h
@@ -192,7 +187,6 @@ of_header_fault octets reasons.Indefinite offset other h = absurd (other h)
 of_header_fault octets reasons.TooLong offset other h = h
 of_header_fault octets _ offset other h = absurd h
 
--- no test is both
 pub true_not_false : (b : Bool) → b ≡ true → b ≡ false → ⊥
 true_not_false b e f = absurd cc
 
@@ -231,7 +225,7 @@ opening_fault place octets f e =
           ]
         ]
 
--- a fault of a definite header behind a tag, where the octet there is not 80, is one here
+-- if the octet after the tag is not 80, reading returns the fault of the header of definite length
 pub plain_refused : (place : ℕ) (tag rest octets : List ℕ) (f : Fault) → IsTag tag → octets ≡ tag ++ rest → is_next 0x80 rest ≡ false
     → header_at (from place octets) ≡ Err f → opening_at (from place octets) ≡ Err f
 plain_refused place tag rest octets f t joined other e =

@@ -1,4 +1,4 @@
--- Headers of either length: octets behind them, their places, and how many octets they have.
+-- Headers do not depend on the octets after them or on their place, and their lengths are limited.
 use Rattle.std.proofs.Common.{◌≡◌, ℕ, zero, suc, ◌+◌, ◌-◌, ◌%◌, ◌<◌, ◌≤◌, true, false, List, [], ◌∷◌, ◌++◌, length, take, drop, Option, Some, None, Result, Ok, Err, refl, sym, ap, ◌∙◌, inl, inr, arith, append_assoc}
 use Rattle.std.proofs.lemmas.List.{take_at, take-append-drop, take-append-le, length-append}
 use Rattle.std.proofs.lemmas.Bool.{ltb-true, ltb-false}
@@ -18,9 +18,9 @@ use Rattle.tcap_ber.proofs.StayLaws.{long_tag_stays, length_octet_stays, long_le
 use Rattle.tcap_ber.proofs.HeaderLaws.{FindsHeader}
 use Rattle.tcap_ber.proofs.OpeningLaws.{from, FindsIndefinite, IsOpeningFault, behind_found, tag_length, length_some, found_definite, definite_sound, indefinite_sound, definite_complete, indefinite_complete, opening_fault, opening_refused}
 
--- ---- octets behind
+-- ---- octets after a header
 
--- a header that stands at the front is found
+-- a header of definite length at the front is found
 pub definite_found : (place : ℕ) (octets : List ℕ) (h : Header) → FindsHeader octets h → opening_at (from place octets) ≡ Ok (Some (Definite h))
 definite_found place octets h f =
     let counts : (let made : Header = record { tag_len = length f.tag; len = length f.tag + length f.length_octets; content_len = h.content_len } in made) ≡ h = rw (← f.len, ← f.tag_len) refl in
@@ -28,19 +28,19 @@ definite_found place octets h f =
     ∙ definite_complete place h.content_len f.tag f.length_octets f.rest f.is_tag f.is_length f.within
     ∙ ap (λ (x : Header). Ok (Some (Definite x))) counts
 
--- and so is one of indefinite length
+-- a header of indefinite length at the front is found
 pub indefinite_found : (place : ℕ) (octets : List ℕ) (tag : ℕ) → FindsIndefinite octets tag → opening_at (from place octets) ≡ Ok (Some (Indefinite tag))
 indefinite_found place octets tag f =
     ap (λ (x : List ℕ). opening_at (from place x)) f.joined
     ∙ indefinite_complete place f.tag f.rest f.is_tag f.is_constructed
     ∙ ap (λ (n : ℕ). Ok (Some (Indefinite n))) (sym f.count_is)
 
--- three parts, and more behind
+-- three parts, with more after them
 pub more_behind : (octets a b c more : List ℕ) → octets ≡ a ++ (b ++ c) → octets ++ more ≡ a ++ (b ++ (c ++ more))
 more_behind octets a b c more e =
     ap (λ (x : List ℕ). x ++ more) e ∙ append_assoc a (b ++ c) more ∙ ap (λ (x : List ℕ). a ++ x) (append_assoc b c more)
 
--- what comes behind a whole header changes nothing
+-- octets after a whole header do not change it
 pub opening_stays : (place : ℕ) (octets more : List ℕ) (opening : Opening) → opening_at (from place octets) ≡ Ok (Some opening) → opening_at (from place (octets ++ more)) ≡ Ok (Some opening)
 opening_stays place octets more (Definite h) e =
     let f = definite_sound place octets h e in
@@ -66,7 +66,7 @@ opening_stays place octets more (Indefinite tag) e =
       count_is = f.count_is;
     })
 
--- what is wrong stays so with more behind
+-- a fault stays if more octets follow
 pub wrong_stays : (octets more : List ℕ) (reason : Reason) (offset : ℕ) → IsOpeningFault octets reason offset → IsOpeningFault (octets ++ more) reason offset
 wrong_stays octets more reasons.TagForm offset h = (long_tag_stays octets more h.0, h.1)
 wrong_stays octets more reasons.LengthForm offset h = (h.0, h.1, length_octet_stays h.0 octets more offset h.2)
@@ -74,7 +74,7 @@ wrong_stays octets more reasons.Indefinite offset h = (length_octet_stays 0x80 o
 wrong_stays octets more reasons.TooLong offset h = (long_length_stays octets more h.0, h.1)
 wrong_stays octets more _ offset h = absurd h
 
--- and nothing behind a fault
+-- a fault that was returned stays if more octets follow
 pub fault_stays : (place : ℕ) (octets more : List ℕ) (f : Fault) → opening_at (from place octets) ≡ Err f → opening_at (from place (octets ++ more)) ≡ Err f
 fault_stays place octets more f e =
     let w = opening_fault place octets f e in
@@ -83,7 +83,7 @@ fault_stays place octets more f e =
 
 -- ---- places
 
--- the rest of a long tag does not depend on its place
+-- the length of a long tag does not depend on its place
 pub tag_rest_moves : (place other left len : ℕ) (octets : List ℕ) (found : Option ℕ) → tag_rest place left len octets ≡ Ok found → tag_rest other left len octets ≡ Ok found
 tag_rest_moves place other zero len octets found e = absurd cc
 tag_rest_moves place other (suc left) len [] found e = e
@@ -93,7 +93,7 @@ tag_rest_moves place other (suc left) len (octet ∷ octets) found e =
       | inr h ↦ rw h.0 (tag_rest_moves place other left (len + 1) octets found h.1)
     ]
 
--- nor does a tag
+-- a tag's length does not depend on its place
 pub tag_moves : (place other : ℕ) (octets : List ℕ) (found : Option ℕ) → tag_in place octets ≡ Ok found → tag_in other octets ≡ Ok found
 tag_moves place other [] found e = e
 tag_moves place other (first ∷ more) found e =
@@ -102,7 +102,7 @@ tag_moves place other (first ∷ more) found e =
       | inr h ↦ rw h.0 h.1
     ]
 
--- nor does a length
+-- a length does not depend on its place
 pub length_moves : (place other : ℕ) (octets : List ℕ) (found : Option (ℕ × ℕ)) → length_in place octets ≡ Ok found → length_in other octets ≡ Ok found
 length_moves place other [] found e = e
 length_moves place other (first ∷ more) found e =
@@ -117,7 +117,6 @@ length_moves place other (first ∷ more) found e =
       ]
     ]
 
--- nor does what is made of a length
 pub header_of_moves : (place other tag : ℕ) (x : Option (ℕ × ℕ)) (found : Option Header) → header_of place tag x ≡ Ok found → header_of other tag x ≡ Ok found
 header_of_moves place other tag None found e = e
 header_of_moves place other tag (Some x) found e =
@@ -126,14 +125,14 @@ header_of_moves place other tag (Some x) found e =
       | inr h ↦ rw h.0 h.1
     ]
 
--- a definite header behind a tag does not depend on its place
+-- a header of definite length does not depend on its place
 pub definite_moves : (place other n : ℕ) (octets : List ℕ) (found : Option Header) → definite_behind (from place octets) n ≡ Ok found → definite_behind (from other octets) n ≡ Ok found
 unfolding length_at
 definite_moves place other n octets found e =
     let a = bind_ok (length_in (place + n) (drop n octets)) (header_of place n) found e in
     rw (length_moves (place + n) (other + n) (drop n octets) a.0 a.1) (header_of_moves place other n a.0 found a.2)
 
--- nor does what stands behind a tag
+-- the opening after a tag does not depend on its place
 pub behind_moves : (place other : ℕ) (octets : List ℕ) (tag : Option ℕ) (found : Option Opening) → opening_behind (from place octets) tag ≡ Ok found → opening_behind (from other octets) tag ≡ Ok found
 behind_moves place other octets None found e = e
 behind_moves place other octets (Some n) found e =
@@ -153,9 +152,9 @@ opening_moves place other octets found e =
     let a = bind_ok (tag_in place octets) (opening_behind (from place octets)) found e in
     rw (tag_moves place other octets a.0 a.1) (behind_moves place other octets a.0 found a.2)
 
--- ---- how many octets
+-- ---- lengths of headers
 
--- a header is among the octets, and has two at least
+-- a header has at least two octets, which are among those given
 pub opening_within : (place : ℕ) (octets : List ℕ) (opening : Opening) → opening_at (from place octets) ≡ Ok (Some opening) → (2 ≤ header_octets opening) × (header_octets opening ≤ length octets)
 opening_within place octets (Definite h) e =
     let f = definite_sound place octets h e in
@@ -168,7 +167,7 @@ opening_within place octets (Indefinite tag) e =
     let t = tag_length f.tag f.is_tag in
     (omega (arith, f.count_is, t.0), omega (arith, f.count_is, ap length f.joined, length-append f.tag (0x80 ∷ f.rest)))
 
--- a long tag that does not end goes on less than it may
+-- an incomplete long tag has fewer octets than it may have
 pub tag_rest_cut : (place left len : ℕ) (octets : List ℕ) → tag_rest place left len octets ≡ Ok None → length octets < left
 tag_rest_cut place zero len octets e = absurd cc
 tag_rest_cut place (suc left) len [] e = omega arith
@@ -178,7 +177,7 @@ tag_rest_cut place (suc left) len (octet ∷ octets) e =
       | inr h ↦ omega (arith, tag_rest_cut place left (len + 1) octets h.1)
     ]
 
--- a tag that does not end has four octets at most
+-- an incomplete tag has at most four octets
 pub tag_cut : (place : ℕ) (octets : List ℕ) → tag_in place octets ≡ Ok None → length octets ≤ 4
 tag_cut place [] e = omega arith
 tag_cut place (first ∷ more) e =
@@ -187,7 +186,7 @@ tag_cut place (first ∷ more) e =
       | inr h ↦ absurd cc
     ]
 
--- a length that does not end has four octets at most
+-- an incomplete length has at most four octets
 pub length_cut : (place : ℕ) (octets : List ℕ) → length_in place octets ≡ Ok None → length octets ≤ 4
 length_cut place [] e = omega arith
 length_cut place (first ∷ more) e =
@@ -205,7 +204,7 @@ length_cut place (first ∷ more) e =
       ]
     ]
 
--- a header whose count is known is whole
+-- a header whose length was read is whole
 pub header_of_cut : (place tag : ℕ) (x : Option (ℕ × ℕ)) → header_of place tag x ≡ Ok None → x ≡ None
 header_of_cut place tag None e = refl
 header_of_cut place tag (Some x) e =
@@ -214,12 +213,11 @@ header_of_cut place tag (Some x) e =
       | inr h ↦ absurd cc
     ]
 
--- no header was found where no opening is
 pub definite_none : (x : Option Header) → found_definite x ≡ Ok None → x ≡ None
 definite_none None e = refl
 definite_none (Some h) e = absurd cc
 
--- behind a tag four octets at most have come of a header that is not whole
+-- after its tag, an incomplete header has at most four octets
 pub behind_cut : (place n : ℕ) (octets : List ℕ) → opening_behind (from place octets) (Some n) ≡ Ok None → length (drop n octets) ≤ 4
 unfolding length_at
 behind_cut place n octets e =
@@ -235,7 +233,7 @@ behind_cut place n octets e =
           length_cut (place + n) (drop n octets) (b.1 ∙ ap (λ (x : Option (ℕ × ℕ)). Ok x) cut)
     ]
 
--- one that is not whole has nine octets at most
+-- an incomplete header has at most nine octets
 pub unfinished_within : (place : ℕ) (octets : List ℕ) → opening_at (from place octets) ≡ Ok None → length octets ≤ 9
 unfolding opening_at tag_at
 unfinished_within place octets e =
@@ -249,13 +247,13 @@ unfinished_within place octets e =
         let cut : length f.rest ≤ 4 = omega (arith, behind_cut place n octets b, ap length (behind_found octets n f)) in
         omega (arith, cut, (tag_length f.tag f.is_tag).1, ap length f.joined, length-append f.tag f.rest)
 
--- octets that fit into the first of two parts begin it
+-- the first of two parts begins with octets that fit into it
 pub begins : (a b c d : List ℕ) → a ++ b ≡ c ++ d → length a ≤ length c → c ≡ a ++ drop (length a) c
 begins a b c d e room =
     let front : a ≡ take (length a) c = sym (take_at a b (length a) refl) ∙ ap (take (length a)) e ∙ take-append-le (length a) c d room in
     sym (take-append-drop (length a) c) ∙ ap (λ (x : List ℕ). x ++ drop (length a) c) (sym front)
 
--- a header that the first octets hold is found without those behind
+-- a header within the first octets is found without those after
 pub opening_shrinks : (place : ℕ) (octets more : List ℕ) (opening : Opening) → opening_at (from place (octets ++ more)) ≡ Ok (Some opening) → header_octets opening ≤ length octets
     → opening_at (from place octets) ≡ Ok (Some opening)
 opening_shrinks place octets more (Definite h) e room =
@@ -288,7 +286,7 @@ opening_shrinks place octets more (Indefinite tag) e room =
       count_is = f.count_is;
     })
 
--- it ends with the octet that makes it whole
+-- a header ends with the octet that completes it
 pub opening_exact : (place octet : ℕ) (octets : List ℕ) (opening : Opening) → opening_at (from place octets) ≡ Ok None → opening_at (from place (octets ++ octet ∷ [])) ≡ Ok (Some opening)
     → header_octets opening ≡ length octets + 1
 opening_exact place octet octets opening none some =

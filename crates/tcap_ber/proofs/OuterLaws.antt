@@ -1,4 +1,4 @@
--- What is answered of the octets that a message or an entry begins with.
+-- The result of framing the front of a message or an entry.
 use Rattle.std.proofs.Common.{◌≡◌, ℕ, ◌+◌, ◌<◌, ◌≤◌, true, List, [], ◌∷◌, ◌++◌, length, Option, Some, None, Result, Ok, Err, refl, sym, ap, subst, ◌∙◌, inl, inr, arith}
 use Rattle.std.proofs.lemmas.List.{length-append, append-nil, nil_from_length}
 use Rattle.std.proofs.lemmas.Bool.{eqb-true, eq-eqb}
@@ -21,7 +21,7 @@ use Rattle.tcap_ber.proofs.WalkedStopLaws.{whole_there, wrong_there, refused_the
 use Rattle.tcap_ber.proofs.WalkedInnermostLaws.{noted_there, opened_innermost}
 use Rattle.tcap_ber.proofs.ResumeLaws.{needed, needs_more}
 
--- where the walk over the octets stops
+-- the place at which the walk over the octets stops
 pub record Stop (octets : List ℕ) : Type 0 where
   pub levels : List Level
   pub rest : List ℕ
@@ -64,14 +64,14 @@ unfolding outer_at
 outer_refused octets reason place (levels, rest, w, wrong) =
     reaches_walk at_first (progress_of levels) octets rest (reaches_levels octets rest levels w) ∙ refused_there octets rest levels reason place w wrong
 
--- what is wrong stands among the octets
+-- a fault's place is among the octets
 pub walk_fault_within : (octets : List ℕ) (reason : Reason) (place : ℕ) → IsWalkFault octets reason place → place < length octets
 walk_fault_within octets reason place (levels, rest, w, wrong) = wrong_within octets rest levels reason place w wrong
 
 pub whole_is : (n m : ℕ) → (let a : Outer = Whole n in a) ≡ Whole m → n ≡ m
 whole_is n m e = cc
 
--- ---- octets that are needed
+-- ---- how many octets are needed
 
 need_not_whole : (n m : ℕ) → (let a : Result Outer Fault = Ok (Need n) in a) ≡ Ok (Whole m) → ⊥
 need_not_whole n m e = cc
@@ -107,7 +107,7 @@ outer_needs octets n e = record {
           | inr k ↦ omega (arith, k, longer tag content element more is_element joined)
         ]
 
--- ---- the innermost element that is not whole
+-- ---- the innermost incomplete element
 
 depth_is : (levels : List Level) → (progress_of levels).depth ≡ length levels
 depth_is [] = refl
@@ -126,7 +126,7 @@ place_at octets [] levels w stop =
 place_at octets (x ∷ more) [] w stop = refl
 place_at octets (x ∷ more) (level ∷ outer) w stop = refl
 
--- where the walk stops, the definition's place is the function's
+-- where the walk stops, the function's place is the definition's
 pub place_there : (octets rest : List ℕ) (levels : List Level) → IsWalked octets levels rest → goes (progress_of levels) rest ≡ None → innermost_at octets ≡ innermost levels rest
 unfolding innermost_at stopped
 place_there octets rest levels w stop =

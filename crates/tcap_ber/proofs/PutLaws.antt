@@ -12,7 +12,7 @@ use Rattle.tcap_ber.specs.declared.device.Failed.{Failed}
 use Rattle.tcap_ber.specs.Device.{Takes}
 use Rattle.tcap_ber.proofs.Steps.{chosen}
 
--- the last so many of the four octets are those of the shorter number
+-- the last `count` of the four octets are those of the shorter number
 abbrev Ends : ℤ → ℕ → Type 0
 Ends value count = drop (4 - count) (number_octets 4 (cast_unsigned w32 value)) ≡ number_octets count (twos_complement count value)
 
@@ -56,18 +56,18 @@ last_octets value = of_one (nat_lt (magnitude value) 0x80) refl
     of_one true e = ends-1 value (ltb-true (magnitude value) 0x80 e)
     of_one false e = of_two (nat_lt (magnitude value) 0x8000) refl
 
--- what a call wrote, behind what was written before it
+-- two writes, one after the other
 pub writes_then : (a b c : Option (List ℕ)) (front rest : List ℕ) (r : Result (Unit {0}) Failed) → Appends a b front → OnOk r (Appends b c rest) → OnOk r (Appends a c (front ++ rest))
 writes_then a b c front rest (Ok _) before more = Appends-trans a b c front rest before more
 writes_then a b c front rest (Err _) before more = tt
 
--- the octets of a header, and then the contents
+-- a write, and then octets taken
 pub takes_then : (a b c : Option (List ℕ)) (front octets rest : List ℕ) (r : Result (Unit {0}) Failed) → Appends a b front → Takes b c r octets → octets ≡ rest
     → OnOk r (Appends a c (front ++ rest))
 takes_then a b c front octets rest (Ok _) before more same = subst (λ (x : List ℕ). Appends a c (front ++ x)) same (Appends-trans a b c front octets before more)
 takes_then a b c front octets rest (Err _) before more same = tt
 
--- what is written of the four octets
+-- the octets of the four that are written
 pub contents_of : (value : ℤ) (len : ℕ) (octets : List ℕ) → len ≡ integer_len value → octets ≡ number_octets 4 (cast_unsigned w32 value)
     → take (4 - (4 - len)) (drop (4 - len) octets) ≡ integer_octets value
 contents_of value len octets l o =
@@ -86,7 +86,7 @@ at_most_four m = grind (arith, nat_tests)
 pub length-shortest_header : (tag count : ℕ) → count ≤ 65535 → length (shortest_header tag count) ≤ 4
 length-shortest_header tag count h = grind (arith, nat_tests)
 
--- an INTEGER is within the limit
+-- an INTEGER is within the content limit
 pub integer_around : (tag : ℕ) (n : ℤ) → element_around tag (Some (integer_octets n)) ≡ Some (shortest_header tag (integer_len n) ++ integer_octets n)
 integer_around tag n = rw (length-integer_octets n) (rw (le-leb (integer_len n) 65535 (omega (arith, at_most_four (magnitude n)))) refl)
 
@@ -139,7 +139,7 @@ join_len (Some a) (Some b) n m p q =
     let k : length (a ++ b) ≡ n + m = omega (arith, length-append a b, some_same (length a) n p, some_same (length b) m q) in
     ap (λ (x : ℕ). Some x) k
 
--- what has no length is not there
+-- if there is no length, there are no octets
 pub no_len : (x : Option (List ℕ)) → None ≡ option_map length x → x ≡ None
 no_len None e = refl
 no_len (Some x) e = absurd cc
@@ -152,7 +152,7 @@ pub some_not_none : (x : Option (List ℕ)) → IsSome x → x ≡ None → ⊥
 some_not_none None h e = cc
 some_not_none (Some x) h e = cc
 
--- what an element around a content is
+-- the spelling of an element with this content
 pub around_is : (tag : ℕ) (content octets : List ℕ) → element_around tag (Some content) ≡ Some octets → shortest_header tag (length content) ++ content ≡ octets
 around_is tag content octets e =
     elim (chosen (nat_le (length content) 65535) (there (shortest_header tag (length content) ++ content)) None (Some octets) e) [

@@ -1,4 +1,4 @@
--- The element at the front of a window as its octets.
+-- The element at the front of a window, verbatim.
 use Rattle.std.proofs.Common.{◌≡◌, ℕ, ◌+◌, ◌-◌, ◌≤◌, true, List, ◌++◌, length, take, Ok, refl, sym, ap, subst, ◌∙◌, arith}
 use Rattle.std.proofs.lemmas.List.{take_at, length-append}
 use Rattle.tcap_ber.specs.Element.{IsElement, IsRaw}
@@ -8,7 +8,6 @@ use Rattle.tcap_ber.proofs.Steps.{bind_ok, ok_is}
 use Rattle.tcap_ber.proofs.ElementLaws.{next_sound, next_complete}
 use Rattle.tcap_ber.proofs.OuterLaws.{is_raw_complete}
 
--- the octets of the element at the front
 pub raw_sound : (s : Span) (x : List ℕ × Span) → raw_at s ≡ Ok x → IsRaw x.0 × (s.octets ≡ x.0 ++ x.1.octets) × (x.1.place ≡ s.place + length x.0)
 unfolding raw_at
 raw_sound s x e =
@@ -25,7 +24,7 @@ raw_complete place octets rest r =
     let total : length (octets ++ rest) - length rest ≡ length octets = omega (arith, length-append octets rest) in
     rw (next_complete place r.0 r.1 octets rest r.2, total, take_at octets rest (length octets) refl) refl
 
--- the octets up to the window behind the first element are that element
+-- the octets up to the window after the first element are that element
 pub raw_there : (s : Span) (x : Element × Span) → next_at s ≡ Ok x → is_raw (take (length s.octets - length x.1.octets) s.octets) ≡ true
 unfolding raw_at
 raw_there s x e =

@@ -1,4 +1,4 @@
--- Which places a walk reaches, and that it goes over each element in an open one.
+-- Which places a walk reaches. It passes each element inside an open one.
 use Rattle.std.proofs.Common.{◌≡◌, ℕ, zero, suc, ◌+◌, ◌-◌, ◌<◌, ◌≤◌, true, false, List, [], ◌∷◌, ◌++◌, length, drop, Option, Some, None, Ok, refl, sym, ap, subst, ◌∙◌, inl, inr, arith, append_assoc}
 use Rattle.std.specs.Prelude.{◌≢◌}
 use Rattle.std.specs.List.{AllByRecursion, concat}
@@ -17,9 +17,9 @@ use Rattle.tcap_ber.proofs.OpeningLaws.{from, definite_complete, indefinite_comp
 use Rattle.tcap_ber.proofs.OpeningPlaceLaws.{opening_within}
 use Rattle.tcap_ber.proofs.WalkLaws.{Goes, zeros_header, behind_further, goes_sound, left, left_shorter, walk, stops, fewer_left, walk_first, walk_goes, stops_goes}
 
--- ---- places that are reached
+-- ---- reached places
 
--- in so many steps
+-- the place is reached in n steps
 abbrev pub ReachesIn : ℕ → Progress → List ℕ → Progress → List ℕ → Type 0
 ReachesIn zero p octets q rest = (p ≡ q) × (octets ≡ rest)
 ReachesIn (suc n) p octets q rest = (next : Progress) × Goes p octets next × ReachesIn n next (left p next octets) q rest
@@ -36,7 +36,7 @@ reaches_on p q r octets rest behind a b = on_in a.0 p octets a.1
         let t = on_in n h.0 (left p h.0 octets) h.2 in
         (suc t.0, (h.0, h.1, t.1))
 
--- what each step leaves the same is the same in so many steps
+-- a function that no step changes is the same at a reached place
 pub same_in : {A : Type 0} (f : Progress → List ℕ → A) → ((p next : Progress) (octets : List ℕ) → Goes p octets next → f p octets ≡ f next (left p next octets))
     → (n : ℕ) (p q : Progress) (octets rest : List ℕ) → ReachesIn n p octets q rest → f p octets ≡ f q rest
 same_in f step zero p q octets rest h = ap (λ (x : Progress). f x octets) h.0 ∙ ap (f q) h.1
@@ -55,11 +55,11 @@ reaches_fewer p q octets rest a = fewer_in a.0 p octets a.1
     fewer_in zero p octets h = omega (arith, ap length h.1)
     fewer_in (suc n) p octets h = omega (arith, left_shorter p h.0 octets h.1, fewer_in n h.0 (left p h.0 octets) h.2)
 
--- the place of a pair is reached, and the walk stops there
+-- the place is reached, and the walk stops there
 abbrev pub EndsAt : Progress → List ℕ → Progress × List ℕ → Type 0
 EndsAt p octets place = Reaches p octets place.0 place.1 × (goes place.0 place.1 ≡ None)
 
--- one step more
+-- one more step
 pub ends_on : (p : Progress) (octets : List ℕ) (f : Progress → List ℕ → Progress × List ℕ) (found : Option Progress) → goes p octets ≡ found
     → ((next : Progress) → Goes p octets next → EndsAt next (left p next octets) (f next (left p next octets))) → EndsAt p octets (stopped_by f p octets found)
 ends_on p octets f None e h = ((zero, (refl, refl)), e)
@@ -68,16 +68,16 @@ ends_on p octets f (Some next) e h =
     let r = h next g in
     ((suc r.0.0, (next, g, r.0.1)), r.1)
 
--- with a step for each octet and one more it stops
+-- with more steps than octets, the walk stops
 pub ends_in : (n : ℕ) (p : Progress) (octets : List ℕ) → length octets < n → EndsAt p octets (stopped_on n p octets)
 ends_in zero p octets more = absurd (omega arith)
 ends_in (suc n) p octets more = ends_on p octets (stopped_on n) (goes p octets) refl (λ next g. ends_in n next (left p next octets) (fewer_left n p next octets g more))
 
--- from each place it reaches one where it stops
+-- from each place the walk reaches one at which it stops
 pub reaches_stop : (p : Progress) (octets : List ℕ) → Reaches p octets (stops p octets).0 (stops p octets).1 × (goes (stops p octets).0 (stops p octets).1 ≡ None)
 reaches_stop p octets = ends_in (length octets + 1) p octets (omega arith)
 
--- ---- it goes over each element in an open one
+-- ---- the walk passes each element inside an open one
 
 abbrev pub moved : ℕ → Progress → Progress
 moved n p = record { at = p.at + n; depth = p.depth; limit = p.limit }
@@ -98,7 +98,7 @@ over p next octets front rest opening joined read behind at inside =
     let gone : left p next octets ≡ rest = ap (drop (next.at - p.at)) joined ∙ drop_at front rest (next.at - p.at) (sym count) in
     (suc zero, (next, g, (refl, gone)))
 
--- the same places and octets by other names
+-- `Reaches` with equal places and octets
 pub reaches_is : (p q r : Progress) (octets others rest : List ℕ) → octets ≡ others → q ≡ r → Reaches p octets q rest → Reaches p others r rest
 reaches_is p q r octets others rest e f a = subst (λ (x : Progress). Reaches p others x rest) f (subst (λ (x : List ℕ). Reaches p x q rest) e a)
 
@@ -107,23 +107,22 @@ pub definite_grouped : (tag content item rest : List ℕ) (d : IsDefinite tag co
 definite_grouped tag content item rest d =
     ap (λ (x : List ℕ). x ++ rest) d.joined ∙ append_assoc (tag ++ d.length_octets) content rest ∙ append_assoc tag d.length_octets (content ++ rest)
 
--- and how many octets it has
 pub definite_len : (tag content item : List ℕ) (d : IsDefinite tag content item) → length item ≡ length tag + length d.length_octets + length content
 definite_len tag content item d =
     omega (arith, ap length d.joined, length-append (tag ++ d.length_octets) content, length-append tag d.length_octets)
 
--- its header
+-- the header of an element of definite length
 abbrev pub header_for : (tag lens : List ℕ) → ℕ → Header
 header_for tag lens n = record { tag_len = length tag; len = length tag + length lens; content_len = n }
 
--- which is read there
+-- reading the opening returns this header
 pub definite_read : (place : ℕ) (tag content item rest : List ℕ) (d : IsDefinite tag content item)
     → opening_at (from place (item ++ rest)) ≡ Ok (Some (Definite (header_for tag d.length_octets (length content))))
 definite_read place tag content item rest d =
     ap (λ (x : List ℕ). opening_at (from place x)) (definite_grouped tag content item rest d)
     ∙ definite_complete place (length content) tag d.length_octets (content ++ rest) d.is_tag d.is_length d.is_within
 
--- one that isn't an ending doesn't begin with one
+-- an element of definite length that is not two zero octets does not begin with them
 pub no_ending : (tag content item rest : List ℕ) → IsDefinite tag content item → item ≢ ending → is_ending (item ++ rest) ≡ false
 no_ending tag content item rest d other = false_from_ne_true (is_ending (item ++ rest)) (λ e. other (is_it e))
   where
@@ -134,7 +133,7 @@ no_ending tag content item rest d other = false_from_ne_true (is_ending (item ++
         let nothing : content ≡ [] = nil_from_length content z.2 in
         d.joined ∙ ap (λ (x : List ℕ). (x ++ d.length_octets) ++ content) z.0 ∙ ap (λ (x : List ℕ). ((0 ∷ []) ++ x) ++ content) z.1 ∙ ap (λ (x : List ℕ). (0 ∷ 0 ∷ []) ++ x) nothing
 
--- one step goes over it
+-- one step passes an element of definite length
 pub passes_definite : (tag content item rest : List ℕ) (p : Progress) → IsDefinite tag content item → item ≢ ending → 0 < p.depth → p.at + length item ≤ p.limit
     → Reaches p (item ++ rest) (moved (length item) p) rest
 passes_definite tag content item rest p d other inside within =
@@ -151,11 +150,11 @@ passes_definite tag content item rest p d other inside within =
         rw (no_ending tag content item rest d other, lt-ltb 0 p.depth inside, ne_eqb p.depth 0 deep, le-ltb p.limit (p.at + (length tag + length d.length_octets + length content)) room)
         (ap (λ (n : ℕ). Ok (moved n p)) (sym len))
 
--- behind the header of an element of indefinite length in an open one
+-- the place after the header of an element of indefinite length inside an open one
 abbrev pub deeper : ℕ → Progress → Progress
 deeper n p = record { at = p.at + n; depth = p.depth + 1; limit = p.limit }
 
--- one step goes there
+-- one step reaches that place
 pub opens : (tag rest : List ℕ) (p : Progress) → IsTag tag → IsConstructed tag → 0 < p.depth → p.depth < depth_limit → p.at + (length tag + 1) ≤ p.limit
     → Reaches p (tag ++ 0x80 ∷ rest) (deeper (length tag + 1) p) rest
 opens tag rest p t c inside deep within =
@@ -165,11 +164,11 @@ opens tag rest p t c inside deep within =
     over p (deeper (length tag + 1) p) (tag ++ 0x80 ∷ rest) (tag ++ 0x80 ∷ []) rest (Indefinite (length tag)) (sym (append_assoc tag (0x80 ∷ []) rest))
     (indefinite_complete p.at tag rest t c) behind (omega (arith, length-append tag (0x80 ∷ []))) (omega arith)
 
--- behind the header of the outermost one
+-- the place after the header of the outermost element
 abbrev pub started : ℕ → Progress
 started n = record { at = n; depth = 1; limit = n + content_limit }
 
--- one step goes there from the start
+-- one step reaches that place from the start
 pub opens_first : (tag rest : List ℕ) → IsTag tag → IsConstructed tag → Reaches at_first (tag ++ 0x80 ∷ rest) (started (length tag + 1)) rest
 opens_first tag rest t c =
     let start : 0 + (length tag + 1) ≡ length tag + 1 = omega arith in
@@ -177,11 +176,11 @@ opens_first tag rest t c =
     over at_first (started (length tag + 1)) (tag ++ 0x80 ∷ rest) (tag ++ 0x80 ∷ []) rest (Indefinite (length tag)) (sym (append_assoc tag (0x80 ∷ []) rest))
     (indefinite_complete 0 tag rest t c) behind (omega (arith, length-append tag (0x80 ∷ []))) (omega arith)
 
--- an ending in front
+-- end-of-contents octets in front
 pub ending_read : (place : ℕ) (rest : List ℕ) → opening_at (from place (ending ++ rest)) ≡ Ok (Some (Definite (header_for (0 ∷ []) (0 ∷ []) 0)))
 ending_read place rest = definite_complete place 0 (0 ∷ []) (0 ∷ []) rest (inl (λ e. cc, refl)) (inl (omega arith, refl, refl)) (omega arith)
 
--- one step goes behind it, with one element less open
+-- one step passes end-of-contents octets, and closes an element
 pub closes : (rest : List ℕ) (p : Progress) → 1 < p.depth → p.at + 2 ≤ p.limit → Reaches p (ending ++ rest) (record { at = p.at + 2; depth = p.depth - 1; limit = p.limit }) rest
 closes rest p inside within =
     let next : Progress = record { at = p.at + 2; depth = p.depth - 1; limit = p.limit } in
@@ -190,23 +189,23 @@ closes rest p inside within =
     rw (lt-ltb 0 p.depth (omega (arith, inside)), ne_eqb p.depth 1 deep, le-ltb p.limit (p.at + 2) within) refl in
     over p next (ending ++ rest) ending rest (Definite (header_for (0 ∷ []) (0 ∷ []) 0)) refl (ending_read p.at rest) behind refl (omega (arith, inside))
 
--- the same with another place
+-- the progress with another offset
 abbrev pub placed_at : ℕ → Progress → Progress
 placed_at n p = record { at = n; depth = p.depth; limit = p.limit }
 
--- the same with another depth, and with one less
+-- the progress with another depth
 abbrev pub at_depth : ℕ → Progress → Progress
 at_depth n p = record { at = p.at; depth = n; limit = p.limit }
 
 abbrev pub shallower : Progress → Progress
 shallower p = at_depth (p.depth - 1) p
 
--- it goes over each element of this depth
+-- the walk passes each element of this nesting depth
 abbrev pub PassesEach : ℕ → Type 0
 PassesEach depth = (tag content item rest : List ℕ) (p : Progress) → IsNested depth tag content item → item ≢ ending → 0 < p.depth → p.depth + depth ≤ depth_limit → p.at + length item ≤ p.limit
     → Reaches p (item ++ rest) (moved (length item) p) rest
 
--- and then over items one after the other
+-- the walk passes items one after the other
 pub items_passed : (depth : ℕ) → PassesEach depth → (items : List (List ℕ)) (rest : List ℕ) (p : Progress) → AllByRecursion (λ item. ((tag content : List ℕ) × IsNested depth tag content item) × (item ≢ ending)) items
     → 0 < p.depth → p.depth + depth ≤ depth_limit → p.at + length (concat items) ≤ p.limit → Reaches p (concat items ++ rest) (moved (length (concat items)) p) rest
 items_passed depth each [] rest p all inside deep within =
@@ -233,12 +232,11 @@ indefinite_grouped IsInner tag content item rest i =
     ap (λ (x : List ℕ). x ++ rest) i.joined ∙ append_assoc (tag ++ 0x80 ∷ content) ending rest ∙ append_assoc tag (0x80 ∷ content) (ending ++ rest)
     ∙ ap (λ (x : List ℕ). tag ++ 0x80 ∷ (x ++ (ending ++ rest))) i.content_is
 
--- and how many octets it has
 pub indefinite_len : (IsInner : List ℕ → Type 0) (tag content item : List ℕ) (i : IsIndefinite IsInner tag content item) → length item ≡ length tag + 1 + length (concat i.items) + 2
 indefinite_len IsInner tag content item i =
     omega (arith, ap length i.joined, length-append (tag ++ 0x80 ∷ content) ending, length-append tag (0x80 ∷ content), ap length i.content_is)
 
--- it is opened, its elements are gone over, and it is closed
+-- the walk passes an element of indefinite length: it opens it, passes its elements and closes it
 pub passes_indefinite : (depth : ℕ) → PassesEach depth → (tag content item rest : List ℕ) (p : Progress) → IsIndefinite (λ item. (inner_tag inner : List ℕ) × IsNested depth inner_tag inner item) tag content item
     → 0 < p.depth → p.depth + suc depth ≤ depth_limit → p.at + length item ≤ p.limit → Reaches p (item ++ rest) (moved (length item) p) rest
 passes_indefinite depth each tag content item rest p i inside deep within =
@@ -272,7 +270,7 @@ pub passes_all : (depth : ℕ) (items : List (List ℕ)) (rest : List ℕ) (p : 
     → 0 < p.depth → p.depth + depth ≤ depth_limit → p.at + length (concat items) ≤ p.limit → Reaches p (concat items ++ rest) (moved (length (concat items)) p) rest
 passes_all depth items rest p all inside deep within = items_passed depth (passes depth) items rest p all inside deep within
 
--- where the content of the outermost open element begins
+-- the place at which the content of the outermost open element begins
 abbrev pub content_began : List Level → ℕ
 content_began [] = 0
 content_began (level ∷ []) = length level.tag + 1
@@ -284,32 +282,32 @@ content_count (level ∷ []) = omega (arith, length-append level.tag (0x80 ∷ c
 content_count (level ∷ next ∷ outer) =
     omega (arith, content_count (next ∷ outer), length-append (walked (next ∷ outer)) (level.tag ++ 0x80 ∷ concat level.items))
 
--- where the walk stands with these elements open
+-- the walk's progress with these elements open
 abbrev pub progress_of : List Level → Progress
 progress_of [] = at_first
 progress_of (level ∷ outer) = record { at = length (walked (level ∷ outer)); depth = length (level ∷ outer); limit = content_began (level ∷ outer) + content_limit }
 
--- elements open at most to the limit
+-- the open elements and those that may still open are `depth_limit` together
 pub open_count : (n : ℕ) (levels : List Level) → AreOpen n levels → n + length levels ≡ depth_limit
 open_count n [] o = omega (arith, o)
 open_count n (level ∷ outer) o = omega (arith, open_count (suc n) outer o.3)
 
--- where the content of the first of these elements begins
+-- the place at which the content of the innermost element begins
 abbrev pub content_place : Level → List Level → Progress
 content_place level outer =
     record { at = length (walked outer) + (length level.tag + 1); depth = length (level ∷ outer); limit = content_began (level ∷ outer) + content_limit }
 
--- how many octets were walked with one more element open
+-- the number of octets walked with one more element open
 pub walked_len : (level : Level) (outer : List Level) → length (walked (level ∷ outer)) ≡ length (walked outer) + (length level.tag + 1) + length (concat level.items)
 walked_len level outer =
     omega (arith, length-append (walked outer) (level.tag ++ 0x80 ∷ concat level.items), length-append level.tag (0x80 ∷ concat level.items))
 
--- what was walked of the content is no less with one more element open
+-- one more open element does not lessen the content walked
 pub outer_walked : (level : Level) (outer : List Level) → content_walked outer ≤ content_walked (level ∷ outer)
 outer_walked level [] = omega arith
 outer_walked level (next ∷ outer) = omega arith
 
--- one step goes there
+-- one step opens an element
 pub opens_level : (level : Level) (outer : List Level) (rest : List ℕ) → IsTag level.tag → IsConstructed level.tag → length outer < depth_limit → content_walked (level ∷ outer) ≤ content_limit
     → Reaches (progress_of outer) (level.tag ++ 0x80 ∷ rest) (content_place level outer) rest
 opens_level level [] rest t c deep within =
@@ -326,7 +324,7 @@ opens_level level (next ∷ outer) rest t c deep within =
     reaches_is p q (content_place level (next ∷ outer)) (level.tag ++ 0x80 ∷ rest) (level.tag ++ 0x80 ∷ rest) rest refl (ap with_depth more)
     (opens level.tag rest p t c (omega arith) deep (omega (arith, before, within, length-append level.tag (0x80 ∷ concat level.items))))
 
--- it reaches the place that these elements give
+-- the walk reaches the progress with these elements open
 pub levels_reached : (n : ℕ) (levels : List Level) (rest : List ℕ) → AreOpen n levels → content_walked levels ≤ content_limit → Reaches at_first (walked levels ++ rest) (progress_of levels) rest
 levels_reached n [] rest o within = (zero, (refl, refl))
 levels_reached n (level ∷ outer) rest o within =
@@ -352,14 +350,14 @@ pub reaches_levels : (octets rest : List ℕ) (levels : List Level) → IsWalked
 reaches_levels octets rest levels w =
     reaches_is at_first (progress_of levels) (progress_of levels) (walked levels ++ rest) octets rest (sym w.joined) refl (levels_reached w.left levels rest w.are_open w.is_within)
 
--- a step with which no element is open any more
+-- a step that closes the last open element
 pub ends_whole : (p next : Progress) (octets front rest : List ℕ) (opening : Opening) → octets ≡ front ++ rest → opening_at (from p.at octets) ≡ Ok (Some opening)
     → behind_header p octets opening ≡ Ok next → next.at ≡ p.at + length front → next.depth ≡ 0 → walk p octets ≡ Ok (Whole next.at)
 ends_whole p next octets front rest opening joined read behind at closing =
     let room : next.at - p.at ≤ length octets = omega (arith, at, ap length joined, length-append front rest) in
     walk_first p octets ∙ rw (read, behind, le-ltb (length octets) (next.at - p.at) room, eq-eqb next.depth 0 closing) refl
 
--- an element of definite length is one step
+-- a walk over an element of definite length
 pub definite_walked : (tag content element rest : List ℕ) → IsDefinite tag content element → walk at_first (element ++ rest) ≡ Ok (Whole (length element))
 definite_walked tag content element rest d =
     let len = definite_len tag content element d in
@@ -369,7 +367,7 @@ definite_walked tag content element rest d =
     ends_whole at_first next (element ++ rest) element rest (Definite h) refl (definite_read 0 tag content element rest d) refl (omega (arith, len)) refl
     ∙ ap (λ (n : ℕ). Ok (Whole n)) same
 
--- one of indefinite length is opened, gone through and closed
+-- a walk over an element of indefinite length
 pub indefinite_walked : (depth : ℕ) (tag content element rest : List ℕ) → suc depth ≡ depth_limit → IsIndefinite (λ item. (inner_tag inner : List ℕ) × IsNested depth inner_tag inner item) tag content element
     → walk at_first (element ++ rest) ≡ Ok (Whole (length element))
 indefinite_walked depth tag content element rest limit i =
@@ -389,13 +387,13 @@ indefinite_walked depth tag content element rest limit i =
     ∙ reaches_walk at_first r (tag ++ 0x80 ∷ (inner ++ (ending ++ rest))) (ending ++ rest) (reaches_on at_first q r (tag ++ 0x80 ∷ (inner ++ (ending ++ rest))) (inner ++ (ending ++ rest)) (ending ++ rest) one more)
     ∙ last ∙ ap (λ (n : ℕ). Ok (Whole n)) same
 
--- either of them
+-- a walk over an element
 pub nested_walked : (depth : ℕ) (tag content element rest : List ℕ) → depth ≡ depth_limit → IsNested depth tag content element → walk at_first (element ++ rest) ≡ Ok (Whole (length element))
 nested_walked zero tag content element rest limit d = definite_walked tag content element rest d
 nested_walked (suc depth) tag content element rest limit (inl d) = definite_walked tag content element rest d
 nested_walked (suc depth) tag content element rest limit (inr i) = indefinite_walked depth tag content element rest limit i
 
--- it ends with the element at the front
+-- a walk over the element at the front returns its length
 pub walk_of_element : (tag content element rest : List ℕ) → IsElement tag content element → walk at_first (element ++ rest) ≡ Ok (Whole (length element))
 unfolding IsElement
 walk_of_element tag content element rest e = nested_walked depth_limit tag content element rest refl e

@@ -1,4 +1,4 @@
--- What exact answers mean for the readers of elements.
+-- What `Gives` means for the readers of elements.
 use Rattle.std.proofs.Common.{◌≡◌, ℕ, ◌+◌, ◌<◌, ◌⊎◌, List, [], ◌∷◌, ◌++◌, length, Bool, true, false, Result, Ok, Err, sym, ap, subst, ◌∙◌, inl, inr}
 use Rattle.std.specs.Prelude.{IfOk, IfErr, IsOkAnd, ◌↔◌, IsTrue}
 use Rattle.tcap_ber.specs.declared.fault.Fault.{Fault}
@@ -25,12 +25,11 @@ use Rattle.tcap_ber.proofs.ChoiceLaws.{some_sound, some_complete, some_fault, so
 use Rattle.tcap_ber.proofs.GrammarLaws.{required_sound, required_complete, required_fault, is_tag-true, is_tag-itself, is_next-true, is_next-begins, raw_fault}
 use Rattle.tcap_ber.proofs.BodyLaws.{is_integer_sound, is_integer_complete}
 
--- an exact answer is a fault exactly where reading gives that fault
+-- a result is a fault exactly if reading gives that fault
 pub gives_err : {X Y : Type 0} (view : X → Y) (r : Result X Fault) (read : Result Y Fault) → Gives view r read → (f : Fault) → (r ≡ Err f) ↔ (read ≡ Err f)
 gives_err view (Ok x) read e f = (λ k. absurd cc, λ k. absurd (ok_not_err (view x) f (sym e ∙ k)))
 gives_err {X} view (Err g) read e f = (λ k. e ∙ ap (λ h. Err h) (err_is {A = X} g f k), λ k. ap (λ h. Err h) (err_is g f (sym e ∙ k)))
 
--- an exact answer is the one that reading gives
 gives_same : {A : Type 0} (r read : Result A Fault) → Gives (λ x. x) r read → read ≡ r
 gives_same (Ok x) read e = e
 gives_same (Err f) read e = e
@@ -97,7 +96,7 @@ integer_invalid octets_of e (Err f) h =
           (sym (ap (λ (x : Fault). x.reason) same), sym (ap (λ (x : Fault). x.place) same), λ i. let t : true ≡ false = sym (is_integer_complete e.content.octets i) ∙ k.0 in cc)
     ]
 
--- ---- an element that has to be there, of any tag
+-- ---- a required element of any tag
 
 pub any_found : (s : Span) (r : Next) → Gives seen r (some_at s) → IfOk r (λ x. FindsElement s (element x.0) (span x.1))
 any_found s (Ok x) e = some_sound s (seen x) e
@@ -116,7 +115,7 @@ any_only s (Err f) e tag content octets rest h joined =
 pub any_faulty : (s : Span) (r : Next) → Gives seen r (some_at s) → (f : Fault) → (r ≡ Err f) ↔ (IsMissing s f.reason f.place ⊎ IsElementFault s f.reason f.place)
 any_faulty s r e f = let k = gives_err seen r (some_at s) e f in (λ h. some_fault s f (k.0 h), λ w. k.1 (some_refused s f w))
 
--- ---- an element that has to be there with a tag
+-- ---- a required element of this tag
 
 pub required_found : (tag : ℕ) (s : Span) (r : Next) → Gives seen r (required_at tag s) → IfOk r (λ x. FindsElement s (element x.0) (span x.1) × (x.0.tag.octets.now ≡ tag ∷ []))
 required_found tag s (Ok x) e = required_sound tag s (seen x) e

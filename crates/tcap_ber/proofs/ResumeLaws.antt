@@ -1,4 +1,4 @@
--- A walk that stopped gives of what comes then what a walk over all of it gives.
+-- A stopped walk returns for later octets what a walk over all octets at once returns.
 use Rattle.std.proofs.Common.{◌≡◌, ℕ, zero, suc, ◌+◌, ◌-◌, ◌*◌, ◌<◌, ◌≤◌, ◌⊎◌, Bool, true, false, List, [], ◌∷◌, ◌++◌, length, take, drop, Option, Some, None, Result, Ok, Err, refl, sym, ap, subst, ◌∙◌, inl, inr, arith, append_assoc, add-one}
 use Rattle.std.specs.Prelude.{◌≢◌, nat_lt, ◌==◌, ◌&&◌}
 use Rattle.std.proofs.lemmas.List.{length-append, length-drop, drop-drop, drop_at, drop-append-le, take-append-drop}
@@ -19,17 +19,17 @@ use Rattle.tcap_ber.proofs.OpeningLaws.{from}
 use Rattle.tcap_ber.proofs.OpeningPlaceLaws.{opening_stays, fault_stays, opening_within, opening_exact}
 use Rattle.tcap_ber.proofs.WalkLaws.{left, walk, enough_steps, behind_further}
 
--- two octets decide whether it is an ending
+-- two octets decide whether they are end-of-contents octets
 ending_stays : (octets more : List ℕ) → 2 ≤ length octets → is_ending (octets ++ more) ≡ is_ending octets
 ending_stays [] more long = absurd (omega arith)
 ending_stays (first ∷ []) more long = absurd (omega arith)
 ending_stays (first ∷ second ∷ octets) more long = refl
 
--- tests of two pairs of numbers that lie alike
+-- comparisons of two pairs of numbers with the same difference
 same_test : (a b c d : ℕ) → a + d ≡ b + c → nat_lt a b ≡ nat_lt c d
 same_test a b c d e = grind (arith, nat_tests)
 
--- the walk goes on from this place
+-- the walk is not at its end
 not_over : (p : Progress) → ((p.depth ≡ 0) × (0 < p.at) → ⊥) → ((p.depth == 0) && nat_lt 0 p.at) ≡ false
 not_over p goes_on = alike p.depth p.at goes_on
   where
@@ -38,20 +38,20 @@ not_over p goes_on = alike p.depth p.at goes_on
     alike zero (suc at) h = absurd (h (refl, omega arith))
     alike (suc depth) at h = rw (ne_eqb (suc depth) 0 (λ e. absurd cc)) refl
 
--- what is behind a whole header is not looked at
+-- octets after a whole header do not change the step
 pub behind_stays : (p : Progress) (octets more : List ℕ) (opening : Opening) → opening_at (from p.at octets) ≡ Ok (Some opening) → behind_header p (octets ++ more) opening ≡ behind_header p octets opening
 behind_stays p octets more (Indefinite tag) read = refl
 behind_stays p octets more (Definite h) read =
     let w = opening_within p.at octets (Definite h) read in
     rw (ending_stays octets more (omega (arith, w.0, w.1))) refl
 
--- with nothing to skip and nothing over, it is the walk
+-- with nothing to skip and not at the end, resuming is the walk
 pub resume_is_walk : (header octets : List ℕ) (p : Progress) → ((p.depth ≡ 0) × (0 < p.at) → ⊥) → resume 0 header p octets ≡ walk p (header ++ octets)
 resume_is_walk header octets p goes_on =
     rw (le-ltb (length octets) 0 (omega arith), not_over p goes_on)
     (enough_steps (length header + length octets + 1) p (header ++ octets) (omega (arith, length-append header octets)))
 
--- octets to skip are skipped in any pieces
+-- octets can be skipped in any pieces
 pub skips : (count skip : ℕ) (header octets : List ℕ) (p : Progress) → count ≤ skip → count ≤ length octets → resume (skip - count) header p (drop count octets) ≡ resume skip header p octets
 skips count skip header octets p fewer there =
     let short : length (drop count octets) + count ≡ length octets = omega (arith, length-drop count octets) in
@@ -63,19 +63,19 @@ skips count skip header octets p fewer there =
     let all = enough_steps (length header + length octets + 1) p (header ++ drop skip octets) (omega arith) in
     rw (same_test (length (drop count octets)) (skip - count) (length octets) skip (omega arith), rest, less, all) refl
 
--- a header that is not whole yet
+-- a header that is still incomplete
 pub holds : (octet : ℕ) (header octets : List ℕ) (p : Progress) → ((p.depth ≡ 0) × (0 < p.at) → ⊥) → resume 0 (header ++ octet ∷ []) p octets ≡ resume 0 header p (octet ∷ octets)
 holds octet header octets p goes_on =
     resume_is_walk (header ++ octet ∷ []) octets p goes_on
     ∙ ap (walk p) (append_assoc header (octet ∷ []) octets)
     ∙ sym (resume_is_walk header (octet ∷ octets) p goes_on)
 
--- a header that an octet makes whole is read with what comes behind
+-- a header that an octet completes is read with more octets after it
 read_there : (octet : ℕ) (header octets : List ℕ) (p : Progress) (opening : Opening) → opening_at (from p.at (header ++ octet ∷ [])) ≡ Ok (Some opening) → opening_at (from p.at (header ++ octet ∷ octets)) ≡ Ok (Some opening)
 read_there octet header octets p opening e =
     ap (λ (x : List ℕ). opening_at (from p.at x)) (sym (append_assoc header (octet ∷ []) octets)) ∙ opening_stays p.at (header ++ octet ∷ []) octets opening e
 
--- and so is what stands behind it
+-- the step after a header that an octet completes
 behind_there : (octet : ℕ) (header octets : List ℕ) (p : Progress) (opening : Opening) → opening_at (from p.at (header ++ octet ∷ [])) ≡ Ok (Some opening) → behind_header p (header ++ octet ∷ octets) opening ≡ behind_header p (header ++ octet ∷ []) opening
 behind_there octet header octets p opening e =
     ap (λ (x : List ℕ). behind_header p x opening) (sym (append_assoc header (octet ∷ []) octets)) ∙ behind_stays p (header ++ octet ∷ []) octets opening e
@@ -84,7 +84,7 @@ behind_there octet header octets p opening e =
 walk_step : (p : Progress) (octets : List ℕ) → walk p octets ≡ (opening_at (from p.at octets) >>= gone_on (walk_on (length octets)) p octets)
 walk_step p octets = rw add-one refl
 
--- one that is wrong
+-- the header is faulty
 pub fails : (octet : ℕ) (header octets : List ℕ) (p : Progress) (f : Fault) → ((p.depth ≡ 0) × (0 < p.at) → ⊥) → opening_at (from p.at (header ++ octet ∷ [])) ≡ Err f → resume 0 header p (octet ∷ octets) ≡ Err f
 fails octet header octets p f goes_on e =
     let wrong : opening_at (from p.at (header ++ octet ∷ octets)) ≡ Err f =
@@ -92,7 +92,7 @@ fails octet header octets p f goes_on e =
     resume_is_walk header (octet ∷ octets) p goes_on ∙ walk_step p (header ++ octet ∷ octets)
     ∙ ap (λ (r : Result (Option Opening) Fault). r >>= gone_on (walk_on (length (header ++ octet ∷ octets))) p (header ++ octet ∷ octets)) wrong
 
--- one with which too much stands there
+-- the step after the header is faulty
 pub fails_behind : (octet : ℕ) (header octets : List ℕ) (p : Progress) (opening : Opening) (f : Fault) → ((p.depth ≡ 0) × (0 < p.at) → ⊥) → opening_at (from p.at (header ++ octet ∷ [])) ≡ Ok (Some opening)
     → behind_header p (header ++ octet ∷ []) opening ≡ Err f → resume 0 header p (octet ∷ octets) ≡ Err f
 fails_behind octet header octets p opening f goes_on e behind =
@@ -101,12 +101,11 @@ fails_behind octet header octets p opening f goes_on e behind =
     ∙ ap (λ (r : Result (Option Opening) Fault). r >>= gone_on (walk_on (length all)) p all) (read_there octet header octets p opening e)
     ∙ ap (λ (r : Result Progress Fault). r >>= gone_to (walk_on (length all)) p all) (behind_there octet header octets p opening e ∙ behind)
 
--- a second test that holds decides nothing
 and_true : (b : Bool) → (b && true) ≡ b
 and_true true = refl
 and_true false = refl
 
--- behind a header of some octets that ended there, with or without it
+-- resuming after the octets of a header
 behind_it : (front octets : List ℕ) (p next : Progress) → 0 < length front → p.at + length front ≤ next.at
     → resume (next.at - p.at - length front) [] next octets ≡ gone_to (walk_on (length (front ++ octets))) p (front ++ octets) next
 behind_it front octets p next some further =
@@ -122,7 +121,7 @@ behind_it front octets p next some further =
     let there = enough_steps (length (front ++ octets)) next (drop skip octets) (omega (arith, len, length-drop skip octets)) in
     rw (test, over, gone, here, there) refl
 
--- behind a whole header its content is skipped
+-- after a whole header, its content is skipped
 walks_behind : (octets : List ℕ) (p next : Progress) (opening : Opening) → opening_at (from p.at octets) ≡ Ok (Some opening) → behind_header p octets opening ≡ Ok next
     → resume (next.at - p.at - header_octets opening) [] next (drop (header_octets opening) octets) ≡ walk p octets
 walks_behind octets p next opening read behind =
@@ -138,7 +137,7 @@ walks_behind octets p next opening read behind =
     ∙ ap (λ (r : Result (Option Opening) Fault). r >>= gone_on (walk_on (length octets)) p octets) read
     ∙ ap (λ (r : Result Progress Fault). r >>= gone_to (walk_on (length octets)) p octets) behind)
 
--- one that is whole with that octet
+-- a header that this octet completes
 pub goes_behind : (octet : ℕ) (header octets : List ℕ) (p next : Progress) (opening : Opening) → ((p.depth ≡ 0) × (0 < p.at) → ⊥) → opening_at (from p.at header) ≡ Ok None
     → opening_at (from p.at (header ++ octet ∷ [])) ≡ Ok (Some opening) → behind_header p (header ++ octet ∷ []) opening ≡ Ok next
     → resume (next.at - p.at - (length header + 1)) [] next octets ≡ resume 0 header p (octet ∷ octets)
@@ -152,7 +151,7 @@ goes_behind octet header octets p next opening goes_on none e behind =
     ∙ walks_behind (header ++ octet ∷ octets) p next opening (read_there octet header octets p opening e) (behind_there octet header octets p opening e ∙ behind)
     ∙ sym (resume_is_walk header (octet ∷ octets) p goes_on)
 
--- one that was whole from the first
+-- a header that is whole from the start
 pub goes_behind_whole : (octets more : List ℕ) (p next : Progress) (opening : Opening) → ((p.depth ≡ 0) × (0 < p.at) → ⊥) → opening_at (from p.at octets) ≡ Ok (Some opening)
     → behind_header p octets opening ≡ Ok next → resume (next.at - p.at - header_octets opening) [] next (drop (header_octets opening) (octets ++ more)) ≡ resume 0 [] p (octets ++ more)
 goes_behind_whole octets more p next opening goes_on read behind =
@@ -161,15 +160,15 @@ goes_behind_whole octets more p next opening goes_on read behind =
 
 -- ---- how many octets are needed at least
 
--- a place, and the octets of the endings that have still to come
+-- a place, plus the end-of-contents octets still to come
 abbrev reach : Progress → ℕ
 reach p = p.at + 2 * p.depth
 
--- the place behind, where the limit is kept
+-- the value of `within_limit`
 within_is : (p q next : Progress) → within_limit p q ≡ Ok next → q ≡ next
 within_is p q next e = elim (chosen (nat_lt p.limit q.at) _ _ (Ok next) e) [ inl k ↦ absurd cc | inr k ↦ ok_is q next k.1 ]
 
--- where an element opens, its ending has to come
+-- opening an element does not lessen the reach
 opened_rises : (p next : Progress) (len : ℕ) → opened p len ≡ Ok next → reach p ≤ reach next
 opened_rises p next len e =
     elim (chosen (nat_lt p.depth depth_limit) _ _ (Ok next) e) [
@@ -180,7 +179,7 @@ opened_rises p next len e =
       | inr h ↦ absurd cc
     ]
 
--- where one closes, its ending came
+-- closing an element does not lessen the reach
 closed_rises : (p next : Progress) → closed p ≡ Ok next → reach p ≤ reach next
 closed_rises p next e =
     elim (chosen (p.depth == 1) _ _ (Ok next) e) [
@@ -188,7 +187,7 @@ closed_rises p next e =
       | inr h ↦ subst (λ (q : Progress). reach p ≤ reach q) (within_is p _ next h.1) (omega arith)
     ]
 
--- where one of definite length passes, as many are open
+-- passing an element does not lessen the reach
 passed_rises : (p next : Progress) (len : ℕ) → passed p len ≡ Ok next → reach p ≤ reach next
 passed_rises p next len e =
     elim (chosen (p.depth == 0) _ _ (Ok next) e) [
@@ -196,7 +195,7 @@ passed_rises p next len e =
       | inr h ↦ subst (λ (q : Progress). reach p ≤ reach q) (within_is p _ next h.1) (omega arith)
     ]
 
--- no step takes away of what has to come
+-- no step lessens the reach
 step_rises : (p next : Progress) (octets : List ℕ) (opening : Opening) → behind_header p octets opening ≡ Ok next → reach p ≤ reach next
 step_rises p next octets (Indefinite tag) behind = opened_rises p next (tag + 1) behind
 step_rises p next octets (Definite h) behind =
@@ -205,7 +204,7 @@ step_rises p next octets (Definite h) behind =
       | inr k ↦ passed_rises p next (h.len + h.content_len) k.1
     ]
 
--- a step of a walk that read a whole header
+-- a step that read a whole header
 record Stepped (steps : ℕ) (p : Progress) (octets : List ℕ) (out : Outer) : Type 0 where
   opening : Opening
   next : Progress
@@ -213,7 +212,7 @@ record Stepped (steps : ℕ) (p : Progress) (octets : List ℕ) (out : Outer) : 
   behind : behind_header p octets opening ≡ Ok next
   gone : gone_to (walk_on steps) p octets next ≡ Ok out
 
--- it reads one, or needs an octet more
+-- a step reads a whole header, or needs another octet
 step_of : (steps : ℕ) (p : Progress) (octets : List ℕ) (out : Outer) → walk_on (suc steps) p octets ≡ Ok out → (Need (p.at + length octets + 1) ≡ out) ⊎ Stepped steps p octets out
 step_of steps p octets out e = let a = bind_ok (opening_at (from p.at octets)) (gone_on (walk_on steps) p octets) out e in of_found a.0 a.1 a.2
   where
@@ -223,7 +222,7 @@ step_of steps p octets out e = let a = bind_ok (opening_at (from p.at octets)) (
         let c = bind_ok (behind_header p octets opening) (gone_to (walk_on steps) p octets) out b in
         inr (record { opening = opening; next = c.0; read = a; behind = c.1; gone = c.2 })
 
--- behind a header too few octets are there, or it was the last, or the walk goes on
+-- after a header, octets are missing, or the walk ended, or it goes on
 gone_of : (walk : Progress → List ℕ → Result Outer Fault) (p : Progress) (octets : List ℕ) (next : Progress) (out : Outer) → gone_to walk p octets next ≡ Ok out
     → ((length octets < next.at - p.at) × (Need (reach next) ≡ out))
     ⊎ ((next.at - p.at ≤ length octets) × (((next.depth ≡ 0) × (Whole next.at ≡ out)) ⊎ ((next.depth ≢ 0) × (walk next (left p next octets) ≡ Ok out))))
@@ -239,7 +238,6 @@ gone_of walk p octets next out e =
       )
     ]
 
--- the variants of an answer and their numbers
 need_is : (n m : ℕ) → (let a : Outer = Need n in a) ≡ Need m → n ≡ m
 need_is n m e = cc
 
@@ -249,7 +247,7 @@ whole_is n m e = cc
 need_not_whole : (n m : ℕ) → (let a : Outer = Need n in a) ≡ Whole m → ⊥
 need_not_whole n m e = cc
 
--- an element that ends is behind what had to come
+-- an element that ends is at least as long as the reach after this step
 whole_gone : (walk : Progress → List ℕ → Result Outer Fault) (p next : Progress) (octets : List ℕ) (n : ℕ) → ((q : Progress) (rest : List ℕ) → walk q rest ≡ Ok (Whole n) → reach q ≤ n)
     → gone_to walk p octets next ≡ Ok (Whole n) → reach next ≤ n
 whole_gone walk p next octets n on e =
@@ -261,7 +259,7 @@ whole_gone walk p next octets n on e =
       ]
     ]
 
--- and so in any count of steps
+-- an element found in n steps is at least as long as the reach
 whole_on : (steps : ℕ) (p : Progress) (octets : List ℕ) (n : ℕ) → walk_on steps p octets ≡ Ok (Whole n) → reach p ≤ n
 whole_on zero p octets n e = absurd cc
 whole_on (suc steps) p octets n e =
@@ -270,11 +268,11 @@ whole_on (suc steps) p octets n e =
       | inr g ↦ omega (arith, step_rises p g.next octets g.opening g.behind, whole_gone (walk_on steps) p g.next octets n (λ q rest. whole_on steps q rest n) g.gone)
     ]
 
--- each open element has still to end
+-- each open element still has its end-of-contents octets
 pub whole_at_least : (p : Progress) (octets : List ℕ) (n : ℕ) → walk p octets ≡ Ok (Whole n) → p.at + 2 * p.depth ≤ n
 whole_at_least p octets n e = whole_on (length octets + 1) p octets n e
 
--- what is left begins as far behind as it is shorter
+-- the rest is shorter by the step's length
 left_there : (p next : Progress) (octets : List ℕ) → p.at ≤ next.at → next.at - p.at ≤ length octets → next.at + length (left p next octets) ≡ p.at + length octets
 left_there p next octets further room = omega (arith, length-drop (next.at - p.at) octets)
 
@@ -286,7 +284,7 @@ more_gone steps p next octets more opening out read behind e =
     sym (ap (λ (r : Result (Option Opening) Fault). r >>= gone_on (walk_on steps) p (octets ++ more)) same
     ∙ ap (λ (r : Result Progress Fault). r >>= gone_to (walk_on steps) p (octets ++ more)) (behind_stays p octets more opening read ∙ behind)) ∙ e
 
--- and where they were enough, what is left has more octets
+-- more octets after the rest
 more_left : (steps : ℕ) (p next : Progress) (octets more : List ℕ) (m : ℕ) → next.at - p.at ≤ length octets → next.depth ≢ 0 → gone_to (walk_on steps) p (octets ++ more) next ≡ Ok (Whole m)
     → walk_on steps next (left p next octets ++ more) ≡ Ok (Whole m)
 more_left steps p next octets more m room inside e =
@@ -298,7 +296,7 @@ more_left steps p next octets more m room inside e =
       ]
     ]
 
--- in any counts of steps, what was needed at least is there where it is whole
+-- in any number of steps: if more octets complete the element, it has the octets that were needed
 needed_on : (steps more_steps : ℕ) (p : Progress) (octets more : List ℕ) (n m : ℕ) → walk_on steps p octets ≡ Ok (Need n) → walk_on more_steps p (octets ++ more) ≡ Ok (Whole m) → (n ≤ m) ⊎ (n ≡ p.at + length octets + 1)
 needed_on zero more_steps p octets more n m short whole = inr (sym (need_is _ n (ok_is _ _ short)))
 needed_on (suc steps) zero p octets more n m short whole = absurd cc
@@ -322,11 +320,11 @@ needed_on (suc steps) (suc more_steps) p octets more n m short whole =
           ]
     ]
 
--- where more octets make it whole, it has as many as were needed
+-- if more octets complete the element, it has the octets that were needed
 pub needed : (p : Progress) (octets more : List ℕ) (n m : ℕ) → walk p octets ≡ Ok (Need n) → walk p (octets ++ more) ≡ Ok (Whole m) → (n ≤ m) ⊎ (n ≡ p.at + length octets + 1)
 needed p octets more n m short whole = needed_on (length octets + 1) (length (octets ++ more) + 1) p octets more n m short whole
 
--- in any count of steps, more is needed than is there
+-- in n steps, the octets needed are more than those given
 needs_on : (steps : ℕ) (p : Progress) (octets : List ℕ) (n : ℕ) → walk_on steps p octets ≡ Ok (Need n) → p.at + length octets < n
 needs_on zero p octets n e = omega (arith, need_is _ n (ok_is _ _ e))
 needs_on (suc steps) p octets n e =
@@ -344,6 +342,6 @@ needs_on (suc steps) p octets n e =
       ]
     ]
 
--- more is needed than is there
+-- the octets needed are more than those given
 pub needs_more : (p : Progress) (octets : List ℕ) (n : ℕ) → walk p octets ≡ Ok (Need n) → p.at + length octets < n
 needs_more p octets n e = needs_on (length octets + 1) p octets n e

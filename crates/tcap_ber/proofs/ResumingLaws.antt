@@ -1,4 +1,4 @@
--- What a walk that stopped gives, after each of its steps.
+-- What a stopped walk returns after each of its steps.
 use Rattle.std.proofs.Common.{◌≡◌, ℕ, ◌+◌, ◌-◌, ◌<◌, ◌≤◌, ◌⊎◌, List, [], ◌∷◌, ◌++◌, length, take, drop, Option, Some, None, Ok, Err, refl, sym, ap, ◌∙◌, inl, inr, arith}
 use Rattle.std.specs.Prelude.{◌≢◌}
 use Rattle.std.proofs.lemmas.Bool.{lt-ltb, le-ltb, eq-eqb}
@@ -16,12 +16,12 @@ use Rattle.tcap_ber.proofs.OpeningLaws.{from}
 use Rattle.tcap_ber.proofs.OpeningPlaceLaws.{opening_within}
 use Rattle.tcap_ber.proofs.ResumeLaws.{skips, holds, fails, fails_behind, goes_behind, goes_behind_whole}
 
--- before the first octet
+-- a walk that has not begun
 pub first_gives : (octets : List ℕ) → resume 0 [] at_first octets ≡ outer_at octets
 unfolding outer_at
 first_gives octets = rw (le-ltb (length octets) 0 (omega arith)) (ap (λ (n : ℕ). walk_on (n + 1) at_first octets) (omega arith))
 
--- ---- over, or wrong
+-- ---- the walk ended or failed
 
 stays : (fault : Option Fault) (skip : ℕ) (header : List ℕ) (p : Progress) (a b : List ℕ) → (fault ≢ None) ⊎ ((skip ≡ 0) × (p.depth ≡ 0) × (0 < p.at))
     → resume_unless fault skip header p a ≡ resume_unless fault skip header p b
@@ -40,7 +40,7 @@ skips_unless : (fault : Option Fault) (count skip : ℕ) (header octets : List �
 skips_unless (Some f) count skip header octets p fewer there = refl
 skips_unless None count skip header octets p fewer there = skips count skip header octets p fewer there
 
--- what is left behind the first octets, with more behind it
+-- what is left after the first octets, with more after it
 left_with : (count : ℕ) (octets more : List ℕ) → count ≤ length octets → take (length octets - count) (drop count octets) ++ more ≡ drop count (octets ++ more)
 left_with count octets more there =
     let all : take (length octets - count) (drop count octets) ≡ drop count octets =
@@ -55,7 +55,7 @@ skipped w count octets more fewer there =
 
 -- ---- an octet of a header
 
--- the walk goes on: nothing is to skip, nothing is wrong, and it is not over
+-- the walk goes on: no octet to skip, no fault, and not at the end
 record GoesOn (fault : Option Fault) (skip : ℕ) (p : Progress) : Type 0 where
   none : fault ≡ None
   nothing : skip ≡ 0
@@ -65,7 +65,7 @@ goes_on : (fault : Option Fault) (skip : ℕ) (p : Progress) → skip ≡ 0 → 
 goes_on (Some f) skip p nothing stopped = absurd (stopped (inl (λ e. cc)))
 goes_on None skip p nothing stopped = record { none = refl; nothing = nothing; not_over = λ over. stopped (inr (nothing, over.0, over.1)) }
 
--- then it gives what the octets of the header and those that come give
+-- such a walk returns what its header and the next octets give
 pub resumes_plainly : (w : Walk) (octets : List ℕ) → w.skip ≡ 0 → (IsStopped w → ⊥) → resumes w octets ≡ resume 0 (take w.held w.header) w.progress octets
 resumes_plainly w octets nothing stopped =
     let g = goes_on w.fault w.skip w.progress nothing stopped in
@@ -98,7 +98,7 @@ pub octet_goes_behind : (w : Walk) (octet : ℕ) (more : List ℕ) (opening : Op
 octet_goes_behind w octet more opening next nothing stopped none e behind =
     goes_behind octet (take w.held w.header) more w.progress next opening (not_over w nothing stopped) none e behind ∙ sym (resumes_plainly w (octet ∷ more) nothing stopped)
 
--- where none is held, a whole header is read from the octets
+-- if the walk holds no octets, a whole header is read from the next ones
 pub whole_goes_behind : (w : Walk) (len : ℕ) (octets more : List ℕ) (opening : Opening) (next : Progress) → w.skip ≡ 0 → (IsStopped w → ⊥) → w.held ≡ 0 → len ≡ header_octets opening
     → opening_at (from w.progress.at octets) ≡ Ok (Some opening) → behind_header w.progress octets opening ≡ Ok next
     → resume (next.at - w.progress.at - len) [] next (take (length octets - len) (drop len octets) ++ more) ≡ resumes w (octets ++ more)
@@ -109,7 +109,7 @@ whole_goes_behind w len octets more opening next nothing stopped none len_is rea
     ∙ ap (λ (n : ℕ). resume 0 (take n w.header) w.progress (octets ++ more)) (sym none)
     ∙ sym (resumes_plainly w (octets ++ more) nothing stopped)
 
--- a walk by its parts
+-- a walk with these parts
 pub gives_by : (w : Walk) (skip : ℕ) (header : List ℕ) (next : Progress) (more : List ℕ) → w.fault ≡ None → w.skip ≡ skip → w.progress ≡ next → take w.held w.header ≡ header
     → resumes w more ≡ resume skip header next more
 gives_by w skip header next more fault skip_is progress octets =
@@ -118,7 +118,7 @@ gives_by w skip header next more fault skip_is progress octets =
     ∙ ap (λ (x : List ℕ). resume skip x w.progress more) octets
     ∙ ap (λ (p : Progress). resume skip header p more) progress
 
--- the end of the octets, or of the walk
+-- the octets or the walk ended
 pub ends_with : (w old : Walk) (rest octets : List ℕ) → ((more : List ℕ) → resumes w (rest ++ more) ≡ resumes old (octets ++ more)) → (rest ≡ []) ⊎ IsStopped w
     → (more : List ℕ) → resumes w more ≡ resumes old (octets ++ more)
 ends_with w old rest octets same (inl none) more = ap (λ (x : List ℕ). resumes w (x ++ more)) (sym none) ∙ same more

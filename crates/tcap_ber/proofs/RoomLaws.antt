@@ -1,4 +1,4 @@
--- Octets that are no whole element yet are few.
+-- Octets of an incomplete element are at most 65,550.
 use Rattle.std.proofs.Common.{◌≡◌, ℕ, suc, ◌+◌, ◌-◌, ◌<◌, ◌≤◌, List, [], ◌∷◌, length, Option, Some, None, Result, Ok, refl, sym, ap, ◌∙◌, inl, inr, arith}
 use Rattle.std.specs.Prelude.{nat_lt, ◌==◌, ◌&&◌}
 use Rattle.std.proofs.lemmas.List.{length-append}
@@ -21,21 +21,21 @@ use Rattle.tcap_ber.proofs.ReachLaws.{content_began, content_count, progress_of}
 use Rattle.tcap_ber.proofs.OuterLaws.{stop_of}
 use Rattle.tcap_ber.proofs.ElementLaws.{IsInner, element_form, definite_len, indefinite_len}
 
--- ---- how long a header is
+-- ---- lengths of headers
 
--- a tag has five octets at most
+-- a tag has at most five octets
 tag_within : (tag : List ℕ) → IsTag tag → length tag ≤ 5
 tag_within [] t = absurd t
 tag_within (first ∷ more) (inl h) = omega (arith, ap length h.1)
 tag_within (first ∷ more) (inr h) = omega (arith, h.2)
 
--- and so has a length
+-- a length has at most five octets
 length_within : (n : ℕ) (octets : List ℕ) → IsLength n octets → length octets ≤ 5
 length_within n [] l = absurd l
 length_within n (first ∷ more) (inl h) = omega (arith, ap length h.1)
 length_within n (first ∷ more) (inr h) = omega (arith, h.2)
 
--- and an element has so many
+-- an element has at most 65,545 octets
 pub element_within : (tag content octets : List ℕ) → IsElement tag content octets → length octets ≤ 65545
 element_within tag content octets e =
     elim (element_form tag content octets e) [
@@ -43,7 +43,7 @@ element_within tag content octets e =
       | inr i ↦ omega (arith, indefinite_len (IsInner i.0) tag content octets i.1, i.1.is_within, tag_within tag i.1.is_tag)
     ]
 
--- the header of the outermost open element has six at most
+-- the header of the outermost open element has at most six octets
 began_within : (n : ℕ) (levels : List Level) → AreOpen n levels → content_began levels ≤ 6
 began_within n [] o = omega arith
 began_within n (level ∷ []) o = omega (arith, tag_within level.tag o.0)
@@ -51,19 +51,19 @@ began_within n (level ∷ next ∷ outer) o = began_within (suc n) (next ∷ out
 
 -- ---- where a walk may be
 
--- The place, and the last that the content of the outermost open element may reach, are within its header and the limit;
--- where none is open, nothing was walked.
+-- The place and the limit are at most a header's length over the content limit; if no element is open, nothing was
+-- walked.
 record IsNear (p : Progress) : Type 0 where
   pub at_within : p.at ≤ 65541
   pub limit_within : p.limit ≤ 65541
   pub none_walked : p.depth ≡ 0 → p.at ≡ 0
 
--- the walk stands behind what was walked
+-- the walk's offset is the number of octets walked
 walked_at : (levels : List Level) → (progress_of levels).at ≡ length (walked levels)
 walked_at [] = refl
 walked_at (level ∷ outer) = refl
 
--- it is so wherever elements are open
+-- the walk is near whenever octets are walked
 near : (octets rest : List ℕ) (levels : List Level) → IsWalked octets levels rest → IsNear (progress_of levels)
 near octets rest [] w = record { at_within = omega arith; limit_within = omega arith; none_walked = λ _. refl }
 near octets rest (level ∷ outer) w =
@@ -76,7 +76,7 @@ near octets rest (level ∷ outer) w =
 
 -- ---- where a step may lead
 
--- a place that is within the limit
+-- a place within the limit
 limit_kept : (p q next : Progress) → within_limit p q ≡ Ok next → next.at ≤ p.limit
 limit_kept p q next e =
     elim (chosen (nat_lt p.limit q.at) _ _ (Ok next) e) [
@@ -84,7 +84,7 @@ limit_kept p q next e =
       | inr k ↦ omega (arith, ltb-false p.limit q.at k.0, ap (λ (x : Progress). x.at) (ok_is q next k.1))
     ]
 
--- behind the header with which an element opens
+-- after a header that opens an element
 opened_within : (p next : Progress) (len : ℕ) → IsNear p → len ≤ 6 → opened p len ≡ Ok next → next.at ≤ 65550
 opened_within p next len is_near short e =
     elim (chosen (nat_lt p.depth depth_limit) _ _ (Ok next) e) [
@@ -95,7 +95,7 @@ opened_within p next len is_near short e =
       | inr h ↦ absurd cc
     ]
 
--- behind an ending
+-- after end-of-contents octets
 closed_within : (p next : Progress) → IsNear p → closed p ≡ Ok next → next.at ≤ 65550
 closed_within p next is_near e =
     elim (chosen (p.depth == 1) _ _ (Ok next) e) [
@@ -103,7 +103,7 @@ closed_within p next is_near e =
       | inr h ↦ omega (arith, limit_kept p _ next h.1, is_near.limit_within)
     ]
 
--- behind an element of definite length
+-- after an element of definite length
 passed_within : (p next : Progress) (len : ℕ) → IsNear p → len ≤ 65545 → passed p len ≡ Ok next → next.at ≤ 65550
 passed_within p next len is_near short e =
     elim (chosen (p.depth == 0) _ _ (Ok next) e) [
@@ -111,7 +111,7 @@ passed_within p next len is_near short e =
       | inr h ↦ omega (arith, limit_kept p _ next h.1, is_near.limit_within)
     ]
 
--- behind a whole header
+-- after a whole header
 step_within : (p next : Progress) (octets : List ℕ) (opening : Opening) → IsNear p → opening_at (from p.at octets) ≡ Ok (Some opening) → behind_header p octets opening ≡ Ok next → next.at ≤ 65550
 step_within p next octets (Indefinite tag) is_near read behind =
     let f = indefinite_sound p.at octets tag read in
@@ -124,13 +124,13 @@ step_within p next octets (Definite h) is_near read behind =
       | inr k ↦ passed_within p next (h.len + h.content_len) is_near short k.1
     ]
 
--- ---- where it stops
+-- ---- where the walk stops
 
--- a walk that goes no step more
+-- a continuation that takes no step
 abbrev nowhere : Progress → List ℕ → Result Outer Fault
 nowhere p octets = Ok (Whole 0)
 
--- fewer octets are there than the step needs
+-- octets are missing for the step
 too_few : (p next : Progress) (octets : List ℕ) (n : ℕ) → gone_to nowhere p octets next ≡ Ok (Need n) → length octets < next.at - p.at
 too_few p next octets n e =
     elim (chosen (nat_lt (length octets) (next.at - p.at)) _ _ (Ok (Need n)) e) [
@@ -141,7 +141,7 @@ too_few p next octets n e =
       ]
     ]
 
--- where more is needed there, few octets were walked and are left
+-- if the walk needs more, the octets walked and left are few
 stop_within : (p : Progress) (octets : List ℕ) (n : ℕ) → IsNear p → (opening_at (from p.at octets) >>= gone_on nowhere p octets) ≡ Ok (Need n) → p.at + length octets ≤ 65550
 stop_within p octets n is_near e =
     let a = bind_ok (opening_at (from p.at octets)) (gone_on nowhere p octets) (Need n) e in
@@ -153,7 +153,7 @@ stop_within p octets n is_near e =
         let b = bind_ok (behind_header p octets opening) (gone_to nowhere p octets) (Need n) a in
         omega (arith, step_within p b.0 octets opening is_near read b.1, too_few p b.0 octets n b.2)
 
--- octets of which more is needed
+-- octets that need more
 pub need_within : (octets : List ℕ) (n : ℕ) → outer_at octets ≡ Ok (Need n) → length octets ≤ 65550
 unfolding outer_at
 need_within octets n e =

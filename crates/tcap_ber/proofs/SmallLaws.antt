@@ -1,4 +1,4 @@
--- The reader of a number from 0 to 127 reads exactly those that are spelled so.
+-- The reader of a number from 0 to 127 is exact.
 use Rattle.std.proofs.Common.{◌≡◌, ℕ, ◌<◌, List, [], ◌∷◌, Ok, Err, refl, sym, ap, subst, ◌∙◌, inl, inr, ◌⊎◌, arith}
 use Rattle.std.specs.Prelude.{nat_lt}
 use Rattle.std.proofs.lemmas.Bool.{ltb-true, ltb-false, lt-ltb, both_ways, false_from_ne_true}
@@ -12,7 +12,7 @@ use Rattle.tcap_ber.proofs.Steps.{chosen, bind_ok, bind_err, ok_is, err_is}
 use Rattle.tcap_ber.proofs.FaultLaws.{refused_by}
 use Rattle.tcap_ber.proofs.BodyLaws.{is_integer_sound, is_integer_complete}
 
--- the contents of an INTEGER as one octet below 128, and what reading them so means
+-- `small_in` reads one octet below 128
 small_in_sound : (place : ℕ) (octets : List ℕ) (n : ℕ) → small_in place octets ≡ Ok n → IsSmall n octets
 small_in_sound place [] n e = absurd cc
 small_in_sound place (octet ∷ []) n e =

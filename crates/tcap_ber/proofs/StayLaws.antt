@@ -1,4 +1,4 @@
--- What is wrong with octets stays wrong, whatever comes behind them.
+-- A fault of octets stays if more octets follow.
 use Rattle.std.proofs.Common.{ℕ, List, ◌∷◌, ◌++◌, ap, ◌∙◌, inl, inr, append_assoc}
 use Rattle.tcap_ber.specs.declared.fault.Reason.{Reason}
 use Rattle.tcap_ber.specs.declared.fault.Reason.TheVariants as reasons

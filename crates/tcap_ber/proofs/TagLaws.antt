@@ -1,4 +1,4 @@
--- What reading makes of the tag at the front is what stands there.
+-- Reading a tag returns the tag at the front.
 use Rattle.std.proofs.Common.{◌≡◌, ℕ, zero, suc, ◌+◌, ◌%◌, ◌≤◌, List, [], ◌∷◌, ◌++◌, length, Option, Some, Result, Ok, Err, refl, sym, ap, ◌∙◌, inl, inr, arith}
 use Rattle.std.specs.List.{AllByRecursion}
 use Rattle.std.specs.Prelude.{nat_lt, ◌==◌}
@@ -10,7 +10,7 @@ use Rattle.tcap_ber.specs.Header.{HasLongTag}
 use Rattle.tcap_ber.specs.HeaderReading.{fault, tag_rest, tag_in}
 use Rattle.tcap_ber.proofs.Steps.{chosen, err_is, ok_not_err}
 
--- the octets behind the first of a long tag, at the front
+-- the octets after the first of a long tag, at the front
 pub record FindsMore (left len : ℕ) (octets : List ℕ) (n : ℕ) : Type 0 where
   pub more : List ℕ
   pub rest : List ℕ
@@ -46,7 +46,7 @@ tag_rest_complete place (suc left) len (octet ∷ next ∷ more) rest c w =
     let tail = tag_rest_complete place left (len + 1) (next ∷ more) rest c.1 (omega arith) in
     rw (le-ltb octet 128 c.0) (tail ∙ ap (λ (m : ℕ). Ok (Some m)) k)
 
--- four octets that go on, at the front
+-- octets with the top bit set, at the front
 pub record FindsLong (left : ℕ) (octets : List ℕ) : Type 0 where
   pub more : List ℕ
   pub rest : List ℕ

@@ -1,4 +1,4 @@
--- Elements with a wanted tag that are kept verbatim are read exactly.
+-- The reader of a required element, verbatim, is exact.
 use Rattle.std.proofs.Common.{◌≡◌, ℕ, ◌-◌, true, List, [], ◌∷◌, ◌++◌, length, take, Ok, refl, sym, ap, subst, ◌∙◌, inl, inr, arith}
 use Rattle.std.proofs.lemmas.List.{take_at, length-append}
 use Rattle.tcap_ber.specs.Element.{IsElement}
@@ -14,7 +14,7 @@ use Rattle.tcap_ber.proofs.GrammarLaws.{required_sound, required_complete, requi
 use Rattle.tcap_ber.proofs.OuterLaws.{is_raw_complete}
 use Rattle.tcap_ber.proofs.EachLaws.{HasOctets}
 
--- the octets up to the window behind an element are that element
+-- the octets up to the window after an element are that element
 cut_at : (s : Span) (e : Element) (r : Span) (f : FindsElement s e r) → f.octets ≡ take (length s.octets - length r.octets) s.octets
 cut_at s e r f =
     sym (ap (take (length s.octets - length r.octets)) f.joined
@@ -54,7 +54,7 @@ reads_verbatim tag = record {
 pub verbatim_has_octets : (tag : ℕ) → HasOctets (verbatim tag)
 verbatim_has_octets tag v front rest spelled = omega (arith, element_len_at_least (tag ∷ []) spelled.0.content front spelled.0.is_element)
 
--- the octets up to the window behind a wanted element are one element
+-- the octets up to the window after a required element are one element
 pub verbatim_there : (tag : ℕ) (s : Span) (x : Element × Span) → required_at tag s ≡ Ok x → is_raw (take (length s.octets - length x.1.octets) s.octets) ≡ true
 verbatim_there tag s x e =
     let found = required_sound tag s x e in

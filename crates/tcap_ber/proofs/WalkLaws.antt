@@ -1,4 +1,4 @@
--- A walk, step by step, and with as many steps as it may need.
+-- One step of a walk, and that any number of steps above the octet count gives the same result.
 use Rattle.std.proofs.Common.{◌≡◌, ℕ, zero, suc, ◌+◌, ◌-◌, ◌<◌, ◌≤◌, Bool, true, false, cond, List, [], ◌∷◌, ◌++◌, length, drop, Option, Some, None, Result, Ok, Err, refl, sym, ap, subst, ◌∙◌, inl, inr, arith}
 use Rattle.std.specs.Prelude.{◌≢◌, nat_lt, ◌==◌, ◌&&◌}
 use Rattle.std.proofs.lemmas.List.{length-drop}
@@ -17,7 +17,7 @@ use Rattle.tcap_ber.proofs.OpeningLaws.{from, definite_sound}
 use Rattle.tcap_ber.proofs.OpeningPlaceLaws.{opening_within}
 use Rattle.tcap_ber.proofs.HeaderLaws.{FindsHeader}
 
--- the walk goes on from there to a next place
+-- the walk goes on to `next` in one step
 pub record Goes (p : Progress) (octets : List ℕ) (next : Progress) : Type 0 where
   pub opening : Opening
   pub read : opening_at (from p.at octets) ≡ Ok (Some opening)
@@ -26,7 +26,7 @@ pub record Goes (p : Progress) (octets : List ℕ) (next : Progress) : Type 0 wh
   pub some : p.at < next.at
   pub inside : 0 < next.depth
 
--- a tag and a length that begin with two zero octets are those two
+-- a header that begins with two zero octets is these two
 pub zeros_header : (tag lens rest : List ℕ) (n : ℕ) → IsTag tag → IsLength n lens → is_ending (tag ++ (lens ++ rest)) ≡ true → (tag ≡ 0 ∷ []) × (lens ≡ 0 ∷ []) × (n ≡ 0)
 zeros_header [] lens rest n t l e = absurd t
 zeros_header (first ∷ []) [] rest n t l e = absurd l
@@ -45,7 +45,7 @@ zeros_header (first ∷ next ∷ more) lens rest n (inr t) l e =
     let a : first ≡ 0 = eqb-true first 0 z.0 in
     absurd (omega (arith, t.0, a))
 
--- a place within the limit is that place
+-- the value of `within_limit`
 pub limit_ok : (p q next : Progress) → within_limit p q ≡ Ok next → q ≡ next
 limit_ok p q next e =
     elim (chosen (nat_lt p.limit q.at) _ _ (Ok next) e) [
@@ -53,7 +53,7 @@ limit_ok p q next e =
       | inr k ↦ ok_is q next k.1
     ]
 
--- as many octets further as the header that opens has
+-- opening moves the offset by the header's length
 pub opened_ok : (p next : Progress) (len : ℕ) → opened p len ≡ Ok next → next.at ≡ p.at + len
 opened_ok p next len e =
     elim (chosen (nat_lt p.depth depth_limit) _ _ (Ok next) e) [
@@ -64,7 +64,7 @@ opened_ok p next len e =
       | inr k ↦ absurd cc
     ]
 
--- two octets further behind an ending
+-- closing moves the offset by two
 pub closed_ok : (p next : Progress) → closed p ≡ Ok next → next.at ≡ p.at + 2
 closed_ok p next e =
     elim (chosen (p.depth == 1) _ _ (Ok next) e) [
@@ -72,7 +72,7 @@ closed_ok p next e =
       | inr l ↦ sym (ap (λ (x : Progress). x.at) (limit_ok p _ next l.1))
     ]
 
--- as many octets further as the element has
+-- passing moves the offset by the element's length
 pub passed_ok : (p next : Progress) (len : ℕ) → passed p len ≡ Ok next → next.at ≡ p.at + len
 passed_ok p next len e =
     elim (chosen (p.depth == 0) _ _ (Ok next) e) [
@@ -80,7 +80,7 @@ passed_ok p next len e =
       | inr l ↦ sym (ap (λ (x : Progress). x.at) (limit_ok p _ next l.1))
     ]
 
--- behind a header it is at least as far as the header is long
+-- a step moves the offset at least by the header's length
 pub behind_further : (p next : Progress) (octets : List ℕ) (opening : Opening) → opening_at (from p.at octets) ≡ Ok (Some opening) → behind_header p octets opening ≡ Ok next
     → p.at + header_octets opening ≤ next.at
 behind_further p next octets (Indefinite tag) read behind = omega (arith, opened_ok p next (tag + 1) behind)
@@ -95,7 +95,7 @@ behind_further p next octets (Definite h) read behind =
         let z = zeros_header f.tag f.length_octets f.rest h.content_len f.is_tag f.is_length (rw f.joined at e) in
         omega (arith, f.len, ap length z.0, ap length z.1)
 
--- it goes on to the place behind a header where that is among the octets, with an element open
+-- the walk goes on after a header if the octets are there and an element is open
 pub goes_there : (p next : Progress) (octets : List ℕ) (opening : Opening) → opening_at (from p.at octets) ≡ Ok (Some opening) → behind_header p octets opening ≡ Ok next
     → nat_lt (length octets) (next.at - p.at) ≡ false → (next.depth == 0) ≡ false → Goes p octets next
 goes_there p next octets opening read behind k l = record {
@@ -138,14 +138,14 @@ goes_complete p next octets g =
     let deep : next.depth ≢ 0 = λ e. omega (arith, g.inside, e) in
     rw (g.read, g.behind, le-ltb (length octets) (next.at - p.at) g.room, ne_eqb next.depth 0 deep) refl
 
--- what is left behind a step
+-- the octets left after a step
 abbrev pub left : Progress → Progress → List ℕ → List ℕ
 left p next octets = drop (next.at - p.at) octets
 
 pub left_shorter : (p next : Progress) (octets : List ℕ) → Goes p octets next → length (left p next octets) + (next.at - p.at) ≡ length octets
 left_shorter p next octets g = omega (arith, length-drop (next.at - p.at) octets, g.room)
 
--- ---- with as many steps as it may need
+-- ---- enough steps
 
 abbrev pub walk : Progress → List ℕ → Result Outer Fault
 walk p octets = walk_on (length octets + 1) p octets
@@ -156,12 +156,11 @@ stops p octets = stopped_on (length octets + 1) p octets
 abbrev pub notes : ℕ → ℕ → Progress → List ℕ → ℕ
 notes depth noted p octets = noted_on (length octets + 1) depth noted p octets
 
--- two tests that agree where they fail
 pub cond_same : {A : Type 0} (b : Bool) (x y z : A) → (b ≡ false → y ≡ z) → cond b x y ≡ cond b x z
 cond_same true x y z h = refl
 cond_same false x y z h = h refl
 
--- a step is the same with two ways on that agree where it leads
+-- a step is the same with two continuations that agree on what is left
 pub step_same : (p : Progress) (octets : List ℕ) (f g : Progress → List ℕ → Result Outer Fault) → ((next : Progress) → Goes p octets next → f next (left p next octets) ≡ g next (left p next octets))
     → (opening_at (from p.at octets) >>= gone_on f p octets) ≡ (opening_at (from p.at octets) >>= gone_on g p octets)
 step_same p octets f g same = by_result (opening_at (from p.at octets)) refl
@@ -177,24 +176,24 @@ step_same p octets f g same = by_result (opening_at (from p.at octets)) refl
     by_result (Ok None) a = refl
     by_result (Ok (Some opening)) a = by_behind opening (behind_header p octets opening) a refl
 
--- a step goes on where it leads
+-- a step that goes on
 pub step_goes : (p next : Progress) (octets : List ℕ) (f : Progress → List ℕ → Result Outer Fault) → Goes p octets next → (opening_at (from p.at octets) >>= gone_on f p octets) ≡ f next (left p next octets)
 step_goes p next octets f g =
     let deep : next.depth ≢ 0 = λ e. omega (arith, g.inside, e) in
     rw (g.read, g.behind, le-ltb (length octets) (next.at - p.at) g.room, ne_eqb next.depth 0 deep) refl
 
--- where it goes on, fewer octets are left
+-- a step that goes on leaves fewer octets
 pub fewer_left : (n : ℕ) (p next : Progress) (octets : List ℕ) → Goes p octets next → length octets < suc n → length (left p next octets) < n
 fewer_left n p next octets g more = omega (arith, left_shorter p next octets g, g.some, more)
 
--- all counts of steps above that of the octets give the same
+-- all step counts above the octet count give the same result
 pub walk_same : (m n : ℕ) (p : Progress) (octets : List ℕ) → length octets < m → length octets < n → walk_on m p octets ≡ walk_on n p octets
 walk_same zero n p octets a b = absurd (omega arith)
 walk_same (suc m) zero p octets a b = absurd (omega arith)
 walk_same (suc m) (suc n) p octets a b =
     step_same p octets (walk_on m) (walk_on n) (λ next g. walk_same m n next (left p next octets) (fewer_left m p next octets g a) (fewer_left n p next octets g b))
 
--- with one step and then as many as octets
+-- the walk as one step and then the others
 pub walk_first : (p : Progress) (octets : List ℕ) → walk p octets ≡ walk_on (suc (length octets)) p octets
 walk_first p octets = walk_same (length octets + 1) (suc (length octets)) p octets (omega arith) (omega arith)
 
@@ -206,20 +205,20 @@ walk_goes p next octets g =
     walk_first p octets ∙ step_goes p next octets (walk_on (length octets)) g
     ∙ enough_steps (length octets) next (left p next octets) (fewer_left (length octets) p next octets g (omega arith))
 
--- where it doesn't go on, it leads nowhere
+-- a walk that stops does not go on
 pub goes_nowhere : (p next : Progress) (octets : List ℕ) → goes p octets ≡ None → Goes p octets next → ⊥
 goes_nowhere p next octets e g = let h = goes_complete p next octets g in cc
 
 pub walk_stops : (p : Progress) (octets : List ℕ) (other : Progress → List ℕ → Result Outer Fault) → goes p octets ≡ None → walk p octets ≡ (opening_at (from p.at octets) >>= gone_on other p octets)
 walk_stops p octets other e = walk_first p octets ∙ step_same p octets (walk_on (length octets)) other (λ next g. absurd (goes_nowhere p next octets e g))
 
--- the place where it stops, by two ways on that agree
+-- the stop is the same with two continuations that agree on what is left
 pub stop_same : (p : Progress) (octets : List ℕ) (f g : Progress → List ℕ → Progress × List ℕ) (found : Option Progress) → ((next : Progress) → found ≡ Some next → f next (left p next octets) ≡ g next (left p next octets))
     → stopped_by f p octets found ≡ stopped_by g p octets found
 stop_same p octets f g None same = refl
 stop_same p octets f g (Some next) same = same next refl
 
--- all counts of steps above that of the octets stop at the same place
+-- all step counts above the octet count stop at the same place
 pub stops_same : (m n : ℕ) (p : Progress) (octets : List ℕ) → length octets < m → length octets < n → stopped_on m p octets ≡ stopped_on n p octets
 stops_same zero n p octets a b = absurd (omega arith)
 stops_same (suc m) zero p octets a b = absurd (omega arith)
@@ -227,7 +226,7 @@ stops_same (suc m) (suc n) p octets a b =
     stop_same p octets (stopped_on m) (stopped_on n) (goes p octets)
     (λ next e. let g = goes_sound p next octets e in stops_same m n next (left p next octets) (fewer_left m p next octets g a) (fewer_left n p next octets g b))
 
--- with one step and then as many as octets
+-- the stop after one step and then the others
 pub stops_first : (p : Progress) (octets : List ℕ) → stops p octets ≡ stopped_on (suc (length octets)) p octets
 stops_first p octets = stops_same (length octets + 1) (suc (length octets)) p octets (omega arith) (omega arith)
 
@@ -239,14 +238,14 @@ stops_goes p next octets g =
 pub stops_there : (p : Progress) (octets : List ℕ) → goes p octets ≡ None → stops p octets ≡ (p, octets)
 stops_there p octets e = stops_first p octets ∙ ap (stopped_by (stopped_on (length octets)) p octets) e
 
--- the place that is noted, by two ways on that agree
+-- the noted place is the same with two continuations that agree on what is left
 pub note_same : (depth noted : ℕ) (p : Progress) (octets : List ℕ) (f g : ℕ → Progress → List ℕ → ℕ) (found : Option Progress)
     → ((next : Progress) → found ≡ Some next → f (note depth noted p next) next (left p next octets) ≡ g (note depth noted p next) next (left p next octets))
     → noted_by f depth noted p octets found ≡ noted_by g depth noted p octets found
 note_same depth noted p octets f g None same = refl
 note_same depth noted p octets f g (Some next) same = same next refl
 
--- all counts of steps above that of the octets note the same place
+-- all step counts above the octet count note the same place
 pub notes_same : (m n depth noted : ℕ) (p : Progress) (octets : List ℕ) → length octets < m → length octets < n → noted_on m depth noted p octets ≡ noted_on n depth noted p octets
 notes_same zero n depth noted p octets a b = absurd (omega arith)
 notes_same (suc m) zero depth noted p octets a b = absurd (omega arith)
@@ -254,7 +253,7 @@ notes_same (suc m) (suc n) depth noted p octets a b =
     note_same depth noted p octets (noted_on m depth) (noted_on n depth) (goes p octets)
     (λ next e. let g = goes_sound p next octets e in notes_same m n depth (note depth noted p next) next (left p next octets) (fewer_left m p next octets g a) (fewer_left n p next octets g b))
 
--- with one step and then as many as octets
+-- the noted place after one step and then the others
 pub notes_first : (depth noted : ℕ) (p : Progress) (octets : List ℕ) → notes depth noted p octets ≡ noted_on (suc (length octets)) depth noted p octets
 notes_first depth noted p octets = notes_same (length octets + 1) (suc (length octets)) depth noted p octets (omega arith) (omega arith)
 

@@ -1,4 +1,4 @@
--- The innermost element that is open where a walk stops.
+-- The place that a walk notes is that of the innermost open element.
 use Rattle.std.proofs.Common.{◌≡◌, ℕ, zero, suc, ◌+◌, ◌-◌, ◌<◌, ◌≤◌, ◌⊎◌, Bool, true, false, List, [], ◌∷◌, ◌++◌, length, Option, Some, None, Result, Ok, refl, sym, ap, subst, ◌∙◌, inl, inr, arith, append_assoc}
 use Rattle.std.specs.Prelude.{◌≢◌, nat_lt, ◌==◌, if◌then◌else◌}
 use Rattle.std.specs.List.{AllByRecursion, concat}
@@ -20,17 +20,16 @@ use Rattle.tcap_ber.proofs.WalkedStopLaws.{and_off}
 
 -- ---- the innermost open element
 
--- the place of the last one opened at this depth, of those that are open
+-- the place of the open element of this depth, else `noted`
 abbrev pub opened_at : ℕ → List Level → ℕ → ℕ
 opened_at depth [] noted = noted
 opened_at depth (level ∷ outer) noted = if suc (length outer) == depth then length (walked outer) else opened_at depth outer noted
 
--- a test is true or false
 pub tested : (b : Bool) → (b ≡ true) ⊎ (b ≡ false)
 tested true = inl refl
 tested false = inr refl
 
--- a step is at most one deeper
+-- a step goes at most one level deeper
 pub rises : (p next : Progress) (octets : List ℕ) → Goes p octets next → next.depth ≤ p.depth + 1
 rises p next octets g = by_opening g.opening g.behind
   where
@@ -52,26 +51,26 @@ rises p next octets g = by_opening g.opening g.behind
           ]
         ]
 
--- a step that opens at the depth notes its place
+-- a step that opens an element of this depth notes its place
 pub note_at : (d noted : ℕ) (p next : Progress) → p.depth + 1 ≡ d → next.depth ≡ d → note d noted p next ≡ p.at
 note_at d noted p next a b = rw (eq-eqb (p.depth + 1) d a, eq-eqb next.depth d b) refl
 
--- one from another depth than the one above notes nothing
+-- a step from a depth other than the one above notes nothing
 pub note_from : (d noted : ℕ) (p next : Progress) → p.depth + 1 ≢ d → note d noted p next ≡ noted
 note_from d noted p next a = rw (ne_eqb (p.depth + 1) d a) refl
 
--- one to another depth notes nothing
+-- a step to another depth notes nothing
 pub note_to : (d noted : ℕ) (p next : Progress) → next.depth ≢ d → note d noted p next ≡ noted
 note_to d noted p next b = rw (and_off (p.depth + 1 == d) (next.depth == d) (ne_eqb next.depth d b)) refl
 
--- where a walk has come it has noted something
+-- the note from p is the note from a place that p reaches, given some earlier note
 pub notes_reach : (d n noted : ℕ) (p q : Progress) (octets rest : List ℕ) → ReachesIn n p octets q rest → (x : ℕ) × (notes d noted p octets ≡ notes d x q rest)
 notes_reach d zero noted p q octets rest r = (noted, ap (λ (x : Progress). notes d noted x octets) r.0 ∙ ap (notes d noted q) r.1)
 notes_reach d (suc n) noted p q octets rest r =
     let k = notes_reach d n (note d noted p r.0) r.0 q (left p r.0 octets) rest r.2 in
     (k.0, notes_goes d noted p r.0 octets r.1 ∙ k.1)
 
--- what was noted before makes no difference where a step notes the same
+-- earlier notes make no difference if the step notes the same
 pub same_note : (d one two : ℕ) (p next : Progress) (octets : List ℕ) → Goes p octets next → note d one p next ≡ note d two p next → notes d one p octets ≡ notes d two p octets
 same_note d one two p next octets g e = notes_goes d one p next octets g ∙ ap (λ (x : ℕ). notes d x next (left p next octets)) e ∙ sym (notes_goes d two p next octets g)
 
@@ -79,7 +78,7 @@ same_note d one two p next octets g e = notes_goes d one p next octets g ∙ ap 
 pub unnoted : (d noted : ℕ) (p next : Progress) (octets : List ℕ) → Goes p octets next → next.depth ≢ d → notes d noted p octets ≡ notes d noted next (left p next octets)
 unnoted d noted p next octets g other = notes_goes d noted p next octets g ∙ ap (λ (x : ℕ). notes d x next (left p next octets)) (note_to d noted p next other)
 
--- what was noted before it came to that depth makes no difference
+-- notes from before the walk came to this depth make no difference
 pub notes_any : (d n one two : ℕ) (p q : Progress) (octets rest : List ℕ) → p.depth < d → q.depth ≡ d → ReachesIn n p octets q rest → notes d one p octets ≡ notes d two p octets
 notes_any d zero one two p q octets rest low there r = absurd (omega (arith, low, there, ap (λ (x : Progress). x.depth) r.0))
 notes_any d (suc n) one two p q octets rest low there r =
@@ -95,18 +94,18 @@ notes_any d (suc n) one two p q octets rest low there r =
           unnoted d one p r.0 octets r.1 other ∙ more ∙ sym (unnoted d two p r.0 octets r.1 other)
     ]
 
--- ---- the same octets, so much deeper
+-- ---- the same octets, s levels deeper
 
--- the same place, so much deeper
+-- the progress, s levels deeper
 abbrev pub shift : ℕ → Progress → Progress
 shift s p = record { at = p.at; depth = p.depth + s; limit = p.limit }
 
--- a step of the same octets leads to the same place, so much deeper
+-- a move of equal length leads to the same place, s levels deeper
 pub same_moves : (s len depth deeper : ℕ) (p next other : Progress) → deeper ≡ depth + s → Moves p len depth next → Moves (shift s p) len deeper other → other ≡ shift s next
 same_moves s len depth deeper p next other e a b =
     place_is other (shift s next) (omega (arith, a.at_is, b.at_is)) (omega (arith, e, a.depth_is, b.depth_is)) (b.limit_is ∙ sym a.limit_is)
 
--- a step leads to the same place, so much deeper
+-- a step over the same octets leads to the same place, s levels deeper
 pub same_step : (s : ℕ) (p next other : Progress) (octets : List ℕ) → 0 < p.depth → Goes p octets next → Goes (shift s p) octets other → other ≡ shift s next
 same_step s p next other octets inside g k = by_opening g.opening g.behind (subst (λ (x : Opening). behind_header (shift s p) octets x ≡ Ok other) (opening_is k.opening g.opening (sym k.read ∙ g.read)) k.behind)
   where
@@ -159,7 +158,7 @@ pub not_still : (n : ℕ) (p q : Progress) (octets rest : List ℕ) → ReachesI
 not_still n p q octets rest r e =
     omega (arith, ap length e, left_shorter p r.0 octets r.1, r.1.some, reaches_fewer r.0 q (left p r.0 octets) rest (n, r.2))
 
--- while an element is open that is open so much less deep, nothing is noted at depths down to its own
+-- while an element is open, its steps s levels deeper note nothing at depths down to its own
 pub notes_deep : (d s n m noted : ℕ) (p q r : Progress) (octets rest : List ℕ) → d ≤ s + 1 → 0 < p.depth → ReachesIn n p octets q rest → ReachesIn m (shift s p) octets r rest → notes d noted (shift s p) octets ≡ notes d noted r rest
 notes_deep d s zero zero noted p q r octets rest low inside a b = ap (λ (x : Progress). notes d noted x octets) b.0 ∙ ap (notes d noted r) b.1
 notes_deep d s zero (suc m) noted p q r octets rest low inside a b = absurd (not_still m (shift s p) r octets rest b a.1)
@@ -187,30 +186,30 @@ notes_items d depth noted items rest p all low inside deep within =
 
 -- ---- with these elements open
 
--- of the outermost content more was walked than where the innermost opened
+-- the outermost content walked does not lessen when an element opens
 pub outer_content : (level : Level) (outer : List Level) → content_walked outer ≤ content_walked (level ∷ outer)
 outer_content level [] = omega arith
 outer_content level (next ∷ outer) = omega arith
 
--- and than behind its header
+-- the outermost content walked is at least that after the innermost header
 pub fresh_content : (level : Level) (outer : List Level) → content_walked (fresh level.tag ∷ outer) ≤ content_walked (level ∷ outer)
 fresh_content level [] = omega arith
 fresh_content level (next ∷ outer) = omega (arith, length-append level.tag (0x80 ∷ concat level.items), length-append level.tag (0x80 ∷ []))
 
--- the outermost content began where it did when the innermost opened
+-- opening an element does not move where the outermost content begins
 pub fresh_began : (level : Level) (outer : List Level) → content_began (fresh level.tag ∷ outer) ≡ content_began (level ∷ outer)
 fresh_began level [] = refl
 fresh_began level (next ∷ outer) = refl
 
--- the items were walked behind the header
+-- the items come after the header
 pub full_length : (level : Level) (outer : List Level) → length (walked (level ∷ outer)) ≡ length (walked (fresh level.tag ∷ outer)) + length (concat level.items)
 full_length level outer = omega (arith, length-append (walked outer) (begun level), length-append level.tag (0x80 ∷ concat level.items), fresh_length level.tag outer)
 
--- what was left where an element opened
+-- the octets left when the element opened
 pub opened_rest : (level : Level) (rest : List ℕ) → begun level ++ rest ≡ level.tag ++ 0x80 ∷ (concat level.items ++ rest)
 opened_rest level rest = append_assoc level.tag (0x80 ∷ concat level.items) rest
 
--- before the innermost opened
+-- the walk before the innermost element opened
 pub outer_walked : (octets rest : List ℕ) (level : Level) (outer : List Level) → IsWalked octets (level ∷ outer) rest → IsWalked octets outer (level.tag ++ 0x80 ∷ (concat level.items ++ rest))
 outer_walked octets rest level outer w = record {
   left = suc w.left;
@@ -219,11 +218,11 @@ outer_walked octets rest level outer w = record {
   joined = w.joined ∙ append_assoc (walked outer) (begun level) rest ∙ ap (λ (x : List ℕ). walked outer ++ x) (opened_rest level rest);
 }
 
--- an element opens in another within the limits
+-- an element opens inside another, within the limits
 pub opens_within : (p : Progress) (len : ℕ) → p.depth < depth_limit → p.depth ≢ 0 → p.at + len ≤ p.limit → opened p len ≡ Ok (record { at = p.at + len; depth = p.depth + 1; limit = p.limit })
 opens_within p len deep inside within = rw (lt-ltb p.depth depth_limit deep, ne_eqb p.depth 0 inside, le-ltb p.limit (p.at + len) within) refl
 
--- an element opens where these are open
+-- an element opens inside these
 pub opens_fresh : (tag : List ℕ) (levels : List Level) → length levels < depth_limit → content_walked (fresh tag ∷ levels) ≤ content_limit → opened (progress_of levels) (length tag + 1) ≡ Ok (progress_of (fresh tag ∷ levels))
 opens_fresh tag [] deep within = ap (λ (x : Progress). Ok x) (place_is _ (progress_of (fresh tag ∷ [])) (omega (arith, fresh_length tag [])) refl (omega arith))
 opens_fresh tag (level ∷ outer) deep within =
@@ -232,7 +231,7 @@ opens_fresh tag (level ∷ outer) deep within =
     let room : p.at + (length tag + 1) ≤ p.limit = omega (arith, within, len, content_count (fresh tag ∷ level ∷ outer)) in
     opens_within p (length tag + 1) deep (λ e. omega (arith, e)) room ∙ ap (λ (x : Progress). Ok x) (place_is _ (progress_of (fresh tag ∷ level ∷ outer)) (omega (arith, len)) (omega arith) refl)
 
--- the walk goes over its header
+-- the walk goes past its header
 pub goes_fresh : (tag more : List ℕ) (levels : List Level) → IsTag tag → IsConstructed tag → length levels < depth_limit → content_walked (fresh tag ∷ levels) ≤ content_limit → Goes (progress_of levels) (tag ++ 0x80 ∷ more) (progress_of (fresh tag ∷ levels))
 goes_fresh tag more levels is_tag is_constructed deep within = record {
   opening = Indefinite (length tag);
@@ -243,7 +242,7 @@ goes_fresh tag more levels is_tag is_constructed deep within = record {
   inside = omega arith;
 }
 
--- from where an element opened to where the walk is in it
+-- the note from the element's opening to the walk's place in it
 pub notes_level : (d noted : ℕ) (octets rest : List ℕ) (level : Level) (outer : List Level) → IsWalked octets (level ∷ outer) rest → d ≤ suc (length outer)
     → notes d noted (progress_of outer) (level.tag ++ 0x80 ∷ (concat level.items ++ rest)) ≡ notes d (note d noted (progress_of outer) (progress_of (fresh level.tag ∷ outer))) (progress_of (level ∷ outer)) rest
 notes_level d noted octets rest level outer w low =
@@ -264,7 +263,7 @@ notes_level d noted octets rest level outer w low =
     ∙ notes_items d w.left x level.items rest q o.2 low (omega arith) (omega (arith, count)) room
     ∙ ap (λ (y : Progress). notes d x y rest) end
 
--- the walk has noted that of each open element
+-- the walk has noted the place of each open element
 pub notes_levels : (d : ℕ) (octets rest : List ℕ) (levels : List Level) → IsWalked octets levels rest → d ≤ length levels → notes d 0 at_first octets ≡ notes d (opened_at d levels 0) (progress_of levels) rest
 notes_levels d octets rest [] w low = ap (notes d 0 at_first) w.joined
 notes_levels d octets rest (level ∷ outer) w low =
@@ -287,7 +286,7 @@ notes_levels d octets rest (level ∷ outer) w low =
           notes_levels d octets here outer v (omega (arith, low, other)) ∙ notes_level d x octets rest level outer w low ∙ ap last (note_to d x p q other ∙ sym is)
     ]
 
--- the walk notes that of the open element at the depth where it stops
+-- the walk notes the place of the open element at the depth of its stop
 pub noted_there : (octets rest behind : List ℕ) (levels others : List Level) (noted : ℕ) → IsWalked octets levels rest → IsWalked octets others behind → Reaches (progress_of levels) rest (progress_of others) behind
     → goes (progress_of others) behind ≡ None → (length others ≤ length levels → noted ≡ opened_at (length others) levels 0)
     → notes (length others) noted (progress_of levels) rest ≡ opened_at (length others) others 0

@@ -1,4 +1,4 @@
--- The elements that are open at a place of a walk.
+-- The elements that are open at each place of a walk.
 use Rattle.std.proofs.Common.{◌≡◌, ℕ, zero, suc, ◌+◌, ◌-◌, ◌<◌, ◌≤◌, ◌⊎◌, true, false, List, [], ◌∷◌, ◌++◌, length, take, drop, Some, Ok, refl, sym, ap, subst, ◌∙◌, inl, inr, arith, append_assoc}
 use Rattle.std.specs.Prelude.{◌≢◌, ◌==◌}
 use Rattle.std.specs.List.{AllByRecursion, concat}
@@ -25,50 +25,48 @@ use Rattle.tcap_ber.proofs.WalkedStepLaws.{one_more, place_is, walked_at, walked
 abbrev pub begun : Level → List ℕ
 begun level = level.tag ++ 0x80 ∷ concat level.items
 
--- with one item more
+-- an open element with one more item
 abbrev pub grow : Level → List ℕ → Level
 grow level item = record { tag = level.tag; items = level.items ++ item ∷ [] }
 
--- with its ending it is an element
+-- an open element with its end-of-contents octets
 abbrev pub whole : Level → List ℕ
 whole level = level.tag ++ 0x80 ∷ concat level.items ++ ending
 
--- one item more adds its octets
 pub concat_push : (items : List (List ℕ)) (item : List ℕ) → concat (items ++ item ∷ []) ≡ concat items ++ item
 concat_push items item = concat-append items (item ∷ []) ∙ ap (λ (x : List ℕ). concat items ++ x) (append-nil item)
 
--- what holds of each holds with one more
 pub all_push : {X : Type 0} (P : X → Type 0) (items : List X) (item : X) → AllByRecursion P items → P item → AllByRecursion P (items ++ item ∷ [])
 all_push P [] item a b = (b, tt)
 all_push P (first ∷ more) item a b = (a.0, all_push P more item a.1 b)
 
--- one item more is walked behind the others
+-- one more item is walked after the others
 pub grown_walked : (level : Level) (outer : List Level) (item : List ℕ) → walked (grow level item ∷ outer) ≡ walked (level ∷ outer) ++ item
 grown_walked level outer item =
     ap (λ (x : List ℕ). walked outer ++ (level.tag ++ 0x80 ∷ x)) (concat_push level.items item)
     ∙ ap (λ (x : List ℕ). walked outer ++ x) (sym (append_assoc level.tag (0x80 ∷ concat level.items) item))
     ∙ sym (append_assoc (walked outer) (begun level) item)
 
--- the outermost content begins where it began
+-- one more item does not move where the outermost content begins
 pub grown_began : (level : Level) (outer : List Level) (item : List ℕ) → content_began (grow level item ∷ outer) ≡ content_began (level ∷ outer)
 grown_began level [] item = refl
 grown_began level (next ∷ outer) item = refl
 
--- the count of octets that were walked grows by the item
+-- the number of octets walked grows by the item
 pub grown_length : (level : Level) (outer : List Level) (item : List ℕ) → length (walked (grow level item ∷ outer)) ≡ length (walked (level ∷ outer)) + length item
 grown_length level outer item = ap length (grown_walked level outer item) ∙ length-append (walked (level ∷ outer)) item
 
--- the outermost content that was walked grows by the item
+-- the outermost content walked grows by the item
 pub grown_content : (level : Level) (outer : List Level) (item : List ℕ) → content_walked (grow level item ∷ outer) ≡ content_walked (level ∷ outer) + length item
 grown_content level outer item =
     omega (arith, content_count (grow level item ∷ outer), content_count (level ∷ outer), grown_began level outer item, grown_length level outer item)
 
--- elements stay open with one item more
+-- elements stay open with one more item
 pub grown_open : (n : ℕ) (level : Level) (outer : List Level) (item : List ℕ) → AreOpen n (level ∷ outer) → ((tag content : List ℕ) × IsNested n tag content item) → item ≢ ending → AreOpen n (grow level item ∷ outer)
 grown_open n level outer item o nested other =
     (o.0, o.1, all_push (λ x. ((tag content : List ℕ) × IsNested n tag content x) × (x ≢ ending)) level.items item o.2 (nested, other), o.3)
 
--- behind one item more
+-- the octets are walked up to the end of one more item
 pub grown : (octets behind : List ℕ) (n : ℕ) (level : Level) (outer : List Level) (item : List ℕ) → AreOpen n (level ∷ outer) → ((tag content : List ℕ) × IsNested n tag content item) → item ≢ ending
     → content_walked (level ∷ outer) + length item ≤ content_limit → octets ≡ (walked (level ∷ outer) ++ item) ++ behind → IsWalked octets (grow level item ∷ outer) behind
 grown octets behind n level outer item o nested other within joined = record {
@@ -78,13 +76,13 @@ grown octets behind n level outer item o nested other within joined = record {
   joined = joined ∙ ap (λ (x : List ℕ). x ++ behind) (sym (grown_walked level outer item));
 }
 
--- the place behind one item more
+-- the progress after one more item
 pub grown_place : (next : Progress) (level : Level) (outer : List Level) (item : List ℕ) → next.at ≡ length (walked (level ∷ outer)) + length item → next.depth ≡ suc (length outer)
     → next.limit ≡ content_began (level ∷ outer) + content_limit → next ≡ progress_of (grow level item ∷ outer)
 grown_place next level outer item a b c =
     place_is next (progress_of (grow level item ∷ outer)) (omega (arith, a, grown_length level outer item)) b (omega (arith, c, grown_began level outer item))
 
--- what stands behind so many octets
+-- the octets left after these
 pub left_behind : (p next : Progress) (rest front behind : List ℕ) → rest ≡ front ++ behind → next.at ≡ p.at + length front → left p next rest ≡ behind
 left_behind p next rest front behind joined at = ap (drop (next.at - p.at)) joined ∙ drop_at front behind (next.at - p.at) (omega (arith, at))
 
@@ -98,7 +96,7 @@ pub record FindsDefinite (rest : List ℕ) (len : ℕ) : Type 0 where
   pub joined : rest ≡ item ++ behind
   pub len_is : length item ≡ len
 
--- a header of definite length whose content is there begins an element
+-- a header of definite length with its whole content begins an element
 pub finds_definite : (rest : List ℕ) (h : Header) → FindsHeader rest h → h.len + h.content_len ≤ length rest → FindsDefinite rest (h.len + h.content_len)
 finds_definite rest h f room =
     let header : List ℕ = f.tag ++ f.length_octets in
@@ -122,12 +120,12 @@ finds_definite rest h f room =
       len_is = omega (arith, length-append header content, header_len, content_len);
     }
 
--- an element of definite length may stand in any other
+-- an element of definite length may be inside any other
 pub definite_nested : (n : ℕ) (tag content item : List ℕ) → IsDefinite tag content item → IsNested n tag content item
 definite_nested zero tag content item d = d
 definite_nested (suc n) tag content item d = inl d
 
--- where two zero octets begin what is left
+-- the octets left begin with two zero octets
 pub ending_there : (rest : List ℕ) → is_ending rest ≡ true → (behind : List ℕ) × (rest ≡ ending ++ behind)
 ending_there [] e = absurd cc
 ending_there (first ∷ []) e = absurd cc
@@ -136,12 +134,12 @@ ending_there (first ∷ second ∷ more) e =
     let one : first ∷ second ∷ more ≡ 0 ∷ second ∷ more = ap (λ (x : ℕ). x ∷ second ∷ more) (eqb-true first 0 b.0) in
     (more, one ∙ ap (λ (x : ℕ). 0 ∷ x ∷ more) (eqb-true second 0 b.1))
 
--- what is no ending, by its first octets
+-- octets that are not end-of-contents octets, by their front
 pub not_ending : (rest front behind : List ℕ) → is_ending rest ≡ false → rest ≡ front ++ behind → front ≢ ending
 not_ending rest front behind e joined same =
     let there : is_ending rest ≡ true = ap is_ending (joined ∙ ap (λ (x : List ℕ). x ++ behind) same) in absurd cc
 
--- an element of indefinite length has more octets than an ending
+-- an element is two octets longer than its open part
 pub whole_length : (level : Level) → length (whole level) ≡ length (begun level) + 2
 whole_length level = length-append (begun level) ending
 
@@ -149,34 +147,34 @@ whole_length level = length-append (begun level) ending
 pub begun_length : (level : Level) → 1 ≤ length (begun level)
 begun_length level = omega (arith, length-append level.tag (0x80 ∷ concat level.items))
 
--- an element of indefinite length is no ending
+-- an element of indefinite length is not end-of-contents octets
 pub whole_no_ending : (level : Level) → whole level ≢ ending
 whole_no_ending level same = omega (arith, ap length same, whole_length level, begun_length level)
 
--- an open element that ends has the elements that were walked in it
+-- closing an open element makes an element of its items
 pub whole_nested : (n : ℕ) (level : Level) (outer : List Level) → AreOpen n (level ∷ outer) → length (concat level.items) ≤ content_limit → IsNested (suc n) level.tag (concat level.items) (whole level)
 whole_nested n level outer o within = inr (record { items = level.items; is_tag = o.0; is_constructed = o.1; are_items = o.2; content_is = refl; is_within = within; joined = refl })
 
--- the innermost content is in the outermost
+-- the innermost content is at most the outermost
 pub first_content : (level : Level) (outer : List Level) → length (concat level.items) ≤ content_walked (level ∷ outer)
 first_content level [] = omega arith
 first_content level (next ∷ outer) = omega (arith, length-append level.tag (0x80 ∷ concat level.items))
 
--- an ending makes the innermost open element an item
+-- end-of-contents octets make the innermost open element an item
 pub closed_length : (level : Level) (outer : List Level) → length (walked (level ∷ outer)) + 2 ≡ length (walked outer) + length (whole level)
 closed_length level outer = omega (arith, length-append (walked outer) (begun level), whole_length level)
 
--- an element that has just begun
+-- an element with no item yet
 abbrev pub fresh : List ℕ → Level
 fresh tag = record { tag = tag; items = [] }
 
--- where a step from a place with these elements open leads
+-- a step leads to a place with these elements open
 pub record Stepped (octets : List ℕ) (levels : List Level) (rest : List ℕ) (next : Progress) : Type 0 where
   pub others : List Level
   pub is_walked : IsWalked octets others (left (progress_of levels) next rest)
   pub next_is : next ≡ progress_of others
 
--- behind the header of an element of indefinite length
+-- the octets are walked up to the end of a header of indefinite length
 pub fresh_walked : (octets behind tag : List ℕ) (m : ℕ) (levels : List Level) → AreOpen (suc m) levels → IsTag tag → IsConstructed tag → content_walked (fresh tag ∷ levels) ≤ content_limit
     → octets ≡ walked levels ++ (tag ++ 0x80 ∷ behind) → IsWalked octets (fresh tag ∷ levels) behind
 fresh_walked octets behind tag m levels o is_tag is_constructed within joined = record {
@@ -186,11 +184,11 @@ fresh_walked octets behind tag m levels o is_tag is_constructed within joined = 
   joined = joined ∙ ap (λ (x : List ℕ). walked levels ++ x) (sym (append_assoc tag (0x80 ∷ []) behind)) ∙ sym (append_assoc (walked levels) (tag ++ 0x80 ∷ []) behind);
 }
 
--- the count of octets that were walked grows by the header
+-- the number of octets walked grows by the header
 pub fresh_length : (tag : List ℕ) (levels : List Level) → length (walked (fresh tag ∷ levels)) ≡ length (walked levels) + (length tag + 1)
 fresh_length tag levels = omega (arith, length-append (walked levels) (tag ++ 0x80 ∷ []), length-append tag (0x80 ∷ []))
 
--- the place behind the header, and its content is within the limit
+-- the progress after the header, whose content is within the limit
 pub fresh_place : (tag : List ℕ) (levels : List Level) (next : Progress)
     → (((progress_of levels).depth ≡ 0) × (record { at = (progress_of levels).at + (length tag + 1); depth = 1; limit = (progress_of levels).at + (length tag + 1) + content_limit } ≡ next))
     ⊎ (((progress_of levels).depth ≢ 0) × Moves (progress_of levels) (length tag + 1) ((progress_of levels).depth + 1) next)
@@ -219,7 +217,7 @@ step_opened octets rest tag levels next w f e =
       next_is = at.0;
     }
 
--- behind the ending of an element in another
+-- a step over end-of-contents octets of an inner element
 pub step_closed : (octets rest : List ℕ) (levels : List Level) (next : Progress) → IsWalked octets levels rest → 0 < next.depth → is_ending rest ≡ true → closed (progress_of levels) ≡ Ok next → Stepped octets levels rest next
 step_closed octets rest [] next w inside ends e =
     elim (closes_ok at_first next e) [
@@ -252,7 +250,7 @@ step_closed octets rest (level ∷ within ∷ outer) next w inside ends e =
           }
     ]
 
--- behind an element of definite length in another
+-- a step over an element of definite length inside another
 pub step_passed : (octets rest : List ℕ) (levels : List Level) (next : Progress) (h : Header) → IsWalked octets levels rest → 0 < next.depth → next.at - (progress_of levels).at ≤ length rest → FindsHeader rest h
     → (0 < (progress_of levels).depth → is_ending rest ≡ false) → passed (progress_of levels) (h.len + h.content_len) ≡ Ok next → Stepped octets levels rest next
 step_passed octets rest [] next h w inside room f other e =
@@ -289,7 +287,7 @@ steps octets rest levels next w g = by_opening g.opening g.read g.behind
           | inr k ↦ step_passed octets rest levels next h w g.inside g.room (definite_sound (progress_of levels).at rest h read) k.0 k.1
         ]
 
--- a place that was reached is one with elements open
+-- the progress at a place with these elements open
 pub record StandsAt (octets : List ℕ) (q : Progress) (rest : List ℕ) : Type 0 where
   pub levels : List Level
   pub is_walked : IsWalked octets levels rest

@@ -1,4 +1,4 @@
--- Where a step of a walk leads: from open elements to open elements.
+-- The cases of one step of a walk.
 use Rattle.std.proofs.Common.{◌≡◌, ℕ, zero, suc, ◌+◌, ◌-◌, ◌<◌, ◌≤◌, ◌⊎◌, Bool, true, false, List, [], ◌∷◌, length, Result, Ok, Err, refl, ap, subst, ◌∙◌, inl, inr, arith}
 use Rattle.std.specs.Prelude.{◌≢◌, nat_lt, ◌==◌, ◌&&◌}
 use Rattle.std.proofs.lemmas.Bool.{ltb-true, ltb-false, lt-ltb, eqb-true, eqb-false, and_parts, and_from}
@@ -18,19 +18,18 @@ use Rattle.tcap_ber.proofs.ReachLaws.{progress_of}
 pub nothing_walked : (octets : List ℕ) → IsWalked octets [] octets
 nothing_walked octets = record { left = depth_limit; are_open = refl; is_within = omega arith; joined = refl }
 
--- elements open at most to the limit
+-- the open elements and those that may still open are `depth_limit` together
 pub open_within : (n : ℕ) (levels : List Level) → AreOpen n levels → n + length levels ≡ depth_limit
 open_within n [] o = omega (arith, o)
 open_within n (level ∷ outer) o = omega (arith, open_within (suc n) outer o.3)
 
--- one more may be open where they are not at the limit
+-- one more element may open below the limit
 pub one_more : (n : ℕ) (levels : List Level) → AreOpen n levels → length levels < depth_limit → (m : ℕ) × AreOpen (suc m) levels
 one_more zero levels o deep = absurd (omega (arith, open_within zero levels o))
 one_more (suc m) levels o deep = (m, o)
 
--- ---- where a step leads
+-- ---- the result of a step
 
--- a place is its three numbers
 pub place_is : (p q : Progress) → p.at ≡ q.at → p.depth ≡ q.depth → p.limit ≡ q.limit → p ≡ q
 place_is p q a b c =
     let at : Progress = record { at = q.at; depth = p.depth; limit = p.limit } in
@@ -40,12 +39,12 @@ place_is p q a b c =
     let three : depth ≡ q = ap (λ (n : ℕ). record { at = q.at; depth = q.depth; limit = n }) c in
     one ∙ two ∙ three
 
--- the walk stands behind what was walked
+-- the walk's offset is the number of octets walked
 pub walked_at : (levels : List Level) → (progress_of levels).at ≡ length (walked levels)
 walked_at [] = refl
 walked_at (level ∷ outer) = refl
 
--- as deep as elements are open
+-- the walk's depth is the number of open elements
 pub walked_depth : (levels : List Level) → (progress_of levels).depth ≡ length levels
 walked_depth [] = refl
 walked_depth (level ∷ outer) = refl
@@ -58,7 +57,7 @@ within_ok p next q e =
       | inr k ↦ (ok_is next q k.1, ltb-false p.limit next.at k.0)
     ]
 
--- a place behind the limit
+-- a place over the limit
 pub within_err : (p next : Progress) (f : Fault) → within_limit p next ≡ Err f → (p.limit < next.at) × (fault reasons.TooLong 0 ≡ f)
 within_err p next f e =
     elim (chosen (nat_lt p.limit next.at) _ _ (Err f) e) [
@@ -66,20 +65,20 @@ within_err p next f e =
       | inr k ↦ absurd (ok_not_err next f k.1)
     ]
 
--- a step of so many octets, to this depth, where an element is open
+-- a step of this length to this depth, inside an open element
 pub record Moves (p : Progress) (len depth : ℕ) (next : Progress) : Type 0 where
   pub at_is : next.at ≡ p.at + len
   pub depth_is : next.depth ≡ depth
   pub limit_is : next.limit ≡ p.limit
   pub within : next.at ≤ p.limit
 
--- a step within the limit
+-- a step within the limit is such a step
 pub moves : (p : Progress) (len depth : ℕ) (next : Progress) → within_limit p (record { at = p.at + len; depth = depth; limit = p.limit }) ≡ Ok next → Moves p len depth next
 moves p len depth next e =
     let w = within_ok p (record { at = p.at + len; depth = depth; limit = p.limit }) next e in
     subst (Moves p len depth) w.0 (record { at_is = refl; depth_is = refl; limit_is = refl; within = w.1 })
 
--- a first element of indefinite length opens, or one in another
+-- the outermost element opens, or an inner one
 pub opens_ok : (p next : Progress) (len : ℕ) → opened p len ≡ Ok next
     → (p.depth < depth_limit) × (((p.depth ≡ 0) × (record { at = p.at + len; depth = 1; limit = p.at + len + content_limit } ≡ next)) ⊎ ((p.depth ≢ 0) × Moves p len (p.depth + 1) next))
 opens_ok p next len e =
@@ -91,7 +90,7 @@ opens_ok p next len e =
       | inr k ↦ absurd cc
     ]
 
--- why none opens
+-- why no element opens
 pub opens_err : (p : Progress) (len : ℕ) (f : Fault) → opened p len ≡ Err f
     → ((depth_limit ≤ p.depth) × (fault reasons.TooDeep p.at ≡ f)) ⊎ ((p.depth < depth_limit) × (p.depth ≢ 0) × (p.limit < p.at + len) × (fault reasons.TooLong 0 ≡ f))
 opens_err p len f e =
@@ -103,7 +102,7 @@ opens_err p len f e =
       | inr k ↦ inl (ltb-false p.depth depth_limit k.0, err_is {A = Progress} (fault reasons.TooDeep p.at) f k.1)
     ]
 
--- the outermost element ends, or one in another
+-- the outermost element closes, or an inner one
 pub closes_ok : (p next : Progress) → closed p ≡ Ok next
     → ((p.depth ≡ 1) × (record { at = p.at + 2; depth = 0; limit = p.limit } ≡ next)) ⊎ ((p.depth ≢ 1) × Moves p 2 (p.depth - 1) next)
 closes_ok p next e =
@@ -112,7 +111,7 @@ closes_ok p next e =
       | inr l ↦ inr (eqb-false p.depth 1 l.0, moves p 2 (p.depth - 1) next l.1)
     ]
 
--- why none ends
+-- why no element closes
 pub closes_err : (p : Progress) (f : Fault) → closed p ≡ Err f → (p.depth ≢ 1) × (p.limit < p.at + 2) × (fault reasons.TooLong 0 ≡ f)
 closes_err p f e =
     elim (chosen (p.depth == 1) _ _ (Err f) e) [
@@ -120,7 +119,7 @@ closes_err p f e =
       | inr l ↦ let w = within_err p _ f l.1 in (eqb-false p.depth 1 l.0, w.0, w.1)
     ]
 
--- behind an outermost element of definite length, or one in another
+-- an outermost element of definite length is passed, or an inner one
 pub passes_ok : (p next : Progress) (len : ℕ) → passed p len ≡ Ok next
     → ((p.depth ≡ 0) × (record { at = p.at + len; depth = 0; limit = p.limit } ≡ next)) ⊎ ((p.depth ≢ 0) × Moves p len p.depth next)
 passes_ok p next len e =
@@ -129,7 +128,7 @@ passes_ok p next len e =
       | inr l ↦ inr (eqb-false p.depth 0 l.0, moves p len p.depth next l.1)
     ]
 
--- why it is not passed
+-- why no element is passed
 pub passes_err : (p : Progress) (len : ℕ) (f : Fault) → passed p len ≡ Err f → (p.depth ≢ 0) × (p.limit < p.at + len) × (fault reasons.TooLong 0 ≡ f)
 passes_err p len f e =
     elim (chosen (p.depth == 0) _ _ (Err f) e) [
@@ -137,7 +136,7 @@ passes_err p len f e =
       | inr l ↦ let w = within_err p _ f l.1 in (eqb-false p.depth 0 l.0, w.0, w.1)
     ]
 
--- behind a header of definite length: an ending, or an element of definite length
+-- a header of definite length is that of an element, or end-of-contents octets
 pub definite_step : (p : Progress) (octets : List ℕ) (h : Header) (r : Result Progress Fault) → behind_header p octets (Definite h) ≡ r
     → ((0 < p.depth) × (is_ending octets ≡ true) × (closed p ≡ r)) ⊎ (((0 < p.depth → is_ending octets ≡ false)) × (passed p (h.len + h.content_len) ≡ r))
 definite_step p octets h r e =

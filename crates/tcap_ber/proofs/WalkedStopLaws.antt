@@ -1,4 +1,4 @@
--- Where a walk stops: what it answers there is so.
+-- The result of a walk at the place where it stops is correct.
 use Rattle.std.proofs.Common.{◌≡◌, ℕ, zero, ◌+◌, ◌-◌, ◌<◌, ◌≤◌, Bool, true, false, List, [], ◌∷◌, ◌++◌, length, Option, Some, None, Result, Ok, Err, refl, sym, ap, subst, ◌∙◌, inl, inr, arith, append_assoc, add-one}
 use Rattle.std.specs.Prelude.{◌≢◌, ◌%◌, nat_lt, ◌==◌, ◌&&◌}
 use Rattle.std.specs.List.{concat}
@@ -26,13 +26,13 @@ use Rattle.tcap_ber.proofs.ReachLaws.{content_count, progress_of}
 use Rattle.tcap_ber.proofs.WalkedStepLaws.{open_within, place_is, walked_at, walked_depth, opens_ok, opens_err, closes_ok, closes_err, passes_ok, passes_err, definite_step}
 use Rattle.tcap_ber.proofs.WalkedOpenLaws.{begun, whole, finds_definite, definite_nested, ending_there, not_ending, whole_length, begun_length, whole_nested, first_content, stands}
 
--- ---- where it stops
+-- ---- where the walk stops
 
--- a walk that goes no step more
+-- a continuation that takes no step
 abbrev pub nowhere : Progress → List ℕ → Result Outer Fault
 nowhere p octets = Ok (Need 0)
 
--- it is at the end of the outermost element
+-- the walk is at the end of the outermost element
 pub ends_whole : (p next : Progress) (octets : List ℕ) (n : ℕ) → gone_to nowhere p octets next ≡ Ok (Whole n) → (next.at - p.at ≤ length octets) × (next.depth ≡ 0) × (next.at ≡ n)
 ends_whole p next octets n e =
     elim (chosen (nat_lt (length octets) (next.at - p.at)) _ _ (Ok (Whole n)) e) [
@@ -46,12 +46,12 @@ ends_whole p next octets n e =
     whole_is : (n m : ℕ) → (let a : Result Outer Fault = Ok (Whole n) in a) ≡ Ok (Whole m) → n ≡ m
     whole_is n m e = cc
 
--- an element that may be nested to the limit is an element
+-- an element nested up to the limit is an element
 pub nested_element : (tag content item : List ℕ) → IsNested depth_limit tag content item → IsElement tag content item
 unfolding IsElement
 nested_element tag content item nested = nested
 
--- an ending of the outermost element
+-- end-of-contents octets of the outermost element
 pub whole_closed : (octets rest : List ℕ) (levels : List Level) (next : Progress) → IsWalked octets levels rest → next.depth ≡ 0 → 0 < (progress_of levels).depth → is_ending rest ≡ true → closed (progress_of levels) ≡ Ok next
     → BeginsElement octets next.at
 whole_closed octets rest [] next w none inside ends e = absurd (omega (arith, inside))
@@ -102,7 +102,7 @@ whole_passed octets rest (level ∷ outer) next h w none room f e =
       | inr k ↦ absurd (omega (arith, k.1.depth_is, none))
     ]
 
--- the outermost element ends behind an ending or an element of definite length
+-- the outermost element ends after this step
 pub whole_behind : (octets rest : List ℕ) (levels : List Level) (opening : Opening) (next : Progress) → IsWalked octets levels rest → opening_at (from (progress_of levels).at rest) ≡ Ok (Some opening)
     → behind_header (progress_of levels) rest opening ≡ Ok next → next.depth ≡ 0 → next.at - (progress_of levels).at ≤ length rest → BeginsElement octets next.at
 whole_behind octets rest levels (Indefinite tag) next w read e none room =
@@ -128,7 +128,7 @@ whole_there octets rest levels n w stop e =
         let end = ends_whole (progress_of levels) b.0 rest n b.2 in
         subst (BeginsElement octets) end.2 (whole_behind octets rest levels opening b.0 w read b.1 end.1 end.0)
 
--- a fault of a header is one at its place
+-- a fault of the header is a fault at the walk's place
 pub wrong_header : (rest : List ℕ) (levels : List Level) (reason : Reason) (place offset : ℕ) → place ≡ (progress_of levels).at + offset → IsOpeningFault rest reason offset → IsWrongThere levels rest reason place
 wrong_header rest levels reasons.TagForm place offset at wrong = (wrong.0, omega (arith, at, walked_at levels, wrong.1))
 wrong_header rest levels reasons.LengthForm place offset at wrong = (wrong.0, offset, wrong.1, wrong.2, omega (arith, at, walked_at levels))
@@ -136,14 +136,14 @@ wrong_header rest levels reasons.Indefinite place offset at wrong = (offset, wro
 wrong_header rest levels reasons.TooLong place offset at wrong = inl (wrong.0, omega (arith, at, walked_at levels, wrong.1))
 wrong_header rest levels _ place offset at wrong = absurd wrong
 
--- what is announced goes over the limit
+-- the announced octets are over the limit
 pub wrong_count : (rest front more : List ℕ) (levels : List Level) (count : ℕ) → (progress_of levels).depth ≢ 0 → rest ≡ front ++ more → Announces levels front count
     → (progress_of levels).limit < (progress_of levels).at + count → IsWrongThere levels rest reasons.TooLong 0
 wrong_count rest front more [] count inside joined announces over = absurd (inside refl)
 wrong_count rest front more (level ∷ outer) count inside joined announces over =
     inr (λ e. absurd cc, refl, (front, more, count, joined, announces, omega (arith, over, content_count (level ∷ outer))))
 
--- where no element opens, too many are open or the header is over the limit
+-- if no element opens, too many are open or the header is over the limit
 pub wrong_opened : (octets rest : List ℕ) (levels : List Level) (tag : ℕ) (f : Fault) → IsWalked octets levels rest → FindsIndefinite rest tag → opened (progress_of levels) (tag + 1) ≡ Err f → IsWrongThere levels rest f.reason f.place
 wrong_opened octets rest levels tag f w i e =
     elim (opens_err (progress_of levels) (tag + 1) f e) [
@@ -157,7 +157,7 @@ wrong_opened octets rest levels tag f w i e =
           (wrong_count rest front i.rest levels (tag + 1) k.1 joined (inr (inl (i.tag, i.is_tag, i.is_constructed, omega (arith, k.0, walked_depth levels), refl, count))) k.2)
     ]
 
--- where an ending is not passed it is over the limit
+-- if no element closes, its end-of-contents octets are over the limit
 pub wrong_closed : (rest : List ℕ) (levels : List Level) (f : Fault) → 0 < (progress_of levels).depth → is_ending rest ≡ true → closed (progress_of levels) ≡ Err f → IsWrongThere levels rest f.reason f.place
 wrong_closed rest levels f inside ends e =
     let behind = ending_there rest ends in
@@ -166,7 +166,7 @@ wrong_closed rest levels f inside ends e =
     let outside : (progress_of levels).depth ≢ 0 = λ e. omega (arith, e, inside) in
     subst (λ (x : Fault). IsWrongThere levels rest x.reason x.place) k.2 (wrong_count rest ending behind.0 levels 2 outside behind.1 (inr (inr (refl, deep, refl))) k.1)
 
--- where an element of definite length is not passed it is over the limit
+-- if an element of definite length is not passed, it is over the limit
 pub wrong_passed : (rest : List ℕ) (levels : List Level) (h : Header) (f : Fault) → FindsHeader rest h → (0 < (progress_of levels).depth → is_ending rest ≡ false) → passed (progress_of levels) (h.len + h.content_len) ≡ Err f
     → IsWrongThere levels rest f.reason f.place
 wrong_passed rest levels h f d other e =
@@ -178,7 +178,7 @@ wrong_passed rest levels h f d other e =
     subst (λ (x : Fault). IsWrongThere levels rest x.reason x.place) k.2
     (wrong_count rest front d.rest levels (h.len + h.content_len) k.0 joined (inl (d.tag, d.length_octets, h.content_len, d.is_tag, d.is_length, d.within, refl, no_end, count)) k.1)
 
--- a fault behind a header is one at its place
+-- a fault after the header is a fault at the walk's place
 pub wrong_behind : (octets rest : List ℕ) (levels : List Level) (opening : Opening) (f : Fault) → IsWalked octets levels rest → opening_at (from (progress_of levels).at rest) ≡ Ok (Some opening)
     → behind_header (progress_of levels) rest opening ≡ Err f → IsWrongThere levels rest f.reason f.place
 wrong_behind octets rest levels (Indefinite tag) f w read e = wrong_opened octets rest levels tag f w (indefinite_sound (progress_of levels).at rest tag read) e
@@ -188,7 +188,7 @@ wrong_behind octets rest levels (Definite h) f w read e =
       | inr k ↦ wrong_passed rest levels h f (definite_sound (progress_of levels).at rest h read) k.0 k.1
     ]
 
--- such a walk has no fault of its own
+-- this continuation has no fault
 pub ends_well : (p next : Progress) (octets : List ℕ) (f : Fault) → gone_to nowhere p octets next ≡ Err f → ⊥
 ends_well p next octets f e =
     elim (chosen (nat_lt (length octets) (next.at - p.at)) _ _ (Err f) e) [
@@ -218,7 +218,7 @@ wrong_there octets rest levels f w stop e =
 pub walk_step : (p : Progress) (octets : List ℕ) → walk p octets ≡ (opening_at (from p.at octets) >>= gone_on (walk_on (length octets)) p octets)
 walk_step p octets = ap (λ (n : ℕ). walk_on n p octets) (add-one (length octets))
 
--- a fault of the header is what the walk answers
+-- the walk returns a fault of the header
 pub refused_header : (rest : List ℕ) (levels : List Level) (reason : Reason) (place offset : ℕ) → place ≡ length (walked levels) + offset → IsOpeningFault rest reason offset → walk (progress_of levels) rest ≡ Err (fault reason place)
 refused_header rest levels reason place offset at wrong =
     let place_is : (progress_of levels).at + offset ≡ place = omega (arith, at, walked_at levels) in
@@ -226,27 +226,26 @@ refused_header rest levels reason place offset at wrong =
     ∙ ap (λ (r : Result (Option Opening) Fault). r >>= gone_on (walk_on (length rest)) (progress_of levels) rest) (opening_refused (progress_of levels).at offset rest reason wrong)
     ∙ ap (λ (n : ℕ). Err (fault reason n)) place_is
 
--- a fault behind the header is what it answers
+-- the walk returns a fault after the header
 pub refused_behind : (p : Progress) (octets joined : List ℕ) (opening : Opening) (f : Fault) → octets ≡ joined → opening_at (from p.at joined) ≡ Ok (Some opening) → behind_header p octets opening ≡ Err f → walk p octets ≡ Err f
 refused_behind p octets joined opening f same read e =
     walk_step p octets
     ∙ ap (λ (r : Result (Option Opening) Fault). r >>= gone_on (walk_on (length octets)) p octets) (ap (λ (x : List ℕ). opening_at (from p.at x)) same ∙ read)
     ∙ ap (λ (r : Result Progress Fault). r >>= gone_to (walk_on (length octets)) p octets) e
 
--- no element opens at the limit of depth
+-- no element opens at the depth limit
 pub opens_deep : (p : Progress) (len : ℕ) → depth_limit ≤ p.depth → opened p len ≡ Err (fault reasons.TooDeep p.at)
 opens_deep p len deep = rw (le-ltb p.depth depth_limit deep) refl
 
--- nor where its header is over the limit
+-- no element opens if its header is over the content limit
 pub opens_long : (p : Progress) (len : ℕ) → p.depth < depth_limit → p.depth ≢ 0 → p.limit < p.at + len → opened p len ≡ Err (fault reasons.TooLong 0)
 opens_long p len deep inside over = rw (lt-ltb p.depth depth_limit deep, ne_eqb p.depth 0 inside, lt-ltb p.limit (p.at + len) over) refl
 
--- an ending over the limit is refused
+-- end-of-contents octets over the limit are refused
 pub closes_long : (p : Progress) (octets : List ℕ) (h : Header) → 1 < p.depth → is_ending octets ≡ true → p.limit < p.at + 2 → behind_header p octets (Definite h) ≡ Err (fault reasons.TooLong 0)
 closes_long p octets h inside ends over =
     rw (and_from (nat_lt 0 p.depth) (is_ending octets) (lt-ltb 0 p.depth (omega arith)) ends, ne_eqb p.depth 1 (λ e. omega arith), lt-ltb p.limit (p.at + 2) over) refl
 
--- a test that fails makes both fail
 pub and_off : (b c : Bool) → c ≡ false → (b && c) ≡ false
 and_off false c e = refl
 and_off true c e = e
@@ -256,7 +255,7 @@ pub passes_long : (p : Progress) (octets : List ℕ) (h : Header) → p.depth �
 passes_long p octets h inside other over =
     rw (and_off (nat_lt 0 p.depth) (is_ending octets) other, ne_eqb p.depth 0 inside, lt-ltb p.limit (p.at + (h.len + h.content_len)) over) refl
 
--- a header of definite length that begins with two zero octets is these
+-- a header of definite length that begins with two zero octets is these two
 pub header_ending : (tag length_octets more behind : List ℕ) (n : ℕ) → IsTag tag → IsLength n length_octets → (tag ++ length_octets) ++ more ≡ ending ++ behind → tag ++ length_octets ≡ ending
 header_ending [] length_octets more behind n t l e = absurd t
 header_ending (first ∷ tag) [] more behind n t l e = absurd l
@@ -268,19 +267,18 @@ header_ending (first ∷ []) (octet ∷ octets) more behind n t (inr l) e = let 
 header_ending (first ∷ second ∷ tag) (octet ∷ octets) more behind n (inl t) l e = absurd cc
 header_ending (first ∷ second ∷ tag) (octet ∷ octets) more behind n (inr t) l e = let a : first ≡ 0 = cc in absurd (omega (arith, ap (λ (x : ℕ). x % 32) a, t.0))
 
--- what is not true is false
 pub from_not_true : (b : Bool) → (b ≡ true → ⊥) → b ≡ false
 from_not_true false not = refl
 from_not_true true not = absurd (not refl)
 
--- a header of definite length that is no ending does not begin with one
+-- a header of definite length that is not two zero octets does not begin with them
 pub header_no_ending : (tag length_octets more : List ℕ) (n : ℕ) → IsTag tag → IsLength n length_octets → tag ++ length_octets ≢ ending → is_ending ((tag ++ length_octets) ++ more) ≡ false
 header_no_ending tag length_octets more n t l other =
     from_not_true (is_ending ((tag ++ length_octets) ++ more)) (λ ends.
     let behind = ending_there ((tag ++ length_octets) ++ more) ends in
     other (header_ending tag length_octets more behind.0 n t l behind.1))
 
--- more announced than the limit allows is what the walk answers
+-- the walk returns TooLong if more is announced than the limit allows
 pub refused_count : (rest front more : List ℕ) (count : ℕ) (levels : List Level) → levels ≢ [] → rest ≡ front ++ more → Announces levels front count → content_limit < content_walked levels + count
     → walk (progress_of levels) rest ≡ Err (fault reasons.TooLong 0)
 refused_count rest front more count [] some joined announces over = absurd (some refl)
@@ -306,7 +304,7 @@ refused_count rest front more count (level ∷ outer) some joined (inr (inr a)) 
     let behind = closes_long p rest h a.1 (ap is_ending here) (omega (arith, over, a.2, ap length a.0, content_count (level ∷ outer))) in
     refused_behind p rest (ending ++ more) (Definite h) (fault reasons.TooLong 0) here read behind
 
--- one more element than may be open is what the walk answers
+-- the walk returns TooDeep for one more element than may be open
 pub refused_deep : (rest : List ℕ) (levels : List Level) (offset : ℕ) (h : HasLengthOctet 0x80 rest offset) → IsConstructed h.tag → length levels ≡ depth_limit → walk (progress_of levels) rest ≡ Err (fault reasons.TooDeep (progress_of levels).at)
 refused_deep rest levels offset h constructed deep =
     refused_behind (progress_of levels) rest (h.tag ++ 0x80 ∷ h.rest) (Indefinite (length h.tag)) (fault reasons.TooDeep (progress_of levels).at) h.joined
@@ -323,7 +321,7 @@ refused_there octets rest levels reasons.TooLong place w (inr wrong) =
     refused_count rest wrong.2.0 wrong.2.1 wrong.2.2 levels wrong.0 wrong.2.3 wrong.2.4 wrong.2.5 ∙ ap (λ (n : ℕ). Err (fault reasons.TooLong n)) (sym wrong.1)
 refused_there octets rest levels _ place w wrong = absurd wrong
 
--- the octets of what was walked and what is left
+-- the octets are those walked and those left
 pub all_octets : (octets rest : List ℕ) (levels : List Level) → IsWalked octets levels rest → length octets ≡ length (walked levels) + length rest
 all_octets octets rest levels w = ap length w.joined ∙ length-append (walked levels) rest
 
@@ -331,11 +329,9 @@ all_octets octets rest levels w = ap length w.joined ∙ length-append (walked l
 pub octet_within : (octet offset : ℕ) (rest : List ℕ) → HasLengthOctet octet rest offset → offset < length rest
 octet_within octet offset rest h = omega (arith, h.place_is, ap length h.joined, length-append h.tag (octet ∷ h.rest))
 
--- a long tag has octets
 pub long_tag_within : (rest : List ℕ) → HasLongTag rest → 0 < length rest
 long_tag_within rest h = omega (arith, ap length h.joined)
 
--- a header has octets
 pub long_length_within : (rest tag length_octets behind : List ℕ) → IsTag tag → rest ≡ tag ++ length_octets ++ behind → 0 < length rest
 long_length_within rest [] length_octets behind t joined = absurd t
 long_length_within rest (first ∷ tag) length_octets behind t joined = omega (arith, ap length joined)
@@ -345,7 +341,7 @@ pub some_within : (levels : List Level) → levels ≢ [] → 0 < length (walked
 some_within [] some = absurd (some refl)
 some_within (level ∷ outer) some = omega (arith, length-append (walked outer) (begun level), begun_length level)
 
--- what is wrong stands among the octets
+-- the place of a fault is among the octets
 pub wrong_within : (octets rest : List ℕ) (levels : List Level) (reason : Reason) (place : ℕ) → IsWalked octets levels rest → IsWrongThere levels rest reason place → place < length octets
 wrong_within octets rest levels reasons.TagForm place w wrong = omega (arith, all_octets octets rest levels w, wrong.1, long_tag_within rest wrong.0)
 wrong_within octets rest levels reasons.LengthForm place w wrong = omega (arith, all_octets octets rest levels w, wrong.4, octet_within wrong.0 wrong.1 rest wrong.3)

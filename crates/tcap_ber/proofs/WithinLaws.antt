@@ -1,4 +1,4 @@
--- The place of a fault lies within the octets, or right behind them: for each word of the grammar.
+-- The place of a fault is in the window or at its end: one law for each combinator of the grammar.
 use Rattle.std.proofs.Common.{◌≡◌, ℕ, ◌+◌, ◌≤◌, List, [], ◌∷◌, ◌++◌, length, inl, inr, ap, arith}
 use Rattle.std.proofs.lemmas.List.{length-append}
 use Rattle.tcap_ber.specs.declared.fault.Reason.{Reason}

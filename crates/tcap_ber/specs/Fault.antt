@@ -1,9 +1,9 @@
--- The numbers of the reasons.
+-- What is the number of each reason?
 use Rattle.std.specs.Prelude.{ℕ}
 use Rattle.tcap_ber.specs.declared.fault.Reason.{Reason}
 use Rattle.tcap_ber.specs.declared.fault.Reason.TheVariants.{Cut, LengthForm, TooLong, TagForm, Overrun, BadInteger, BadObjectId, UnexpectedTag, Missing, Trailing, EmptyComponents, BadVersion, DialogueSyntax, BadSize, BadTransactionId, Indefinite, CodeTooWide, TooDeep}
 
--- the number that a line of output gives for a reason
+-- the number that output lines print for a reason
 abbrev pub number_of : Reason → ℕ
 number_of Cut = 1
 number_of LengthForm = 2

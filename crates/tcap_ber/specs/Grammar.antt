@@ -1,8 +1,6 @@
--- The words that productions are written in. Each says which octets spell a value, and which reasons
--- stand at which places where octets are none of its spellings. Reading goes from left to right: the
--- start of a content is reached where the element is whole, nothing is wrong in the walk over it, and its
--- tag is the wanted one; a place in a content is reached where all that stands before it is spelled as it
--- should be.
+-- Which octets spell a value, and which faults have octets that spell none? These are the combinators of the
+-- productions. Octets are read from left to right. A fault inside a content counts only if everything before it is
+-- spelled correctly. So the element must be whole and have the expected tag, and the walk over it must find no fault.
 use Rattle.std.specs.Prelude.{◌≡◌, ◌≢◌, ℕ, ◌+◌, ◌<◌, ◌≤◌, ◌⊎◌, ℤ, List, [], ◌∷◌, ◌++◌, length, Option, Some, None}
 use Rattle.tcap_ber.specs.declared.fault.Reason.{Reason}
 use Rattle.tcap_ber.specs.declared.fault.Reason.TheVariants.{Overrun, BadInteger, UnexpectedTag, Missing, Trailing}
@@ -11,39 +9,39 @@ use Rattle.tcap_ber.specs.Integer.{IsInteger, signed}
 use Rattle.tcap_ber.specs.Walked.{IsWalkFault, IsUnfinished, IsInnermost}
 use Rattle.tcap_ber.specs.Span.{Span}
 
--- The content of an element: the values that it spells; and what is wrong with it, from the element's
--- place and the content.
+-- The content of an element: the octets that spell each value, and the faults of octets, given the element's place and
+-- the content.
 pub record Body (V : Type 0) : Type 1 where
   pub spells : V → List ℕ → Type 0
   pub faulty : ℕ → Span → Reason → ℕ → Type 0
 
--- A part of a structure: the values that its octets spell where others stand behind them; and what is
--- wrong with what is left of the structure from its place on.
+-- A part of a structure. `spells value octets rest` means that these octets spell the value if `rest` comes after them.
+-- `faulty` gives the faults of the rest of the structure, from this part on.
 pub record Field (V : Type 0) : Type 1 where
   pub spells : V → List ℕ → List ℕ → Type 0
   pub faulty : Span → Reason → ℕ → Type 0
 
--- What is left of a structure from a place on: the values that all of it spells; and what is wrong with it.
+-- The rest of a structure: the octets that spell each value, and the faults of octets.
 pub record Content (V : Type 0) : Type 1 where
   pub spells : V → List ℕ → Type 0
   pub faulty : Span → Reason → ℕ → Type 0
 
 -- ---- the element at a place
 
--- What is wrong with the element at the front of a window, or with its fit: some of it is there, and the window ends
--- before it does. Then the fault is that of the innermost element that is not whole.
+-- The faults of the element at the front of a non-empty window: a fault that the walk over it meets, or Overrun if the
+-- window ends before the element does. Overrun is at the innermost incomplete element.
 abbrev pub IsElementFault : Span → Reason → ℕ → Type 0
 IsElementFault s reason place =
     (offset : ℕ) × (place ≡ s.place + offset) × (IsWalkFault s.octets reason offset
     ⊎ ((reason ≡ Overrun) × (0 < length s.octets) × IsUnfinished s.octets × IsInnermost s.octets offset))
 
--- the window is empty where an element is required
+-- the window is empty, but an element is required
 pub record IsMissing (s : Span) (reason : Reason) (place : ℕ) : Type 0 where
   pub ends : s.octets ≡ []
   pub reason_is : reason ≡ Missing
   pub place_is : place ≡ s.place
 
--- an element of another tag begins the window
+-- the window begins with an element of another tag
 pub record IsUnexpected (tag : ℕ) (s : Span) (reason : Reason) (place : ℕ) : Type 0 where
   pub other : List ℕ
   pub content : List ℕ
@@ -55,7 +53,7 @@ pub record IsUnexpected (tag : ℕ) (s : Span) (reason : Reason) (place : ℕ) :
   pub reason_is : reason ≡ UnexpectedTag
   pub place_is : place ≡ s.place
 
--- an element of this tag begins the window, and something is wrong inside
+-- the window begins with an element of this tag, and its content has a fault
 pub record IsFaultyInside (tag : ℕ) (faulty : ℕ → Span → Reason → ℕ → Type 0) (s : Span) (reason : Reason)
     (place : ℕ) : Type 0 where
   pub content : List ℕ
@@ -65,7 +63,7 @@ pub record IsFaultyInside (tag : ℕ) (faulty : ℕ → Span → Reason → ℕ 
   pub joined : s.octets ≡ octets ++ rest
   pub inside : faulty s.place (record { octets = content; place = s.place + content_start (tag ∷ []) content octets }) reason place
 
--- the octets are an element of this tag around such a content
+-- the octets are an element of this tag with such a content
 pub record IsElementOf (tag : ℕ) (spells : List ℕ → Type 0) (octets : List ℕ) : Type 0 where
   pub content : List ℕ
   pub is_element : IsElement (tag ∷ []) content octets
@@ -73,7 +71,7 @@ pub record IsElementOf (tag : ℕ) (spells : List ℕ → Type 0) (octets : List
 
 -- ---- parts
 
--- an element with this tag, around that
+-- an element with this tag and this body
 abbrev pub required : {V : Type 0} → ℕ → Body V → Field V
 required tag body = record {
   spells = λ v octets behind. IsElementOf tag (body.spells v) octets;
@@ -84,27 +82,29 @@ required tag body = record {
       ⊎ IsFaultyInside tag body.faulty s reason place;
 }
 
--- the first of the octets is this one; it says which tag stands there where this octet is a whole tag
+-- The octets begin with this octet. If the octet is a whole tag, an element at the front has that tag.
 abbrev pub BeginsWith : ℕ → List ℕ → Type 0
 BeginsWith tag [] = ⊥
 BeginsWith tag (first ∷ more) = first ≡ tag
 
+-- an element of this tag, or no octets if the tag does not follow
 abbrev pub SpellsOptional : {V : Type 0} → ℕ → Body V → Option V → List ℕ → List ℕ → Type 0
 SpellsOptional tag body (Some v) octets behind = IsElementOf tag (body.spells v) octets
 SpellsOptional tag body None octets behind = (octets ≡ []) × (BeginsWith tag behind → ⊥)
 
--- an element with this tag, around that, or nothing: it is there exactly where the next tag is its own
+-- An element with this tag and this body, or nothing. The element is present exactly if the octets begin with its tag.
 abbrev pub optional : {V : Type 0} → ℕ → Body V → Field (Option V)
 optional tag body = record {
   spells = SpellsOptional tag body;
   faulty = λ s reason place. BeginsWith tag s.octets × (required tag body).faulty s reason place;
 }
 
+-- one element, or no octets if none follow
 abbrev pub SpellsParameter : Option (List ℕ) → List ℕ → List ℕ → Type 0
 SpellsParameter (Some raw) octets behind = IsRaw raw × (octets ≡ raw)
 SpellsParameter None octets behind = (octets ≡ []) × (behind ≡ [])
 
--- any one element, kept verbatim, or nothing: any octets left are the parameter
+-- one element with any tag, kept verbatim, or nothing if the structure ends here
 abbrev pub parameter : Field (Option (List ℕ))
 parameter = record {
   spells = SpellsParameter;
@@ -118,7 +118,7 @@ verbatim tag = record {
   faulty = λ s reason place. IsMissing s reason place ⊎ IsElementFault s reason place ⊎ IsUnexpected tag s reason place;
 }
 
--- no element: whatever stands there is none of it
+-- a part that is always absent
 abbrev pub absent : {V : Type 0} → Field (Option V)
 absent = record {
   spells = λ v octets behind. (v ≡ None) × (octets ≡ []);
@@ -127,17 +127,18 @@ absent = record {
 
 -- ---- contents
 
--- nothing more stands there
+-- the end of the structure; any octet left is Trailing
 abbrev pub ended : Content (Unit {0})
 ended = record {
   spells = λ _ octets. octets ≡ [];
   faulty = λ s reason place. (0 < length s.octets) × (reason ≡ Trailing) × (place ≡ s.place);
 }
 
--- the window behind its front
+-- the window after its front
 abbrev pub after : ℕ → List ℕ → List ℕ → Span
 after place front rest = record { octets = rest; place = place + length front }
 
+-- the octets spell the part, and then the content
 pub record SpellsThen {V W : Type 0} (first : Field V) (others : V → Content W) (x : V × W)
     (octets : List ℕ) : Type 0 where
   pub front : List ℕ
@@ -146,7 +147,7 @@ pub record SpellsThen {V W : Type 0} (first : Field V) (others : V → Content W
   pub is_first : first.spells x.0 front rest
   pub are_others : (others x.0).spells x.1 rest
 
--- the first part is there, and something is wrong behind it
+-- the first part is correct, and the octets after it have a fault
 pub record IsFaultyBehind {V : Type 0} (first : Field V) (faulty : V → Span → Reason → ℕ → Type 0) (s : Span)
     (reason : Reason) (place : ℕ) : Type 0 where
   pub value : V
@@ -157,7 +158,7 @@ pub record IsFaultyBehind {V : Type 0} (first : Field V) (faulty : V → Span �
   pub behind : faulty value (after s.place front rest) reason place
 
 infixr 4 ◌⨾▹◌
--- a part, and then others, which it decides
+-- a part, and the content after it, which may depend on the part's value
 abbrev pub ◌⨾▹◌ : {V W : Type 0} → Field V → (V → Content W) → Content (V × W)
 first ⨾▹ others = record {
   spells = SpellsThen first others;
@@ -165,23 +166,24 @@ first ⨾▹ others = record {
 }
 
 infixr 4 ◌⨾◌
--- a part, and then others
+-- a part, and the content after it
 abbrev pub ◌⨾◌ : {V W : Type 0} → Field V → Content W → Content (V × W)
 first ⨾ others = first ⨾▹ (λ _. others)
 
+-- the octets spell these items one after the other
 abbrev pub SpellsEach : {V : Type 0} → Field V → List V → List ℕ → Type 0
 SpellsEach item [] octets = octets ≡ []
 SpellsEach item (v ∷ vs) octets = (front rest : List ℕ) × (octets ≡ front ++ rest) × item.spells v front rest
     × SpellsEach item vs rest
 
--- behind items of these values stands one that is wrong
+-- after items of these values, the next item has a fault
 abbrev pub IsFaultyAfter : {V : Type 0} → Field V → List V → Span → Reason → ℕ → Type 0
 IsFaultyAfter item [] s reason place = (0 < length s.octets) × item.faulty s reason place
 IsFaultyAfter item (v ∷ vs) s reason place =
     (front rest : List ℕ) × (s.octets ≡ front ++ rest) × item.spells v front rest
     × IsFaultyAfter item vs (after s.place front rest) reason place
 
--- one after the other up to the end
+-- items one after the other up to the end
 abbrev pub each : {V : Type 0} → Field V → Content (List V)
 each {V} item = record {
   spells = SpellsEach item;
@@ -190,37 +192,37 @@ each {V} item = record {
 
 -- ---- bodies of elements
 
--- the parts of a structure
+-- the body of a structure, whose content is its parts
 abbrev pub structure : {V : Type 0} → Content V → Body V
 structure content = record {
   spells = content.spells;
   faulty = λ at s reason place. content.faulty s reason place;
 }
 
--- the same octets, of which another value is made
+-- the body, with a function applied to its value
 abbrev pub made : {V W : Type 0} → (V → W) → Body V → Body W
 made {V} make body = record {
   spells = λ w octets. (v : V) × (w ≡ make v) × body.spells v octets;
   faulty = body.faulty;
 }
 
--- this one part, and nothing behind it
+-- the body of a structure of one part
 abbrev pub single : {V : Type 0} → Field V → Body V
 single part = made (λ parts. parts.0) (structure (part ⨾ ended))
 
--- the contents of an INTEGER (X.690 8.3) of at most so many octets, and its number
+-- the contents of an INTEGER (X.690 8.3) of at most `limit` octets, and its number
 abbrev pub IsSmallInteger : ℕ → ℤ → List ℕ → Type 0
 IsSmallInteger limit n octets = IsInteger octets × (length octets ≤ limit) × (n ≡ signed octets)
 
--- Contents that are none, or have more octets than that, which is refused by the reason given; the place
--- is the element's.
+-- Contents that are not an INTEGER are BadInteger; those of more than `limit` octets are `too_wide`. The place is the
+-- element's.
 abbrev pub IsSmallIntegerFault : ℕ → Reason → ℕ → List ℕ → Reason → ℕ → Type 0
 IsSmallIntegerFault limit too_wide at octets reason place =
     (place ≡ at)
     × (((reason ≡ BadInteger) × (IsInteger octets → ⊥))
     ⊎ ((reason ≡ too_wide) × IsInteger octets × (limit < length octets)))
 
--- an INTEGER of at most so many octets; wider ones are refused by that reason
+-- an INTEGER of at most `limit` octets; wider ones have the fault `too_wide`
 abbrev pub integer : ℕ → Reason → Body ℤ
 integer limit too_wide = record {
   spells = IsSmallInteger limit;

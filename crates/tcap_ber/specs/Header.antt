@@ -1,9 +1,9 @@
--- What is wrong with a header, and where its first length octet stands.
+-- Which headers are faulty, and at which place is the first length octet?
 use Rattle.std.specs.Prelude.{◌≡◌, ℕ, ◌%◌, ◌<◌, ◌≤◌, List, ◌∷◌, ◌++◌, length}
 use Rattle.std.specs.List.{AllByRecursion}
 use Rattle.tcap_ber.specs.Element.{IsTag, IsLength, content_limit}
 
--- a long tag of over five octets begins the octets: the fourth behind its first has the top bit set
+-- the octets begin with a long tag of more than five octets: the four octets after its first have the top bit set
 pub record HasLongTag (octets : List ℕ) : Type 0 where
   pub first : ℕ
   pub four : List ℕ
@@ -13,7 +13,7 @@ pub record HasLongTag (octets : List ℕ) : Type 0 where
   pub go_on : AllByRecursion (λ octet. 128 ≤ octet) four
   pub joined : octets ≡ first ∷ four ++ rest
 
--- a tag begins the octets, and behind it stands this first length octet
+-- the octets begin with a tag, and this length octet comes after it, at this place
 pub record HasLengthOctet (octet : ℕ) (octets : List ℕ) (place : ℕ) : Type 0 where
   pub tag : List ℕ
   pub rest : List ℕ
@@ -21,7 +21,7 @@ pub record HasLengthOctet (octet : ℕ) (octets : List ℕ) (place : ℕ) : Type
   pub joined : octets ≡ tag ++ octet ∷ rest
   pub place_is : place ≡ length tag
 
--- a whole header begins the octets, and the length is over the limit
+-- the octets begin with a whole header whose length is over the limit
 pub record HasLongLength (octets : List ℕ) : Type 0 where
   pub tag : List ℕ
   pub length_octets : List ℕ

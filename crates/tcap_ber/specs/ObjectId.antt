@@ -1,4 +1,4 @@
--- Object identifiers (X.690 8.19).
+-- Which contents are an OBJECT IDENTIFIER (X.690 8.19)?
 use Rattle.std.specs.Prelude.{◌≡◌, ◌≢◌, ℕ, List, []}
 use Rattle.std.specs.List.{AllByRecursion, concat}
 use Rattle.tcap_ber.specs.declared.fault.Reason.TheVariants.{BadObjectId}
@@ -9,13 +9,13 @@ use Rattle.tcap_ber.specs.Grammar.{Body, BeginsWith}
 abbrev pub IsSubidentifier : List ℕ → Type 0
 IsSubidentifier octets = IsContinued octets × (BeginsWith 0x80 octets → ⊥)
 
--- the contents of an OBJECT IDENTIFIER: one subidentifier after the other (X.690 8.19.2), and at least one
+-- the contents of an OBJECT IDENTIFIER: one subidentifier after the other, and at least one (X.690 8.19.2)
 abbrev pub IsObjectId : List ℕ → Type 0
 IsObjectId octets =
     (subidentifiers : List (List ℕ)) × (subidentifiers ≢ []) × AllByRecursion IsSubidentifier subidentifiers
     × (octets ≡ concat subidentifiers)
 
--- an OBJECT IDENTIFIER, known by its contents; what is none is refused at the element
+-- an OBJECT IDENTIFIER, whose value is its contents; other contents are BadObjectId at the element
 abbrev pub object_id : Body (List ℕ)
 object_id = record {
   spells = λ id octets. IsObjectId octets × (id ≡ octets);

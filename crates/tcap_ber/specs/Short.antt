@@ -1,7 +1,7 @@
--- Headers of two octets: one of the tag, and one of the length.
+-- Which octets begin with a header of two octets, one of the tag and one of the length?
 use Rattle.std.specs.Prelude.{◌≡◌, ◌≢◌, ℕ, ◌%◌, ◌<◌, List, ◌∷◌}
 
--- Such a header begins the octets, and announces a content of so many octets.
+-- The octets begin with a header of two octets, which announces a content of n octets.
 pub record IsShort (n : ℕ) (octets : List ℕ) : Type 0 where
   pub first : ℕ
   pub rest : List ℕ

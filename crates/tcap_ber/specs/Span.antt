@@ -1,11 +1,11 @@
--- Windows as lists of octets with a place.
+-- What is a window of octets?
 use Rattle.std.specs.Prelude.{ℕ, ◌+◌, List, drop}
 
--- octets of a window, and the place of their first
+-- the octets of a window, and the place of the first
 pub record Span : Type 0 where
   pub octets : List ℕ
   pub place : ℕ
 
--- what is left of a window behind its first n octets
+-- the window after its first n octets
 abbrev pub behind : ℕ → Span → Span
 behind n s = record { octets = drop n s.octets; place = s.place + n }

@@ -1,4 +1,4 @@
-//! std's readers and writers as devices.
+//! Readers and writers of std as devices.
 
 ghost use Rattle.std.specs.Prelude.{◌≡◌, ◌≤◌, IfOk, MatchResult, length, take, drop};
 ghost use Rattle.std.specs.Io.KnownBytes.{Appends, Keeps};
@@ -8,8 +8,8 @@ use crate::device::{Failed, Read, Write};
 use std::io;
 use std::io::ErrorKind;
 
-/// A reader or writer of std as a device that counts its failures. A call that a signal interrupted is
-/// made again, and is no failure.
+/// A device over a reader or writer of std that counts its failures. A call that a signal interrupted is repeated, and
+/// does not count as a failure.
 #[derive(Drop)]
 pub struct Counted<T> {
     inner: T,
@@ -17,7 +17,7 @@ pub struct Counted<T> {
 }
 
 impl<T> Counted<T> {
-    /// The device over `inner`, which has not failed yet.
+    /// Creates the device over `inner`, with no failure yet.
     pub fn new(inner: T) -> Counted<T>
         ensures inner { counted_inner result ≡ inner }
         ensures failures { counted_failures result ≡ 0 }
@@ -25,21 +25,21 @@ impl<T> Counted<T> {
         Counted { inner, failures: 0 }
     }
 
-    /// The reader or writer that was given.
+    /// Returns the reader or writer inside.
     pub fn into_inner(self) -> T
         ensures { result ≡ counted_inner self }
     {
         self.inner
     }
 
-    /// How often the device failed, up to `u64::MAX`.
+    /// Returns how often the device has failed, up to `u64::MAX`.
     pub fn failures(&self) -> u64
         ensures { result ≡ counted_failures self.now }
     {
         self.failures
     }
 
-    /// Counts a failure, and answers it.
+    /// Counts a failure, and returns it.
     pub(crate) fn fail(&mut self) -> Failed
         ensures inner { counted_inner self.new ≡ counted_inner self.old }
         ensures failures { counted_failures self.new ≡ one_more (counted_failures self.old) }
@@ -50,7 +50,11 @@ impl<T> Counted<T> {
 }
 
 impl<T: io::Write> Counted<T> {
-    /// Flushes the writer. `Failed` where it failed, which is counted.
+    /// Flushes the writer.
+    ///
+    /// # Errors
+    ///
+    /// `Failed` if the writer fails; the failure is counted.
     pub fn flush(&mut self) -> Result<(), Failed>
         ensures taken { Keeps (T.contents (counted_inner self.old))
             (T.contents (counted_inner self.new)) }
@@ -86,8 +90,8 @@ impl<T: io::Read> Read for Counted<T> {
 }
 
 impl<T: io::Write> Counted<T> {
-    /// Writes once, and answers how many octets the writer took: none where a signal interrupted it, or where there are
-    /// none. `Failed` where it failed or took none of some.
+    /// Writes once. Returns how many octets the writer took: 0 if a signal interrupted it or `octets` is empty.
+    /// `Failed` if the writer fails, or takes no octet of a non-empty slice.
     #[inline(always)]
     fn write_once(&mut self, octets: &[u8]) -> Result<usize, Failed>
         ensures within { IfOk result (λ n. n ≤ length octets.now) }
@@ -104,7 +108,7 @@ impl<T: io::Write> Counted<T> {
         }
     }
 
-    /// Writes what the writer did not take at once: the octets behind the first `taken` ones.
+    /// Writes the octets after the first `taken`, which the first write took.
     #[cold]
     #[inline(never)]
     fn write_rest(&mut self, octets: &[u8], taken: usize) -> Result<(), Failed>

@@ -4,17 +4,17 @@ ghost use Rattle.std.specs.Prelude.{◌≡◌, ◌<◌, ◌≤◌, ◌+◌, ◌^
 
 use crate::fault::{Fault, Reason};
 
-/// Octets that are read as one part of a whole, and the place of the first of them in it.
+/// A part of a message or record, with its offset in the whole.
 #[derive(Clone, Copy, Debug)]
 pub struct Window<'a> {
     /// The octets of the part.
     pub octets: &'a [u8],
-    /// The place of the first of them in the whole, a message or a record, whose first octet is at 0.
+    /// The offset of the first octet in the whole, whose first octet has offset 0.
     pub place: u64,
     pub ghost fits: { place + length octets.now < 2 ^ 64 },
 }
 
-/// A tag: its one to five octets. Tags are equal where their octets are.
+/// A tag: one to five identifier octets (X.690 8.1.2). Two tags are equal if their octets are.
 #[derive(Clone, Copy, Debug, PartialEq, Eq)]
 pub struct Tag<'a> {
     /// The octets of the tag.
@@ -28,16 +28,16 @@ pub struct Tlv<'a> {
     pub tag: Tag<'a>,
     /// The content.
     pub content: Window<'a>,
-    /// The place of the element's first octet.
+    /// The offset of the element's first octet.
     pub start: u64,
 }
 
-/// How octets begin that are to begin with an element.
+/// The result of framing the front of a buffer.
 #[derive(Clone, Copy, Debug, PartialEq, Eq)]
 pub enum Outer {
-    /// With a whole element of so many octets.
+    /// A whole element of this many octets.
     Whole(usize),
-    /// With no whole element yet: any that begins with them has at least so many octets.
+    /// No whole element yet: each element that begins with these octets has at least this many.
     Need(usize),
 }
 
@@ -46,14 +46,14 @@ impl<'a> Window<'a> {
     ghost use Rattle.tcap_ber.specs.Span.{behind};
     ghost use Rattle.tcap_ber.specs.Reading.{span};
 
-    /// All of `octets`, as a part whose first octet is at place 0.
+    /// Creates a window of all `octets`, with the first at offset 0.
     pub fn new(octets: &'a [u8]) -> Window<'a>
         ensures { span result ≡ record { octets = octets.entry.now; place = 0 } }
     {
         Window { octets, place: 0 }
     }
 
-    /// What is left of the window behind its first `len` octets, of which it has to have so many.
+    /// Returns the window after its first `len` octets. The window must have that many.
     pub fn behind(self, len: usize) -> Window<'a>
         requires { len ≤ length self.octets.now }
         ensures { span result ≡ behind len (span self.entry) }
@@ -68,7 +68,7 @@ impl<'a> Window<'a> {
 impl<'a> Tlv<'a> {
     ghost use Rattle.tcap_ber.specs.Reading.{fault};
 
-    /// The refusal of the element for this reason, at its first octet.
+    /// Returns a fault with this reason at the element's first octet.
     pub fn refused(self, reason: Reason) -> Fault
         ensures { result ≡ fault reason self.entry.start }
     {
@@ -91,7 +91,7 @@ impl<'a> Tag<'a> {
         }
     }
 
-    /// Whether the tag is this one octet.
+    /// Returns whether the tag is this one octet.
     pub fn is(self, octet: u8) -> bool
         ensures own { IsTrue result ↔ (self.entry.octets.now ≡ octet ∷ []) }
         ensures exact { result ≡ is_tag octet self.entry.octets.now }

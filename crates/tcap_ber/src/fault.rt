@@ -1,56 +1,56 @@
-//! What is wrong with octets, and where.
+//! Why octets are refused, and at which offset.
 
 ghost use Rattle.std.specs.Prelude.{◌≡◌};
 ghost use Rattle.tcap_ber.specs.Fault.{number_of};
 
-/// Why octets are refused. Reading goes from left to right, and the first fault is the answer.
+/// The reason why octets are refused. Octets are read from left to right, and the first fault is reported.
 #[derive(Clone, Copy, Debug, PartialEq, Eq)]
 pub enum Reason {
     /// The octets end before the outer element does.
     Cut,
-    /// A length octet of 85 to FF (X.690 8.1.3.5; 85 to FE are this profile's limit).
+    /// A length octet from 85 to FF (X.690 8.1.3.5; this profile excludes 85 to FE).
     LengthForm,
-    /// A content of over 65,535 octets, this profile's limit; that of an element of indefinite length is looked at as
-    /// it is walked.
+    /// A content of more than 65,535 octets, this profile's limit. A content of indefinite length is measured as it is
+    /// walked.
     TooLong,
-    /// A tag of over five octets, this profile's limit (X.690 8.1.2.4).
+    /// A tag of more than five octets, this profile's limit (X.690 8.1.2.4).
     TagForm,
-    /// A header or a content goes past the window that it stands in, or the window ends before the ending of an element
-    /// of indefinite length.
+    /// A header or a content that ends after its window does, or an element of indefinite length without its
+    /// end-of-contents octets.
     Overrun,
     /// An INTEGER that is empty or has a needless leading octet (X.690 8.3).
     BadInteger,
-    /// An OBJECT IDENTIFIER that is empty or whose subidentifiers are not whole and shortest (X.690 8.19).
+    /// An OBJECT IDENTIFIER that is empty or has an incomplete or padded subidentifier (X.690 8.19).
     BadObjectId,
-    /// A required element's place holds another tag.
+    /// An element with another tag than the required one.
     UnexpectedTag,
-    /// A required element's place is the end of its window.
+    /// The end of the window in place of a required element.
     Missing,
-    /// Octets stand after the last element of a structure.
+    /// Octets after the last element of a structure.
     Trailing,
     /// A component portion without content (Q.773 4.2.2).
     EmptyComponents,
-    /// A protocol version that is no BIT STRING of one octet whose first bit, version1, is set; that it has one octet
-    /// is this profile's limit (Q.773 4.2.3).
+    /// A protocol version that is not a BIT STRING whose first bit, version1, is set (Q.773 4.2.3). This profile allows
+    /// it one octet.
     BadVersion,
-    /// An EXTERNAL of a dialogue portion whose first element is no name or names another abstract syntax than Q.773's,
-    /// or whose second is no single ASN.1 type, or a PDU that the syntax has not (Q.773 4.2.3).
+    /// An EXTERNAL of a dialogue portion that holds no dialogue PDU (Q.773 4.2.3). Its first element does not name an
+    /// abstract syntax of Q.773, its second is not a single ASN.1 type, or that syntax has no such PDU.
     DialogueSyntax,
-    /// A one-octet integer with more octets, a negative one where none may stand, or a NULL with content.
+    /// A one-octet integer with more octets, a negative integer that a rule forbids, or a NULL with content.
     BadSize,
-    /// A transaction ID of no octets or of over four (Q.773 4.2.1).
+    /// A transaction ID of no octets or more than four (Q.773 4.2.1).
     BadTransactionId,
     /// The indefinite length form on a primitive element (X.690 8.1.3.2).
     Indefinite,
-    /// A local code of over four octets, this profile's limit.
+    /// A local code of more than four octets, this profile's limit.
     CodeTooWide,
-    /// An element of indefinite length (X.690 8.1.3.6) where 32 are open, counted inside the innermost element of
-    /// definite length around it; this profile's limit.
+    /// An element of indefinite length (X.690 8.1.3.6) inside 32 others, this profile's limit. Only those inside the
+    /// innermost enclosing element of definite length count.
     TooDeep,
 }
 
 impl Reason {
-    /// The number that a line of output gives for this reason.
+    /// Returns the number that output lines print for this reason.
     pub fn number(self) -> u8
         ensures { result ≡ number_of self }
     {
@@ -77,12 +77,12 @@ impl Reason {
     }
 }
 
-/// A refusal: the reason and a place, the octet where it stands or the end where octets are missing.
+/// A refusal of octets: the reason, and the offset of the faulty octet or of the end, if octets are missing.
 #[derive(Clone, Copy, Debug, PartialEq, Eq)]
 pub struct Fault {
-    /// Why the octets are refused.
+    /// The reason.
     pub reason: Reason,
-    /// The place, as the window that was read counts its octets: from 0 at the first octet of a whole
-    /// message or record.
+    /// The offset, counted from the first octet of the whole message or record, as [`Window::place`](crate::Window)
+    /// counts it.
     pub place: u64,
 }

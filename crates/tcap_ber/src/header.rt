@@ -10,10 +10,10 @@ ghost use Rattle.tcap_ber.specs.Short.{IsShort};
 use crate::element::Window;
 use crate::fault::{Fault, Reason};
 
-/// The greatest count of octets of a content, a limit of this profile.
+/// The greatest content length in octets, a limit of this profile.
 pub const CONTENT_LIMIT: usize = 65_535;
 
-/// A whole header: the count of octets of its tag, of all of it, and of the content that it announces.
+/// A header of definite length: octet counts of the tag, of the whole header and of the announced content.
 #[derive(Clone, Copy, Debug)]
 pub(crate) struct Header {
     pub(crate) tag_len: usize,
@@ -21,17 +21,17 @@ pub(crate) struct Header {
     pub(crate) content_len: usize,
 }
 
-/// How an element begins.
+/// The header that an element begins with.
 #[derive(Clone, Copy, Debug)]
 pub(crate) enum Opening {
-    /// With a whole header of definite length.
+    /// A whole header of definite length.
     Definite(Header),
-    /// With a tag of so many octets and the length octet 80 (X.690 8.1.3.6).
+    /// A tag of this many octets and the length octet 80 (X.690 8.1.3.6).
     Indefinite(usize),
 }
 
 impl Opening {
-    /// The count of octets of the header.
+    /// Returns the header's length in octets.
     pub(crate) fn len(self) -> usize
         requires { header_octets self < 2 ^ 64 }
         ensures { result ≡ header_octets self }
@@ -43,7 +43,8 @@ impl Opening {
     }
 }
 
-/// The count of octets of the tag at the front, or `None` where the octets end before it does.
+/// Returns the length in octets of the tag at the front, or `None` if the octets end before the tag does (X.690 8.1.2).
+/// `TagForm` at the window's offset if the tag has more than five octets.
 #[tactic(auto, unfolding(crate::specs::HeaderReading::tag_at))]
 fn tag_len(window: Window) -> Result<Option<usize>, Fault>
     ensures exact { Gives (λ x. x) result (tag_at (span window.entry)) }
@@ -65,7 +66,7 @@ fn tag_len(window: Window) -> Result<Option<usize>, Fault>
     }
 }
 
-/// The number that up to four octets stand for, the most significant first.
+/// Returns the big-endian number of up to four octets.
 fn number(octets: &[u8]) -> usize
     requires { length octets.now ≤ 4 }
     ensures { result ≡ number octets.now }
@@ -83,8 +84,8 @@ fn number(octets: &[u8]) -> usize
     }
 }
 
-/// The count of octets of the length at the front and its number, or `None` where the octets end before
-/// it does (X.690 8.1.3).
+/// Reads the length at the front (X.690 8.1.3). Returns its octet count and its number, or `None` if the octets end
+/// before it does. `Indefinite` or `LengthForm` at the window's offset for a first octet of 80, or above 84.
 #[tactic(auto, unfolding(crate::specs::HeaderReading::length_at))]
 fn length(window: Window) -> Result<Option<(usize, usize)>, Fault>
     ensures exact { Gives (λ x. x) result (length_at (span window.entry)) }
@@ -118,7 +119,7 @@ fn length(window: Window) -> Result<Option<(usize, usize)>, Fault>
     Ok(Some((count + 1, number(&more[..count]))))
 }
 
-/// Whether the first octet is this one.
+/// Returns whether the first octet is `octet`.
 fn is_first(octets: &[u8], octet: u8) -> bool
     ensures { result ≡ is_next octet octets.now }
 {
@@ -128,7 +129,7 @@ fn is_first(octets: &[u8], octet: u8) -> bool
     }
 }
 
-/// Whether the first octet of a tag is that of a constructed element (X.690 8.1.2.5).
+/// Returns whether the tag's first octet marks a constructed element (X.690 8.1.2.5).
 fn is_constructed(tag: &[u8]) -> bool
     ensures { result ≡ is_constructed tag.now }
 {
@@ -138,7 +139,9 @@ fn is_constructed(tag: &[u8]) -> bool
     }
 }
 
-/// The header with a definite length behind a tag of so many octets.
+/// Reads the definite length after a tag of `tag_len` octets. `None` if the octets end before the length does.
+///
+/// `TooLong` at the tag if the length is over the limit, else the faults of [`length`] after the tag.
 fn behind_tag(window: Window, tag_len: usize) -> Result<Option<Header>, Fault>
     requires there { tag_len ≤ length window.octets.now }
     requires few { tag_len ≤ 5 }
@@ -164,8 +167,8 @@ fn behind_tag(window: Window, tag_len: usize) -> Result<Option<Header>, Fault>
     }))
 }
 
-/// The count of octets of the content that a header of two octets at the front announces, one of the tag and one of the
-/// length (X.690 8.1.2.2, 8.1.3.4); `None` where no such header stands there.
+/// Returns the content length in a header of two octets at the front, or `None` if there is no such header (X.690
+/// 8.1.2.2, 8.1.3.4). This is a fast path for short elements.
 pub(crate) fn short_content(octets: &[u8]) -> Option<usize>
     ensures found { IfSome result (λ n. IsShort n octets.now) }
 {
@@ -175,8 +178,8 @@ pub(crate) fn short_content(octets: &[u8]) -> Option<usize>
     }
 }
 
-/// The header at the front of `window`, or `None` where its octets end before the header does. A content of over
-/// 65,535 octets is refused here, and the indefinite length of a primitive element.
+/// Reads the header at the front of `window`. `None` if the octets end before the header does. Refuses a content of
+/// more than 65,535 octets, and the indefinite length of a primitive element.
 #[tactic(auto, unfolding(crate::specs::HeaderReading::opening_at))]
 pub(crate) fn read_opening(window: Window) -> Result<Option<Opening>, Fault>
     ensures exact { Gives (λ x. x) result (opening_at (span window.entry)) }

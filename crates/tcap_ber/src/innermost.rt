@@ -1,4 +1,4 @@
-//! The innermost element that is not whole.
+//! The innermost incomplete element.
 
 ghost use Rattle.std.specs.Prelude.{◌≡◌, ◌-◌, ◌≤◌, length, drop};
 ghost use Rattle.tcap_ber.specs.Walking.{note, stopped, last_opened, innermost_at};
@@ -6,7 +6,7 @@ ghost use Rattle.tcap_ber.specs.Progress.{IsPlaced};
 
 use crate::progress::Progress;
 
-/// What is left of `octets` where the walk that stands before them goes on.
+/// Returns the octets left when a walk that is at the front of `octets` goes on to `next`.
 fn left(octets: &[u8], progress: Progress, next: Progress) -> &[u8]
     requires order { progress.at ≤ next.at }
     requires there { next.at - progress.at ≤ length octets.now }
@@ -15,7 +15,7 @@ fn left(octets: &[u8], progress: Progress, next: Progress) -> &[u8]
     &octets[next.at - progress.at..]
 }
 
-/// The place that is noted where the walk goes on: its own where an element opens at this depth.
+/// Returns the offset of `progress` if an element opens there at this depth, else `noted`.
 fn note(depth: usize, noted: usize, progress: Progress, next: Progress) -> usize
     requires { IsPlaced progress }
     ensures { result ≡ note depth noted progress next }
@@ -27,7 +27,7 @@ fn note(depth: usize, noted: usize, progress: Progress, next: Progress) -> usize
     }
 }
 
-/// Where a walk over `octets` stops, and what is left there.
+/// Returns where a walk over `octets` stops, and the octets left there.
 fn stopped(octets: &[u8]) -> (Progress, &[u8])
     ensures exact { (result.0, result.1.now) ≡ stopped octets.now }
 {
@@ -40,7 +40,7 @@ fn stopped(octets: &[u8]) -> (Progress, &[u8])
     (progress, rest)
 }
 
-/// The place of the last element of indefinite length that a walk over `octets` opens at this depth.
+/// Returns the offset of the last element of indefinite length that a walk over `octets` opens at this depth.
 fn last_opened(octets: &[u8], depth: usize) -> usize
     ensures exact { result ≡ last_opened depth octets.now }
 {
@@ -67,8 +67,8 @@ fn find_innermost(octets: &[u8]) -> usize
     }
 }
 
-/// The place of the innermost element in `octets`, which end before it does: that of the element which begins behind
-/// all that was gone over, or where no octet stands there that of the innermost open one (X.690 8.1.3.6).
+/// Returns the offset of the innermost incomplete element of `octets`. If octets are left after the walk, that element
+/// begins with them; otherwise it is the innermost open one (X.690 8.1.3.6).
 pub(crate) fn innermost(octets: &[u8]) -> usize
     ensures exact { result ≡ innermost_at octets.now }
     ensures within { result ≤ length octets.now }

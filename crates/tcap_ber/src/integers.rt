@@ -1,4 +1,4 @@
-//! Integers (X.690 8.3).
+//! INTEGER elements (X.690 8.3).
 
 ghost use Rattle.std.specs.Prelude.{◌≡◌, ◌<◌, ◌≤◌, ◌↔◌, ℤ, Err, IfOk, IfErr, IsOkAnd, ◌≤ℤ◌, ◌+ℤ◌, ◌*ℤ◌, pos, negsuc, [], ◌∷◌, length};
 ghost use Rattle.tcap_ber.specs.declared.fault.Fault.{Fault};
@@ -26,8 +26,12 @@ fn contents<'a>(tlv: Tlv<'a>) -> Result<&'a [u8], Fault>
     }
 }
 
-/// The contents of an element that is to be an INTEGER: at least one octet, and no needless leading one
-/// (X.690 8.3). `BadInteger` at the element's first octet where they are none.
+/// Returns the contents of an INTEGER: at least one octet, with no needless leading octet (X.690 8.3). The tag is not
+/// checked.
+///
+/// # Errors
+///
+/// `BadInteger` at the element's first octet if the contents are not an INTEGER.
 pub fn integer<'a>(tlv: Tlv<'a>) -> Result<&'a [u8], Fault>
     ensures valid { IfOk result (λ octets. (octets.now ≡ tlv.entry.content.octets.now) × IsInteger octets.now) }
     ensures invalid { IfErr result (λ fault. (fault.reason ≡ Reason.BadInteger) × (fault.place ≡ tlv.entry.start)
@@ -38,7 +42,7 @@ pub fn integer<'a>(tlv: Tlv<'a>) -> Result<&'a [u8], Fault>
     contents(tlv)
 }
 
-/// The number that one octet stands for (X.690 8.3.3).
+/// Returns the number of one octet in two's complement (X.690 8.3.3).
 fn leading(octet: u8) -> i8
     ensures { result ≡ signed (octet ∷ []) }
 {
@@ -49,7 +53,7 @@ fn leading(octet: u8) -> i8
     }
 }
 
-/// The number with one octet more behind it.
+/// Returns the number with one more octet after it.
 fn extended(value: i32, octet: u8) -> i32
     requires low { (negsuc 8388607) ≤ℤ value }
     requires high { value ≤ℤ (pos 8388607) }
@@ -58,14 +62,14 @@ fn extended(value: i32, octet: u8) -> i32
     value * 256 + i32::from(octet)
 }
 
-/// The number that four octets stand for.
+/// Returns the number of four octets in two's complement.
 fn four(a: u8, b: u8, c: u8, d: u8) -> i32
     ensures { result ≡ signed (a ∷ b ∷ c ∷ d ∷ []) }
 {
     extended(extended(extended(i32::from(leading(a)), b), c), d)
 }
 
-/// The number that up to four octets stand for as a two's complement binary number (X.690 8.3.3).
+/// Returns the number of up to four octets in two's complement (X.690 8.3.3).
 fn number(octets: &[u8]) -> i32
     requires { length octets.now ≤ 4 }
     ensures { result ≡ signed octets.now }
@@ -96,9 +100,13 @@ fn read_small(tlv: Tlv, limit: usize, too_wide: Reason) -> Result<i32, Fault>
     Ok(number(octets))
 }
 
-/// The number of an element that is to be an INTEGER of at most `limit` octets, which is at most 4
-/// (X.690 8.3). `BadInteger` where its contents are none, else `too_wide` where they have more octets, both
-/// at the element's first octet.
+/// Returns the number of an INTEGER of at most `limit` octets; `limit` is at most 4 (X.690 8.3). The tag is not
+/// checked.
+///
+/// # Errors
+///
+/// Both are at the element's first octet: `BadInteger` if the contents are not an INTEGER, `too_wide` if they have more
+/// than `limit` octets.
 #[inline(always)]
 pub fn small_integer(tlv: Tlv, limit: usize, too_wide: Reason) -> Result<i32, Fault>
     requires { limit ≤ 4 }
@@ -124,8 +132,12 @@ fn read_octet(tlv: Tlv) -> Result<i8, Fault>
     }
 }
 
-/// The number of an element that is to be an INTEGER of one octet (X.690 8.3). `BadInteger` where its
-/// contents are none, else `BadSize` where they have more octets, both at the element's first octet.
+/// Returns the number of an INTEGER of one octet (X.690 8.3). The tag is not checked.
+///
+/// # Errors
+///
+/// Both are at the element's first octet: `BadInteger` if the contents are not an INTEGER, `BadSize` if they have more
+/// than one octet.
 pub fn octet_integer(tlv: Tlv) -> Result<i8, Fault>
     ensures found { IfOk result (λ n. IsSmallInteger 1 n tlv.entry.content.octets.now) }
     ensures only { (n : ℤ) → IsSmallInteger 1 n tlv.entry.content.octets.now → IsOkAnd result (λ m. m ≡ n) }

@@ -1,5 +1,5 @@
-//! The basic encoding rules (X.690) as far as TCAP needs them: elements, and the walk over one of them, and
-//! the devices that octets come from and go to.
+//! The basic encoding rules (X.690) as far as TCAP needs them: elements, the walk over an element, and devices to read
+//! octets from and write them to.
 #![tactic(auto)]
 
 mod counted;

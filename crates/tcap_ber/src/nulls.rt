@@ -19,7 +19,11 @@ fn read_null(tlv: Tlv) -> Result<(), Fault>
     }
 }
 
-/// An element that is to be NULL has no content (X.690 8.8.2): `BadSize` at its first octet where it has.
+/// Checks that an element is NULL, which has no content (X.690 8.8.2).
+///
+/// # Errors
+///
+/// `BadSize` at the element's first octet if it has content.
 pub fn null(tlv: Tlv) -> Result<(), Fault>
     ensures ok { IsOk result ↔ (tlv.entry.content.octets.now ≡ []) }
     ensures faulty { (fault : Fault) → (result ≡ Err fault)

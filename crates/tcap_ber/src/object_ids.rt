@@ -1,4 +1,4 @@
-//! Object identifiers (X.690 8.19).
+//! OBJECT IDENTIFIER elements (X.690 8.19).
 
 ghost use Rattle.std.specs.Prelude.{◌≡◌, ℕ, List, Err, true, IfOk, IsOkAnd, IfSome, IsSome, ◌↔◌, IsTrue};
 ghost use Rattle.tcap_ber.specs.declared.fault.Fault.{Fault};
@@ -10,16 +10,15 @@ use crate::fault::{Fault, Reason};
 use std::alloc::{AllocError, Global};
 use std::marker::Model;
 
-/// The contents of an OBJECT IDENTIFIER (X.690 8.19), lent.
+/// The borrowed contents of an OBJECT IDENTIFIER (X.690 8.19).
 #[derive(Clone, Copy, Debug)]
 pub struct ObjectIdView<'a> {
-    /// The contents' octets: at least one subidentifier, and one after the other (X.690 8.19.2).
+    /// The octets: one subidentifier after the other, and at least one (X.690 8.19.2).
     pub octets: &'a [u8],
     pub ghost valid: { is_object_id octets.now ≡ true },
 }
 
-/// Valid contents of an OBJECT IDENTIFIER (X.690 8.19), a value of its own. Two are equal exactly where
-/// their octets are.
+/// The owned, valid contents of an OBJECT IDENTIFIER (X.690 8.19). Two are equal if their octets are.
 #[derive(Debug, Drop)]
 pub struct ObjectId {
     octets: Vec<u8>,
@@ -36,11 +35,11 @@ impl Model for ObjectId {
     ghost invariant = { λ a. is_object_id a.octets.items ≡ true };
 }
 
-/// Whether `octets` are subidentifiers up to their end, and at least one.
+/// Returns whether `octets` are whole subidentifiers, and at least one.
 fn is_read_object_id(octets: &[u8]) -> bool
     ensures { result ≡ is_object_id octets.now }
 {
-    // whether a subidentifier begins with the next octet
+    // whether the next octet begins a subidentifier
     let mut start = true;
     for octet in octets {
         if start && *octet == 0x80 {
@@ -72,16 +71,19 @@ fn read_object_id<'a>(tlv: Tlv<'a>) -> Result<ObjectIdView<'a>, Fault>
     Ok(ObjectIdView { octets })
 }
 
-/// The contents of an element that is to be an OBJECT IDENTIFIER: at least one subidentifier, none of them
-/// with a needless leading octet of 80, and the last of them whole (X.690 8.19.2). `BadObjectId` at the
-/// element's first octet where they are none.
+/// Returns the contents of an OBJECT IDENTIFIER (X.690 8.19.2): at least one subidentifier, none with a needless
+/// leading octet 80, and the last one complete. The tag is not checked.
+///
+/// # Errors
+///
+/// `BadObjectId` at the element's first octet if the contents are not an OBJECT IDENTIFIER.
 pub fn object_id<'a>(tlv: Tlv<'a>) -> Result<ObjectIdView<'a>, Fault>
-    // What is read are the contents, and they are an OBJECT IDENTIFIER.
+    // On success, the result is the contents, which are an OBJECT IDENTIFIER.
     ensures found { IfOk result (λ id. object_id.spells id.octets.now tlv.entry.content.octets.now) }
-    // Such contents are read.
+    // Contents that are an OBJECT IDENTIFIER are read.
     ensures only { (value : List ℕ) → object_id.spells value tlv.entry.content.octets.now
         → IsOkAnd result (λ id. id.octets.now ≡ value) }
-    // What is refused is faulty there, and what is faulty is refused by that fault.
+    // The result is a fault exactly if the element has that fault.
     ensures faulty { (fault : Fault) → (result ≡ Err fault)
         ↔ object_id.faulty tlv.entry.start (span tlv.entry.content) fault.reason fault.place }
     ensures exact { Gives (λ id. id.octets.now) result (object_id_at (element tlv.entry)) }
@@ -90,7 +92,7 @@ pub fn object_id<'a>(tlv: Tlv<'a>) -> Result<ObjectIdView<'a>, Fault>
 }
 
 impl<'a> ObjectIdView<'a> {
-    /// `octets` as the contents of an OBJECT IDENTIFIER; `None` exactly where they are none.
+    /// Returns a view of `octets` if they are the contents of an OBJECT IDENTIFIER, else `None`.
     pub fn new(octets: &'a [u8]) -> Option<ObjectIdView<'a>>
         ensures found { IfSome result (λ id. id.octets.now ≡ octets.entry.now) }
         ensures exact { IsSome result ↔ IsObjectId octets.entry.now }
@@ -102,7 +104,11 @@ impl<'a> ObjectIdView<'a> {
         }
     }
 
-    /// A copy of the octets of its own.
+    /// Copies the octets into an owned [`ObjectId`].
+    ///
+    /// # Errors
+    ///
+    /// `AllocError` if memory runs out.
     pub fn to_object_id(self, alloc: Global) -> Result<ObjectId, AllocError>
         ensures { IfOk result (λ id. id ≡ self.entry.octets.now) }
     {
@@ -113,7 +119,11 @@ impl<'a> ObjectIdView<'a> {
 }
 
 impl ObjectId {
-    /// A copy of `octets`; `None` exactly where they are not the contents of an OBJECT IDENTIFIER.
+    /// Copies `octets` if they are the contents of an OBJECT IDENTIFIER, else returns `None`.
+    ///
+    /// # Errors
+    ///
+    /// `AllocError` if memory runs out.
     pub fn new(alloc: Global, octets: &[u8]) -> Result<Option<ObjectId>, AllocError>
         ensures found { IfOk result (λ made. IfSome made (λ id. id ≡ octets.now)) }
         ensures exact { IfOk result (λ made. IsSome made ↔ IsObjectId octets.now) }
@@ -124,7 +134,7 @@ impl ObjectId {
         }
     }
 
-    /// The contents' octets.
+    /// Returns the octets of the contents.
     pub fn octets(&self) -> &[u8]
         ensures value { result.now ≡ self.now }
         ensures valid { IsObjectId result.now }
@@ -132,7 +142,7 @@ impl ObjectId {
         self.octets.as_slice()
     }
 
-    /// The octets, lent.
+    /// Returns a view of the octets.
     pub fn view(&self) -> ObjectIdView<'_>
         ensures { result.octets.now ≡ self.now }
     {
@@ -141,7 +151,11 @@ impl ObjectId {
         }
     }
 
-    /// A copy of its own.
+    /// Copies this identifier.
+    ///
+    /// # Errors
+    ///
+    /// `AllocError` if memory runs out.
     pub fn copy(&self, alloc: Global) -> Result<ObjectId, AllocError>
         ensures { IfOk result (λ id. id ≡ self.now) }
     {

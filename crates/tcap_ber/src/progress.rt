@@ -1,4 +1,4 @@
-//! How far a walk over an element's octets is.
+//! How far a walk over an element's octets has come.
 
 ghost use Rattle.std.specs.Prelude.{◌≡◌, ◌+◌, ◌^◌, ◌<◌, ◌≤◌, ◌-◌, length, IfOk, IfSome};
 ghost use Rattle.tcap_ber.specs.Element.{content_limit, header_limit};
@@ -10,21 +10,22 @@ use crate::element::Window;
 use crate::fault::{Fault, Reason};
 use crate::header::{CONTENT_LIMIT, Opening, read_opening};
 
-/// How many elements of indefinite length may stand in each other, a limit of this profile.
+/// The greatest number of nested elements of indefinite length, a limit of this profile.
 pub const DEPTH_LIMIT: usize = 32;
 
-/// A place that a walk reached: where elements are open, that of an element in the innermost one or of its ending.
+/// An offset that a walk reached. If elements are open, an element of the innermost one or its end-of-contents octets
+/// begin there.
 #[derive(Clone, Copy, Debug)]
 pub(crate) struct Progress {
-    /// The place, counted from the outermost element's first octet.
+    /// The offset from the outermost element's first octet.
     pub(crate) at: usize,
-    /// How many elements of indefinite length are open.
+    /// The number of open elements of indefinite length.
     pub(crate) depth: usize,
-    /// The last place that the content of the outermost open element may reach.
+    /// The last offset that the content of the outermost open element may reach.
     pub(crate) limit: usize,
 }
 
-/// Whether an ending is there, two zero octets (X.690 8.1.5).
+/// Returns whether the octets begin with end-of-contents octets, which are two zero octets (X.690 8.1.5).
 fn is_ending(octets: &[u8]) -> bool
     ensures { result ≡ is_ending octets.now }
 {
@@ -35,7 +36,7 @@ fn is_ending(octets: &[u8]) -> bool
 }
 
 impl Progress {
-    /// Nothing was walked.
+    /// Creates the state before the first octet.
     pub(crate) fn new() -> Progress
         ensures { result ≡ record { at = 0; depth = 0; limit = 0 } }
     {
@@ -46,7 +47,7 @@ impl Progress {
         }
     }
 
-    /// The place `next`, unless the content of the outermost open element is too long then.
+    /// Returns `next`, or `TooLong` at 0 if the content of the outermost open element is then over the limit.
     fn within_limit(self, next: Progress) -> Result<Progress, Fault>
         ensures exact { Gives (λ p. p) result (within_limit self next) }
     {
@@ -59,7 +60,8 @@ impl Progress {
         Ok(next)
     }
 
-    /// Behind a header of so many octets with the length octet 80.
+    /// Returns the progress after a header of `len` octets with the length octet 80. `TooDeep` at this offset if too
+    /// many elements are open, else the fault of `within_limit`.
     fn opened(self, len: usize) -> Result<Progress, Fault>
         requires placed { IsPlaced self }
         requires few { len ≤ 6 }
@@ -89,7 +91,8 @@ impl Progress {
         })
     }
 
-    /// Behind the ending of the innermost open element.
+    /// Returns the progress after the end-of-contents octets of the innermost open element, or the fault of
+    /// `within_limit`.
     fn closed(self) -> Result<Progress, Fault>
         requires placed { IsPlaced self }
         requires inside { 0 < self.depth }
@@ -107,7 +110,7 @@ impl Progress {
         self.within_limit(next)
     }
 
-    /// Behind an element of definite length, which has so many octets.
+    /// Returns the progress after an element of definite length of `len` octets, or the fault of `within_limit`.
     fn passed(self, len: usize) -> Result<Progress, Fault>
         requires placed { IsPlaced self }
         requires few { len ≤ content_limit + header_limit }
@@ -126,8 +129,9 @@ impl Progress {
         self.within_limit(next)
     }
 
-    /// Behind what begins `octets` with this header: an element of definite length, or the header of one of indefinite
-    /// length, or an ending (X.690 8.1.3.6). `TooDeep` at the place, `TooLong` at the outermost element.
+    /// Returns the progress after what `opening` begins at the front of `octets`: a whole element of definite length,
+    /// the header of one of indefinite length, or end-of-contents octets (X.690 8.1.3.6). `TooDeep` at this offset,
+    /// `TooLong` at the outermost element.
     pub(crate) fn behind_header(self, octets: &[u8], opening: Opening) -> Result<Progress, Fault>
         requires placed { IsPlaced self }
         requires within { IsHeaderWithin (length octets.now) opening }
@@ -142,7 +146,7 @@ impl Progress {
         }
     }
 
-    /// Where the walk goes on that stands before `octets`, if it does.
+    /// Returns where a walk goes on from here, with `octets` next. `None` if the walk fails, ends or needs more octets.
     #[tactic(auto, unfolding(crate::specs::Walking::goes))]
     pub(crate) fn goes(self, octets: &[u8]) -> Option<Progress>
         requires placed { IsPlaced self }

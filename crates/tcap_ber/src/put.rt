@@ -1,4 +1,4 @@
-//! Elements as they are written: with the shortest definite length (X.690 8.1.3).
+//! Writing elements with the shortest definite length (X.690 8.1.3).
 
 ghost use Rattle.std.specs.Prelude.{◌+◌, ◌≡◌, ℕ, List, Some, ◌++◌, ◌≤◌, length, OnOk, IfSome};
 ghost use Rattle.tcap_ber.specs.Element.{content_limit, shortest_header_limit};
@@ -10,8 +10,8 @@ ghost use Rattle.tcap_ber.specs.Device.{CountsFailure};
 use crate::device::{Failed, Write};
 use crate::header::CONTENT_LIMIT;
 
-/// The count of octets of the shortest header before a content of `content_len` octets, at most 65,535,
-/// with any tag of one octet (X.690 8.1.3).
+/// Returns the length in octets of the shortest header with a tag of one octet, before a content of `content_len`
+/// octets (X.690 8.1.3). The content has at most 65,535 octets.
 pub fn header_len(content_len: usize) -> usize
     requires { content_len ≤ content_limit }
     ensures exact { (tag : ℕ) → result ≡ length (shortest_header tag content_len) }
@@ -24,8 +24,8 @@ pub fn header_len(content_len: usize) -> usize
     }
 }
 
-/// The count of octets of the shortest element with any tag of one octet around a content of `content_len`
-/// octets; `None` exactly where that is over 65,535 (X.690 8.1.3).
+/// Returns the length in octets of the shortest element with a tag of one octet, around a content of `content_len`
+/// octets (X.690 8.1.3). `None` if the content has more than 65,535 octets.
 pub fn element_len(content_len: usize) -> Option<usize>
     ensures exact { (tag : ℕ) (content : List ℕ) → content_len ≡ length content
         → result ≡ option_map length (element_around tag (Some content)) }
@@ -37,8 +37,12 @@ pub fn element_len(content_len: usize) -> Option<usize>
     Some(header_len(content_len) + content_len)
 }
 
-/// Writes the shortest header of an element with a tag of one octet and a content of `content_len`
-/// octets, at most 65,535 (X.690 8.1.3). `Failed` where the writer failed.
+/// Writes the shortest header with a tag of one octet, before a content of `content_len` octets (X.690 8.1.3). The
+/// content has at most 65,535 octets.
+///
+/// # Errors
+///
+/// `Failed` if the writer fails.
 pub fn put_header<W: Write>(tag: u8, content_len: usize, writer: &mut W) -> Result<(), Failed>
     requires { content_len ≤ content_limit }
     ensures ok { OnOk result (Appends (W.taken writer.old) (W.taken writer.new) (shortest_header tag content_len)) }
@@ -58,8 +62,11 @@ pub fn put_header<W: Write>(tag: u8, content_len: usize, writer: &mut W) -> Resu
     }
 }
 
-/// Writes the shortest element with a tag of one octet around `content`, of at most 65,535 octets
-/// (X.690 8.1.3). `Failed` where the writer failed.
+/// Writes the shortest element with a tag of one octet around `content`, which has at most 65,535 octets (X.690 8.1.3).
+///
+/// # Errors
+///
+/// `Failed` if the writer fails.
 pub fn put_element<W: Write>(tag: u8, content: &[u8], writer: &mut W) -> Result<(), Failed>
     requires { length content.now ≤ content_limit }
     ensures ok { OnOk result (Appends (W.taken writer.old) (W.taken writer.new)
@@ -70,7 +77,7 @@ pub fn put_element<W: Write>(tag: u8, content: &[u8], writer: &mut W) -> Result<
     writer.write_all(content)
 }
 
-/// The count of octets of the contents of an INTEGER (X.690 8.3.2).
+/// Returns the length in octets of the shortest contents of an INTEGER (X.690 8.3.2).
 pub fn integer_len(value: i32) -> usize
     ensures exact { result ≡ integer_len value }
     ensures most { result ≤ 4 }
@@ -84,7 +91,7 @@ pub fn integer_len(value: i32) -> usize
     }
 }
 
-/// The four octets of a number, the most significant first.
+/// Returns the four octets of a number, the most significant first.
 fn four_octets(number: u32) -> [u8; 4]
     ensures { result ≡ number_octets 4 number }
 {
@@ -98,8 +105,11 @@ fn four_octets(number: u32) -> [u8; 4]
     ]
 }
 
-/// Writes an INTEGER element with the shortest contents, under a tag of one octet (X.690 8.3). `Failed`
-/// where the writer failed.
+/// Writes an INTEGER element with the shortest contents, with a tag of one octet (X.690 8.3).
+///
+/// # Errors
+///
+/// `Failed` if the writer fails.
 pub fn put_integer<W: Write>(tag: u8, value: i32, writer: &mut W) -> Result<(), Failed>
     ensures ok { OnOk result (Appends (W.taken writer.old) (W.taken writer.new)
         (shortest_header tag (integer_len value) ++ integer_octets value)) }

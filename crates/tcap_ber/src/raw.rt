@@ -14,7 +14,7 @@ use crate::window::{next_tlv, outer, required};
 use std::alloc::{AllocError, Global};
 use std::marker::Model;
 
-/// Octets of a message that are exactly one element.
+/// Borrowed octets that are exactly one element.
 #[derive(Clone, Copy, Debug)]
 pub struct RawView<'a> {
     /// The element's octets.
@@ -22,7 +22,7 @@ pub struct RawView<'a> {
     pub ghost whole: { is_raw octets.now ≡ true },
 }
 
-/// Octets that are exactly one element, with any tag, kept verbatim.
+/// Owned octets that are exactly one element, with any tag.
 #[derive(Debug, Drop)]
 pub struct Raw {
     octets: Vec<u8>,
@@ -57,7 +57,7 @@ fn is_whole(octets: &[u8]) -> bool
 }
 
 impl<'a> RawView<'a> {
-    /// `octets` as one element; `None` exactly where they are not one.
+    /// Returns a view of `octets` if they are exactly one element, else `None`.
     pub fn new(octets: &'a [u8]) -> Option<RawView<'a>>
         ensures found { IfSome result (λ raw. raw.octets.now ≡ octets.entry.now) }
         ensures exact { IsSome result ↔ IsRaw octets.entry.now }
@@ -82,18 +82,22 @@ impl<'a> RawView<'a> {
         Ok((raw, rest))
     }
 
-    /// The element at the front of a window that is not empty, and the window behind it (X.690 8.1.1). The
-    /// faults are those of [`next_tlv`].
+    /// Reads the element at the front of a non-empty window verbatim (X.690 8.1.1). Returns its octets and the window
+    /// after it.
+    ///
+    /// # Errors
+    ///
+    /// The faults of [`next_tlv`].
     pub fn next(window: Window<'a>) -> Result<(RawView<'a>, Window<'a>), Fault>
         requires { 0 < length window.octets.now }
-        // What is read is the element that stands there, verbatim.
+        // On success, the octets are those of the element at the front.
         ensures found { IfOk result (λ x. IsRaw x.0.octets.now
             × (window.entry.octets.now ≡ x.0.octets.now ++ x.1.octets.now)
             × (x.1.place ≡ window.entry.place + length x.0.octets.now)) }
-        // What stands there is read.
+        // An element at the front is read.
         ensures only { (octets rest : List ℕ) → IsRaw octets → window.entry.octets.now ≡ octets ++ rest
             → IsOkAnd result (λ x. (x.0.octets.now ≡ octets) × (x.1.octets.now ≡ rest)) }
-        // What is refused is faulty there, and what is faulty is refused by that fault.
+        // The result is a fault exactly if the window has that fault.
         ensures faulty { (fault : Fault) → (result ≡ Err fault)
             ↔ IsElementFault (span window.entry) fault.reason fault.place }
         ensures exact { Gives (λ x. (x.0.octets.now, span x.1)) result (raw_at (span window.entry)) }
@@ -113,16 +117,20 @@ impl<'a> RawView<'a> {
         Ok((raw, rest))
     }
 
-    /// The element at the front of a window, which has to be there with this tag of one octet, and the
-    /// window behind it (X.690 8.1.1). The faults are those of [`required`](crate::required).
+    /// Reads the element with this tag of one octet at the front of a window, verbatim (X.690 8.1.1). Returns its
+    /// octets and the window after it.
+    ///
+    /// # Errors
+    ///
+    /// The faults of [`required`](crate::required).
     pub fn required(window: Window<'a>, tag: u8) -> Result<(RawView<'a>, Window<'a>), Fault>
-        // What is read is the element that stands there, verbatim, and has this tag.
+        // On success, the octets are those of the element at the front, which has this tag.
         ensures found { IfOk result (λ x. Taken (verbatim tag) (span window.entry) x.0.octets.now (span x.1)) }
-        // An element of this tag that stands there is read.
+        // An element of this tag at the front is read.
         ensures only { (value octets rest : List ℕ) → (verbatim tag).spells value octets rest
             → window.entry.octets.now ≡ octets ++ rest
             → IsOkAnd result (λ x. (x.0.octets.now ≡ value) × (x.1.octets.now ≡ rest)) }
-        // What is refused is faulty there, and what is faulty is refused by that fault.
+        // The result is a fault exactly if the window has that fault.
         ensures faulty { (fault : Fault) → (result ≡ Err fault)
             ↔ (verbatim tag).faulty (span window.entry) fault.reason fault.place }
         ensures exact { Gives (λ x. (x.0.octets.now, span x.1)) result (verbatim_at tag (span window.entry)) }
@@ -142,18 +150,22 @@ impl<'a> RawView<'a> {
         Ok((Some(raw), rest))
     }
 
-    /// A parameter: the element that any octets left in the window have to be, or `None` where none are.
-    /// The faults are those of [`next_tlv`].
+    /// Reads a parameter: the first element of a window, verbatim, or `None` if the window is empty. Returns it and the
+    /// window after it.
+    ///
+    /// # Errors
+    ///
+    /// The faults of [`next_tlv`].
     #[inline(always)]
     pub fn parameter(window: Window<'a>) -> Result<(Option<RawView<'a>>, Window<'a>), Fault>
-        // What is read is spelled there, and what is left is the window behind it.
+        // On success, the octets at the front spell the value, and the window after them is returned.
         ensures found { IfOk result (λ x. Taken parameter (span window.entry) (option_map (λ raw. raw.octets.now) x.0)
             (span x.1)) }
-        // What is spelled there is read.
+        // A value that the front spells is read.
         ensures only { (value : Option (List ℕ)) → (octets rest : List ℕ) → parameter.spells value octets rest
             → window.entry.octets.now ≡ octets ++ rest
             → IsOkAnd result (λ x. (option_map (λ raw. raw.octets.now) x.0 ≡ value) × (x.1.octets.now ≡ rest)) }
-        // What is refused is faulty there, and what is faulty is refused by that fault.
+        // The result is a fault exactly if the window has that fault.
         ensures faulty { (fault : Fault) → (result ≡ Err fault)
             ↔ parameter.faulty (span window.entry) fault.reason fault.place }
         ensures exact { Gives (λ x. (option_map (λ raw. raw.octets.now) x.0, span x.1)) result
@@ -162,7 +174,11 @@ impl<'a> RawView<'a> {
         RawView::read_parameter(window)
     }
 
-    /// A copy of the octets of its own.
+    /// Copies the octets into an owned [`Raw`].
+    ///
+    /// # Errors
+    ///
+    /// `AllocError` if memory runs out.
     pub fn to_raw(self, alloc: Global) -> Result<Raw, AllocError>
         ensures { IfOk result (λ raw. raw ≡ self.entry.octets.now) }
     {
@@ -173,7 +189,11 @@ impl<'a> RawView<'a> {
 }
 
 impl Raw {
-    /// A copy of `octets`; `None` exactly where they are not one element.
+    /// Copies `octets` if they are exactly one element, else returns `None`.
+    ///
+    /// # Errors
+    ///
+    /// `AllocError` if memory runs out.
     pub fn new(alloc: Global, octets: &[u8]) -> Result<Option<Raw>, AllocError>
         ensures found { IfOk result (λ made. IfSome made (λ raw. raw ≡ octets.now)) }
         ensures exact { IfOk result (λ made. IsSome made ↔ IsRaw octets.now) }
@@ -184,7 +204,7 @@ impl Raw {
         }
     }
 
-    /// The element's octets.
+    /// Returns the element's octets.
     pub fn octets(&self) -> &[u8]
         ensures value { result.now ≡ self.now }
         ensures whole { IsRaw result.now }
@@ -192,7 +212,7 @@ impl Raw {
         self.octets.as_slice()
     }
 
-    /// The octets, lent.
+    /// Returns a view of the octets.
     pub fn view(&self) -> RawView<'_>
         ensures { result.octets.now ≡ self.now }
     {

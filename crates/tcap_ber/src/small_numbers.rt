@@ -37,7 +37,7 @@ impl Model for Small {
 }
 
 impl Small {
-    /// `number` as one from 0 to 127; `None` exactly where it is above.
+    /// Returns `number` as a `Small`, or `None` if it is more than 127.
     pub fn new(number: u8) -> Option<Small>
         ensures found { IfSome result (λ small. small ≡ number) }
         ensures exact { IsSome result ↔ number < 128 }
@@ -49,7 +49,7 @@ impl Small {
         }
     }
 
-    /// The number.
+    /// Returns the number.
     pub fn number(self) -> u8
         ensures value { result ≡ self }
         ensures below { result < 128 }
@@ -57,7 +57,7 @@ impl Small {
         self.number
     }
 
-    /// The number as views hold it.
+    /// Returns the number in the type that views hold.
     pub fn view(self) -> SmallView
         ensures { result.number ≡ self }
     {
@@ -68,7 +68,7 @@ impl Small {
 }
 
 impl SmallView {
-    /// The number as a value of its own.
+    /// Returns the number as a `Small`.
     pub fn to_small(self) -> Small
         ensures { result ≡ self.number }
     {
@@ -91,16 +91,19 @@ fn read_small_number(tlv: Tlv) -> Result<SmallView, Fault>
     }
 }
 
-/// The number of an element that is to be an INTEGER of one octet that is not negative (X.690 8.3).
-/// `BadInteger` where its contents are no INTEGER, else `BadSize` where they have more octets or the number is
-/// negative, both at the element's first octet.
+/// Returns the number of an INTEGER of one octet that is not negative (X.690 8.3). The tag is not checked.
+///
+/// # Errors
+///
+/// Both are at the element's first octet: `BadInteger` if the contents are not an INTEGER, `BadSize` if they have more
+/// than one octet or the number is negative.
 pub fn small_number(tlv: Tlv) -> Result<SmallView, Fault>
-    // What is read is spelled by the contents.
+    // On success, the contents spell the number.
     ensures found { IfOk result (λ n. small.spells n.number tlv.entry.content.octets.now) }
-    // What they spell is read.
+    // A number that the contents spell is read.
     ensures only { (value : ℕ) → small.spells value tlv.entry.content.octets.now
         → IsOkAnd result (λ n. n.number ≡ value) }
-    // What is refused is faulty there, and what is faulty is refused by that fault.
+    // The result is a fault exactly if the element has that fault.
     ensures faulty { (fault : Fault) → (result ≡ Err fault)
         ↔ small.faulty tlv.entry.start (span tlv.entry.content) fault.reason fault.place }
     ensures exact { Gives (λ n. n.number) result (small_at (element tlv.entry)) }

@@ -35,8 +35,12 @@ impl From<AllocError> for ReadError {
     }
 }
 
-/// Appends all octets that `reader` tells up to its end to `octets`. At an error `octets` has gained
-/// those that were told before it, and none is lost: memory is asked for before each read.
+/// Appends all remaining octets of `reader` to `octets`.
+///
+/// # Errors
+///
+/// `Failed` if the reader fails, `Memory` if memory runs out. All octets read before the error are in `octets`: memory
+/// is reserved before each read, so none is lost.
 pub fn read_to_end<R: Read>(reader: &mut R, octets: &mut Vec<u8>) -> Result<(), ReadError>
     ensures appends { (told : List ℕ) × (octets.new.items ≡ octets.old.items ++ told)
         × Consumes (R.untold reader.old) (R.untold reader.new) told }

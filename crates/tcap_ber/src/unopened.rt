@@ -6,14 +6,14 @@ ghost use Rattle.tcap_ber.specs.Device.{CountsFailure, Tells, unopened_failures}
 
 use crate::device::{Failed, Read};
 
-/// A file that could not be opened, as a reader: each read fails.
+/// A reader for a file that could not be opened: each read fails.
 #[derive(Debug, Drop)]
 pub struct Unopened {
     failures: u64,
 }
 
 impl Unopened {
-    /// A file that could not be opened, and from which nothing was read yet.
+    /// Creates a reader for a file that could not be opened, with no failure counted yet.
     pub fn new() -> Unopened
         ensures { unopened_failures result ≡ 0 }
     {

@@ -1,4 +1,4 @@
-//! A walk over an element's octets that can stop at any octet and go on when more have come.
+//! A walk over an element's octets that can stop after any octet and resume when more have come.
 
 ghost use Rattle.std.specs.Prelude.{◌≡◌, ◌+◌, ◌<◌, ◌≤◌, ◌⊎◌, ◌++◌, ◌∷◌, ◌↔◌, [], ℕ, List, length, take, Option, None, Err, IsTrue, IfSome};
 ghost use Rattle.tcap_ber.specs.Element.{content_limit, header_limit, opening_limit};
@@ -9,22 +9,23 @@ use crate::fault::Fault;
 use crate::header::read_opening;
 use crate::progress::Progress;
 
-/// The greatest count of octets of a header: five of the tag, five of the length.
+/// The greatest header length in octets: five of the tag, five of the length.
 const HEADER_LIMIT: usize = 10;
 
-/// A walk over the octets of one element from left to right (X.690 8.1). An element of definite length is gone over as
-/// its length says; what stands in one of indefinite length is walked element by element, up to its ending. It uses no
-/// octets again but those of a header that has begun, and takes no memory.
+/// A walk over the octets of one element from left to right (X.690 8.1).
+///
+/// The walk skips the content of an element of definite length. It goes through one of indefinite length element by
+/// element, up to the end-of-contents octets. It keeps only the octets of an unfinished header, and does not allocate.
 #[derive(Clone, Copy, Debug)]
 pub struct Walk {
-    // Where it goes on, once the octets to skip have come.
+    // Where the walk resumes, after the octets to skip.
     progress: Progress,
-    // How many octets of a content of definite length have still to come.
+    // How many octets of a content of definite length are still to come.
     skip: usize,
-    // The octets of a header that has begun, so many of them.
+    // The octets of an unfinished header; the first `held` are in use.
     header: [u8; HEADER_LIMIT],
     held: usize,
-    // What is wrong with the octets.
+    // The first fault of the octets, if there is one.
     fault: Option<Fault>,
     ghost placed: { IsPlaced progress },
     ghost room: { (held ≤ 9) × (length (take held header) ≡ held)
@@ -37,7 +38,7 @@ impl Walk {
     ghost use Rattle.tcap_ber.specs.Walking.{outer_at};
     ghost use Rattle.tcap_ber.specs.Resuming.{resumes, IsStopped};
 
-    /// A walk that stands before an element's first octet.
+    /// Creates a walk that begins at an element's first octet.
     pub fn new() -> Walk
         ensures { (octets : List ℕ) → resumes result octets ≡ outer_at octets }
     {
@@ -50,7 +51,7 @@ impl Walk {
         }
     }
 
-    /// The walk where this is wrong with the octets.
+    /// Returns this walk with `fault` as its result on every later call.
     fn failed(self, fault: Fault) -> Walk
         ensures { (octets : List ℕ) → resumes result octets ≡ Err fault }
     {
@@ -64,7 +65,7 @@ impl Walk {
         }
     }
 
-    /// The walk where so many octets of a header are held.
+    /// Returns this walk with the first `held` octets of `header` as its unfinished header.
     fn holding(self, header: [u8; HEADER_LIMIT], held: usize) -> Walk
         requires unfinished { IsUnfinishedHeader self.progress (take held header) }
         requires all { length (take held header) ≡ held }
@@ -82,7 +83,7 @@ impl Walk {
         }
     }
 
-    /// The walk that goes on there, once so many octets have come.
+    /// Returns the walk that resumes at `progress` after skipping `skip` octets.
     fn behind(self, progress: Progress, skip: usize) -> Walk
         requires placed { IsPlaced progress }
         requires few { skip ≤ content_limit + opening_limit + header_limit }
@@ -101,14 +102,14 @@ impl Walk {
         }
     }
 
-    /// Whether no octet that comes can change what it gives.
+    /// Returns whether later octets can't change the result: the walk failed, or found the element's end.
     fn is_stopped(self) -> bool
         ensures { IsTrue result ↔ IsStopped self }
     {
         self.fault.is_some() || (self.skip == 0 && self.progress.depth == 0 && self.progress.at > 0)
     }
 
-    /// The walk behind those of `octets` that it has to skip, and those behind them.
+    /// Skips as many of `octets` as this walk has to. Returns the new walk and the octets left.
     fn skipping(self, octets: &[u8]) -> (Walk, &[u8])
         ensures same { (more : List ℕ) → resumes result.0 (result.1.now ++ more) ≡ resumes self (octets.now ++ more) }
         ensures fewer { length result.1.now ≤ length octets.now }
@@ -126,7 +127,7 @@ impl Walk {
         (walk, &octets[count..])
     }
 
-    /// The octets of a header that are held, with one more behind them.
+    /// Returns the held octets of the header with `octet` after them.
     fn header_with(self, octet: u8) -> [u8; HEADER_LIMIT]
         ensures { take (self.held + 1) result ≡ take self.held self.header ++ octet ∷ [] }
     {
@@ -135,7 +136,7 @@ impl Walk {
         header
     }
 
-    /// The walk behind one octet more, which is none to skip.
+    /// Returns the walk after one more octet, which must not be one to skip.
     fn with_octet(self, octet: u8) -> Walk
         requires none { self.skip ≡ 0 }
         requires goes { IsStopped self → ⊥ }
@@ -159,8 +160,8 @@ impl Walk {
         }
     }
 
-    /// The walk behind a header that begins `octets`, and what is left of them; or `None` where it does not stand there
-    /// whole, or something is wrong with it.
+    /// Goes past a whole header at the front of `octets`. Returns the new walk and the octets left, or `None` if the
+    /// header is incomplete or faulty.
     fn behind_whole(self, octets: &[u8]) -> Option<(Walk, &[u8])>
         requires none { self.skip ≡ 0 }
         requires goes { IsStopped self → ⊥ }
@@ -186,7 +187,7 @@ impl Walk {
         ))
     }
 
-    /// The walk behind some of `octets`, which has none to skip, and what is left of them.
+    /// Goes past some of `octets`, with none left to skip. Returns the new walk and the octets left.
     fn with_octets(self, octets: &[u8]) -> (Walk, &[u8])
         requires none { self.skip ≡ 0 }
         requires goes { IsStopped self → ⊥ }
@@ -194,7 +195,7 @@ impl Walk {
         ensures same { (more : List ℕ) → resumes result.0 (result.1.now ++ more) ≡ resumes self (octets.now ++ more) }
         ensures fewer { length result.1.now < length octets.now }
     {
-        // A header has two octets at least.
+        // A whole header has at least two octets.
         if self.held == 0 && octets.len() > 1 {
             if let Some(found) = self.behind_whole(octets) {
                 return found;
@@ -206,7 +207,7 @@ impl Walk {
         }
     }
 
-    /// What the octets that it went over begin with.
+    /// Returns the result of framing the octets that the walk has gone over.
     fn answer(self) -> Result<Outer, Fault>
         ensures exact { Gives (λ x. x) result (resumes self []) }
     {
@@ -223,8 +224,13 @@ impl Walk {
         }
     }
 
-    /// Goes on over `octets`, which come behind those that it went over, up to the element's end or the first fault.
-    /// Answers what all of them begin with, as [`outer`](crate::outer) does of them at once.
+    /// Continues the walk with the next `octets`, up to the element's end or the first fault.
+    ///
+    /// Returns the result of framing all octets so far, as [`outer`](crate::outer) does for all of them at once.
+    ///
+    /// # Errors
+    ///
+    /// The faults of [`outer`](crate::outer). Every later call returns the same fault.
     pub fn go_on(&mut self, octets: &[u8]) -> Result<Outer, Fault>
         ensures answer { Gives (λ x. x) result (resumes self.old octets.now) }
         ensures goes_on { (more : List ℕ) → resumes self.new more ≡ resumes self.old (octets.now ++ more) }

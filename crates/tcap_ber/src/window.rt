@@ -27,11 +27,17 @@ fn read_outer(octets: &[u8]) -> Result<Outer, Fault>
     }
 }
 
-/// How `octets` begin: with a whole element of so many octets, or with none yet and no fault so far, so that at least
-/// so many octets are needed in all. A fault where the octets as far as they stand there are wrong, its place counted
-/// from the first octet: `TagForm` and `TooLong` at 0, `LengthForm` and `Indefinite` at the first length octet (X.690
-/// 8.1.2, 8.1.3). The elements in one of indefinite length have these faults too, each at its own place, and `TooDeep`
-/// at that of the 33rd open one; a content of indefinite length is `TooLong` at the outermost element, 0.
+/// Frames the front of `octets`: returns `Whole(n)` if an element of `n` octets begins them. Returns `Need(n)` if there
+/// is no whole element and no fault yet: each element that begins with `octets` has at least `n` octets.
+///
+/// # Errors
+///
+/// The first fault that a walk over `octets` meets, with its offset in `octets`:
+///
+/// - `TagForm` or `TooLong` at the element's first octet (X.690 8.1.2, 8.1.3),
+/// - `LengthForm` or `Indefinite` at its first length octet,
+/// - the same for each element inside one of indefinite length, at its own offset, and `TooDeep` at the 33rd open one,
+/// - `TooLong` at 0 if a content of indefinite length is over the limit.
 pub fn outer(octets: &[u8]) -> Result<Outer, Fault>
     ensures whole { (n : ℕ) → (result ≡ Ok (Outer.Whole n)) ↔ BeginsElement octets.now n }
     ensures need { (n : ℕ) → result ≡ Ok (Outer.Need n) → NeedsMore octets.now n }
@@ -41,7 +47,8 @@ pub fn outer(octets: &[u8]) -> Result<Outer, Fault>
     read_outer(octets)
 }
 
-/// The element at the front of a window, which has this header of definite length.
+/// Reads the element at the front of a window, given its header of definite length. `Overrun` if the window ends before
+/// the element does.
 #[inline(always)]
 fn read_definite<'a>(window: Window<'a>, header: Header) -> Result<(Tlv<'a>, Window<'a>), Fault>
     requires tag { header.tag_len ≤ header.len }
@@ -69,7 +76,8 @@ fn read_definite<'a>(window: Window<'a>, header: Header) -> Result<(Tlv<'a>, Win
     Ok((found, window.behind(len)))
 }
 
-/// How many octets the element of indefinite length at the front of a window has, whose tag has so many.
+/// Returns the length in octets of the element of indefinite length at the front, with a tag of `tag_len` octets.
+/// `Overrun` at the innermost incomplete element, else the faults of [`outer`].
 fn walked_len(window: Window, tag_len: usize) -> Result<usize, Fault>
     requires opening { opening_at (span window) ≡ Ok (Some (Opening.Indefinite tag_len)) }
     ensures exact { Gives (λ n. n) result (walked_len (span window.entry) (outer_at window.entry.octets.now)) }
@@ -88,7 +96,7 @@ fn walked_len(window: Window, tag_len: usize) -> Result<usize, Fault>
     }
 }
 
-/// The element of indefinite length at the front of a window, whose tag has so many octets.
+/// Reads the element of indefinite length at the front of a window, with a tag of `tag_len` octets.
 #[inline(never)]
 fn read_indefinite<'a>(window: Window<'a>, tag_len: usize) -> Result<(Tlv<'a>, Window<'a>), Fault>
     requires opening { opening_at (span window) ≡ Ok (Some (Opening.Indefinite tag_len)) }
@@ -134,21 +142,26 @@ fn read_next(window: Window) -> Result<(Tlv, Window), Fault>
     }
 }
 
-/// The first element of a window that is not empty, and the window behind it (X.690 8.1.1). `TagForm`, `TooLong` or
-/// `Overrun` at the element's first octet, `LengthForm` or `Indefinite` at its first length octet. Where it is of
-/// indefinite length, the elements in it have these faults too, each at its own place, and `TooDeep`; `Overrun` stands
-/// at the innermost element that is not whole. The window of its content ends at its two zero octets.
+/// Reads the first element of a non-empty window (X.690 8.1.1). Returns the element and the window after it. The
+/// content window excludes end-of-contents octets.
+///
+/// # Errors
+///
+/// - `TagForm`, `TooLong` or `Overrun` at the element's first octet, `LengthForm` or `Indefinite` at its first length
+///   octet.
+/// - For an element of indefinite length: the faults of the elements in it, each at its own offset, and `TooDeep`.
+///   `Overrun` is then at the innermost incomplete element.
 #[inline(always)]
 pub fn next_tlv(window: Window) -> Result<(Tlv, Window), Fault>
     requires { 0 < length window.octets.now }
-    // What is read is the element that stands there, and its parts are those octets of the window.
+    // On success, the element is the one at the front, and its parts are those octets of the window.
     ensures found { IfOk result (λ x. FindsElement (span window.entry) (element x.0) (span x.1)) }
-    // What stands there is read.
+    // An element at the front is read.
     ensures only { (tag content octets rest : List ℕ) → IsElement tag content octets
         → window.entry.octets.now ≡ octets ++ rest
         → IsOkAnd result (λ x. (x.0.tag.octets.now ≡ tag) × (x.0.content.octets.now ≡ content)
         × (x.1.octets.now ≡ rest)) }
-    // What is refused is faulty there, and what is faulty is refused by that fault.
+    // The result is a fault exactly if the window has that fault.
     ensures faulty { (fault : Fault) → (result ≡ Err fault)
         ↔ IsElementFault (span window.entry) fault.reason fault.place }
     ensures exact { Gives (λ x. (element x.0, span x.1)) result (next_at (span window.entry)) }
@@ -170,18 +183,21 @@ fn read_any(window: Window) -> Result<(Tlv, Window), Fault>
     next_tlv(window)
 }
 
-/// The first element of a window, which has to be there, with any tag, and the window behind it
-/// (X.690 8.1.1). `Missing` at the window's end where it is empty, else the faults of [`next_tlv`].
+/// Reads the first element of a window, with any tag (X.690 8.1.1). Returns the element and the window after it.
+///
+/// # Errors
+///
+/// `Missing` at the window's offset if it is empty, else the faults of [`next_tlv`].
 #[inline(always)]
 pub fn required_any(window: Window) -> Result<(Tlv, Window), Fault>
-    // What is read is the element that stands there, and its parts are those octets of the window.
+    // On success, the element is the one at the front, and its parts are those octets of the window.
     ensures found { IfOk result (λ x. FindsElement (span window.entry) (element x.0) (span x.1)) }
-    // What stands there is read.
+    // An element at the front is read.
     ensures only { (tag content octets rest : List ℕ) → IsElement tag content octets
         → window.entry.octets.now ≡ octets ++ rest
         → IsOkAnd result (λ x. (x.0.tag.octets.now ≡ tag) × (x.0.content.octets.now ≡ content)
         × (x.1.octets.now ≡ rest)) }
-    // It is refused exactly where it is missing or faulty itself.
+    // The result is a fault exactly if the element is missing or has that fault itself.
     ensures faulty { (fault : Fault) → (result ≡ Err fault) ↔ (IsMissing (span window.entry) fault.reason fault.place
         ⊎ IsElementFault (span window.entry) fault.reason fault.place) }
     ensures exact { Gives (λ x. (element x.0, span x.1)) result (some_at (span window.entry)) }
@@ -202,19 +218,24 @@ fn read_required(window: Window, tag: u8) -> Result<(Tlv, Window), Fault>
     }
 }
 
-/// The first element of a window, which has to be there with this tag of one octet, and the window
-/// behind it (X.690 8.1.1). `Missing` at the window's end where it is empty, `UnexpectedTag` at the
-/// element's first octet where it has another tag, else the faults of [`next_tlv`].
+/// Reads the first element of a window, which must have this tag of one octet (X.690 8.1.1). Returns the element and
+/// the window after it.
+///
+/// # Errors
+///
+/// - `Missing` at the window's offset if it is empty.
+/// - The faults of [`next_tlv`].
+/// - `UnexpectedTag` at the element's first octet if it has another tag.
 #[inline(always)]
 pub fn required(window: Window, tag: u8) -> Result<(Tlv, Window), Fault>
-    // What is read is the element that stands there, and has this tag.
+    // On success, the element is the one at the front, and has this tag.
     ensures found { IfOk result (λ x. FindsElement (span window.entry) (element x.0) (span x.1)
         × (x.0.tag.octets.now ≡ tag ∷ [])) }
-    // An element of this tag that stands there is read.
+    // An element of this tag at the front is read.
     ensures only { (content octets rest : List ℕ) → IsElement (tag ∷ []) content octets
         → window.entry.octets.now ≡ octets ++ rest
         → IsOkAnd result (λ x. (x.0.content.octets.now ≡ content) × (x.1.octets.now ≡ rest)) }
-    // It is refused exactly where it is missing, or faulty itself, or has another tag.
+    // The result is a fault exactly if the element is missing, has that fault itself, or has another tag.
     ensures faulty { (fault : Fault) → (result ≡ Err fault) ↔ (IsMissing (span window.entry) fault.reason fault.place
         ⊎ IsElementFault (span window.entry) fault.reason fault.place
         ⊎ IsUnexpected tag (span window.entry) fault.reason fault.place) }
@@ -232,8 +253,8 @@ fn is_first(window: Window, tag: u8) -> bool
     }
 }
 
-/// Whether the first octet of the window is `tag`. Where that is a whole tag, it says whether an element
-/// of it stands there.
+/// Returns whether the first octet of the window is `tag`. For a tag of one octet, this means that the next element has
+/// that tag.
 pub fn begins_with(window: Window, tag: u8) -> bool
     ensures begins { IsTrue result ↔ BeginsWith tag window.entry.octets.now }
     ensures exact { result ≡ is_next tag window.entry.octets.now }
@@ -241,7 +262,11 @@ pub fn begins_with(window: Window, tag: u8) -> bool
     is_first(window, tag)
 }
 
-/// Nothing more may stand in the window: `Trailing` at its first octet where something does.
+/// Checks that the window is empty.
+///
+/// # Errors
+///
+/// `Trailing` at the window's first octet if it is not.
 pub fn ended(window: Window) -> Result<(), Fault>
     ensures ok { IsOk result ↔ (window.entry.octets.now ≡ []) }
     ensures trailing { IfErr result (λ fault. (fault.reason ≡ Reason.Trailing) × (fault.place ≡ window.entry.place)) }

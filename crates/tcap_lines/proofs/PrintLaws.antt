@@ -1,4 +1,4 @@
--- What was printed, from what the parts printed.
+-- What was printed, given what each part printed.
 use Rattle.std.proofs.Common.{◌≡◌, ℕ, ◌⊎◌, List, ◌++◌, length, Option, Err, refl, sym, ap, ◌∙◌, inl, inr, arith}
 use Rattle.std.proofs.KnownBytes.{Appends-trans}
 use Rattle.std.proofs.lemmas.List.{take_all}
@@ -9,7 +9,7 @@ use Rattle.tcap_record.specs.Lines.{lines_of}
 use Rattle.tcap_lines.specs.declared.status.Status.TheVariants as statuses
 use Rattle.tcap_lines.specs.Shown.{Prints, feed_fault_line, memory_line}
 
--- all lines, and the fault's or that memory ran out
+-- all lines, and then the fault's or the memory line
 pub faulted : (entries : List Entry) (fault : FeedFault) (old mid new : Option (List ℕ))
     → Appends old mid (lines_of entries)
     → ((line : List ℕ) × ((line ≡ feed_fault_line fault) ⊎ (line ≡ memory_line)) × Appends mid new line)

@@ -1,4 +1,4 @@
--- What was shown of a record, as its octets come.
+-- What was shown of a record as its octets come.
 use Rattle.std.proofs.Common.{◌≡◌, ℕ, ◌+◌, ◌≤◌, Bool, true, false, List, [], ◌∷◌, ◌++◌, length, take, drop, Option, refl, sym, ap, ap₂, subst, ◌∙◌, inl, inr, arith, append_assoc, append-nil, take-add, take-append-drop}
 use Rattle.std.specs.Prelude.{◌||◌, ◌⊎◌, ◌≢◌, Some, None, Err, Result}
 use Rattle.std.specs.List.{list_any}
@@ -89,7 +89,7 @@ leads_then h bad taken piece rest n m mid new mid_bad new_bad mid_taken new_take
     let then = after (told ++ take n piece) was.0 start was.1 in
     (then.0, subst (λ (x : List ℕ). ShownSoFar x then.0 new new_bad start new_taken) (taken_on told piece rest n m is) then.1)
 
--- what is fed before a failure
+-- the octets fed before a failure
 pub fails_fed : (f : FeedFault) (old new : Held) (piece : List ℕ) → FailsFrom f old new piece
     → (n : ℕ) × (n ≤ length piece) × ((octets : List ℕ) (entries : List Entry) → Fed octets entries old → Fed (octets ++ take n piece) entries new)
 fails_fed f old new piece (inl (was, same)) =
@@ -99,13 +99,13 @@ fails_fed f old new piece (inr (inl (sound, (n, most, grew)))) =
 fails_fed f old new piece (inr (inr (sound, memory, same, some, part))) =
     (0, omega arith, λ octets entries fed. rw (same, append-nil octets) fed)
 
--- why it failed
+-- the reason of a failure
 pub fails_why : (f : FeedFault) (old new : Held) (piece : List ℕ) → FailsFrom f old new piece → (f ≡ feed_fault feed.Memory 0) ⊎ (new.fault ≡ Some f)
 fails_why f old new piece (inl (was, same)) = inr (ap (λ (h : Held). h.fault) same ∙ was)
 fails_why f old new piece (inr (inl (sound, (n, most, grew)))) = inr (ap (λ (h : Held). h.fault) grew)
 fails_why f old new piece (inr (inr (sound, memory, same, some, part))) = inl memory
 
--- where nothing is wrong and no whole entry is held, a part is
+-- without a fault and a whole entry, a part is held
 pub part_there : (h : Held) → IsHeld h → h.fault ≡ None → ((h.fault ≡ None) × IsWhole h.octets → ⊥) → IsPart h.octets
 part_there h held sound none =
     let with : IsHeldWith h None = subst (IsHeldWith h) sound held.1 in
@@ -114,14 +114,14 @@ part_there h held sound none =
       | inr whole ↦ absurd (none (sound, whole))
     ]
 
--- a stop that is not that of the writer is a fault
+-- a stop that is not the writer's is a fault
 pub is_fault : (stop : Stop) → stop ≢ stops.Write → (f : FeedFault) × (stop ≡ stops.Fault f)
 is_fault (stops.Fault f) other = (f, refl)
 is_fault stops.Write other = absurd (other refl)
 
--- ---- where it stops
+-- ---- why printing stops
 
--- why it stops: memory ran out, or something is wrong with what is held
+-- why printing stops: memory ran out, or the octets held have a fault
 abbrev pub IsWhy : FeedFault → Held → Type 0
 IsWhy f h = (f ≡ feed_fault feed.Memory 0) ⊎ (h.fault ≡ Some f)
 
@@ -134,7 +134,7 @@ stopped_read told piece n entries h f fed held why =
     by_why (inl memory) = rw memory (read_to_memory (told ++ take n piece) (drop n piece) entries h fed held)
     by_why (inr wrong) = read_to_fault (told ++ take n piece) (drop n piece) entries h f fed held wrong
 
--- no cut entry is why, nor a failed reader
+-- the reason is neither a cut entry nor a failed reader
 pub not_cut : (h : Held) (f : FeedFault) → IsHeld h → IsWhy f h → f.reason ≢ feed.CutRecord
 not_cut h f held (inl memory) is = let bad : feed.Memory ≡ feed.CutRecord = ap (λ (x : FeedFault). x.reason) (sym memory) ∙ is in cc
 not_cut h f held (inr wrong) is = (subst (IsHeldWith h) wrong held.1).3 is
@@ -156,7 +156,7 @@ nothing_shown h bad taken fresh fine = rw (fresh, fine) (record { fed = record {
 pub nothing_is_held : (h : Held) → h ≡ nothing_held → IsHeld h
 nothing_is_held h fresh = subst IsHeld (sym fresh) (omega arith, ((λ some. absurd (some refl)), inl tt))
 
--- so the reader failed as often as before
+-- the reader failed as often as before
 pub stopped_counts : (f : FeedFault) (h : Held) (old new : ℕ) → IsHeld h → IsWhy f h → new ≡ old → FailsOnlyByReader old new (Err f)
 stopped_counts f h old new held why same = ((λ read. absurd (not_read h f held why read)), (λ cut. same), inl same)
 
@@ -165,7 +165,7 @@ ended_counts f h old new (inl wrong) sound same = let bad : Some f ≡ None = sy
 ended_counts f h old new (inr (none, some, part, is)) sound same =
     ((λ read. let bad : feed.CutRecord ≡ feed.Read = ap (λ (x : FeedFault). x.reason) (sym is) ∙ read in cc), (λ cut. same), inl same)
 
--- what holds of each fault holds unless the writer failed
+-- a predicate for each fault holds unless the writer failed
 pub unless_write : (Holds : Result (Unit {0}) FeedFault → Type 0) (stop : Stop) → ((f : FeedFault) → stop ≡ stops.Fault f → Holds (Err f)) → UnlessWrite Holds (Err stop)
 unless_write Holds (stops.Fault f) holds = holds f refl
 unless_write Holds stops.Write holds = tt

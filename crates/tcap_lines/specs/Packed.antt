@@ -1,4 +1,4 @@
--- What a run makes of lines of hex digits.
+-- What does a run pack of lines of hexadecimal digits?
 use Rattle.std.specs.Prelude.{◌≡◌, ◌≢◌, ℕ, ◌⊎◌, List, Option}
 use Rattle.std.specs.Io.KnownBytes.{Appends, Consumes, IsAtEnd}
 use Rattle.tcap_ber.specs.Device.{one_more}
@@ -9,8 +9,8 @@ use Rattle.tcap_lines.specs.Shown.{feed_fault_line, memory_line}
 use Rattle.tcap_lines.specs.declared.status.Status.{Status}
 use Rattle.tcap_lines.specs.declared.status.Status.TheVariants as statuses
 
--- The lines that were told were packed up to a fault, whose line was written, or that memory ran out where there was
--- none for it; the reader failed where the fault says so.
+-- The lines read were packed up to a fault, and its line was written, or the memory line instead. The reader failed
+-- exactly if the fault is Read.
 pub record FailsToPack (told : List ℕ) (untold : Option (List ℕ)) (failures failures' : ℕ)
     (taken taken' said said' : Option (List ℕ)) : Type 0 where
   pub fault : FeedFault
@@ -21,7 +21,7 @@ pub record FailsToPack (told : List ℕ) (untold : Option (List ℕ)) (failures 
   pub line_is : (line ≡ feed_fault_line fault) ⊎ (line ≡ memory_line)
   pub says : Appends said said' line
 
--- All lines that the reader told, up to its end, were packed, and nothing was said of a fault.
+-- All lines of the reader, up to its end, were packed, and no fault line was written.
 pub record PacksAll (told : List ℕ) (untold : Option (List ℕ)) (failures failures' : ℕ)
     (taken taken' said said' : Option (List ℕ))
     : Type 0 where
@@ -31,6 +31,7 @@ pub record PacksAll (told : List ℕ) (untold : Option (List ℕ)) (failures fai
   pub sound : failures' ≡ failures
   pub says : said' ≡ said
 
+-- all lines were packed with status Fine, or up to a fault with status Fault
 abbrev pub PacksSo : List ℕ → Option (List ℕ) → ℕ → ℕ → Option (List ℕ) → Option (List ℕ) → Option (List ℕ)
     → Option (List ℕ)
     → Status → Type 0
@@ -41,7 +42,7 @@ PacksSo told untold failures failures' taken taken' said said' statuses.NotShown
 PacksSo told untold failures failures' taken taken' said said' statuses.Fault =
     FailsToPack told untold failures failures' taken taken' said said'
 
--- What the reader told was packed, or why not was said, and the status says which.
+-- The octets read were packed, or a fault line was written, and the status says which.
 abbrev pub PacksTold : Option (List ℕ) → Option (List ℕ) → ℕ → ℕ → Option (List ℕ) → Option (List ℕ) → Option (List ℕ)
     → Option (List ℕ) → Status → Type 0
 PacksTold untold untold' failures failures' taken taken' said said' status =

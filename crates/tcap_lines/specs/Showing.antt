@@ -1,4 +1,4 @@
--- How the lines of a record are written as its octets come.
+-- How are the lines of a record written as its octets come?
 use Rattle.std.specs.Prelude.{◌≡◌, ℕ, ⊤, Bool, List, ◌++◌, Option, Result, Ok, Err}
 use Rattle.std.specs.List.{list_any}
 use Rattle.std.specs.Io.KnownBytes.{Appends, Consumes}
@@ -11,22 +11,22 @@ use Rattle.tcap_lines.specs.Shown.{is_bad}
 use Rattle.tcap_lines.specs.declared.showing.Stop.{Stop}
 use Rattle.tcap_lines.specs.declared.showing.Stop.TheVariants as stops
 
--- The octets that were taken are these entries and what is held; the lines of the entries were written, and bad says
--- whether one of them is no message.
+-- The octets taken are these entries and the octets held. The lines of the entries were written, and `bad` says whether
+-- one of them is not a message.
 pub record ShownSoFar (told : List ℕ) (entries : List Entry) (held : Held) (bad : Bool)
     (taken taken' : Option (List ℕ)) : Type 0 where
   pub fed : Fed told entries held
   pub written : Appends taken taken' (lines_of entries)
   pub bad_is : bad ≡ list_any is_bad entries
 
--- Wherever it was so before some octets were taken, it is so behind them, of those entries and more.
+-- If `ShownSoFar` holds before these octets are taken, it holds after them, of those entries and perhaps more.
 abbrev pub Leads : Held → Bool → Option (List ℕ) → List ℕ → Held → Bool → Option (List ℕ) → Type 0
 Leads old_held old_bad old_taken octets held bad taken =
     (told : List ℕ) (entries : List Entry) (start : Option (List ℕ))
     → ShownSoFar told entries old_held old_bad start old_taken
     → (shown : List Entry) × ShownSoFar (told ++ octets) shown held bad start taken
 
--- What the reader told is these entries, whose lines were written, and this end behind them.
+-- The octets read are these entries, whose lines were written, and this end.
 pub record ShowsAll (untold untold' : Option (List ℕ)) (failures failures' : ℕ) (bad : Bool)
     (taken taken' : Option (List ℕ)) (end : Result (Unit {0}) FeedFault) : Type 0 where
   pub told : List ℕ
@@ -38,7 +38,7 @@ pub record ShowsAll (untold untold' : Option (List ℕ)) (failures failures' : �
   pub written : Appends taken taken' (lines_of entries)
   pub bad_is : bad ≡ list_any is_bad entries
 
--- how the record ended, unless the writer failed
+-- the predicate for the end of the record, unless the writer failed
 abbrev pub UnlessWrite : (Result (Unit {0}) FeedFault → Type 0) → Result (Unit {0}) Stop → Type 0
 UnlessWrite Holds (Ok x) = Holds (Ok tt)
 UnlessWrite Holds (Err (stops.Fault f)) = Holds (Err f)

@@ -1,4 +1,4 @@
--- What a run prints of a record.
+-- What does a run print of a record?
 use Rattle.std.specs.Prelude.{◌≡◌, ℕ, ◌⊎◌, Bool, true, false, List, [], ◌++◌, take, Option, Result, Ok, Err, codes, if◌then◌else◌}
 use Rattle.std.specs.List.{list_any}
 use Rattle.std.specs.Io.KnownBytes.{Appends, Consumes}
@@ -23,15 +23,16 @@ status_number statuses.Fault = 3
 abbrev pub feed_fault_line : FeedFault → List ℕ
 feed_fault_line fault = fault_line (feed_number_of fault.reason) fault.place
 
--- the line where memory ran out
+-- the line that is printed if memory runs out
 abbrev pub memory_line : List ℕ
 memory_line = codes "FAULT 99 0" ++ line_end
 
--- the last line, where the record has a fault
+-- the last line, if the record has a fault
 abbrev pub end_line : Result (Unit {0}) FeedFault → List ℕ
 end_line (Ok _) = []
 end_line (Err fault) = feed_fault_line fault
 
+-- the entry is not a message and not a quiet mark
 abbrev pub is_bad : Entry → Bool
 is_bad entry = is_bad_body entry.body
   where
@@ -40,21 +41,21 @@ is_bad entry = is_bad_body entry.body
     is_bad_body (Bad f) = true
     is_bad_body Quiet = false
 
--- whether there is a line of fault among the lines of the entries, or behind them
+-- there is a fault line among the lines of the entries, or after them
 abbrev pub has_fault : List Entry → Result (Unit {0}) FeedFault → Bool
 has_fault entries (Ok _) = list_any is_bad entries
 has_fault entries (Err fault) = true
 
--- What is printed of entries and the end behind them: their lines and the fault's; or, where memory ran
--- out, the lines of the first entries and its line.
+-- The text and the status for these entries and this end: their lines and the fault's. If memory ran out, the lines of
+-- the first entries and the memory line.
 abbrev pub Prints : List Entry → Result (Unit {0}) FeedFault → List ℕ → Status → Type 0
 Prints entries end text status =
     ((text ≡ lines_of entries ++ end_line end)
     × (status ≡ (if has_fault entries end then statuses.Fault else statuses.Fine)))
     ⊎ ((count : ℕ) × (text ≡ lines_of (take count entries) ++ memory_line) × (status ≡ statuses.Fault))
 
--- What the reader told is these entries and the end behind them, which is the reader's own end, or its
--- failure, where it says so; and what the writer took is what is printed of them.
+-- The octets read are these entries and this end, which agrees with the reader's own end or failure. The writer took
+-- what is printed of them.
 pub record Shows (untold untold' : Option (List ℕ)) (failures failures' : ℕ) (taken taken' : Option (List ℕ))
     (status : Status)
     : Type 0 where

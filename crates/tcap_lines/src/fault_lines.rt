@@ -10,10 +10,14 @@ use std::alloc::{AllocError, Global};
 use tcap_ber::Write;
 use tcap_record::{FeedFault, push_fault};
 
-/// The line where memory ran out.
+/// The line that is printed if memory runs out.
 pub const MEMORY_LINE: &str = "FAULT 99 0\n";
 
 /// Writes a line.
+///
+/// # Errors
+///
+/// `WriteFailed` if the writer fails.
 pub fn write_line<W: Write>(writer: &mut W, line: &[u8]) -> Result<(), WriteFailed>
     ensures line { OnOk result (Appends (W.taken writer.old) (W.taken writer.new) line.now) }
     ensures counts { OnOk result (W.failures writer.new ≡ W.failures writer.old) }
@@ -22,7 +26,11 @@ pub fn write_line<W: Write>(writer: &mut W, line: &[u8]) -> Result<(), WriteFail
     writer.write_all(line).map_err(|_| WriteFailed)
 }
 
-/// Writes the line of a fault of the record, or that memory ran out where there is none for it.
+/// Writes the line of a fault of the record, or [`MEMORY_LINE`] if memory runs out.
+///
+/// # Errors
+///
+/// `WriteFailed` if the writer fails.
 pub fn write_fault<W: Write>(
     alloc: Global,
     fault: FeedFault,

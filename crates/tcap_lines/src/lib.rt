@@ -1,4 +1,5 @@
-//! What `tcapjudge show` and `pack` do: a record as lines, and lines of digits as a record; the line of a fault, and how a run ends.
+//! The commands `tcapjudge show` and `tcapjudge pack`: printing a record as lines, and packing lines into a record.
+//! Also the line of a fault, and the status of a run.
 #![tactic(auto)]
 
 mod fault_lines;

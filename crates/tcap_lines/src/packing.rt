@@ -1,4 +1,4 @@
-//! Making a record of lines of hex digits.
+//! Packing lines of hexadecimal digits into a record.
 
 ghost use Rattle.std.specs.Prelude.{◌≡◌, IfOk, OnOk, OnErr, ◌⊎◌};
 ghost use Rattle.tcap_ber.specs.Device.{one_more};
@@ -10,9 +10,13 @@ use std::alloc::Global;
 use tcap_ber::{Read, Write};
 use tcap_record::{PackFault, pack};
 
-/// Writes the record that the lines of hex stand for which `reader` tells up to its end: see
-/// [`pack`](tcap_record::pack). The line of a fault goes to `faults`; the entries of the lines before it are written
-/// then. The status says whether there is one. `WriteFailed` where a writer failed in this call.
+/// Packs the lines of `reader` into a record, up to its end, as [`pack`](tcap_record::pack) does. If there is a fault,
+/// its line goes to `faults`, and the entries of the lines before it are written. Returns `Fault` if a fault line was
+/// written, else `Fine`.
+///
+/// # Errors
+///
+/// `WriteFailed` if a writer fails in this call.
 pub fn run_pack<R: Read, W: Write, F: Write>(
     alloc: Global,
     reader: &mut R,

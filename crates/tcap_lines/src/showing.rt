@@ -20,7 +20,7 @@ use std::alloc::{AllocError, Global};
 use tcap_ber::{Failed, Read, Write};
 use tcap_record::{BodyView, EntryView, FeedFault, FeedReason, Frames, PIECE_LEN, push_view};
 
-/// Why the lines of a record go no further.
+/// Why printing a record stops.
 #[derive(Clone, Copy, PartialEq, Eq)]
 enum Stop {
     /// The record has a fault, or memory ran out.
@@ -53,17 +53,17 @@ impl From<Failed> for Stop {
     }
 }
 
-/// What is shown of a record as its octets come.
+/// The state of printing a record in pieces.
 #[derive(Drop)]
 struct Showing {
     frames: Frames,
     // The lines of one entry.
     text: String,
-    // Whether an entry was no message.
+    // Whether an entry so far is not a message.
     bad: bool,
 }
 
-/// Writes the lines of the entry of that number, and answers whether it is bad.
+/// Writes the lines of the entry with this number. Returns whether it is bad, that is, not a message.
 #[inline(always)]
 fn show_entry<W: Write>(
     number: usize,
@@ -86,7 +86,7 @@ fn show_entry<W: Write>(
     Ok(is_bad)
 }
 
-/// Writes the lines of the entry at the front, where a whole one stands there, and answers whether it is bad.
+/// Writes the lines of the whole entry at the front. Returns whether it is bad, or `None` if there is no whole entry.
 #[inline(never)]
 fn show_front<W: Write>(
     frames: &Frames,
@@ -111,8 +111,8 @@ fn show_front<W: Write>(
 }
 
 impl Showing {
-    /// Takes the entries that stand whole one after the other at the front of `piece`, where nothing is held, writes
-    /// their lines, and answers how many octets they have.
+    /// Takes the whole entries at the front of `piece`, if no octets are held, and writes their lines. Returns the
+    /// number of octets taken.
     fn show_whole<W: Write>(&mut self, piece: &[u8], writer: &mut W) -> Result<usize, Stop>
         ensures most { IfOk result (λ n. n ≤ length piece.now) }
         ensures shows { IfOk result (λ n. Leads self.old.frames self.old.bad (W.taken writer.old)
@@ -139,8 +139,8 @@ impl Showing {
         }
     }
 
-    /// Takes octets of `piece` until a whole entry is held or the piece ends, writes the lines of the entries before
-    /// it, and answers how many were taken.
+    /// Takes octets of `piece` until a whole entry is held or the piece ends, and writes the lines of the entries
+    /// before it. Returns the number of octets taken.
     fn take_some<W: Write>(&mut self, piece: &[u8], writer: &mut W) -> Result<usize, Stop>
         ensures most { IfOk result (λ n. n ≤ length piece.now) }
         ensures sound { IfOk result (λ n. self.new.frames.fault ≡ None) }
@@ -163,7 +163,7 @@ impl Showing {
         Ok(passed + taken)
     }
 
-    /// Takes all octets of `piece`, up to a fault, and writes the lines of the entries that are whole then.
+    /// Takes all of `piece`, up to a fault, and writes the lines of the entries that are then whole.
     fn show_piece<W: Write>(&mut self, piece: &[u8], writer: &mut W) -> Result<(), Stop>
         ensures shows { result ≢ Err Stop.Write → (n : ℕ) × (n ≤ length piece.now)
             × (result ≡ Ok tt → n ≡ length piece.now)
@@ -189,7 +189,7 @@ impl Showing {
     }
 }
 
-/// Writes the lines of the entries of the record that `reader` tells up to its end, or to the first fault.
+/// Writes the lines of the record of `reader`, up to its end or the first fault.
 fn show_all<R: Read, W: Write>(
     showing: &mut Showing,
     reader: &mut R,
@@ -220,10 +220,15 @@ fn show_all<R: Read, W: Write>(
     }
 }
 
-/// Prints the entries of the record that `reader` tells up to its end, each as soon as its last octet was read, and the
-/// fault behind them where there is one. The status says whether a line of fault was printed. Where memory runs out,
-/// lines of the first entries are printed, whole ones, and its line. `WriteFailed` where the writer failed in this
-/// call. One entry is held at a time.
+/// Prints the entries of the record of `reader` up to its end, and then the record's fault, if it has one. Prints each
+/// entry as soon as its last octet is read, and holds one entry at a time.
+///
+/// Returns `Fault` if a fault line was printed, else `Fine`. If memory runs out, the lines of the first entries and
+/// [`MEMORY_LINE`](crate::MEMORY_LINE) are printed.
+///
+/// # Errors
+///
+/// `WriteFailed` if the writer fails in this call.
 pub fn run_show<R: Read, W: Write>(
     alloc: Global,
     reader: &mut R,

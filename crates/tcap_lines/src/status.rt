@@ -1,25 +1,25 @@
-//! How a run ended.
+//! The status of a run.
 
 ghost use Rattle.std.specs.Prelude.{◌≡◌};
 ghost use Rattle.tcap_lines.specs.Shown.{status_number};
 
 use thiserror::Error;
 
-/// How a run ended that printed all it had to.
+/// The status of a run that printed all that it had to.
 #[derive(Clone, Copy, Debug, PartialEq, Eq)]
 pub enum Status {
-    /// No line of fault was printed.
+    /// No fault line was printed.
     Fine,
-    /// An entry of the record is refuted; where both ends are asked about, one is blamed on an end.
+    /// An entry of the record is refuted or, if both ends are judged, blamed on an end.
     Refuted,
-    /// Nothing shows that the record is lawful, and no entry is refuted; where both ends are asked about, none is blamed on an end.
+    /// Nothing shows that the record is lawful, and no entry is refuted or, if both ends are judged, blamed on an end.
     NotShown,
-    /// A line of fault was printed.
+    /// A fault line was printed.
     Fault,
 }
 
 impl Status {
-    /// The exit status of the program: 0, 1, 2 or 3.
+    /// Returns the exit status of the program: 0, 1, 2 or 3.
     pub fn number(self) -> u8
         ensures { result ≡ status_number self }
     {
@@ -32,7 +32,7 @@ impl Status {
     }
 }
 
-/// A writer failed; what went out is not said.
+/// A failure of a writer. An unknown number of the first octets may have been written.
 #[derive(Clone, Copy, Debug, PartialEq, Eq, Error)]
 #[error("write failed")]
 pub struct WriteFailed;

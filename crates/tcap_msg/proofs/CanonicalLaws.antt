@@ -1,4 +1,4 @@
--- The canonical spelling of a message is such a spelling.
+-- The canonical spelling of a message is a spelling by the grammar.
 use Rattle.std.proofs.Common.{◌≡◌, ◌≢◌, ℕ, ◌%◌, List, [], ◌∷◌, Option, Some, None, refl, sym, ap, subst, ◌∙◌, inl, inr, arith}
 use Rattle.std.proofs.lemmas.List.{append-nil}
 use Rattle.tcap_ber.specs.Grammar.{Content, BeginsWith, SpellsOptional, required, optional, absent, ended, ◌⨾◌, ◌⨾▹◌}
@@ -24,7 +24,7 @@ use Rattle.tcap_msg.specs.Message.{unidirectional, begin, end_message, continue_
 use Rattle.tcap_msg.specs.Canonical.{canonical_cause, canonical_dialogue_portion, canonical_component_portion, canonical_content, canonical}
 use Rattle.tcap_msg.specs.Valid.{IsDialoguePortion, IsComponentPortion, IsAbortReason, IsMessage}
 
--- ---- what does not begin with a tag
+-- ---- octets that do not begin with a tag
 
 nil_begins : (other : ℕ) (octets : List ℕ) → (let a : Option (List ℕ) = Some [] in a) ≡ Some octets → BeginsWith other octets → ⊥
 nil_begins other octets e = subst (λ (x : List ℕ). BeginsWith other x → ⊥) (some_is [] octets e) (λ begins. begins)
@@ -52,7 +52,7 @@ components_spell : (cs : Option (List Component)) (octets : List ℕ) → IsComp
 components_spell None octets w e = (sym (some_is [] octets e), λ begins. begins)
 components_spell (Some cs) octets w e = element_around-spells 0x6C (portion.spells cs) (canonical_portion cs) octets (omega arith) (λ content k. canonical_portion_spells cs content w k) e
 
--- a transaction ID, and what stands behind it
+-- a transaction ID, and the parts after it
 id_then : {V : Type 0} (tag : ℕ) (id : List ℕ) (others : Content V) (v : V) (behind : Option (List ℕ)) (octets : List ℕ) → tag % 32 ≢ 31 → IsTransactionId id
     → ((rest : List ℕ) → behind ≡ Some rest → others.spells v rest) → element_around tag (Some id) ⧺ behind ≡ Some octets → (required tag transaction_id ⨾ others).spells (id, v) octets
 id_then tag id others v behind octets short w are_others e =
@@ -68,7 +68,7 @@ portions_spell d cs octets w v e =
     (λ front rest k l. dialogue_spells d front rest w (components_begin cs rest l) k)
     (λ rest l. last-spells (optional 0x6C portion) cs rest (components_spell cs rest v l)) e
 
--- a P-Abort cause, or a dialogue portion, or none of both
+-- a P-Abort cause, or a dialogue portion, or neither
 reason_spells : (reason : Option AbortReason) (octets : List ℕ) → IsAbortReason reason → canonical_cause (reason_cause reason) ⧺ canonical_dialogue_portion (reason_dialogue reason) ≡ Some octets
     → (optional 0x4A small ⨾▹ λ cause. unless_cause cause ⨾ ended).spells (reason_cause reason, (reason_dialogue reason, tt)) octets
 reason_spells None octets w e =
@@ -89,7 +89,7 @@ reason_made None = refl
 reason_made (Some (reasons.Cause cause)) = refl
 reason_made (Some (reasons.Dialogue d)) = refl
 
--- ---- contents, without the parts that are not there
+-- ---- contents, without absent parts
 
 abbrev nothing : Option (List ℕ)
 nothing = Some []

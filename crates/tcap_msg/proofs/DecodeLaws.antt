@@ -1,4 +1,4 @@
--- What exact reading means for a view and for a value.
+-- What exact reading means for views and for owned values.
 use Rattle.std.proofs.Common.{◌≡◌, ◌≢◌, ℕ, List, ◌++◌, length, Result, Ok, Err, sym, ap, subst, ◌∙◌}
 use Rattle.std.specs.Prelude.{IfOk, IfErr, IsOkAnd, ◌↔◌}
 use Rattle.tcap_ber.specs.declared.fault.Fault.{Fault}

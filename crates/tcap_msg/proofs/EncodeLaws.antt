@@ -1,4 +1,4 @@
--- Whether a message can be written, by the length of its content.
+-- The length of a message's content decides whether the message can be written.
 use Rattle.std.proofs.Common.{◌≡◌, ℕ, ◌<◌, ◌≤◌, List, length, Option, Some, None, Result, Ok, Err, refl, ap, arith}
 use Rattle.std.specs.Option.{option_map, IsSome}
 use Rattle.std.specs.Result.{IsErrAnd}
@@ -12,12 +12,12 @@ use Rattle.tcap_msg.specs.Parts.{kind_in}
 use Rattle.tcap_msg.specs.Canonical.{message_tag, canonical_content, canonical}
 use Rattle.tcap_msg.specs.Encoding.{IsEncoded}
 
--- a content that has a length
+-- a content with a length exists
 pub content_there : (x : Option (List ℕ)) (n : ℕ) → Some n ≡ option_map length x → IsSome x
 content_there None n len = absurd cc
 content_there (Some content) n len = refl
 
--- a content that is not there
+-- without a content there is no message
 pub none_inside : (m : Message) → None ≡ option_map length (canonical_content m) → canonical m ≡ None
 none_inside m none = ap (element_around (message_tag (kind_in m))) (no_len (canonical_content m) none)
 
@@ -37,7 +37,7 @@ around_fits tag n (Some content) len within = (_, around_short tag content (omeg
 pub fits : (m : Message) (n : ℕ) → Some n ≡ option_map length (canonical_content m) → n ≤ 65535 → (octets : List ℕ) × (canonical m ≡ Some octets)
 fits m n len within = around_fits (message_tag (kind_in m)) n (canonical_content m) len within
 
--- a message that can be written, and a writer that failed
+-- the writer failed, for a message within the limit
 pub write_failed : (m : Message) (n : ℕ) (old new : Option (List ℕ)) (failed fails : ℕ) (r : Result (Unit {0}) EncodeFault) → Some n ≡ option_map length (canonical_content m)
     → n ≤ 65535 → fails ≡ one_more failed → IsErrAnd r (λ fault. fault ≡ Write) → IsEncoded (canonical m) old new failed fails r
 write_failed m n old new failed fails (Ok _) len within counts is = absurd is

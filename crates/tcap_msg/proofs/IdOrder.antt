@@ -1,4 +1,4 @@
--- Transaction IDs are ordered by their keys as by their octets.
+-- The keys of transaction IDs order them as their octets do.
 use Rattle.std.proofs.Common.{◌≡◌, ℕ, zero, suc, ◌+◌, ◌*◌, ◌<◌, ◌≤◌, List, [], ◌∷◌, All, length, get_or, take, drop, subst, sym, ap, ◌∙◌, nat_eq, arith, length-take-le, Ordering, Less, Equal, Greater}
 use Rattle.std.specs.Prelude.{replicate, ◌-◌}
 use Rattle.std.specs.Ordering.{is_eq, nat_cmp, ordering_then, MatchOrdering}
@@ -16,7 +16,7 @@ head_of x xs are = are 0 0 (omega arith)
 rest_of : (x : ℕ) (xs : List ℕ) → AreOctets (x ∷ xs) → AreOctets xs
 rest_of x xs are k d less = are (suc k) d (omega arith)
 
--- what is behind greater octets is greater
+-- a greater number stays greater with more octets after it
 pub rises : (k p q : ℕ) (xs ys : List ℕ) → AreOctets xs → p < q → filled k p xs < filled k q ys
 unfolding filled
 rises zero p q xs ys are less = less
@@ -29,14 +29,14 @@ rises (suc k) p q (x ∷ xs) (y ∷ ys) are less =
     let b : x < 256 = head_of x xs are in
     rises k (p * 256 + x) (q * 256 + y) xs ys (rest_of x xs are) (omega arith)
 
--- none are no more than some
+-- no octets are at most some octets
 pub falls : (k p q : ℕ) (ys : List ℕ) → p ≤ q → filled k p [] ≤ filled k q ys
 unfolding filled
 falls zero p q ys h = h
 falls (suc k) p q [] h = falls k (p * 256) (q * 256) [] (omega arith)
 falls (suc k) p q (y ∷ ys) h = falls k (p * 256) (q * 256 + y) ys (omega arith)
 
--- numbers of octets, with a count behind each, are ordered so
+-- numbers with a count after each have this order
 abbrev pub Ranks : Ordering → ℕ → ℕ → ℕ → ℕ → Type 0
 Ranks o p i q j = MatchOrdering o (p * 256 + i < q * 256 + j) (p * 256 + i ≡ q * 256 + j) (q * 256 + j < p * 256 + i)
 
@@ -53,7 +53,7 @@ by_first k p i j x y xs ys Greater h xo yo a b ih =
 by_first k p i j x y xs ys Equal h xo yo a b ih =
     subst (λ z. Ranks (slice_cmp nat_cmp xs ys) (filled k (p * 256 + x) xs) i (filled k (p * 256 + z) ys) j) h ih
 
--- octets and then their count are ordered as the octets are
+-- octets and then their count have the order of the octets
 ordered : (k p i j : ℕ) (xs ys : List ℕ) → length xs ≤ k → length ys ≤ k → AreOctets xs → AreOctets ys
     → i + length ys ≡ j + length xs → i < 256 → j < 256 → Ranks (slice_cmp nat_cmp xs ys) (filled k p xs) i (filled k p ys) j
 unfolding filled
@@ -71,20 +71,20 @@ ordered zero p i j (x ∷ xs) [] lx ly xo yo e a b = omega arith
 ordered zero p i j (x ∷ xs) (y ∷ ys) lx ly xo yo e a b = let no : ⊥ = omega arith in absurd no
 ordered zero p i j [] (y ∷ ys) lx ly xo yo e a b = omega arith
 
--- IDs are ordered by their keys
+-- keys have the order of the IDs
 pub keys_ordered : (xs ys : List ℕ) → IsTransactionId xs → IsTransactionId ys → AreOctets xs → AreOctets ys
     → slice_cmp nat_cmp xs ys ≡ nat_cmp (key xs) (key ys)
 unfolding key
 keys_ordered xs ys x y xo yo = nat_cmp_is (key xs) (key ys) (slice_cmp nat_cmp xs ys)
     (ordered 4 0 (length xs) (length ys) xs ys x.1 y.1 xo yo (omega arith) (omega arith) (omega arith))
 
--- and told apart by them
+-- keys are equal if the IDs are
 pub keys_equal : (xs ys : List ℕ) → IsTransactionId xs → IsTransactionId ys → AreOctets xs → AreOctets ys
     → nat_eq (key xs) (key ys) ≡ pointwise nat_eq xs ys
 keys_equal xs ys x y xo yo =
     unsigned_ties (key xs) (key ys) ∙ ap is_eq (sym (keys_ordered xs ys x y xo yo)) ∙ sym (texts_ties xs ys)
 
--- the key of the octets that are kept, with noughts behind those of the ID
+-- the key of octets padded with zeros is that of the ID
 pub padded_key : (kept : List ℕ) (n : ℕ) → length kept ≡ 4 → (0 < n) × (n ≤ 4) × (drop n kept ≡ replicate (4 - n) 0)
     → (((get_or kept 0 0 * 256 + get_or kept 1 0) * 256 + get_or kept 2 0) * 256 + get_or kept 3 0) * 256 + n ≡ key (take n kept)
 unfolding filled key
@@ -100,7 +100,7 @@ padded_key (a ∷ b ∷ []) n l h = grind arith
 padded_key (a ∷ b ∷ c ∷ []) n l h = grind arith
 padded_key (a ∷ b ∷ c ∷ d ∷ x ∷ xs) n l h = grind arith
 
--- and they are octets
+-- the kept numbers are octets
 pub four_octets : (kept : List ℕ) → length kept ≡ 4
     → (get_or kept 0 0 < 256) × (get_or kept 1 0 < 256) × (get_or kept 2 0 < 256) × (get_or kept 3 0 < 256) → AreOctets kept
 four_octets (a ∷ b ∷ c ∷ d ∷ []) l h zero z k = h.0

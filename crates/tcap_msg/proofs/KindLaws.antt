@@ -1,5 +1,4 @@
--- Messages of each kind are read exactly: what is read is spelled so, what is spelled so is read, what is
--- refused is faulty there, and what is faulty there is refused by that fault.
+-- The reader of each kind of message is exact, in the sense of `Reads` in tcap_ber.
 use Rattle.std.proofs.Common.{◌≡◌, ℕ, true, false, List, length, Option, Some, None, Ok, Err, sym, ap, ◌∙◌, inl, inr, arith}
 use Rattle.std.specs.Prelude.{nat_lt}
 use Rattle.std.proofs.lemmas.Bool.{ltb-true, lt-ltb, and_parts, and_from, false_from_ne_true}
@@ -86,7 +85,7 @@ reads_component_portion : ReadsField (optional 0x6C portion) component_portion_a
 unfolding component_portion_at
 reads_component_portion = reads_optional 0x6C portion portion_at reads_portion
 
--- a dialogue portion and a component portion, which are all of what is left
+-- a dialogue portion and a component portion, which are the rest of the structure
 reads_portions : {V : Type 0} (make : Option Dialogue × (Option (List Component) × Unit {0}) → V)
     → ReadsContent (optional 0x6B dialogue ⨾ optional 0x6C portion ⨾ ended) make (λ s. dialogue_portion_at s >>= λ d. component_portion_at d.1 >>= λ c. end_at (make (d.0, (c.0, tt))) c.1)
 reads_portions make =

@@ -1,5 +1,5 @@
--- Messages are read exactly, what is faulty is refused by that one fault, and what is refused is refused
--- for ever.
+-- Messages are read exactly: a fault is returned if and only if it is there. Refused octets stay refused, unless they
+-- were cut.
 use Rattle.std.proofs.Common.{◌≡◌, ◌≢◌, ℕ, List, ◌++◌, length, take, Result, Ok, Err, refl, sym, ap, subst, ◌∙◌, inl, inr, arith, append_assoc}
 use Rattle.std.proofs.lemmas.List.{take_at, length-append}
 use Rattle.tcap_ber.specs.declared.fault.Fault.{Fault}
@@ -21,14 +21,13 @@ use Rattle.tcap_msg.specs.Message.{Spells, message, whole, IsFaulty, BeginsNoMes
 use Rattle.tcap_msg.specs.Reading.{message_in, with_len, in_outer, message_at}
 use Rattle.tcap_msg.proofs.KindLaws.{reads_message}
 
--- a chain goes on from what its first part answered
+-- the next step of a chain, after the value of the first
 chained : {A B : Type 0} (r : Result A Fault) (x : A) (f : A → Result B Fault) (y : Result B Fault) → r ≡ Ok x → f x ≡ y → (r >>= f) ≡ y
 chained r x f y e h = ap (λ q. q >>= f) e ∙ h
 
 chained_err : {A B : Type 0} (r : Result A Fault) (f : A → Result B Fault) (g : Fault) → r ≡ Err g → (r >>= f) ≡ Err g
 chained_err r f g e = ap (λ q. q >>= f) e
 
--- the count comes to the message that was read
 counted : (r : Result (Message × Span) Fault) (n : ℕ) (x : Message × ℕ) → (r >>= with_len n) ≡ Ok x
     → (rest : Span) × (r ≡ Ok (x.0, rest)) × (x.1 ≡ n)
 counted r n x e =
@@ -93,7 +92,7 @@ message_refused octets f e =
           ]
         ]
 
--- octets that end before their outer element does are refused as cut
+-- octets that end before their outer element does are Cut
 cut_stops : (octets : List ℕ) → IsUnfinished octets → message_at octets ≡ Err (fault reasons.Cut (length octets))
 unfolding message_at
 cut_stops octets u = of_outer (outer_at octets) refl
@@ -105,7 +104,7 @@ cut_stops octets u = of_outer (outer_at octets) refl
         let here = outer_whole octets n e in
         absurd (u.no_element here.tag here.content here.element here.rest here.is_element here.joined)
 
--- what is wrong where a message is required is answered where a whole element begins the octets
+-- if a whole element begins the octets, a fault of the message is returned
 element_stops : (octets : List ℕ) (f : Fault) (tag content element rest : List ℕ) → IsElement tag content element → octets ≡ element ++ rest
     → message.faulty (whole octets) f.reason f.place → message_at octets ≡ Err f
 unfolding message_at
@@ -113,20 +112,20 @@ element_stops octets f tag content element rest e joined wrong =
     chained (outer_at octets) (Whole (length element)) (in_outer octets) (Err f) (ap outer_at joined ∙ outer_of_element tag content element rest e)
     (chained_err (message_in (whole octets)) (with_len (length element)) f (reads_message.stops (whole octets) f wrong))
 
--- what is faulty is refused by that very fault
+-- a fault of the octets is returned
 pub message_stops : (octets : List ℕ) (f : Fault) → IsFaulty octets f.reason f.place → message_at octets ≡ Err f
 unfolding message_at
 message_stops octets f (inl h) = cut_stops octets h.2 ∙ refused_by f reasons.Cut (length octets) h.0 h.1
 message_stops octets f (inr (inl h)) = chained_err (outer_at octets) (in_outer octets) f (outer_refused octets f.reason f.place h)
 message_stops octets f (inr (inr h)) = element_stops octets f h.tag h.content h.octets h.rest h.is_element h.joined (inr (inr h))
 
--- octets have one fault at most
+-- octets have at most one fault
 pub one_fault : (octets : List ℕ) (f g : Fault) → IsFaulty octets f.reason f.place → IsFaulty octets g.reason g.place → f ≡ g
 one_fault octets f g a b = err_is {A = Message × ℕ} f g (sym (message_stops octets f a) ∙ message_stops octets g b)
 
--- ---- for ever
+-- ---- refused octets stay refused
 
--- two elements that begin the same octets are one
+-- two elements that begin the same octets are equal
 pub one_element : (tag content element rest tag' content' element' rest' : List ℕ) → IsElement tag content element → IsElement tag' content' element'
     → element ++ rest ≡ element' ++ rest' → element ≡ element'
 one_element tag content element rest tag' content' element' rest' e e' same =
@@ -134,24 +133,24 @@ one_element tag content element rest tag' content' element' rest' e e' same =
     (sym (outer_of_element tag content element rest e) ∙ ap outer_at same ∙ outer_of_element tag' content' element' rest' e')) in
     sym (take_at element rest (length element) refl) ∙ ap (take (length element)) same ∙ take_at element' rest' (length element) (sym len)
 
--- no element begins octets with which something is wrong
+-- no element begins octets with a walk fault
 no_element_there : (octets front rest : List ℕ) (m : Message) (f : Fault) → IsWalkFault octets f.reason f.place → Spells m front → octets ≡ front ++ rest → ⊥
 no_element_there octets front rest m f wrong spelled joined =
     let refused = outer_refused octets f.reason f.place wrong in
     let whole_one = ap outer_at joined ∙ outer_of_element spelled.tag spelled.content front rest spelled.is_element in
     ok_not_err (Whole (length front)) (fault f.reason f.place) (sym whole_one ∙ refused)
 
--- what is refused begins with no message
+-- refused octets begin with no message
 pub begins_no_message : (octets : List ℕ) (f : Fault) → message_at octets ≡ Err f → BeginsNoMessage octets
 begins_no_message octets f e m front rest spelled joined =
     ok_not_err (m, length front) f (sym (ap message_at joined ∙ message_complete m front rest spelled) ∙ e)
 
--- no beginning of it does either
+-- no front of refused octets begins with a message
 cut_off : (octets : List ℕ) (f : Fault) → message_at octets ≡ Err f → (front rest : List ℕ) → octets ≡ front ++ rest → BeginsNoMessage front
 cut_off octets f e front rest joined m first others spelled here =
     begins_no_message octets f e m first (others ++ rest) spelled (joined ∙ ap (λ (x : List ℕ). x ++ rest) here ∙ append_assoc first others rest)
 
--- and what is refused, but not as cut, is refused whatever comes behind
+-- unless they were cut, refused octets stay refused, no matter what follows
 pub never_message : (octets : List ℕ) (f : Fault) → message_at octets ≡ Err f → f.reason ≢ reasons.Cut → IsNeverMessage octets
 unfolding message_at
 never_message octets f e other = record {

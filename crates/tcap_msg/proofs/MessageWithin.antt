@@ -1,4 +1,4 @@
--- The place of a fault of a message lies within the octets, or right behind them.
+-- The place of a fault of a message is among the octets or at their end.
 use Rattle.std.proofs.Common.{ℕ, ◌≤◌, List, length, Option, Some, None, inl, inr, arith}
 use Rattle.tcap_ber.specs.declared.fault.Reason.{Reason}
 use Rattle.tcap_ber.specs.declared.fault.Reason.TheVariants.{UnexpectedTag}
@@ -22,7 +22,7 @@ id_within at s reason place before h = omega (arith, h.2, before)
 dialogue_portion_within : FieldWithin (optional 0x6B dialogue)
 dialogue_portion_within = optional_within 0x6B dialogue dialogue_within
 
--- a dialogue portion and a component portion, which are all of what is left
+-- a dialogue portion and a component portion, which are the rest of the structure
 portions_within : ContentWithin (optional 0x6B dialogue ⨾ optional 0x6C portion ⨾ ended)
 portions_within =
     then_within (optional 0x6B dialogue) (optional 0x6C portion ⨾ ended) dialogue_portion_within

@@ -1,4 +1,4 @@
--- Octets spell at most one message, and no spelling begins another.
+-- Octets spell at most one message, and no spelling is the beginning of another.
 use Rattle.std.proofs.Common.{◌≡◌, ℕ, List, [], ◌++◌, length, refl, sym, ap, ◌∙◌, arith}
 use Rattle.std.proofs.lemmas.List.{append-nil, length-append, nil_from_length}
 use Rattle.tcap_ber.proofs.Steps.{ok_is}
@@ -7,7 +7,7 @@ use Rattle.tcap_msg.specs.Message.{Spells}
 use Rattle.tcap_msg.specs.Reading.{message_at}
 use Rattle.tcap_msg.proofs.MessageLaws.{message_complete}
 
--- two messages at the front of the same octets are one
+-- two messages at the front of the same octets are equal
 pub same_reading : (m m' : Message) (front rest front' rest' : List ℕ) → Spells m front → Spells m' front' → front ++ rest ≡ front' ++ rest' → (m ≡ m') × (length front ≡ length front')
 same_reading m m' front rest front' rest' s s' e =
     let same : (m, length front) ≡ (m', length front') =

@@ -1,12 +1,12 @@
--- What encoding does to a writer.
+-- What does encoding do to a writer?
 use Rattle.std.specs.Prelude.{◌≡◌, ℕ, List, Option, Some, None, Result, Ok, Err}
 use Rattle.std.specs.Io.KnownBytes.{Appends, Keeps}
 use Rattle.tcap_ber.specs.Device.{one_more}
 use Rattle.tcap_msg.specs.declared.encode_message.EncodeFault.{EncodeFault}
 use Rattle.tcap_msg.specs.declared.encode_message.EncodeFault.TheVariants.{TooLong, Write}
 
--- what encoding octets does to a writer: they were all written, or nothing was where there are none, or
--- the writer failed
+-- Encoding writes all octets of the spelling, or nothing if there is no spelling (TooLong), or the writer fails
+-- (Write).
 abbrev pub IsEncoded : Option (List ℕ) → Option (List ℕ) → Option (List ℕ) → ℕ → ℕ → Result (Unit {0}) EncodeFault
     → Type 0
 IsEncoded spelling old new failed fails (Ok _) =

@@ -1,4 +1,4 @@
--- What views of messages stand for.
+-- Which values do views of messages hold?
 use Rattle.std.specs.Prelude.{ℕ, List, Option}
 use Rattle.std.specs.Option.{option_map}
 use Rattle.tcap_ber.specs.declared.small_numbers.SmallView.{SmallView}
@@ -14,20 +14,20 @@ use Rattle.tcap_msg.specs.declared.views.AbortReasonView.TheVariants as reasons
 use Rattle.tcap_msg.specs.declared.views.MessageView.{MessageView}
 use Rattle.tcap_msg.specs.declared.views.MessageView.TheVariants as views
 
--- the transaction ID that a view lends, where there is one
+-- the transaction ID of a view, if there is one
 abbrev pub id_of : Option TransactionIdView → Option (List ℕ)
 id_of id = option_map (λ view. view.octets.now) id
 
--- the P-Abort cause that a view holds, where there is one
+-- the P-Abort cause of a view, if there is one
 abbrev pub cause_of : Option SmallView → Option ℕ
 cause_of number = option_map (λ view. view.number) number
 
--- the reason of an Abort that a view lends
+-- the reason of an Abort in a view
 abbrev pub reason_of : AbortReasonView → AbortReason
 reason_of (reasons.Cause cause) = owned_reasons.Cause cause.number
 reason_of (reasons.Dialogue dialogue) = owned_reasons.Dialogue (dialogue_of dialogue)
 
--- the message that a view lends
+-- the message of a view
 abbrev pub message_of : MessageView → Message
 message_of (views.Unidirectional dialogue components) = owned.Unidirectional (option_map dialogue_of dialogue)
     (components_of components)

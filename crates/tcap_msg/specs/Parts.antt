@@ -1,4 +1,4 @@
--- The parts of a message, each where it has it (Q.773 4.2.1).
+-- Which parts does a message have (Q.773 4.2.1)?
 use Rattle.std.specs.Prelude.{ℕ, List, [], Option, Some, None}
 use Rattle.tcap_parts.specs.declared.component.Component.{Component}
 use Rattle.tcap_parts.specs.declared.dialogue.Dialogue.{Dialogue}
@@ -9,6 +9,7 @@ use Rattle.tcap_msg.specs.declared.message.AbortReason.TheVariants as reasons
 use Rattle.tcap_msg.specs.declared.message.Message.{Message}
 use Rattle.tcap_msg.specs.declared.message.Message.TheVariants.{Unidirectional, Begin, Continue, End, Abort}
 
+-- the kind of a message
 abbrev pub kind_in : Message → Kind
 kind_in (Unidirectional dialogue components) = kinds.Unidirectional
 kind_in (Begin otid dialogue components) = kinds.Begin
@@ -70,6 +71,6 @@ abbrev pub items_of : Option (List Component) → List Component
 items_of None = []
 items_of (Some components) = components
 
--- the components, none where there is no component portion
+-- the components, none if there is no component portion
 abbrev pub components_in : Message → List Component
 components_in m = items_of (portion_in m)

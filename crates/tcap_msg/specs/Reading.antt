@@ -1,4 +1,4 @@
--- Reading messages from left to right, up to the first fault.
+-- What does reading a message from left to right return, up to the first fault?
 use Rattle.std.specs.Prelude.{ℕ, List, length, Option, Some, None, Result, Ok, Err}
 use Rattle.tcap_ber.specs.declared.fault.Fault.{Fault}
 use Rattle.tcap_ber.specs.declared.fault.Reason.TheVariants.{Cut, UnexpectedTag}
@@ -27,7 +27,7 @@ cause_at s = optional_at 0x4A small_at s
 unfoldable pub dialogue_portion_at : Span → Result (Option Dialogue × Span) Fault
 dialogue_portion_at s = optional_at 0x6B (λ e. dialogue_at e.content) s
 
--- the dialogue portion of an Abort, which is there only where no P-Abort cause is
+-- the dialogue portion of an Abort, which is absent if there is a P-Abort cause
 unfoldable pub unless_cause_at : Option ℕ → Span → Result (Option Dialogue × Span) Fault
 unless_cause_at None s = dialogue_portion_at s
 unless_cause_at (Some cause) s = absent_at s
@@ -73,7 +73,7 @@ abort_at s = do
   dialogue ← unless_cause_at cause.0 cause.1
   end_at (Abort dtid.0 (make_reason cause.0 dialogue.0)) dialogue.1
 
--- the message that an element is, by its tag
+-- the element as a message, by its tag
 abbrev pub message_of_element : Element → Result Message Fault
 message_of_element =
     tagged_at 0x61 (λ e. unidirectional_at e.content)
@@ -87,15 +87,15 @@ message_of_element =
 unfoldable pub message_in : Span → Result (Message × Span) Fault
 message_in s = one_of_at message_of_element s
 
--- the message, and the count of its octets
+-- the message, and its length in octets
 abbrev pub with_len : ℕ → Message × Span → Result (Message × ℕ) Fault
 with_len n found = Ok (found.0, n)
 
--- the message in the octets, where their outer element is whole
+-- the message in the octets, or Cut if their outer element is incomplete
 abbrev pub in_outer : List ℕ → Outer → Result (Message × ℕ) Fault
 in_outer octets (Need n) = Err (fault Cut (length octets))
 in_outer octets (Whole n) = message_in (whole octets) >>= with_len n
 
--- the message at the front, and the count of its octets
+-- the message at the front, and its length in octets
 unfoldable pub message_at : List ℕ → Result (Message × ℕ) Fault
 message_at octets = outer_at octets >>= in_outer octets

@@ -1,4 +1,4 @@
--- What a value of the type holds.
+-- Which values of the types are valid?
 use Rattle.std.specs.Prelude.{◌<◌, List, Option, Some, None}
 use Rattle.tcap_parts.specs.declared.component.Component.{Component}
 use Rattle.tcap_parts.specs.declared.dialogue.Dialogue.{Dialogue}
@@ -10,20 +10,23 @@ use Rattle.tcap_msg.specs.declared.message.Message.{Message}
 use Rattle.tcap_msg.specs.declared.message.Message.TheVariants.{Unidirectional, Begin, Continue, End, Abort}
 use Rattle.tcap_msg.specs.TransactionId.{IsTransactionId}
 
+-- a dialogue portion, if there is one, is a valid PDU
 abbrev pub IsDialoguePortion : Option Dialogue → Type 0
 IsDialoguePortion None = Unit {0}
 IsDialoguePortion (Some dialogue) = IsDialogue dialogue
 
--- components, at least one, where there is a portion
+-- a component portion, if there is one, is valid components, at least one
 abbrev pub IsComponentPortion : Option (List Component) → Type 0
 IsComponentPortion None = Unit {0}
 IsComponentPortion (Some components) = IsPortion components
 
+-- the reason of an Abort, if there is one, is a number from 0 to 127 or a valid PDU
 abbrev pub IsAbortReason : Option AbortReason → Type 0
 IsAbortReason None = Unit {0}
 IsAbortReason (Some (reasons.Cause cause)) = cause < 128
 IsAbortReason (Some (reasons.Dialogue dialogue)) = IsDialogue dialogue
 
+-- each part of the message is valid
 abbrev pub IsMessage : Message → Type 0
 IsMessage (Unidirectional dialogue components) = IsDialoguePortion dialogue × IsPortion components
 IsMessage (Begin otid dialogue components) = IsTransactionId otid × IsDialoguePortion dialogue

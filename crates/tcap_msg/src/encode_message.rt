@@ -1,5 +1,8 @@
-//! Messages as they are written: with the shortest definite lengths, the protocol version as 80 02 07 80, parameters
-//! and user information verbatim.
+//! Writing messages with the shortest definite lengths, the protocol version 80 02 07 80, and parameters and user
+//! information verbatim.
+//!
+//! A `len_` function returns a length in octets. If a content has more than 65,535 octets, it returns `None`. A
+//! `write_` function returns `Failed` if the writer fails.
 
 ghost use Rattle.std.specs.Prelude.{◌+◌, ◌≡◌, ◌≢◌, ℕ, ◌≤◌, ◌↔◌, List, length, Some, None, Err, IfSome, OnOk};
 ghost use Rattle.tcap_ber.specs.Element.{content_limit, shortest_header_limit};
@@ -31,9 +34,9 @@ use tcap_parts::{
 /// Why a message was not written.
 #[derive(Clone, Copy, Debug, PartialEq, Eq)]
 pub enum EncodeFault {
-    /// A content would be over 65,535 octets; nothing was written.
+    /// A content would have more than 65,535 octets. Nothing was written.
     TooLong,
-    /// The writer failed in this call; how many octets went out is not said.
+    /// The writer failed in this call. An unknown number of the first octets may have been written.
     Write,
 }
 
@@ -45,7 +48,7 @@ impl From<Failed> for EncodeFault {
     }
 }
 
-/// The count of octets of a transaction ID, 0 where there is none.
+/// Returns the length of a transaction ID, 0 if there is none.
 fn len_id(id: Option<TransactionIdView>) -> usize
     ensures exact { (tag : ℕ) → option_map length (canonical_id tag (id_of id.entry)) ≡ Some result }
     ensures most { result ≤ 6 }
@@ -56,7 +59,7 @@ fn len_id(id: Option<TransactionIdView>) -> usize
     }
 }
 
-/// The count of octets of a P-Abort cause, 0 where there is none.
+/// Returns the length of a P-Abort cause, 0 if there is none.
 fn len_cause(cause: Option<SmallView>) -> usize
     ensures exact { option_map length (canonical_cause (cause_of cause)) ≡ Some result }
     ensures most { result ≤ 3 }
@@ -67,8 +70,7 @@ fn len_cause(cause: Option<SmallView>) -> usize
     }
 }
 
-/// The count of octets of a dialogue portion, 0 where there is none; `None` exactly where a content is over 65,535
-/// octets.
+/// Returns the length of a dialogue portion, 0 if there is none.
 fn len_dialogue_portion(dialogue: Option<DialogueView>) -> Option<usize>
     ensures exact { result ≡ option_map length (canonical_dialogue_portion (option_map dialogue_of dialogue.entry)) }
     ensures most { IfSome result (λ n. n ≤ content_limit + shortest_header_limit) }
@@ -79,8 +81,7 @@ fn len_dialogue_portion(dialogue: Option<DialogueView>) -> Option<usize>
     }
 }
 
-/// The count of octets of a component portion, 0 where there is none; `None` exactly where a content is over 65,535
-/// octets.
+/// Returns the length of a component portion, 0 if there is none.
 fn len_component_portion(components: Option<PortionView>) -> Option<usize>
     ensures exact { result ≡ option_map length
         (canonical_component_portion (option_map components_of components.entry)) }
@@ -92,7 +93,7 @@ fn len_component_portion(components: Option<PortionView>) -> Option<usize>
     }
 }
 
-/// The count of octets of a message's content; `None` exactly where a content inside is over 65,535 octets.
+/// Returns the length of a message's content.
 fn len_content(message: MessageView) -> Option<usize>
     ensures { result ≡ option_map length (canonical_content (message_of message.entry)) }
 {
@@ -102,15 +103,15 @@ fn len_content(message: MessageView) -> Option<usize>
     Some(front + portions + len_component_portion(message.its_portion())?)
 }
 
-/// The count of octets of the message as [`encode`] writes it; `None` exactly where a content is over
-/// 65,535 octets. It takes no memory.
+/// Returns the length in octets of the message as [`encode`] writes it. `None` if a content has more than 65,535
+/// octets. It does not allocate.
 pub fn encoded_len(message: &Message) -> Option<usize>
     ensures { result ≡ option_map length (canonical message.now) }
 {
     element_len(len_content(message.view())?)
 }
 
-/// Writes a transaction ID under this tag, where there is one. `Failed` where the writer failed.
+/// Writes a transaction ID with this tag, if there is one.
 fn write_id<W: Write>(tag: u8, id: Option<TransactionIdView>, writer: &mut W) -> Result<(), Failed>
     ensures ok { OnOk result (Written (canonical_id tag (id_of id.entry)) (W.taken writer.old) (W.taken writer.new)) }
     ensures counts { CountsFailure (W.failures writer.old) (W.failures writer.new) result }
@@ -121,7 +122,7 @@ fn write_id<W: Write>(tag: u8, id: Option<TransactionIdView>, writer: &mut W) ->
     }
 }
 
-/// Writes a P-Abort cause, where there is one. `Failed` where the writer failed.
+/// Writes a P-Abort cause, if there is one.
 fn write_cause<W: Write>(cause: Option<SmallView>, writer: &mut W) -> Result<(), Failed>
     ensures ok { OnOk result (Written (canonical_cause (cause_of cause)) (W.taken writer.old) (W.taken writer.new)) }
     ensures counts { CountsFailure (W.failures writer.old) (W.failures writer.new) result }
@@ -132,7 +133,7 @@ fn write_cause<W: Write>(cause: Option<SmallView>, writer: &mut W) -> Result<(),
     }
 }
 
-/// Writes a dialogue portion, where there is one, which is within the limits. `Failed` where the writer failed.
+/// Writes a dialogue portion, if there is one.
 fn write_dialogue_portion<W: Write>(
     dialogue: Option<DialogueView>,
     writer: &mut W,
@@ -152,7 +153,7 @@ fn write_dialogue_portion<W: Write>(
     write_dialogue(dialogue, writer)
 }
 
-/// Writes a component portion, where there is one, which is within the limits. `Failed` where the writer failed.
+/// Writes a component portion, if there is one.
 fn write_component_portion<W: Write>(
     components: Option<PortionView>,
     writer: &mut W,
@@ -172,7 +173,7 @@ fn write_component_portion<W: Write>(
     write_components(components, writer)
 }
 
-/// Writes the content of a message, which is within the limits. `Failed` where the writer failed.
+/// Writes the content of a message.
 fn write_content<W: Write>(message: MessageView, writer: &mut W) -> Result<(), Failed>
     requires { IsSome (canonical_content (message_of message)) }
     ensures ok { OnOk result (Written (canonical_content (message_of message.entry)) (W.taken writer.old)
@@ -186,7 +187,7 @@ fn write_content<W: Write>(message: MessageView, writer: &mut W) -> Result<(), F
     write_component_portion(message.its_portion(), writer)
 }
 
-/// The tag of a message (Q.773 4.2.1).
+/// Returns the tag of a message (Q.773 4.2.1).
 fn tag(kind: Kind) -> u8
     ensures { result ≡ message_tag kind }
 {
@@ -199,7 +200,7 @@ fn tag(kind: Kind) -> u8
     }
 }
 
-/// Writes a message. The faults are those of [`encode`].
+/// Writes a message, with the faults of [`encode`].
 fn encode_view<W: Write>(message: MessageView, writer: &mut W) -> Result<(), EncodeFault>
     ensures exact { IsEncoded (canonical (message_of message.entry)) (W.taken writer.old) (W.taken writer.new)
         (W.failures writer.old) (W.failures writer.new) result }
@@ -216,10 +217,14 @@ fn encode_view<W: Write>(message: MessageView, writer: &mut W) -> Result<(), Enc
     Ok(())
 }
 
-/// Writes the message in its canonical spelling: with the shortest definite lengths, the protocol version as
-/// 80 02 07 80, its parameters and its user information verbatim. `TooLong` exactly where a content would be over
-/// 65,535 octets, and then nothing is written; this can hold of a message that was read without its protocol version,
-/// which takes four octets more. `Write` where the writer failed. It takes no memory.
+/// Writes the message in its canonical spelling: with the shortest definite lengths, the protocol version 80 02 07 80,
+/// and its parameters and user information verbatim. It does not allocate.
+///
+/// # Errors
+///
+/// - `TooLong` if a content would have more than 65,535 octets; then nothing is written. A message that was read
+///   without a protocol version needs four octets more, so it may be too long although it was read.
+/// - `Write` if the writer fails.
 pub fn encode<W: Write>(message: &Message, writer: &mut W) -> Result<(), EncodeFault>
     ensures ok { OnOk result ((octets : List ℕ) × (canonical message.now ≡ Some octets)
         × Appends (W.taken writer.old) (W.taken writer.new) octets) }

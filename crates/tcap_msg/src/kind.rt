@@ -7,10 +7,10 @@ pub enum Kind {
     Unidirectional,
     /// A Begin, which begins a transaction.
     Begin,
-    /// A Continue, which goes on with one.
+    /// A Continue, which continues a transaction.
     Continue,
-    /// An End, which ends one.
+    /// An End, which ends a transaction.
     End,
-    /// An Abort, which ends one abnormally.
+    /// An Abort, which ends a transaction abnormally.
     Abort,
 }

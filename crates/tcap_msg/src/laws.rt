@@ -1,4 +1,4 @@
-//! Laws of spelling messages. Each function says, by its contract alone, what holds of the grammar.
+//! Laws of the message grammar. Each function exists for its contract alone, which is the law.
 
 ghost use Rattle.std.specs.Prelude.{◌≡◌, ℕ, List, [], ◌++◌, length, Ok, Some};
 ghost use Rattle.std.specs.List.{All};
@@ -15,28 +15,28 @@ use crate::message::{AbortReason, Message};
 use tcap_ber::Raw;
 use tcap_parts::{Code, Component, Dialogue, Info, Portion, Problem, ResultBody, Source};
 
-/// Octets spell at most one message.
+/// States that octets spell at most one message.
 pub fn one_message()
     ensures { (octets : List ℕ) (m m' : Message) → Spells m octets → Spells m' octets → m ≡ m' }
 {}
 
-/// No spelling of a message begins another.
+/// States that no spelling of a message is the beginning of another.
 pub fn no_longer_spelling()
     ensures { (octets more : List ℕ) (m m' : Message) → Spells m octets → Spells m' (octets ++ more) → more ≡ [] }
 {}
 
-/// Octets have at most one fault.
+/// States that octets have at most one fault.
 pub fn one_fault()
     ensures { (octets : List ℕ) (f f' : Fault) → IsFaulty octets f.reason f.place → IsFaulty octets f'.reason f'.place
         → f ≡ f' }
 {}
 
-/// The canonical spelling of a message spells it.
+/// States that the canonical spelling of a message spells it.
 pub fn canonical_spelling()
     ensures { (m : Message) (octets : List ℕ) → IsMessage m → canonical m ≡ Some octets → Spells m octets }
 {}
 
-/// Reading what was written, whatever comes behind it, gives the message and the count of its octets.
+/// States that reading a canonical spelling, no matter what follows, returns the message and its length in octets.
 pub fn read_again()
     ensures { (m : Message) (octets more : List ℕ) → IsMessage m → canonical m ≡ Some octets
         → message_at (octets ++ more) ≡ Ok (m, length octets) }
@@ -45,7 +45,7 @@ pub fn read_again()
 fn is_id(id: &i8)
     ensures { IsId id.now }
 {
-    // Reading a number tells its range.
+    // Reading the number proves its range.
     let _id = *id;
 }
 
@@ -229,7 +229,7 @@ fn is_reason(reason: &Option<AbortReason>)
     }
 }
 
-/// Each message of the type is one of which the laws speak.
+/// States that each value of type [`Message`] is one that the laws apply to.
 pub fn is_message(message: &Message)
     ensures { IsMessage message.now }
 {

@@ -1,4 +1,4 @@
-//! Messages lent as views, and views made into messages of their own.
+//! Conversions between messages and views of messages.
 
 ghost use Rattle.std.specs.Prelude.{◌≡◌, IfOk};
 ghost use Rattle.std.specs.Option.{option_map};
@@ -13,7 +13,7 @@ use crate::views::{AbortReasonView, MessageView};
 use std::alloc::{AllocError, Global};
 use tcap_parts::{Dialogue, DialogueView, Portion, PortionView};
 
-/// The dialogue portion, lent.
+/// Returns a view of a dialogue portion.
 fn lend_dialogue(dialogue: &Option<Dialogue>) -> Option<DialogueView<'_>>
     ensures { option_map dialogue_of result ≡ dialogue.now }
 {
@@ -23,7 +23,7 @@ fn lend_dialogue(dialogue: &Option<Dialogue>) -> Option<DialogueView<'_>>
     }
 }
 
-/// The component portion, lent.
+/// Returns a view of a component portion.
 fn lend_portion(components: &Option<Portion>) -> Option<PortionView<'_>>
     ensures { option_map components_of result ≡ components.now }
 {
@@ -33,7 +33,7 @@ fn lend_portion(components: &Option<Portion>) -> Option<PortionView<'_>>
     }
 }
 
-/// The dialogue portion as a value of its own.
+/// Copies a dialogue portion.
 fn own_dialogue(
     dialogue: Option<DialogueView>,
     alloc: Global,
@@ -46,7 +46,7 @@ fn own_dialogue(
     }
 }
 
-/// The component portion as a value of its own.
+/// Copies a component portion.
 fn own_portion(
     components: Option<PortionView>,
     alloc: Global,
@@ -59,7 +59,7 @@ fn own_portion(
     }
 }
 
-/// The reason of an Abort as a value of its own.
+/// Copies the reason of an Abort.
 fn own_reason(
     reason: Option<AbortReasonView>,
     alloc: Global,
@@ -73,7 +73,11 @@ fn own_reason(
 }
 
 impl<'a> AbortReasonView<'a> {
-    /// The reason as a value of its own.
+    /// Copies the reason into an owned value.
+    ///
+    /// # Errors
+    ///
+    /// `AllocError` if memory runs out.
     pub fn to_reason(self, alloc: Global) -> Result<AbortReason, AllocError>
         ensures { IfOk result (λ made. made ≡ reason_of self.entry) }
     {
@@ -87,7 +91,7 @@ impl<'a> AbortReasonView<'a> {
 }
 
 impl AbortReason {
-    /// The reason, lent.
+    /// Returns a view of the reason.
     pub fn view(&self) -> AbortReasonView<'_>
         ensures { reason_of result ≡ self.now }
     {
@@ -98,7 +102,7 @@ impl AbortReason {
     }
 }
 
-/// The reason of an Abort, lent.
+/// Returns a view of the reason of an Abort.
 fn lend_reason(reason: &Option<AbortReason>) -> Option<AbortReasonView<'_>>
     ensures { option_map reason_of result ≡ reason.now }
 {
@@ -108,7 +112,7 @@ fn lend_reason(reason: &Option<AbortReason>) -> Option<AbortReasonView<'_>>
     }
 }
 
-/// A Continue of these parts, lent.
+/// Returns a view of a Continue with these parts.
 fn lend_continue<'a>(
     otid: &'a TransactionId,
     dtid: &'a TransactionId,
@@ -126,7 +130,7 @@ fn lend_continue<'a>(
 }
 
 impl Message {
-    /// The message, lent.
+    /// Returns a view of the message.
     pub fn view(&self) -> MessageView<'_>
         ensures { message_of result ≡ self.now }
     {
@@ -170,7 +174,7 @@ impl Message {
     }
 }
 
-/// A Unidirectional of these parts as a value of its own.
+/// Copies the parts into a Unidirectional.
 #[inline(never)]
 fn own_unidirectional(
     dialogue: Option<DialogueView>,
@@ -186,7 +190,7 @@ fn own_unidirectional(
     })
 }
 
-/// A Begin of these parts as a value of its own.
+/// Copies the parts into a Begin.
 #[inline(never)]
 fn own_begin(
     otid: TransactionIdView,
@@ -204,7 +208,7 @@ fn own_begin(
     })
 }
 
-/// A Continue of these parts as a value of its own.
+/// Copies the parts into a Continue.
 #[inline(never)]
 fn own_continue(
     otid: TransactionIdView,
@@ -224,7 +228,7 @@ fn own_continue(
     })
 }
 
-/// An End of these parts as a value of its own.
+/// Copies the parts into an End.
 #[inline(never)]
 fn own_end(
     dtid: TransactionIdView,
@@ -242,7 +246,7 @@ fn own_end(
     })
 }
 
-/// An Abort of these parts as a value of its own.
+/// Copies the parts into an Abort.
 #[inline(never)]
 fn own_abort(
     dtid: TransactionIdView,
@@ -258,8 +262,8 @@ fn own_abort(
 }
 
 impl<'a> MessageView<'a> {
-    /// The message as a value of its own. Each kind is made by a function of its own, since a function pays at its entry
-    /// for the size of all of its locals.
+    /// Copies the message into an owned value. Each kind has a function, for speed: a function pays at its entry for
+    /// all of its locals.
     pub(crate) fn own(self, alloc: Global) -> Result<Message, AllocError>
         ensures { IfOk result (λ message. message ≡ message_of self.entry) }
     {

@@ -1,4 +1,4 @@
-//! TCAP messages (Q.773): read into a view that borrows the octets, or into a value, and written.
+//! TCAP messages (Q.773): reading them into a borrowed view or an owned value, and writing them.
 #![tactic(auto)]
 
 mod encode_message;

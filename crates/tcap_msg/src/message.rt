@@ -1,4 +1,4 @@
-//! Messages (Q.773 4.2.1) as values.
+//! Owned messages (Q.773 4.2.1).
 
 ghost use Rattle.std.specs.Prelude.{◌≡◌, ◌≢◌, ℕ, ◌++◌, List, length, Ok, Err, IfOk};
 ghost use Rattle.tcap_msg.specs.declared.message.DecodeFault.{DecodeFault};
@@ -28,8 +28,7 @@ pub enum Message {
         dialogue: Option<Dialogue>,
         components: Option<Portion>,
     },
-    /// A Continue: its originating and its destination transaction ID, its dialogue portion and its
-    /// component portion.
+    /// A Continue: its originating and destination transaction IDs, its dialogue portion and its component portion.
     Continue {
         otid: TransactionId,
         dtid: TransactionId,
@@ -49,10 +48,10 @@ pub enum Message {
     },
 }
 
-/// The reason that an Abort gives (Q.773 4.2.1).
+/// The reason of an Abort (Q.773 4.2.1).
 #[derive(Debug, Drop)]
 pub enum AbortReason {
-    /// A P-Abort cause, which the transaction sub-layer gives.
+    /// A P-Abort cause, from the transaction sub-layer.
     Cause(Small),
     /// A dialogue portion.
     Dialogue(Dialogue),
@@ -61,7 +60,7 @@ pub enum AbortReason {
 /// Why octets were not decoded.
 #[derive(Clone, Copy, Debug, PartialEq, Eq)]
 pub enum DecodeFault {
-    /// They do not begin with a message: the first fault from left to right.
+    /// The octets do not begin with a message. This is the first fault from left to right.
     Fault(Fault),
     /// Memory ran out.
     Memory,
@@ -90,22 +89,26 @@ fn read(alloc: Global, octets: &[u8]) -> Result<(Message, usize), DecodeFault>
     Ok((message.own(alloc)?, len))
 }
 
-/// The message at the front of `octets`, as a value of its own, and the count of its octets. It is the
-/// whole outer element; octets behind it are not looked at. The faults are those of [`view`], and `Memory`.
+/// Reads the message at the front of `octets` into an owned value. Returns it and its length in octets. The message is
+/// the whole outer element; octets after it are ignored.
+///
+/// # Errors
+///
+/// The faults of [`view`], and `Memory` if memory runs out.
 pub fn decode(alloc: Global, octets: &[u8]) -> Result<(Message, usize), DecodeFault>
-    // What is read is spelled by the octets at the front.
+    // On success, the octets at the front spell the message.
     ensures found { IfOk result (λ x. BeginsWithMessage x.0 x.1 octets.now) }
-    // What is spelled by octets at the front is read, unless memory runs out.
+    // A message that the front spells is read, unless memory runs out.
     ensures only { (m : Message) (front rest : List ℕ) → Spells m front → octets.now ≡ front ++ rest
         → Decodes result (Ok (m, length front)) }
-    // What is refused is faulty there, and what is faulty is refused by that fault, unless memory runs out.
+    // A fault that is returned is there, and a fault that is there is returned, unless memory runs out.
     ensures faulty { IfRefused result (λ fault. IsFaulty octets.now fault.reason fault.place) }
     ensures refused { (fault : Fault) → IsFaulty octets.now fault.reason fault.place → Decodes result (Err fault) }
-    // What is refused begins with no message.
+    // Refused octets begin with no message.
     ensures none { IfRefused result (λ fault. BeginsNoMessage octets.now) }
-    // But for octets that end too early, whatever comes behind.
+    // Unless the fault is `Cut`, they never will, no matter what follows.
     ensures never { IfRefused result (λ fault. fault.reason ≢ Reason.Cut → IsNeverMessage octets.now) }
-    // As one function of the octets.
+    // The result as one function of the octets.
     ensures exact { Decodes result (message_at octets.now) }
 {
     read(alloc, octets)

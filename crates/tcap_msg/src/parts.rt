@@ -1,4 +1,4 @@
-//! The parts of a message, read from a message or from a view of one by the same calls.
+//! Access to the parts of a message or of a view.
 
 ghost use Rattle.std.specs.Prelude.{◌≡◌, ◌<◌, ℕ, List, length, slice_get, Some, IfOk};
 ghost use Rattle.std.specs.Option.{option_map};
@@ -17,47 +17,50 @@ use std::alloc::{AllocError, Global};
 use tcap_ber::SmallView;
 use tcap_parts::{ComponentView, Components, DialogueView, PortionView};
 
-/// A message whose parts can be read (Q.773 4.2.1). But for `to_message` no call takes memory or copies a part.
+/// A message whose parts can be read (Q.773 4.2.1). Only `to_message` allocates or copies a part.
 pub trait MessageParts {
-    // The message whose parts they are.
+    // The message that the parts belong to.
     ghost meaning: { Self → Message };
 
-    /// The message as a value of its own.
+    /// Copies the message into an owned value.
+    ///
+    /// # Errors
+    ///
+    /// `AllocError` if memory runs out.
     fn to_message(&self, alloc: Global) -> Result<Message, AllocError>
         ensures { IfOk result (λ message. message ≡ meaning self.now) };
 
-    /// The kind of the message.
+    /// Returns the kind of the message.
     fn kind(&self) -> Kind
         ensures { result ≡ kind_in (meaning self.now) };
 
-    /// The originating transaction ID, which a Begin and a Continue have.
+    /// Returns the originating transaction ID, which a Begin and a Continue have.
     fn otid(&self) -> Option<TransactionIdView<'_>>
         ensures { id_of result ≡ otid_in (meaning self.now) };
 
-    /// The destination transaction ID, which a Continue, an End and an Abort have.
+    /// Returns the destination transaction ID, which a Continue, an End and an Abort have.
     fn dtid(&self) -> Option<TransactionIdView<'_>>
         ensures { id_of result ≡ dtid_in (meaning self.now) };
 
-    /// The P-Abort cause, which an Abort may have.
+    /// Returns the P-Abort cause, which an Abort may have.
     fn cause(&self) -> Option<SmallView>
         ensures { cause_of result ≡ cause_in (meaning self.now) };
 
-    /// The PDU of the dialogue portion, which each message may have, an Abort only where it has no P-Abort cause.
+    /// Returns the PDU of the dialogue portion. Each message may have one, except an Abort with a P-Abort cause.
     fn dialogue(&self) -> Option<DialogueView<'_>>
         ensures { option_map dialogue_of result ≡ dialogue_in (meaning self.now) };
 
-    /// The count of the components, 0 where there is no component portion. For a view of octets it costs the time of
-    /// reading them.
+    /// Returns the number of components, 0 if there is no component portion.
     fn count(&self) -> usize
         ensures { result ≡ length (components_in (meaning self.now)) };
 
-    /// The component with that index, from 0, of which there has to be one. For a view of octets it costs the time of
-    /// reading those before it too.
+    /// Returns the component at `index`, counted from 0. There must be one. For a view of octets, the components before
+    /// it are read too.
     fn component(&self, index: usize) -> ComponentView<'_>
         requires { index < length (components_in (meaning self.now)) }
         ensures { slice_get (components_in (meaning self.now)) index ≡ Some (component_of result) };
 
-    /// The components, one after the other; none where there is no component portion.
+    /// Returns an iterator over the components, empty if there is no component portion.
     fn components(&self) -> Components<'_>
         ensures { components_left result ≡ components_in (meaning self.now) };
 }
@@ -135,7 +138,7 @@ impl<'a> MessageView<'a> {
         }
     }
 
-    /// The component portion, where the message has one.
+    /// Returns the component portion, if the message has one.
     pub(crate) fn its_portion(&self) -> Option<PortionView<'a>>
         ensures { option_map components_of result ≡ portion_in (message_of self.now) }
     {

@@ -10,19 +10,19 @@ use std::fmt;
 use std::marker::Model;
 use tcap_ber::{Fault, Reason, Tlv};
 
-/// A transaction ID, lent.
+/// A borrowed transaction ID.
 #[derive(Clone, Copy, Debug)]
 pub struct TransactionIdView<'a> {
-    /// Its one to four octets.
+    /// The one to four octets.
     pub octets: &'a [u8],
     pub ghost is_id: { IsTransactionId octets.now },
 }
 
-/// A transaction ID (Q.773 4.2.1): one to four octets. Two are equal exactly where their octets are; they are ordered
-/// by their octets, from the first on, a shorter one before those that it begins.
+/// An owned transaction ID (Q.773 4.2.1): one to four octets. IDs are compared as their octets are, in lexicographic
+/// order.
 #[derive(Drop)]
 pub struct TransactionId {
-    // Noughts behind the octets of the ID.
+    // The octets of the ID, padded with zeros.
     octets: [u8; 4],
     len: u8,
 }
@@ -38,7 +38,7 @@ impl Model for TransactionId {
     ghost invariant = { λ a. IsPadded a.len a.octets };
 }
 
-/// Four octets as one number, which tells that they are octets.
+/// Returns the big-endian number of four octets. The contract also states that each is below 256.
 fn number(a: u8, b: u8, c: u8, d: u8) -> u64
     ensures value { result ≡ ((a * 256 + b) * 256 + c) * 256 + d }
     ensures octets { (a < 256) × (b < 256) × (c < 256) × (d < 256) }
@@ -47,7 +47,7 @@ fn number(a: u8, b: u8, c: u8, d: u8) -> u64
 }
 
 impl TransactionId {
-    /// The octets as a transaction ID; `None` exactly where they are none or over four.
+    /// Returns a transaction ID of `octets`, or `None` unless they are one to four.
     pub fn new(octets: &[u8]) -> Option<TransactionId>
         ensures found { IfSome result (λ id. id ≡ octets.now) }
         ensures exact { IsSome result ↔ IsTransactionId octets.now }
@@ -62,7 +62,7 @@ impl TransactionId {
         Some(TransactionId { octets, len })
     }
 
-    /// The transaction ID, lent.
+    /// Returns a view of the transaction ID.
     pub fn view(&self) -> TransactionIdView<'_>
         ensures { result.octets.now ≡ self.now }
     {
@@ -71,7 +71,7 @@ impl TransactionId {
         }
     }
 
-    /// The one to four octets.
+    /// Returns the one to four octets.
     pub fn octets(&self) -> &[u8]
         ensures value { result.now ≡ self.now }
         ensures is_id { IsTransactionId result.now }
@@ -79,8 +79,8 @@ impl TransactionId {
         &self.octets[..usize::from(self.len)]
     }
 
-    /// A number by which IDs are equal and ordered as by their octets: the octets, with noughts for those that are not
-    /// there, and their count.
+    /// Returns a number that orders IDs as their octets do: the octets, padded with zeros, and then their count. This
+    /// makes comparisons fast.
     fn key(&self) -> u64
         ensures value { result ≡ key self.now }
         ensures octets { IsTransactionId self.now × All (λ octet. octet < 256) self.now }
@@ -93,7 +93,7 @@ impl TransactionId {
     }
 }
 
-// The number by which it is compared is printed beside its octets.
+// Prints the comparison key after the octets.
 impl fmt::Debug for TransactionId {
     fn fmt<W: fmt::Write>(&self, f: &mut fmt::Formatter<W>) -> fmt::Result {
         f.debug_struct("TransactionId")
@@ -168,15 +168,19 @@ impl<'a> TransactionIdView<'a> {
         Ok(TransactionIdView { octets })
     }
 
-    /// The transaction ID that an element holds, lent from its octets (Q.773 4.2.1). `BadTransactionId` at the
-    /// element where it holds no octets or over four.
+    /// Reads the transaction ID in an element, and returns a view that borrows its octets (Q.773 4.2.1). The tag is not
+    /// checked.
+    ///
+    /// # Errors
+    ///
+    /// `BadTransactionId` at the element if it has no octets or more than four.
     pub fn read(tlv: Tlv<'a>) -> Result<TransactionIdView<'a>, Fault>
-        // What is read is spelled by all of the content.
+        // On success, all of the content spells the transaction ID.
         ensures found { IfOk result (λ id. transaction_id.spells id.octets.now tlv.entry.content.octets.now) }
-        // What is spelled by all of the content is read.
+        // A transaction ID that all of the content spells is read.
         ensures only { (value : List ℕ) → transaction_id.spells value tlv.entry.content.octets.now
             → IsOkAnd result (λ id. id.octets.now ≡ value) }
-        // What is refused is faulty there, and what is faulty is refused by that fault.
+        // The result is a fault exactly if the element has that fault.
         ensures faulty { (fault : Fault) → (result ≡ Err fault)
             ↔ transaction_id.faulty tlv.entry.start (span tlv.entry.content) fault.reason fault.place }
         ensures exact { Gives (λ id. id.octets.now) result (transaction_id_of (element tlv.entry)) }
@@ -184,7 +188,7 @@ impl<'a> TransactionIdView<'a> {
         TransactionIdView::from_content(tlv)
     }
 
-    /// The transaction ID as a value of its own.
+    /// Copies the octets into an owned transaction ID.
     pub fn to_transaction_id(self) -> TransactionId
         ensures { result ≡ self.entry.octets.now }
     {

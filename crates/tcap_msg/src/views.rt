@@ -1,4 +1,5 @@
-//! Messages as views of the octets that were read.
+//! Reading messages into views that borrow the octets. The readers of a part at the front of a window return it and the
+//! window after it.
 
 ghost use Rattle.std.specs.Prelude.{◌≡◌, ◌≢◌, ℕ, ◌++◌, List, length, IfOk, IfErr, IsOkAnd, ◌↔◌, Err};
 ghost use Rattle.tcap_ber.specs.declared.fault.Fault.{Fault};
@@ -22,7 +23,7 @@ use tcap_ber::{
 };
 use tcap_parts::{DialogueView, PortionView, view_dialogue};
 
-/// A message whose parts are lent from the octets that were read, or from a message.
+/// A message whose parts are borrowed from octets or from an owned message.
 #[derive(Clone, Copy, Debug)]
 pub enum MessageView<'a> {
     /// A Unidirectional: its dialogue portion and its component portion.
@@ -36,8 +37,7 @@ pub enum MessageView<'a> {
         dialogue: Option<DialogueView<'a>>,
         components: Option<PortionView<'a>>,
     },
-    /// A Continue: its originating and its destination transaction ID, its dialogue portion and its
-    /// component portion.
+    /// A Continue: its originating and destination transaction IDs, its dialogue portion and its component portion.
     Continue {
         otid: TransactionIdView<'a>,
         dtid: TransactionIdView<'a>,
@@ -57,16 +57,16 @@ pub enum MessageView<'a> {
     },
 }
 
-/// The reason that an Abort gives, lent (Q.773 4.2.1).
+/// The borrowed reason of an Abort (Q.773 4.2.1).
 #[derive(Clone, Copy, Debug)]
 pub enum AbortReasonView<'a> {
-    /// A P-Abort cause, which the transaction sub-layer gives.
+    /// A P-Abort cause, from the transaction sub-layer.
     Cause(SmallView),
     /// A dialogue portion.
     Dialogue(DialogueView<'a>),
 }
 
-/// The originating transaction ID at the front of a window.
+/// Reads the originating transaction ID at the front of a window.
 #[tactic(auto, unfolding(crate::specs::Reading::otid_at))]
 #[inline(always)]
 fn otid(window: Window) -> Result<(TransactionIdView, Window), Fault>
@@ -76,7 +76,7 @@ fn otid(window: Window) -> Result<(TransactionIdView, Window), Fault>
     Ok((TransactionIdView::read(found)?, rest))
 }
 
-/// The destination transaction ID at the front of a window.
+/// Reads the destination transaction ID at the front of a window.
 #[tactic(auto, unfolding(crate::specs::Reading::dtid_at))]
 fn dtid(window: Window) -> Result<(TransactionIdView, Window), Fault>
     ensures exact { Gives (λ x. (x.0.octets.now, span x.1)) result (dtid_at (span window.entry)) }
@@ -85,7 +85,7 @@ fn dtid(window: Window) -> Result<(TransactionIdView, Window), Fault>
     Ok((TransactionIdView::read(found)?, rest))
 }
 
-/// The P-Abort cause at the front of a window, or `None` where the next tag is not its own.
+/// Reads the P-Abort cause at the front of a window. `None` if the next tag is another one.
 #[tactic(auto, unfolding(crate::specs::Reading::cause_at))]
 fn cause(window: Window) -> Result<(Option<SmallView>, Window), Fault>
     ensures exact { Gives (λ x. (cause_of x.0, span x.1)) result (cause_at (span window.entry)) }
@@ -97,7 +97,7 @@ fn cause(window: Window) -> Result<(Option<SmallView>, Window), Fault>
     Ok((Some(small_number(found)?), rest))
 }
 
-/// The dialogue portion at the front of a window, or `None` where the next tag is not its own.
+/// Reads the dialogue portion at the front of a window. `None` if the next tag is another one.
 #[tactic(auto, unfolding(crate::specs::Reading::dialogue_portion_at))]
 #[inline(always)]
 fn dialogue_portion(window: Window) -> Result<(Option<DialogueView>, Window), Fault>
@@ -111,7 +111,7 @@ fn dialogue_portion(window: Window) -> Result<(Option<DialogueView>, Window), Fa
     Ok((Some(view_dialogue(found.content)?), rest))
 }
 
-/// The component portion at the front of a window, or `None` where the next tag is not its own.
+/// Reads the component portion at the front of a window. `None` if the next tag is another one.
 #[tactic(auto, unfolding(crate::specs::Reading::component_portion_at))]
 #[inline(always)]
 fn component_portion(window: Window) -> Result<(Option<PortionView>, Window), Fault>
@@ -125,7 +125,7 @@ fn component_portion(window: Window) -> Result<(Option<PortionView>, Window), Fa
     Ok((Some(PortionView::read(found)?), rest))
 }
 
-/// The component portion at the front of a window, which has to be there.
+/// Reads the component portion at the front of a window, which must be present.
 #[tactic(auto, unfolding(crate::specs::Reading::required_portion_at))]
 fn required_portion(window: Window) -> Result<(PortionView, Window), Fault>
     ensures exact { Gives (λ x. (components_of x.0, span x.1)) result (required_portion_at (span window.entry)) }
@@ -134,7 +134,7 @@ fn required_portion(window: Window) -> Result<(PortionView, Window), Fault>
     Ok((PortionView::read(found)?, rest))
 }
 
-/// The parts of a Unidirectional, which are all of `content`.
+/// Reads the parts of a Unidirectional, which are all of `content`.
 #[tactic(auto, unfolding(crate::specs::Reading::unidirectional_at))]
 fn view_unidirectional(content: Window) -> Result<MessageView, Fault>
     ensures exact { Gives message_of result (unidirectional_at (span content.entry)) }
@@ -148,7 +148,7 @@ fn view_unidirectional(content: Window) -> Result<MessageView, Fault>
     })
 }
 
-/// The parts of a Begin, which are all of `content`.
+/// Reads the parts of a Begin, which are all of `content`.
 #[tactic(auto, unfolding(crate::specs::Reading::begin_at))]
 fn view_begin(content: Window) -> Result<MessageView, Fault>
     ensures exact { Gives message_of result (begin_at (span content.entry)) }
@@ -164,7 +164,7 @@ fn view_begin(content: Window) -> Result<MessageView, Fault>
     })
 }
 
-/// The parts of an End, which are all of `content`.
+/// Reads the parts of an End, which are all of `content`.
 #[tactic(auto, unfolding(crate::specs::Reading::end_message_at))]
 fn view_end(content: Window) -> Result<MessageView, Fault>
     ensures exact { Gives message_of result (end_message_at (span content.entry)) }
@@ -180,7 +180,7 @@ fn view_end(content: Window) -> Result<MessageView, Fault>
     })
 }
 
-/// The parts of a Continue, which are all of `content`.
+/// Reads the parts of a Continue, which are all of `content`.
 #[tactic(auto, unfolding(crate::specs::Reading::continue_at))]
 fn view_continue(content: Window) -> Result<MessageView, Fault>
     ensures exact { Gives message_of result (continue_at (span content.entry)) }
@@ -198,7 +198,7 @@ fn view_continue(content: Window) -> Result<MessageView, Fault>
     })
 }
 
-/// The dialogue portion of an Abort at the front of a window, which is there only where no P-Abort cause is.
+/// Reads the dialogue portion of an Abort at the front of a window. `None` if the Abort has a P-Abort cause.
 #[tactic(auto, unfolding(crate::specs::Reading::unless_cause_at))]
 fn unless_cause<'a>(
     cause: Option<SmallView>,
@@ -213,7 +213,7 @@ fn unless_cause<'a>(
     }
 }
 
-/// The reason of an Abort with this P-Abort cause, or with this dialogue portion.
+/// Returns the reason of an Abort with this P-Abort cause, or else with this dialogue portion.
 fn reason<'a>(
     cause: Option<SmallView>,
     dialogue: Option<DialogueView<'a>>,
@@ -227,7 +227,7 @@ fn reason<'a>(
     }
 }
 
-/// The parts of an Abort, which are all of `content`.
+/// Reads the parts of an Abort, which are all of `content`.
 #[tactic(auto, unfolding(crate::specs::Reading::abort_at))]
 fn view_abort(content: Window) -> Result<MessageView, Fault>
     ensures exact { Gives message_of result (abort_at (span content.entry)) }
@@ -240,7 +240,7 @@ fn view_abort(content: Window) -> Result<MessageView, Fault>
     Ok(MessageView::Abort { dtid, reason })
 }
 
-/// The message that an element is, by its tag.
+/// Reads an element as a message, by its tag.
 fn view_element(found: Tlv) -> Result<MessageView, Fault>
     ensures exact { Gives message_of result (message_of_element (element found.entry)) }
 {
@@ -259,7 +259,7 @@ fn view_element(found: Tlv) -> Result<MessageView, Fault>
     }
 }
 
-/// The message at the front of a window, and the window behind it.
+/// Reads the message at the front of a window.
 #[tactic(auto, unfolding(crate::specs::Reading::message_in))]
 fn view_message(window: Window) -> Result<(MessageView, Window), Fault>
     ensures exact { Gives (λ x. (message_of x.0, span x.1)) result (message_in (span window.entry)) }
@@ -285,25 +285,29 @@ fn read(octets: &[u8]) -> Result<(MessageView, usize), Fault>
     Ok((message, len))
 }
 
-/// The message at the front of `octets`, lent from them, and the count of its octets. It is the whole
-/// outer element; octets behind it are not looked at.
+/// Reads the message at the front of `octets`. Returns a view that borrows them, and its length in octets. The message
+/// is the whole outer element; octets after it are ignored.
 ///
-/// A fault is the first from left to right, its place counted from the first octet: `Cut` where the octets
-/// end before their outer element does, `UnexpectedTag` at 0 where it is no message, or what is wrong with
-/// a header or inside (Q.773 4.2, X.690 8.1).
+/// # Errors
+///
+/// The first fault from left to right, its offset counted from the first octet (Q.773 4.2, X.690 8.1):
+///
+/// - `Cut` at the end if the octets end before their outer element does,
+/// - `UnexpectedTag` at 0 if the element is not a message,
+/// - otherwise the fault of a header or of a part.
 pub fn view(octets: &[u8]) -> Result<(MessageView, usize), Fault>
-    // What is read is spelled by the octets at the front.
+    // On success, the octets at the front spell the message.
     ensures found { IfOk result (λ x. BeginsWithMessage (message_of x.0) x.1 octets.now) }
-    // What is spelled by octets at the front is read.
+    // A message that the front spells is read.
     ensures only { (m : Message) (front rest : List ℕ) → Spells m front → octets.now ≡ front ++ rest
         → IsOkAnd result (λ x. (message_of x.0 ≡ m) × (x.1 ≡ length front)) }
-    // What is refused is faulty there, and what is faulty is refused by that fault.
+    // The result is a fault exactly if the octets have that fault.
     ensures faulty { (fault : Fault) → (result ≡ Err fault) ↔ IsFaulty octets.now fault.reason fault.place }
-    // What is refused begins with no message.
+    // Refused octets begin with no message.
     ensures none { IfErr result (λ fault. BeginsNoMessage octets.now) }
-    // But for octets that end too early, whatever comes behind.
+    // Unless the fault is `Cut`, they never will, no matter what follows.
     ensures never { IfErr result (λ fault. fault.reason ≢ Reason.Cut → IsNeverMessage octets.now) }
-    // As one function of the octets.
+    // The result as one function of the octets.
     ensures exact { Gives (λ x. (message_of x.0, x.1)) result (message_at octets.now) }
 {
     read(octets)

@@ -1,4 +1,4 @@
--- The canonical spellings of components and of portions are such spellings.
+-- The canonical spellings of components and portions are spellings by the grammar.
 use Rattle.std.proofs.Common.{◌≡◌, ◌≢◌, ℕ, ◌%◌, ℤ, true, false, List, [], ◌∷◌, ◌++◌, length, Option, Some, None, refl, sym, subst, ◌∙◌, inl, inr, arith}
 use Rattle.std.specs.List.{All}
 use Rattle.std.specs.Prelude.{Bool, nat_le}
@@ -59,12 +59,12 @@ coded_begins c p octets e =
     let j = join-is (canonical_code c) (there (parameter_octets p)) octets e in
     subst (λ (o : List ℕ). BeginsWith 0x80 o → ⊥) (sym j.octets_are) (code_begins c j.front j.rest j.is_front)
 
--- a linked ID that is left out is spelled by nothing, where no such ID stands behind
+-- no octets spell a linked ID that is left out, if the tag of a linked ID does not follow
 linked_spells : (linked : Option ℤ) (octets behind : List ℕ) → IsOptionalId linked → (BeginsWith 0x80 behind → ⊥) → canonical_linked linked ≡ Some octets → SpellsOptional 0x80 invoke_id linked octets behind
 linked_spells None octets behind w other e = (sym (some_is [] octets e), other)
 linked_spells (Some id) octets behind w other e = id_spells 0x80 id octets (omega arith) w e
 
--- a linked ID or none, and behind it a code and a parameter
+-- a linked ID or none, and then a code and a parameter
 linked_coded_spells : (linked : Option ℤ) (c : Code) (p : Option (List ℕ)) (octets : List ℕ) → IsOptionalId linked → IsCode c → IsParameter p
     → canonical_linked linked ⧺ canonical_coded c p ≡ Some octets → (optional 0x80 invoke_id ⨾ one_of code ⨾ parameter ⨾ ended).spells (linked, (c, (p, tt))) octets
 linked_coded_spells linked c p octets u w v e =
@@ -72,7 +72,7 @@ linked_coded_spells linked c p octets u w v e =
     (λ front rest k l. linked_spells linked front rest u (coded_begins c p rest l) k)
     (λ rest l. coded_spells c p rest w v l) e
 
--- what a Return Result carries, at its end
+-- the body of a Return Result, at its end
 body_spells : (body : Option ResultBody) (octets : List ℕ) → IsResultBody body → canonical_body body ≡ Some octets → SpellsOptional 0x30 result_body body octets []
 body_spells None octets w e = (sym (some_is [] octets e), λ begins. begins)
 body_spells (Some body) octets w e =
@@ -175,7 +175,7 @@ canonical_components_spell (c ∷ cs) octets w e =
       canonical_components_spell cs j.rest (All-tail IsComponent c cs w) j.is_rest,
     )
 
--- what is within the limit is what it was
+-- `within_limit` does not change a content
 pub within_limit-is : (x : Option (List ℕ)) (octets : List ℕ) → within_limit x ≡ Some octets → x ≡ Some octets
 within_limit-is None octets e = e
 within_limit-is (Some content) octets e =

@@ -1,5 +1,4 @@
--- Components are read exactly: what is read is spelled so, what is spelled so is read, what is refused is
--- faulty there, and what is faulty there is refused by that fault.
+-- The reader of components is exact, in the sense of `Reads` in tcap_ber.
 use Rattle.std.proofs.Common.{ℕ, Bool, true, false, List, Option, Some, None, Ok, arith}
 use Rattle.tcap_ber.specs.declared.fault.Reason.TheVariants.{BadSize, UnexpectedTag, CodeTooWide}
 use Rattle.tcap_ber.specs.Grammar.{required, optional, parameter, ended, ◌⨾◌, made, integer}
@@ -72,7 +71,7 @@ reads_problem =
 
 -- ---- components
 
--- a code and a parameter, which are all of what is left
+-- a code and a parameter, which are the rest of the structure
 reads_coded : {V : Type 0} (make : Code × (Option (List ℕ) × Unit {0}) → V)
     → ReadsContent (one_of code ⨾ parameter ⨾ ended) make (λ s. code_at s >>= λ code. parameter_at code.1 >>= λ p. end_at (make (code.0, (p.0, tt))) p.1)
 reads_coded make =

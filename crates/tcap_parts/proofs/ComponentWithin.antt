@@ -1,4 +1,4 @@
--- The place of a fault of a component portion lies within the octets, or right behind them.
+-- The place of a fault of a component portion is among the octets or at their end.
 use Rattle.std.proofs.Common.{Bool, true, false, inl, inr, arith}
 use Rattle.tcap_ber.specs.declared.fault.Reason.TheVariants.{BadSize, UnexpectedTag, CodeTooWide}
 use Rattle.tcap_ber.specs.Grammar.{required, optional, parameter, ended, ◌⨾◌}
@@ -17,7 +17,7 @@ code_within =
     (tagged_within 0x02 _ _ (integer_within 4 CodeTooWide)
     (tagged_within 0x06 _ _ object_id_within (others_within _ UnexpectedTag)))
 
--- a code and a parameter, which are all of what is left
+-- a code and a parameter, which are the rest of the structure
 coded_within : ContentWithin (one_of code ⨾ parameter ⨾ ended)
 coded_within = then_within (one_of code) (parameter ⨾ ended) code_within (then_within parameter ended parameter_within ended_within)
 

@@ -1,4 +1,4 @@
--- The canonical spellings of dialogue portions are such spellings.
+-- The canonical spellings of dialogue portions are spellings by the grammar.
 use Rattle.std.proofs.Common.{◌≡◌, ◌≢◌, ℕ, ◌%◌, ◌<◌, List, [], ◌∷◌, Option, Some, None, refl, sym, ◌∙◌, inl, inr, arith}
 use Rattle.tcap_ber.specs.Grammar.{Content, IsElementOf, SpellsOptional, required, optional, ended, single, ◌⨾◌}
 use Rattle.tcap_ber.specs.Choice.{IsOneOf, one_of}
@@ -53,17 +53,17 @@ info_spells (Some externals) octets w e = element_of-spells 0xBE (info.spells ex
 
 -- ---- the contents of PDUs
 
--- user information or none, and nothing behind it
+-- user information or none, at the end
 last_info : (i : Option (List ℕ)) (octets : List ℕ) → IsInfo i → canonical_info i ≡ Some octets → (optional 0xBE info ⨾ ended).spells (i, tt) octets
 last_info i octets w e = last-spells (optional 0xBE info) i octets (info_spells i octets w e)
 
--- an application context name, and what stands behind it
+-- an application context name, and the parts after it
 context_then : {V : Type 0} (id : List ℕ) (others : Content V) (v : V) (behind : Option (List ℕ)) (octets : List ℕ) → IsObjectId id
     → ((rest : List ℕ) → behind ≡ Some rest → others.spells v rest) → canonical_context id ⧺ behind ≡ Some octets → (required 0xA1 context ⨾ others).spells (id, v) octets
 context_then id others v behind octets w are_others e =
     then-spells (required 0xA1 context) others id v (canonical_context id) behind octets (λ front rest k l. context_spells id front w k) are_others e
 
--- a protocol version, an application context name, and what stands behind them
+-- a protocol version, an application context name, and the parts after them
 version_context_then : {V : Type 0} (id : List ℕ) (others : Content V) (v : V) (behind : Option (List ℕ)) (octets : List ℕ) → IsObjectId id
     → ((rest : List ℕ) → behind ≡ Some rest → others.spells v rest) → canonical_version ⧺ (canonical_context id ⧺ behind) ≡ Some octets
     → (optional 0x80 version ⨾ required 0xA1 context ⨾ others).spells (Some tt, (id, v)) octets
@@ -72,7 +72,7 @@ version_context_then id others v behind octets w are_others e =
     (λ front rest k l. version_spells front k)
     (λ rest l. context_then id others v behind rest w are_others l) e
 
--- the content of an AARQ and of an AUDT
+-- the content of an AARQ or an AUDT
 named_spells : (id : List ℕ) (i : Option (List ℕ)) (content : List ℕ) → IsObjectId id → IsInfo i → canonical_named id i ≡ Some content → named.spells (id, i) content
 named_spells id i content w v e = (
   (Some tt, (id, (i, tt))),
@@ -81,7 +81,7 @@ named_spells id i content w v e = (
       (sym (join_assoc canonical_version (canonical_context id) (canonical_info i)) ∙ e),
 )
 
--- a diagnostic, and behind it user information or none
+-- a diagnostic, and then user information or none
 diagnostic_info : (s : Source) (i : Option (List ℕ)) (octets : List ℕ) → IsSource s → IsInfo i → element_around 0xA3 (canonical_source s) ⧺ canonical_info i ≡ Some octets
     → (required 0xA3 (single (one_of source)) ⨾ optional 0xBE info ⨾ ended).spells (s, (i, tt)) octets
 diagnostic_info s i octets w v e =
@@ -89,7 +89,7 @@ diagnostic_info s i octets w v e =
     (λ front rest k l. diagnostic_spells s front w k)
     (λ rest l. last_info i rest v l) e
 
--- a result, and behind it a diagnostic and user information
+-- a result, and then a diagnostic and user information
 result_info : (n : ℕ) (s : Source) (i : Option (List ℕ)) (octets : List ℕ) → n < 128 → IsSource s → IsInfo i
     → canonical_number 0xA2 n ⧺ (element_around 0xA3 (canonical_source s) ⧺ canonical_info i) ≡ Some octets
     → (required 0xA2 number ⨾ required 0xA3 (single (one_of source)) ⨾ optional 0xBE info ⨾ ended).spells (n, (s, (i, tt))) octets

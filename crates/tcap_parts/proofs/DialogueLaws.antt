@@ -1,5 +1,4 @@
--- Dialogue portions are read exactly: what is read is spelled so, what is spelled so is read, what is refused is
--- faulty there, and what is faulty there is refused by that fault.
+-- The reader of dialogue portions is exact, in the sense of `Reads` in tcap_ber.
 use Rattle.std.proofs.Common.{◌≡◌, ◌≢◌, ℕ, true, false, List, [], ◌∷◌, Option, Ok, Err, refl, sym, ap, ◌∙◌, inl, inr, ◌⊎◌, arith}
 use Rattle.std.specs.Prelude.{nat_lt, nat_eq}
 use Rattle.std.specs.Cmp.Lexicographic.{pointwise, same_text, other_text}
@@ -186,7 +185,7 @@ reads_optional_info : ReadsField (optional 0xBE info) info_at
 unfolding info_at
 reads_optional_info = reads_optional 0xBE info info_of reads_info
 
--- user information, which is all of what is left
+-- user information, which is the rest of the structure
 reads_informed : {V : Type 0} (make : Option (List ℕ) → V) → ReadsContent (optional 0xBE info ⨾ ended) (λ w. make w.0) (λ s. info_at s >>= λ info. end_at (make info.0) info.1)
 reads_informed make =
     reads_then (optional 0xBE info) ended (λ w. make w.0) info_at (λ info s. end_at (make info) s)

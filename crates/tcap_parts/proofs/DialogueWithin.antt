@@ -1,4 +1,4 @@
--- The place of a fault of a dialogue portion lies within the octets, or right behind them.
+-- The place of a fault of a dialogue portion is among the octets or at their end.
 use Rattle.std.proofs.Common.{arith}
 use Rattle.tcap_ber.specs.declared.fault.Reason.TheVariants.{UnexpectedTag, DialogueSyntax}
 use Rattle.tcap_ber.specs.Grammar.{required, optional, ended, ◌⨾◌, single}

@@ -1,4 +1,4 @@
--- Reading EXTERNALs one after the other: the laws of `EachLoopLaws` at EXTERNALs, and the reader of user information.
+-- Reading EXTERNALs one after the other: the laws of `EachLoopLaws` for EXTERNALs, and the reader of user information.
 use Rattle.std.proofs.Common.{◌≡◌, ℕ, ◌+◌, ◌<◌, ◌≤◌, Bool, true, List, [], ◌∷◌, ◌++◌, length, Result, Ok, Err, refl, sym, ap, ◌∙◌, arith, append-nil, subst, inl, inr, is_ok, ◌↔◌, IsTrue, IfOk, IfErr}
 use Rattle.std.proofs.lemmas.List.{length-append}
 use Rattle.tcap_ber.specs.declared.fault.Fault.{Fault}
@@ -24,7 +24,7 @@ reads_externals = reads_each external external_at reads_external (verbatim_has_o
 
 -- ---- a loop
 
--- of a content are read so many EXTERNALs, and then those of what is left
+-- `count` EXTERNALs of a content were read, and those of `rest` are left
 pub record Counted (content rest : Span) (count : ℕ) : Type 0 where
   pub front : List (List ℕ)
   pub goes_on : externals_at content ≡ with_front front (externals_at rest)
@@ -68,9 +68,9 @@ pub counted_all : (content s : Span) (count : ℕ) → Counted content s count �
 counted_all content s count so_far none =
     (so_far.front, so_far.goes_on ∙ ap (with_front so_far.front) (externals_end s none) ∙ ap (λ (es : List (List ℕ)). Ok es) (append-nil so_far.front), so_far.counts)
 
--- ---- octets at any place
+-- ---- octets at any offset
 
--- what is read at some place is EXTERNALs
+-- octets that are read at any offset are EXTERNALs
 pub is_read_sound : (s : Span) → is_read (externals_at s) ≡ true → AreExternals s.octets
 is_read_sound s e = of_it (externals_at s) refl
   where
@@ -92,7 +92,7 @@ are_complete octets h = is_read_complete (record { octets = octets; place = 0 })
 pub read_are : (s : Span) (externals : List (List ℕ)) → externals_at s ≡ Ok externals → are_externals s.octets ≡ true
 read_are s externals e = are_complete s.octets (is_read_sound s (ap is_read e))
 
--- whether counting answers says whether the octets are EXTERNALs
+-- counting succeeds exactly if the octets are EXTERNALs
 pub is_ok_are : (octets : List ℕ) (s : Span) (r : Result ℕ Fault) → s ≡ record { octets = octets; place = 0 }
     → IfOk r (λ n. (externals : List (List ℕ)) × (externals_at s ≡ Ok externals) × (n ≡ length externals)) → IfErr r (λ fault. externals_at s ≡ Err fault)
     → is_ok r ≡ are_externals octets
@@ -105,7 +105,7 @@ pub count_is : (octets : List ℕ) (s : Span) (n : ℕ) → s ≡ record { octet
 unfolding externals_of
 count_is octets s n same h = h.2 ∙ ap length (sym (ap read_or_none (ap externals_at (sym same) ∙ h.1)))
 
--- so many EXTERNALs spell the octets
+-- the octets spell as many EXTERNALs as were counted
 pub count_spelled : (octets : List ℕ) (s : Span) (n : ℕ) → s ≡ record { octets = octets; place = 0 }
     → ((externals : List (List ℕ)) × (externals_at s ≡ Ok externals) × (n ≡ length externals))
     → (externals : List (List ℕ)) × (each external).spells externals octets × (n ≡ length externals)

@@ -1,4 +1,4 @@
--- Reading components one after the other: the laws of `EachLoopLaws` at components, and the portion's reader.
+-- Reading components one after the other: the laws of `EachLoopLaws` for components, and the portion's reader.
 use Rattle.std.proofs.Common.{◌≡◌, ◌≢◌, ℕ, ◌<◌, true, List, [], ◌∷◌, length, Ok, Err, refl, sym, ap, subst, inl, inr, arith}
 use Rattle.std.specs.Prelude.{◌==◌}
 use Rattle.std.proofs.lemmas.Bool.{ne_eqb, eq-eqb, eqb-true, eqb-false}
@@ -40,7 +40,7 @@ pub rest_is_read : (s : Span) (c : Component) (rest : Span) → 0 < length s.oct
 unfolding components_at
 rest_is_read s c rest some e = items.rest_is_read component component_at reads_component component_has_octets s c rest some e
 
--- ---- a cursor
+-- ---- an iterator
 
 pub left_step : (s : Span) (c : Component) (rest : Span) → 0 < length s.octets → component_at s ≡ Ok (c, rest) → is_read (components_at s) ≡ true
     → read_or_none (components_at s) ≡ c ∷ read_or_none (components_at rest)

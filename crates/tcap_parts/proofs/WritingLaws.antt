@@ -1,4 +1,4 @@
--- The octets of parts, one after the other, as they are counted and written; and those of components, as a loop does it.
+-- The lengths and the octets of parts and components, as the code counts and writes them.
 use Rattle.std.proofs.Common.{◌≡◌, ℕ, ◌+◌, ◌≤◌, List, ◌∷◌, length, Option, Some, None, Result, Ok, Err, OnOk, nat_le, refl, sym, ap, subst, ◌∙◌, inl, inr, arith}
 use Rattle.std.specs.Option.{option_map, IsSome}
 use Rattle.std.specs.Io.KnownBytes.{Appends}
@@ -16,24 +16,24 @@ use Rattle.tcap_parts.specs.Writing.{Written}
 
 -- ---- lengths of parts
 
--- one part and then another
+-- the length of two parts
 pub joined_len : (x y : Option (List ℕ)) (n m : ℕ) → option_map length x ≡ Some n → Some m ≡ option_map length y → Some (n + m) ≡ option_map length (x ⧺ y)
 joined_len x y n m first second = sym (join_len x y n m first (sym second))
 
--- an element around a content of that length
+-- the length of an element with a content of that length
 pub around_of : (tag n : ℕ) (x : Option (List ℕ)) (r : Option ℕ) → Some n ≡ option_map length x
     → ((tag : ℕ) (content : List ℕ) → n ≡ length content → r ≡ option_map length (element_around tag (Some content))) → r ≡ option_map length (element_around tag x)
 around_of tag n None r e by = absurd cc
 around_of tag n (Some content) r e by = by tag content (some_same n (length content) e)
 
--- the content of an element that is there is within the limit
+-- the content of an element that exists is within the limit
 pub inside_within : (tag n : ℕ) (x : Option (List ℕ)) → IsSome (element_around tag x) → Some n ≡ option_map length x → n ≤ 65535
 inside_within tag n x some len =
     let it = some_there (element_around tag x) some in
     let a = element_around-is tag x it.0 it.1 in
     omega (arith, a.within, some_same n (length a.content) (len ∙ ap (option_map length) a.is_some))
 
--- ---- parts that are written
+-- ---- written parts
 
 -- one part and then another
 pub both_written : (x y : Option (List ℕ)) (a b c : Option (List ℕ)) → Written x a b → Written y b c → Written (x ⧺ y) a c
@@ -46,12 +46,12 @@ pub joined_written : (x y : Option (List ℕ)) (a b c : Option (List ℕ)) (r : 
 joined_written x y a b c (Err _) first second = tt
 joined_written x y a b c (Ok _) first second = both_written x y a b c first second
 
--- octets that are there anyway
+-- octets that need no spelling
 pub taken_written : (octets : List ℕ) (a b : Option (List ℕ)) (r : Result (Unit {0}) Failed) → Takes a b r octets → OnOk r (Written (Some octets) a b)
 taken_written octets a b (Err _) taken = tt
 taken_written octets a b (Ok _) taken = λ same e. subst (Appends a b) (some_is octets same e) taken
 
--- a header and then the content that it was made for
+-- a header, and then the content of the length that it announces
 pub around_written : (tag n : ℕ) (x : Option (List ℕ)) (a b c : Option (List ℕ)) (r : Result (Unit {0}) Failed) → Some n ≡ option_map length x
     → Appends a b (shortest_header tag n) → OnOk r (Written x b c) → OnOk r (Written (element_around tag x) a c)
 around_written tag n x a b c (Err _) len header content = tt
@@ -77,13 +77,13 @@ portion_within components octets e = within_is (canonical_components components)
 
 -- ---- components counted
 
--- the components so far have so many octets, and those that are left the others
+-- the components so far have `total` octets, and those left have the others
 abbrev pub Counted : List Component → ℕ → List Component → Type 0
 Counted components total left = option_map length (canonical_components components) ≡ option_map (λ n. total + n) (option_map length (canonical_components left))
 
 -- ---- components written
 
--- what is left can be written, and with it all are
+-- the components left can be written, and then all are written
 pub record Wrote (components left : List Component) (old new : Option (List ℕ)) : Type 0 where
   pub some : IsSome (canonical_components left)
   pub all : (after : Option (List ℕ)) → Written (canonical_components left) new after → Written (canonical_components components) old after

@@ -1,4 +1,4 @@
--- The one spelling of components that is written: shortest definite lengths, parameters verbatim.
+-- Which spelling of components does the encoder write? The one with shortest definite lengths and parameters verbatim.
 use Rattle.std.specs.Prelude.{true, false, ℕ, ℤ, List, [], ◌∷◌, length, Option, Some, None, nat_le, if◌then◌else◌}
 use Rattle.tcap_ber.specs.Element.{content_limit}
 use Rattle.tcap_ber.specs.Canonical.{◌⧺◌, element_around, integer_octets}
@@ -10,9 +10,11 @@ use Rattle.tcap_parts.specs.declared.component.ResultBody.{ResultBody}
 use Rattle.tcap_parts.specs.declared.component.Component.{Component}
 use Rattle.tcap_parts.specs.declared.component.Component.TheVariants.{Invoke, ReturnResult, ReturnError, Reject}
 
+-- an INTEGER with this tag
 abbrev pub canonical_integer : ℕ → ℤ → Option (List ℕ)
 canonical_integer tag n = element_around tag (Some (integer_octets n))
 
+-- a local code, 02, or a global code, 06
 abbrev pub canonical_code : Code → Option (List ℕ)
 canonical_code (Local n) = canonical_integer 0x02 n
 canonical_code (Global id) = element_around 0x06 (Some id)
@@ -29,10 +31,12 @@ abbrev pub canonical_linked : Option ℤ → Option (List ℕ)
 canonical_linked None = Some []
 canonical_linked (Some id) = canonical_integer 0x80 id
 
+-- the body of a Return Result, 30, or nothing
 abbrev pub canonical_body : Option ResultBody → Option (List ℕ)
 canonical_body None = Some []
 canonical_body (Some body) = element_around 0x30 (canonical_coded body.code body.parameter)
 
+-- the ID of a Reject: an invoke ID, 02, or NULL, 05
 abbrev pub canonical_rejected : Option ℤ → Option (List ℕ)
 canonical_rejected None = element_around 0x05 (Some [])
 canonical_rejected (Some id) = canonical_integer 0x02 id
@@ -59,6 +63,7 @@ component_tag (ReturnResult false id body) = 0xA7
 component_tag (ReturnError id code parameter) = 0xA3
 component_tag (Reject id problem) = 0xA4
 
+-- the parts of a component, in their order
 abbrev pub canonical_content : Component → Option (List ℕ)
 canonical_content (Invoke id linked code parameter) = canonical_integer 0x02 id ⧺ canonical_linked linked
     ⧺ canonical_coded code parameter
@@ -66,15 +71,16 @@ canonical_content (ReturnResult last id body) = canonical_integer 0x02 id ⧺ ca
 canonical_content (ReturnError id code parameter) = canonical_integer 0x02 id ⧺ canonical_coded code parameter
 canonical_content (Reject id problem) = canonical_rejected id ⧺ canonical_problem problem
 
--- it exists where no content is over the limit
+-- a component; None if a content is over the limit
 abbrev pub canonical_component : Component → Option (List ℕ)
 canonical_component c = element_around (component_tag c) (canonical_content c)
 
--- one after the other
+-- components one after the other
 abbrev pub canonical_components : List Component → Option (List ℕ)
 canonical_components [] = Some []
 canonical_components (c ∷ cs) = canonical_component c ⧺ canonical_components cs
 
+-- the content, if it is within the limit
 abbrev pub within_limit : Option (List ℕ) → Option (List ℕ)
 within_limit None = None
 within_limit (Some content) = if nat_le (length content) content_limit then Some content else None

@@ -1,4 +1,4 @@
--- Components and the component portion (Q.773 4.2.2).
+-- Which octets spell components and the component portion (Q.773 4.2.2)?
 use Rattle.std.specs.Prelude.{◌≡◌, ◌≢◌, ℕ, ◌⊎◌, ℤ, Bool, true, false, List, [], Option, Some, None}
 use Rattle.tcap_ber.specs.declared.fault.Reason.TheVariants.{BadSize, UnexpectedTag, CodeTooWide, EmptyComponents}
 use Rattle.tcap_ber.specs.Grammar.{Body, Field, required, optional, parameter, ended, ◌⨾◌, each, structure, made, integer}
@@ -13,12 +13,12 @@ use Rattle.tcap_parts.specs.declared.component.ResultBody.{ResultBody}
 use Rattle.tcap_parts.specs.declared.component.Component.{Component}
 use Rattle.tcap_parts.specs.declared.component.Component.TheVariants.{Invoke, ReturnResult, ReturnError, Reject}
 
--- an invoke ID or a linked ID: an integer of one octet
+-- an invoke ID or a linked ID: an INTEGER of one octet
 abbrev pub invoke_id : Body ℤ
 invoke_id = integer 1 BadSize
 
--- An operation code or an error code: a local one, 02, an integer of at most four octets, or a global
--- one, 06, an OBJECT IDENTIFIER.
+-- An operation code or an error code: a local one, 02, an INTEGER of at most four octets, or a global one, 06, an
+-- OBJECT IDENTIFIER.
 abbrev pub code : Choice Code
 code = 0x02 ▹ made Local (integer 4 CodeTooWide) ∣ 0x06 ▹ made Global object_id ∣ others_are UnexpectedTag
 
@@ -33,14 +33,14 @@ invoke = made make_invoke (structure (required 0x02 invoke_id ⨾ optional 0x80 
 abbrev pub make_body : Code × (Option (List ℕ) × Unit {0}) → ResultBody
 make_body parts = record { code = parts.0; parameter = parts.1.0 }
 
--- what a Return Result carries: operation code 02 or 06, [parameter]
+-- the body of a Return Result: operation code 02 or 06, [parameter]
 abbrev pub result_body : Body ResultBody
 result_body = made make_body (structure (one_of code ⨾ parameter ⨾ ended))
 
 abbrev pub make_result : Bool → ℤ × (Option ResultBody × Unit {0}) → Component
 make_result last parts = ReturnResult last parts.0 parts.1.0
 
--- Return Result, the last one or not: invoke ID 02, [30 around what it carries]
+-- Return Result, the last one or not: invoke ID 02, [body 30]
 abbrev pub return_result : Bool → Body Component
 return_result last = made (make_result last) (structure (required 0x02 invoke_id ⨾ optional 0x30 result_body ⨾ ended))
 
@@ -51,7 +51,7 @@ make_error parts = ReturnError parts.0 parts.1.0 parts.1.1.0
 abbrev pub return_error : Body Component
 return_error = made make_error (structure (required 0x02 invoke_id ⨾ one_of code ⨾ parameter ⨾ ended))
 
--- what a Reject is about: an invoke ID, 02, or NULL, 05, where none is known
+-- the ID of a Reject: an invoke ID, 02, or NULL, 05, if it is unknown
 abbrev pub rejected_id : Choice (Option ℤ)
 rejected_id = 0x02 ▹ made Some invoke_id ∣ 0x05 ▹ made (λ _. None) null ∣ others_are UnexpectedTag
 
@@ -98,6 +98,6 @@ portion = record {
       ⊎ (each component).faulty content reason place;
 }
 
--- the octets spell the components, one after the other, and there is one
+-- the octets spell the components, one after the other and at least one
 abbrev pub SpellsPortion : List Component → List ℕ → Type 0
 SpellsPortion = portion.spells

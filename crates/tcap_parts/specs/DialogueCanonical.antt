@@ -1,5 +1,5 @@
--- The one spelling of a dialogue portion that is written: shortest definite lengths, the protocol version always
--- 80 02 07 80, user information verbatim.
+-- Which spelling of a dialogue portion does the encoder write? The one with shortest definite lengths, the protocol
+-- version 80 02 07 80, and user information verbatim.
 use Rattle.std.specs.Prelude.{ℕ, List, [], ◌∷◌, Option, Some, None}
 use Rattle.tcap_ber.specs.Canonical.{◌⧺◌, element_around}
 use Rattle.tcap_parts.specs.declared.dialogue.Syntax.{Syntax}
@@ -10,7 +10,7 @@ use Rattle.tcap_parts.specs.declared.dialogue.Dialogue.{Dialogue}
 use Rattle.tcap_parts.specs.declared.dialogue.Dialogue.TheVariants.{Request, Response, Abort, Uni}
 use Rattle.tcap_parts.specs.Dialogue.{as_id}
 
--- seven unused bits, and version1
+-- the protocol version: seven unused bits, and version1
 abbrev pub canonical_version : Option (List ℕ)
 canonical_version = element_around 0x80 (Some (0x07 ∷ 0x80 ∷ []))
 
@@ -33,6 +33,7 @@ canonical_info (Some externals) = element_around 0xBE (Some externals)
 abbrev pub canonical_named : List ℕ → Option (List ℕ) → Option (List ℕ)
 canonical_named context info = canonical_version ⧺ canonical_context context ⧺ canonical_info info
 
+-- the parts of a PDU, in their order
 abbrev pub canonical_pdu_content : Dialogue → Option (List ℕ)
 canonical_pdu_content (Request context info) = canonical_named context info
 canonical_pdu_content (Response context result diagnostic info) =
@@ -46,6 +47,7 @@ pdu_tag (Response context result diagnostic info) = 0x61
 pdu_tag (Abort source info) = 0x64
 pdu_tag (Uni context info) = 0x60
 
+-- the abstract syntax of a PDU
 abbrev pub pdu_syntax : Dialogue → Syntax
 pdu_syntax (Request context info) = Structured
 pdu_syntax (Response context result diagnostic info) = Structured
@@ -59,6 +61,6 @@ canonical_pdu d = element_around (pdu_tag d) (canonical_pdu_content d)
 abbrev pub canonical_external_content : Dialogue → Option (List ℕ)
 canonical_external_content d = element_around 0x06 (Some (as_id (pdu_syntax d))) ⧺ element_around 0xA0 (canonical_pdu d)
 
--- the content of the dialogue portion; it exists where no content is over the limit
+-- the content of the dialogue portion; None if a content is over the limit
 abbrev pub canonical_dialogue : Dialogue → Option (List ℕ)
 canonical_dialogue d = element_around 0x28 (canonical_external_content d)

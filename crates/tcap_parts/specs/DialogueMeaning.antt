@@ -1,4 +1,4 @@
--- What views of dialogue portions stand for.
+-- Which values do views of dialogue portions hold?
 use Rattle.std.specs.Prelude.{ℕ, List, Option}
 use Rattle.std.specs.Option.{option_map}
 use Rattle.tcap_parts.specs.declared.info.InfoView.{InfoView}
@@ -11,16 +11,16 @@ use Rattle.tcap_parts.specs.declared.dialogue.Dialogue.TheVariants as owned
 use Rattle.tcap_parts.specs.declared.dialogue.DialogueView.{DialogueView}
 use Rattle.tcap_parts.specs.declared.dialogue.DialogueView.TheVariants as views
 
--- the user information that a view lends
+-- the user information of a view
 abbrev pub info_meaning : Option InfoView → Option (List ℕ)
 info_meaning info = option_map (λ view. view.octets.now) info
 
--- the diagnostic that a view holds
+-- the diagnostic of a view
 abbrev pub source_of : SourceView → Source
 source_of (source_views.User n) = sources.User n.number
 source_of (source_views.Provider n) = sources.Provider n.number
 
--- the PDU that a view lends
+-- the PDU of a view
 abbrev pub dialogue_of : DialogueView → Dialogue
 dialogue_of (views.Request context info) = owned.Request context.octets.now (info_meaning info)
 dialogue_of (views.Response context result diagnostic info) = owned.Response context.octets.now result.number

@@ -1,4 +1,4 @@
--- Reading dialogue portions from left to right, up to the first fault.
+-- What does reading a dialogue portion from left to right return, up to the first fault?
 use Rattle.std.specs.Prelude.{Bool, false, ◌&&◌, ℕ, List, [], ◌∷◌, Option, Result, Ok, Err, nat_lt, nat_eq, if◌then◌else◌}
 use Rattle.std.specs.Cmp.Lexicographic.{pointwise}
 use Rattle.tcap_ber.specs.declared.fault.Fault.{Fault}
@@ -16,7 +16,7 @@ use Rattle.tcap_parts.specs.InfoReading.{info_at}
 
 -- ---- parts
 
--- whether octets are a protocol version that is taken
+-- the octets are an accepted protocol version
 abbrev pub is_version : List ℕ → Bool
 is_version [] = false
 is_version (unused ∷ []) = false
@@ -82,7 +82,7 @@ abort_at s = do
   info ← info_at source.1
   end_at (Abort source.0 info.0) info.1
 
--- the PDU that an element is, by its tag
+-- the element as a PDU, by its tag
 abbrev pub pdu_of : Syntax → Element → Result Dialogue Fault
 pdu_of Structured =
     tagged_at 0x60 (λ e. named_at e.content >>= λ parts. Ok (Request parts.0 parts.1))
@@ -97,7 +97,7 @@ pdu_at s span = one_of_at (pdu_of s) span
 
 -- ---- the dialogue portion
 
--- the abstract syntax of that name
+-- the abstract syntax that these contents name
 abbrev pub syntax_in : ℕ → List ℕ → Result Syntax Fault
 syntax_in place octets =
     if pointwise nat_eq octets (as_id Structured) then Ok Structured
@@ -121,5 +121,6 @@ external_dialogue_at s = do
   dialogue ← single_type_at syntax.0 syntax.1
   end_at dialogue.0 dialogue.1
 
+-- the PDU of a dialogue portion: one EXTERNAL, 28, and nothing after it
 unfoldable pub dialogue_at : Span → Result Dialogue Fault
 dialogue_at s = single_at (λ s. required_at 0x28 s >>= with_body (λ e. external_dialogue_at e.content)) s

@@ -1,4 +1,4 @@
--- What a value of the type holds.
+-- Which values of the types are valid?
 use Rattle.std.specs.Prelude.{ℕ, ◌<◌, List, Option, Some, None}
 use Rattle.tcap_ber.specs.ObjectId.{IsObjectId}
 use Rattle.tcap_parts.specs.declared.dialogue.Source.{Source}
@@ -7,7 +7,7 @@ use Rattle.tcap_parts.specs.declared.dialogue.Dialogue.{Dialogue}
 use Rattle.tcap_parts.specs.declared.dialogue.Dialogue.TheVariants.{Request, Response, Abort, Uni}
 use Rattle.tcap_parts.specs.Info.{AreExternals}
 
--- user information is EXTERNALs, where it is there
+-- user information, if there is some, is EXTERNALs
 abbrev pub IsInfo : Option (List ℕ) → Type 0
 IsInfo None = Unit {0}
 IsInfo (Some externals) = AreExternals externals

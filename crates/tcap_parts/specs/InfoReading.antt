@@ -1,4 +1,4 @@
--- Reading user information from left to right, up to the first fault.
+-- What does reading user information from left to right return, up to the first fault?
 use Rattle.std.specs.Prelude.{Bool, ℕ, List, Option, Result, Ok}
 use Rattle.tcap_ber.specs.declared.fault.Fault.{Fault}
 use Rattle.tcap_ber.specs.Span.{Span}
@@ -13,13 +13,14 @@ externals_at s = each_of external_at s
 unfoldable pub info_of : Element → Result (List ℕ) Fault
 info_of e = externals_at e.content >>= λ _. Ok e.content.octets
 
--- whether octets are EXTERNALs up to their end
+-- the octets are EXTERNALs one after the other
 unfoldable pub are_externals : List ℕ → Bool
 are_externals octets = is_read (externals_at (record { octets = octets; place = 0 }))
 
--- the EXTERNALs that octets are
+-- the EXTERNALs of the octets
 unfoldable pub externals_of : List ℕ → List (List ℕ)
 externals_of octets = read_or_none (externals_at (record { octets = octets; place = 0 }))
 
+-- user information, BE, or None if the next tag is another one
 unfoldable pub info_at : Span → Result (Option (List ℕ) × Span) Fault
 info_at s = optional_at 0xBE info_of s

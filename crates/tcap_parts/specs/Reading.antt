@@ -1,4 +1,4 @@
--- Reading components from left to right, up to the first fault.
+-- What does reading components from left to right return, up to the first fault?
 use Rattle.std.specs.Prelude.{Bool, true, false, ℤ, List, length, Option, Some, None, Result, Ok, Err, ◌==◌, if◌then◌else◌}
 use Rattle.tcap_ber.specs.declared.fault.Fault.{Fault}
 use Rattle.tcap_ber.specs.declared.fault.Reason.TheVariants.{BadSize, UnexpectedTag, CodeTooWide, EmptyComponents}
@@ -86,7 +86,7 @@ reject_at s = do
   problem ← problem_at id.1
   end_at (Reject id.0 problem.0) problem.1
 
--- the component that an element is, by its tag
+-- the element as a component, by its tag
 abbrev pub component_of_element : Element → Result Component Fault
 component_of_element =
     tagged_at 0xA1 (λ e. invoke_at e.content)
@@ -102,5 +102,6 @@ component_at s = one_of_at component_of_element s
 unfoldable pub components_at : Span → Result (List Component) Fault
 components_at s = each_of component_at s
 
+-- the components of a portion, or EmptyComponents if it has no content
 unfoldable pub portion_at : Element → Result (List Component) Fault
 portion_at e = if length e.content.octets == 0 then Err (fault EmptyComponents e.place) else components_at e.content

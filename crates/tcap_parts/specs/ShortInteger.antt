@@ -1,8 +1,8 @@
--- INTEGERs of one octet behind a header of two octets.
+-- Which octets begin with an INTEGER of one octet after a header of two octets?
 use Rattle.std.specs.Prelude.{◌≡◌, ℕ, ℤ, List, [], ◌∷◌}
 use Rattle.tcap_ber.specs.Integer.{signed}
 
--- Such an element begins the octets, and stands for this number.
+-- The octets begin with an INTEGER of one octet after a header of two octets, whose number is n.
 pub record BeginsWithOctet (n : ℤ) (octets : List ℕ) : Type 0 where
   pub octet : ℕ
   pub rest : List ℕ

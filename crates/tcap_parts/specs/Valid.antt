@@ -1,4 +1,4 @@
--- What a value of the type holds.
+-- Which values of the types are valid?
 use Rattle.std.specs.Prelude.{◌≢◌, ℕ, ℤ, ◌^◌, ◌<◌, List, [], Option, Some, None}
 use Rattle.std.specs.List.{All}
 use Rattle.tcap_ber.specs.Element.{IsRaw}
@@ -20,12 +20,12 @@ abbrev pub IsOptionalId : Option ℤ → Type 0
 IsOptionalId None = Unit {0}
 IsOptionalId (Some id) = IsId id
 
--- a local code is a number of 32 bits, a global one an object identifier
+-- a local code is a number of 32 bits, a global one an OBJECT IDENTIFIER
 abbrev pub IsCode : Code → Type 0
 IsCode (Local n) = magnitude n < 2 ^ 31
 IsCode (Global id) = IsObjectId id
 
--- a parameter is one element, where there is one
+-- a parameter, if there is one, is one element
 abbrev pub IsParameter : Option (List ℕ) → Type 0
 IsParameter None = Unit {0}
 IsParameter (Some raw) = IsRaw raw
@@ -47,6 +47,6 @@ IsComponent (ReturnResult last id body) = IsId id × IsResultBody body
 IsComponent (ReturnError id code parameter) = IsId id × IsCode code × IsParameter parameter
 IsComponent (Reject id problem) = IsOptionalId id × IsProblem problem
 
--- what a portion holds: components, at least one
+-- a portion is valid components, at least one
 abbrev pub IsPortion : List Component → Type 0
 IsPortion components = (components ≢ []) × All IsComponent components

@@ -16,22 +16,22 @@ use tcap_ber::{
 /// An operation code or an error code.
 #[derive(Debug, Drop)]
 pub enum Code {
-    /// A local code, an integer of one to four octets.
+    /// A local code, an INTEGER of one to four octets.
     Local(i32),
-    /// A global code, an object identifier.
+    /// A global code, an OBJECT IDENTIFIER.
     Global(ObjectId),
 }
 
-/// An operation code or an error code, a global one lent from the octets that were read.
+/// An operation code or an error code. A global one is borrowed.
 #[derive(Clone, Copy, Debug)]
 pub enum CodeView<'a> {
-    /// A local code, an integer of one to four octets.
+    /// A local code, an INTEGER of one to four octets.
     Local(i32),
-    /// A global code, an object identifier.
+    /// A global code, an OBJECT IDENTIFIER.
     Global(ObjectIdView<'a>),
 }
 
-/// The code at the front of a window, whatever its form, and the window behind it.
+/// Reads the code at the front of a window, in any form. Returns it and the window after it.
 #[tactic(auto, unfolding(crate::specs::Reading::code_at))]
 #[inline(never)]
 fn code_of_any_form(window: Window) -> Result<(CodeView, Window), Fault>
@@ -48,7 +48,8 @@ fn code_of_any_form(window: Window) -> Result<(CodeView, Window), Fault>
     }
 }
 
-/// The code at the front of a window, and the window behind it (Q.773 4.2.2).
+/// Reads the code at the front of a window (Q.773 4.2.2). Returns it and the window after it. A local code of one octet
+/// takes a fast path.
 #[inline(always)]
 pub(crate) fn read_code(window: Window) -> Result<(CodeView, Window), Fault>
     ensures exact { Gives (λ x. (code_of x.0, span x.1)) result (code_at (span window.entry)) }
@@ -60,7 +61,11 @@ pub(crate) fn read_code(window: Window) -> Result<(CodeView, Window), Fault>
 }
 
 impl<'a> CodeView<'a> {
-    /// The code as a value of its own. A local one takes no memory.
+    /// Copies the code into an owned value. A local code does not allocate.
+    ///
+    /// # Errors
+    ///
+    /// `AllocError` if memory runs out.
     pub fn to_code(self, alloc: Global) -> Result<Code, AllocError>
         ensures made { IfOk result (λ code. code ≡ code_of self.entry) }
         ensures local { (n : ℤ) → code_of self.entry ≡ Code.Local n → IsOk result }
@@ -73,7 +78,7 @@ impl<'a> CodeView<'a> {
 }
 
 impl Code {
-    /// The code, lent.
+    /// Returns a view of the code.
     pub fn view(&self) -> CodeView<'_>
         ensures { code_of result ≡ self.now }
     {
@@ -83,7 +88,11 @@ impl Code {
         }
     }
 
-    /// An equal code of its own. A local one takes no memory.
+    /// Copies the code. A local code does not allocate.
+    ///
+    /// # Errors
+    ///
+    /// `AllocError` if memory runs out.
     pub fn copy(&self, alloc: Global) -> Result<Code, AllocError>
         ensures made { IfOk result (λ code. code ≡ self.now) }
         ensures local { (n : ℤ) → self.now ≡ Code.Local n → IsOk result }

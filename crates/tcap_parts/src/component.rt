@@ -13,36 +13,34 @@ use tcap_ber::{Raw, RawView};
 /// A component.
 #[derive(Debug, Drop)]
 pub enum Component {
-    /// An Invoke: its invoke ID, the ID of the invocation that it is linked to, its operation code and its
-    /// parameter, one element with any tag.
+    /// An Invoke: its invoke ID, its linked ID, its operation code and its parameter, which is one element with any
+    /// tag.
     Invoke {
         id: i8,
         linked: Option<i8>,
         code: Code,
         parameter: Option<Raw>,
     },
-    /// A Return Result: whether it is the last one, the ID of the invocation that it answers, and what it
-    /// carries.
+    /// A Return Result: whether it is the last one, the invoke ID that it answers, and its body.
     ReturnResult {
         last: bool,
         id: i8,
         body: Option<ResultBody>,
     },
-    /// A Return Error: the ID of the invocation that it answers, its error code and its parameter.
+    /// A Return Error: the invoke ID that it answers, its error code and its parameter.
     ReturnError {
         id: i8,
         code: Code,
         parameter: Option<Raw>,
     },
-    /// A Reject: the invoke ID of the component that it rejects, `None` where that is not known, and the
-    /// problem.
+    /// A Reject: the invoke ID of the rejected component, or `None` if it is unknown, and the problem.
     Reject {
         id: Option<i8>,
         problem: Problem,
     },
 }
 
-/// What a Return Result carries: the operation code and the parameter.
+/// The body of a Return Result: the operation code and the parameter.
 #[derive(Debug, Drop)]
 pub struct ResultBody {
     /// The operation code.
@@ -51,39 +49,36 @@ pub struct ResultBody {
     pub parameter: Option<Raw>,
 }
 
-/// A component whose global code and parameter are lent from octets.
+/// A component that borrows its global code and parameter.
 #[derive(Clone, Copy, Debug)]
 pub enum ComponentView<'a> {
-    /// An Invoke: its invoke ID, the ID of the invocation that it is linked to, its operation code and its
-    /// parameter.
+    /// An Invoke: its invoke ID, its linked ID, its operation code and its parameter.
     Invoke {
         id: i8,
         linked: Option<i8>,
         code: CodeView<'a>,
         parameter: Option<RawView<'a>>,
     },
-    /// A Return Result: whether it is the last one, the ID of the invocation that it answers, and what it
-    /// carries.
+    /// A Return Result: whether it is the last one, the invoke ID that it answers, and its body.
     ReturnResult {
         last: bool,
         id: i8,
         body: Option<ResultBodyView<'a>>,
     },
-    /// A Return Error: the ID of the invocation that it answers, its error code and its parameter.
+    /// A Return Error: the invoke ID that it answers, its error code and its parameter.
     ReturnError {
         id: i8,
         code: CodeView<'a>,
         parameter: Option<RawView<'a>>,
     },
-    /// A Reject: the invoke ID of the component that it rejects, `None` where that is not known, and the
-    /// problem.
+    /// A Reject: the invoke ID of the rejected component, or `None` if it is unknown, and the problem.
     Reject {
         id: Option<i8>,
         problem: ProblemView,
     },
 }
 
-/// What a Return Result carries, lent: the operation code and the parameter.
+/// The borrowed body of a Return Result: the operation code and the parameter.
 #[derive(Clone, Copy, Debug)]
 pub struct ResultBodyView<'a> {
     /// The operation code.
@@ -92,7 +87,7 @@ pub struct ResultBodyView<'a> {
     pub parameter: Option<RawView<'a>>,
 }
 
-/// The parameter as a value of its own.
+/// Copies a parameter.
 fn to_parameter(parameter: Option<RawView>, alloc: Global) -> Result<Option<Raw>, AllocError>
     ensures { IfOk result (λ made. made ≡ parameter_of parameter.entry) }
 {
@@ -102,7 +97,7 @@ fn to_parameter(parameter: Option<RawView>, alloc: Global) -> Result<Option<Raw>
     }
 }
 
-/// The parameter, lent.
+/// Returns a view of a parameter.
 fn view_of(parameter: &Option<Raw>) -> Option<RawView<'_>>
     ensures { parameter_of result ≡ parameter.now }
 {
@@ -113,7 +108,11 @@ fn view_of(parameter: &Option<Raw>) -> Option<RawView<'_>>
 }
 
 impl<'a> ResultBodyView<'a> {
-    /// What the Return Result carries as a value of its own.
+    /// Copies the body into an owned value.
+    ///
+    /// # Errors
+    ///
+    /// `AllocError` if memory runs out.
     pub fn to_result_body(self, alloc: Global) -> Result<ResultBody, AllocError>
         ensures { IfOk result (λ made. made ≡ body_of self.entry) }
     {
@@ -125,7 +124,7 @@ impl<'a> ResultBodyView<'a> {
 }
 
 impl ResultBody {
-    /// What the Return Result carries, lent.
+    /// Returns a view of the body.
     pub fn view(&self) -> ResultBodyView<'_>
         ensures { body_of result ≡ self.now }
     {
@@ -137,7 +136,11 @@ impl ResultBody {
 }
 
 impl<'a> ComponentView<'a> {
-    /// The component as a value of its own. A Reject takes no memory.
+    /// Copies the component into an owned value. A Reject does not allocate.
+    ///
+    /// # Errors
+    ///
+    /// `AllocError` if memory runs out.
     pub fn to_component(self, alloc: Global) -> Result<Component, AllocError>
         ensures made { IfOk result (λ made. made ≡ component_of self.entry) }
         ensures reject { (id : Option ℤ) (problem : Problem) → component_of self.entry ≡ Component.Reject id problem
@@ -180,7 +183,7 @@ impl<'a> ComponentView<'a> {
 }
 
 impl Component {
-    /// The component, lent.
+    /// Returns a view of the component.
     pub fn view(&self) -> ComponentView<'_>
         ensures { component_of result ≡ self.now }
     {

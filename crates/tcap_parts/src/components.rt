@@ -1,4 +1,4 @@
-//! The components of a portion, one after the other.
+//! Iterators over the components of a portion.
 
 ghost use Rattle.std.specs.Prelude.{◌≡◌, true};
 ghost use Rattle.tcap_ber.specs.Reading.{span, is_read};
@@ -8,19 +8,19 @@ use crate::component::{Component, ComponentView};
 use crate::reading::view_component;
 use tcap_ber::Window;
 
-/// Components that octets spell, one after the other. Each costs the time of reading it.
+/// An iterator over the components that octets spell. Each call of `next` reads one component again.
 #[derive(Debug, Drop)]
 pub struct OctetComponents<'a> {
     pub(crate) rest: Window<'a>,
     pub ghost whole: { is_read (components_at (span rest)) ≡ true },
 }
 
-/// The components of a portion, one after the other, lent from octets or from values.
+/// An iterator over the components of a portion, which are octets or values.
 #[derive(Debug, Drop)]
 pub enum Components<'a> {
-    /// Those that octets spell.
+    /// Components as octets.
     Octets(OctetComponents<'a>),
-    /// These values.
+    /// Components as values.
     Values(&'a [Component]),
 }
 

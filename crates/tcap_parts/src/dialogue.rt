@@ -10,13 +10,13 @@ use tcap_ber::{ObjectId, ObjectIdView, Small, SmallView};
 /// The abstract syntax of a dialogue portion.
 #[derive(Clone, Copy, Debug, PartialEq, Eq)]
 pub enum Syntax {
-    /// That of structured dialogues, dialogue-as-id.
+    /// dialogue-as-id, for structured dialogues.
     Structured,
-    /// That of Unidirectional messages, unidialogue-as-id.
+    /// unidialogue-as-id, for Unidirectional messages.
     Unstructured,
 }
 
-/// A PDU of the dialogue portion. The protocol version stands in its octets alone.
+/// A PDU of the dialogue portion. The protocol version is not kept.
 #[derive(Debug, Drop)]
 pub enum Dialogue {
     /// A dialogue request, AARQ: the application context name and the user information.
@@ -24,8 +24,7 @@ pub enum Dialogue {
         context: ObjectId,
         info: Option<Info>,
     },
-    /// A dialogue response, AARE: the application context name, the result, the diagnostic and the user
-    /// information.
+    /// A dialogue response, AARE: the application context name, the result, the diagnostic and the user information.
     Response {
         context: ObjectId,
         result: Small,
@@ -44,25 +43,25 @@ pub enum Dialogue {
     },
 }
 
-/// A diagnostic of a dialogue response, by its source: who gives it (Q.773 4.2.3).
+/// The diagnostic of a dialogue response, with its source (Q.773 4.2.3).
 #[derive(Clone, Copy, Debug, PartialEq, Eq)]
 pub enum Source {
-    /// The dialogue service user.
+    /// A diagnostic from the dialogue service user.
     User(Small),
-    /// The dialogue service provider.
+    /// A diagnostic from the dialogue service provider.
     Provider(Small),
 }
 
 /// A diagnostic as views of octets hold it.
 #[derive(Clone, Copy, Debug)]
 pub enum SourceView {
-    /// The dialogue service user.
+    /// A diagnostic from the dialogue service user.
     User(SmallView),
-    /// The dialogue service provider.
+    /// A diagnostic from the dialogue service provider.
     Provider(SmallView),
 }
 
-/// A PDU of the dialogue portion whose application context name and user information are lent.
+/// A PDU of the dialogue portion that borrows its application context name and user information.
 #[derive(Clone, Copy, Debug)]
 pub enum DialogueView<'a> {
     /// A dialogue request, AARQ: the application context name and the user information.
@@ -70,8 +69,7 @@ pub enum DialogueView<'a> {
         context: ObjectIdView<'a>,
         info: Option<InfoView<'a>>,
     },
-    /// A dialogue response, AARE: the application context name, the result, the diagnostic and the user
-    /// information.
+    /// A dialogue response, AARE: the application context name, the result, the diagnostic and the user information.
     Response {
         context: ObjectIdView<'a>,
         result: SmallView,
@@ -90,7 +88,7 @@ pub enum DialogueView<'a> {
     },
 }
 
-/// User information as a value of its own.
+/// Copies user information.
 fn to_info(info: Option<InfoView>, alloc: Global) -> Result<Option<Info>, AllocError>
     ensures { IfOk result (λ made. made ≡ info_meaning info.entry) }
 {
@@ -100,7 +98,7 @@ fn to_info(info: Option<InfoView>, alloc: Global) -> Result<Option<Info>, AllocE
     }
 }
 
-/// User information, lent.
+/// Returns a view of user information.
 fn view_of(info: &Option<Info>) -> Option<InfoView<'_>>
     ensures { info_meaning result ≡ info.now }
 {
@@ -111,7 +109,7 @@ fn view_of(info: &Option<Info>) -> Option<InfoView<'_>>
 }
 
 impl SourceView {
-    /// The diagnostic as a value of its own.
+    /// Returns the diagnostic as an owned value.
     pub fn to_source(self) -> Source
         ensures { result ≡ source_of self }
     {
@@ -123,7 +121,7 @@ impl SourceView {
 }
 
 impl Source {
-    /// The diagnostic as views hold it.
+    /// Returns a view of the diagnostic.
     pub fn view(&self) -> SourceView
         ensures { source_of result ≡ self.now }
     {
@@ -135,7 +133,11 @@ impl Source {
 }
 
 impl<'a> DialogueView<'a> {
-    /// The PDU as a value of its own.
+    /// Copies the PDU into an owned value.
+    ///
+    /// # Errors
+    ///
+    /// `AllocError` if memory runs out.
     pub fn to_dialogue(self, alloc: Global) -> Result<Dialogue, AllocError>
         ensures { IfOk result (λ made. made ≡ dialogue_of self.entry) }
     {
@@ -168,7 +170,7 @@ impl<'a> DialogueView<'a> {
 }
 
 impl Dialogue {
-    /// The PDU, lent.
+    /// Returns a view of the PDU.
     pub fn view(&self) -> DialogueView<'_>
         ensures { dialogue_of result ≡ self.now }
     {

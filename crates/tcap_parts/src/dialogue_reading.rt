@@ -1,4 +1,5 @@
-//! Reading dialogue portions (Q.773 4.2.3).
+//! Reading dialogue portions (Q.773 4.2.3). The readers of a part at the front of a window return it and the window
+//! after it.
 
 ghost use Rattle.std.specs.Prelude.{◌≡◌, ◌↔◌, ℕ, List, Err, IfOk, IsOkAnd};
 ghost use Rattle.tcap_ber.specs.declared.fault.Fault.{Fault};
@@ -22,7 +23,7 @@ use tcap_ber::{
     required_any, small_number,
 };
 
-/// User information at the front of a window, or `None` where the next tag is not its own.
+/// Reads the user information at the front of a window. `None` if the next tag is another one.
 #[tactic(auto, unfolding(crate::specs::InfoReading::info_at))]
 fn info(window: Window) -> Result<(Option<InfoView>, Window), Fault>
     ensures exact { Gives (λ x. (info_meaning x.0, span x.1)) result (info_at (span window.entry)) }
@@ -34,7 +35,7 @@ fn info(window: Window) -> Result<(Option<InfoView>, Window), Fault>
     Ok((Some(InfoView::read(found)?), rest))
 }
 
-/// Whether the contents of a BIT STRING are a protocol version that is taken.
+/// Returns whether the contents of a BIT STRING are an accepted protocol version.
 fn is_version(octets: &[u8]) -> bool
     ensures { result ≡ is_version octets.now }
 {
@@ -44,7 +45,7 @@ fn is_version(octets: &[u8]) -> bool
     }
 }
 
-/// Reads a protocol version.
+/// Checks a protocol version.
 #[tactic(auto, unfolding(crate::specs::DialogueReading::version_of))]
 fn check_version(tlv: Tlv) -> Result<(), Fault>
     ensures exact { Gives (λ x. x) result (version_of (element tlv.entry)) }
@@ -56,7 +57,7 @@ fn check_version(tlv: Tlv) -> Result<(), Fault>
     }
 }
 
-/// The protocol version at the front of a window, or `None` where the next tag is not its own.
+/// Reads the protocol version at the front of a window. `None` if the next tag is another one.
 #[tactic(auto, unfolding(crate::specs::DialogueReading::version_at))]
 fn version(window: Window) -> Result<(Option<()>, Window), Fault>
     ensures exact { Gives (λ x. (x.0, span x.1)) result (version_at (span window.entry)) }
@@ -69,7 +70,7 @@ fn version(window: Window) -> Result<(Option<()>, Window), Fault>
     Ok((Some(()), rest))
 }
 
-/// The object identifier that is all of an element's content.
+/// Reads the OBJECT IDENTIFIER that is all of an element's content.
 #[tactic(auto, unfolding(crate::specs::DialogueReading::context_of))]
 fn single_object_id(tlv: Tlv) -> Result<ObjectIdView, Fault>
     ensures exact { Gives (λ id. id.octets.now) result (context_of (element tlv.entry)) }
@@ -80,7 +81,7 @@ fn single_object_id(tlv: Tlv) -> Result<ObjectIdView, Fault>
     Ok(id)
 }
 
-/// The application context name at the front of a window.
+/// Reads the application context name at the front of a window.
 #[tactic(auto, unfolding(crate::specs::DialogueReading::context_at))]
 fn context(window: Window) -> Result<(ObjectIdView, Window), Fault>
     ensures exact { Gives (λ x. (x.0.octets.now, span x.1)) result (context_at (span window.entry)) }
@@ -89,7 +90,7 @@ fn context(window: Window) -> Result<(ObjectIdView, Window), Fault>
     Ok((single_object_id(found)?, rest))
 }
 
-/// The number from 0 to 127 that is all of an element's content.
+/// Reads the number from 0 to 127 that is all of an element's content.
 #[tactic(auto, unfolding(crate::specs::DialogueReading::number_in))]
 fn single_number(tlv: Tlv) -> Result<SmallView, Fault>
     ensures exact { Gives (λ n. n.number) result (number_in (element tlv.entry)) }
@@ -100,7 +101,7 @@ fn single_number(tlv: Tlv) -> Result<SmallView, Fault>
     Ok(number)
 }
 
-/// The result at the front of a window.
+/// Reads the result at the front of a window.
 #[tactic(auto, unfolding(crate::specs::DialogueReading::result_at))]
 fn result(window: Window) -> Result<(SmallView, Window), Fault>
     ensures exact { Gives (λ x. (x.0.number, span x.1)) result (result_at (span window.entry)) }
@@ -109,7 +110,7 @@ fn result(window: Window) -> Result<(SmallView, Window), Fault>
     Ok((single_number(found)?, rest))
 }
 
-/// What a diagnostic is of, at the front of a window.
+/// Reads the source and number of a diagnostic at the front of a window.
 #[tactic(auto, unfolding(crate::specs::DialogueReading::source_at))]
 fn source(window: Window) -> Result<(SourceView, Window), Fault>
     ensures exact { Gives (λ x. (source_of x.0, span x.1)) result (source_at (span window.entry)) }
@@ -124,7 +125,7 @@ fn source(window: Window) -> Result<(SourceView, Window), Fault>
     }
 }
 
-/// The diagnostic that is all of an element's content.
+/// Reads the diagnostic that is all of an element's content.
 #[tactic(auto, unfolding(crate::specs::DialogueReading::diagnostic_of))]
 fn single_source(tlv: Tlv) -> Result<SourceView, Fault>
     ensures exact { Gives source_of result (diagnostic_of (element tlv.entry)) }
@@ -134,7 +135,7 @@ fn single_source(tlv: Tlv) -> Result<SourceView, Fault>
     Ok(source)
 }
 
-/// The diagnostic at the front of a window.
+/// Reads the diagnostic at the front of a window.
 #[tactic(auto, unfolding(crate::specs::DialogueReading::diagnostic_at))]
 fn diagnostic(window: Window) -> Result<(SourceView, Window), Fault>
     ensures exact { Gives (λ x. (source_of x.0, span x.1)) result (diagnostic_at (span window.entry)) }
@@ -143,7 +144,7 @@ fn diagnostic(window: Window) -> Result<(SourceView, Window), Fault>
     Ok((single_source(found)?, rest))
 }
 
-/// The abort source at the front of a window.
+/// Reads the abort source at the front of a window.
 #[tactic(auto, unfolding(crate::specs::DialogueReading::abort_source_at))]
 fn abort_source(window: Window) -> Result<(SmallView, Window), Fault>
     ensures exact { Gives (λ x. (x.0.number, span x.1)) result (abort_source_at (span window.entry)) }
@@ -152,7 +153,7 @@ fn abort_source(window: Window) -> Result<(SmallView, Window), Fault>
     Ok((small_number(found)?, rest))
 }
 
-/// The application context name and the user information of an AARQ or an AUDT, which is all of `content`.
+/// Reads the application context name and user information of an AARQ or AUDT, which is all of `content`.
 #[tactic(auto, unfolding(crate::specs::DialogueReading::named_at))]
 fn view_named(content: Window) -> Result<(ObjectIdView, Option<InfoView>), Fault>
     ensures exact { Gives (λ x. (x.0.octets.now, info_meaning x.1)) result (named_at (span content.entry)) }
@@ -164,7 +165,7 @@ fn view_named(content: Window) -> Result<(ObjectIdView, Option<InfoView>), Fault
     Ok((context, info))
 }
 
-/// The parts of an AARE, which are all of `content`.
+/// Reads the parts of an AARE, which are all of `content`.
 #[tactic(auto, unfolding(crate::specs::DialogueReading::response_at))]
 fn view_response(content: Window) -> Result<DialogueView, Fault>
     ensures exact { Gives dialogue_of result (response_at (span content.entry)) }
@@ -183,7 +184,7 @@ fn view_response(content: Window) -> Result<DialogueView, Fault>
     })
 }
 
-/// The parts of an ABRT, which are all of `content`.
+/// Reads the parts of an ABRT, which are all of `content`.
 #[tactic(auto, unfolding(crate::specs::DialogueReading::abort_at))]
 fn view_abort(content: Window) -> Result<DialogueView, Fault>
     ensures exact { Gives dialogue_of result (abort_at (span content.entry)) }
@@ -194,7 +195,7 @@ fn view_abort(content: Window) -> Result<DialogueView, Fault>
     Ok(DialogueView::Abort { source, info })
 }
 
-/// The PDU of a structured dialogue that an element is, by its tag.
+/// Reads an element as a PDU of a structured dialogue, by its tag.
 fn structured_pdu(found: Tlv) -> Result<DialogueView, Fault>
     ensures exact { Gives dialogue_of result (pdu_of Syntax.Structured (element found.entry)) }
 {
@@ -210,7 +211,7 @@ fn structured_pdu(found: Tlv) -> Result<DialogueView, Fault>
     }
 }
 
-/// The PDU of a Unidirectional that an element is, by its tag.
+/// Reads an element as the PDU of a Unidirectional, by its tag.
 fn unstructured_pdu(found: Tlv) -> Result<DialogueView, Fault>
     ensures exact { Gives dialogue_of result (pdu_of Syntax.Unstructured (element found.entry)) }
 {
@@ -222,7 +223,7 @@ fn unstructured_pdu(found: Tlv) -> Result<DialogueView, Fault>
     }
 }
 
-/// The PDU of that abstract syntax at the front of a window.
+/// Reads the PDU of this abstract syntax at the front of a window.
 #[tactic(auto, unfolding(crate::specs::DialogueReading::pdu_at))]
 fn pdu(syntax: Syntax, window: Window) -> Result<(DialogueView, Window), Fault>
     ensures exact { Gives (λ x. (dialogue_of x.0, span x.1)) result (pdu_at syntax (span window.entry)) }
@@ -235,7 +236,7 @@ fn pdu(syntax: Syntax, window: Window) -> Result<(DialogueView, Window), Fault>
     Ok((pdu, rest))
 }
 
-/// The abstract syntax of which an element is the name.
+/// Returns the abstract syntax that an OBJECT IDENTIFIER names.
 #[tactic(auto, unfolding(crate::specs::DialogueReading::syntax_of))]
 fn named_syntax(tlv: Tlv) -> Result<Syntax, Fault>
     ensures exact { Gives (λ x. x) result (syntax_of (element tlv.entry)) }
@@ -250,7 +251,7 @@ fn named_syntax(tlv: Tlv) -> Result<Syntax, Fault>
     }
 }
 
-/// The abstract syntax that the name at the front of a window has.
+/// Reads the name of an abstract syntax at the front of a window.
 #[tactic(auto, unfolding(crate::specs::DialogueReading::syntax_at))]
 fn syntax(window: Window) -> Result<(Syntax, Window), Fault>
     ensures exact { Gives (λ x. (x.0, span x.1)) result (syntax_at (span window.entry)) }
@@ -263,7 +264,7 @@ fn syntax(window: Window) -> Result<(Syntax, Window), Fault>
     }
 }
 
-/// The PDU of that abstract syntax that is all of an element's content.
+/// Reads the PDU of this abstract syntax that is all of an element's content.
 #[tactic(auto, unfolding(crate::specs::DialogueReading::single_type_of))]
 fn single_pdu(syntax: Syntax, tlv: Tlv) -> Result<DialogueView, Fault>
     ensures exact { Gives dialogue_of result (single_type_of syntax (element tlv.entry)) }
@@ -273,7 +274,7 @@ fn single_pdu(syntax: Syntax, tlv: Tlv) -> Result<DialogueView, Fault>
     Ok(pdu)
 }
 
-/// The single ASN.1 type at the front of a window, around a PDU of that abstract syntax.
+/// Reads the single ASN.1 type at the front of a window, which contains a PDU of this abstract syntax.
 #[tactic(auto, unfolding(crate::specs::DialogueReading::single_type_at))]
 fn single_type(syntax: Syntax, window: Window) -> Result<(DialogueView, Window), Fault>
     ensures exact { Gives (λ x. (dialogue_of x.0, span x.1)) result (single_type_at syntax (span window.entry)) }
@@ -286,7 +287,7 @@ fn single_type(syntax: Syntax, window: Window) -> Result<(DialogueView, Window),
     }
 }
 
-/// The PDU of an EXTERNAL, which is all of `content`.
+/// Reads the PDU of an EXTERNAL, which is all of `content`.
 #[tactic(auto, unfolding(crate::specs::DialogueReading::external_dialogue_at))]
 fn view_external(content: Window) -> Result<DialogueView, Fault>
     ensures exact { Gives dialogue_of result (external_dialogue_at (span content.entry)) }
@@ -307,30 +308,32 @@ fn read_dialogue(content: Window) -> Result<DialogueView, Fault>
     Ok(dialogue)
 }
 
-/// The PDU of a dialogue portion whose content is `content`, lent from its octets (Q.773 4.2.3).
+/// Reads the PDU of a dialogue portion, which is all of `content` (Q.773 4.2.3). Returns a view that borrows its
+/// octets.
 ///
-/// A fault is the first from left to right. Its place is the first octet of the element that is named below; that of
-/// `Missing` is the end of the content that the element is missing in. What is wrong in an element of indefinite
-/// length, and what goes past its window, stands where [`next_tlv`](tcap_ber::next_tlv) says.
+/// # Errors
 ///
-/// - `DialogueSyntax` at the EXTERNAL's first element where it has another tag than 06 and where its contents name
-///   another abstract syntax, at its second element where that has another tag than A0, and at a PDU in the single
-///   ASN.1 type that the syntax has not.
-/// - `BadObjectId` at the 06 of that name and of an application context name where its contents are no OBJECT
+/// The first fault from left to right, at the first octet of the element given here. `Missing` is at the end of the
+/// content that lacks the element. A fault inside an element of indefinite length, or past its window, is at the offset
+/// that [`next_tlv`](tcap_ber::next_tlv) gives.
+///
+/// - `DialogueSyntax` at the EXTERNAL's first element if its tag is not 06 or it names another abstract syntax.
+/// - `DialogueSyntax` at the EXTERNAL's second element if its tag is not A0, or at a PDU that the syntax does not have.
+/// - `BadObjectId` at the 06 of that name or of an application context name, if its contents are not an OBJECT
 ///   IDENTIFIER.
-/// - `BadVersion` at a protocol version that is no BIT STRING of one octet whose first bit, version1, is set.
-/// - `BadInteger` or `BadSize` at the 02 of a result and of a diagnostic, and at an abort source.
-/// - Those of [`required`] for each element that has to be there, with `DialogueSyntax` for `UnexpectedTag` where the
-///   first line says so; those of [`tcap_ber::next_tlv`] at a protocol version and at user information.
-/// - Those of [`InfoView::read`].
-/// - `Trailing` behind the last part of each structure.
+/// - `BadVersion` at a protocol version that is not a BIT STRING of one octet whose first bit, version1, is set.
+/// - `BadInteger` or `BadSize` at the 02 of a result or a diagnostic, or at an abort source.
+/// - The faults of [`required`] at each required element, with `DialogueSyntax` for `UnexpectedTag` in the cases above.
+/// - The faults of [`tcap_ber::next_tlv`] at a protocol version and at user information.
+/// - The faults of [`InfoView::read`].
+/// - `Trailing` after the last part of a structure.
 pub fn view_dialogue(content: Window) -> Result<DialogueView, Fault>
-    // What is read is spelled by all of the content.
+    // On success, all of the content spells the PDU.
     ensures found { IfOk result (λ view. SpellsDialogue (dialogue_of view) content.entry.octets.now) }
-    // What is spelled by all of the content is read.
+    // A PDU that all of the content spells is read.
     ensures only { (d : Dialogue) → SpellsDialogue d content.entry.octets.now
         → IsOkAnd result (λ view. dialogue_of view ≡ d) }
-    // What is refused is faulty there, and what is faulty is refused by that fault.
+    // The result is a fault exactly if the content has that fault.
     ensures faulty { (fault : Fault) (at : ℕ)
         → (result ≡ Err fault) ↔ dialogue.faulty at (span content.entry) fault.reason fault.place }
     ensures exact { Gives dialogue_of result (dialogue_at (span content.entry)) }

@@ -1,5 +1,8 @@
-//! Dialogue portions as they are written: with the shortest definite lengths, the protocol version always
-//! 80 02 07 80, user information verbatim.
+//! Writing dialogue portions with the shortest definite lengths, the protocol version 80 02 07 80, and user information
+//! verbatim.
+//!
+//! A `len_` function returns a length in octets. If a content has more than 65,535 octets, it returns `None`. A
+//! `write_` function returns `Failed` if the writer fails.
 
 ghost use Rattle.std.specs.Prelude.{◌+◌, ◌≡◌, ◌≤◌, length, IfSome, OnOk};
 ghost use Rattle.tcap_ber.specs.Element.{content_limit, shortest_header_limit};
@@ -20,7 +23,7 @@ use crate::tags::{
 };
 use tcap_ber::{Failed, ObjectIdView, SmallView, Write, element_len, put_element, put_header};
 
-/// The count of octets of an application context name; `None` exactly where a content is over 65,535 octets.
+/// Returns the length of an application context name.
 fn len_context(id: ObjectIdView) -> Option<usize>
     ensures exact { result ≡ option_map length (canonical_context id.entry.octets.now) }
     ensures most { IfSome result (λ n. n ≤ content_limit + shortest_header_limit) }
@@ -28,8 +31,7 @@ fn len_context(id: ObjectIdView) -> Option<usize>
     element_len(element_len(id.octets.len())?)
 }
 
-/// The count of octets of user information, 0 where there is none; `None` exactly where its content is over 65,535
-/// octets.
+/// Returns the length of user information, 0 if there is none.
 fn len_info(info: Option<InfoView>) -> Option<usize>
     ensures exact { result ≡ option_map length (canonical_info (info_meaning info.entry)) }
     ensures most { IfSome result (λ n. n ≤ content_limit + shortest_header_limit) }
@@ -40,7 +42,7 @@ fn len_info(info: Option<InfoView>) -> Option<usize>
     }
 }
 
-/// The count of octets of a PDU's content; `None` exactly where a content inside is over 65,535 octets.
+/// Returns the length of a PDU's content.
 fn len_pdu_content(dialogue: DialogueView) -> Option<usize>
     ensures exact { result ≡ option_map length (canonical_pdu_content (dialogue_of dialogue.entry)) }
 {
@@ -55,7 +57,7 @@ fn len_pdu_content(dialogue: DialogueView) -> Option<usize>
     }
 }
 
-/// The count of octets of a PDU; `None` exactly where a content is over 65,535 octets.
+/// Returns the length of a PDU.
 fn len_pdu(dialogue: DialogueView) -> Option<usize>
     ensures exact { result ≡ option_map length (canonical_pdu (dialogue_of dialogue.entry)) }
     ensures most { IfSome result (λ n. n ≤ content_limit + shortest_header_limit) }
@@ -63,16 +65,15 @@ fn len_pdu(dialogue: DialogueView) -> Option<usize>
     element_len(len_pdu_content(dialogue)?)
 }
 
-/// The count of octets of the content of a dialogue portion's EXTERNAL; `None` exactly where a content inside is over
-/// 65,535 octets.
+/// Returns the length of the content of a dialogue portion's EXTERNAL.
 fn len_external_content(dialogue: DialogueView) -> Option<usize>
     ensures exact { result ≡ option_map length (canonical_external_content (dialogue_of dialogue.entry)) }
 {
     Some(9 + element_len(len_pdu(dialogue)?)?)
 }
 
-/// The count of octets of the content of a dialogue portion that is this PDU; `None` exactly where a content is over
-/// 65,535 octets. It takes no memory.
+/// Returns the length in octets of the content of a dialogue portion with this PDU. `None` if any content has more than
+/// 65,535 octets. It does not allocate.
 pub fn len_dialogue(dialogue: DialogueView) -> Option<usize>
     ensures exact { result ≡ option_map length (canonical_dialogue (dialogue_of dialogue.entry)) }
     ensures most { IfSome result (λ n. n ≤ content_limit + shortest_header_limit) }
@@ -80,7 +81,7 @@ pub fn len_dialogue(dialogue: DialogueView) -> Option<usize>
     element_len(len_external_content(dialogue)?)
 }
 
-/// Writes the protocol version. `Failed` where the writer failed.
+/// Writes the protocol version.
 fn write_version<W: Write>(writer: &mut W) -> Result<(), Failed>
     ensures ok { OnOk result (Written canonical_version (W.taken writer.old) (W.taken writer.new)) }
     ensures counts { CountsFailure (W.failures writer.old) (W.failures writer.new) result }
@@ -88,7 +89,7 @@ fn write_version<W: Write>(writer: &mut W) -> Result<(), Failed>
     put_element(VERSION, &[0x07, 0x80], writer)
 }
 
-/// Writes an application context name. `Failed` where the writer failed.
+/// Writes an application context name.
 fn write_context<W: Write>(id: ObjectIdView, writer: &mut W) -> Result<(), Failed>
     requires { IsSome (canonical_context id.octets.now) }
     ensures ok { OnOk result (Written (canonical_context id.entry.octets.now) (W.taken writer.old)
@@ -102,7 +103,7 @@ fn write_context<W: Write>(id: ObjectIdView, writer: &mut W) -> Result<(), Faile
     put_element(OBJECT_ID, id.octets, writer)
 }
 
-/// Writes a number from 0 to 127 inside this tag. `Failed` where the writer failed.
+/// Writes a number from 0 to 127 inside this tag.
 fn write_number<W: Write>(tag: u8, number: SmallView, writer: &mut W) -> Result<(), Failed>
     ensures ok { OnOk result (Written (canonical_number tag number.number) (W.taken writer.old) (W.taken writer.new)) }
     ensures counts { CountsFailure (W.failures writer.old) (W.failures writer.new) result }
@@ -111,7 +112,7 @@ fn write_number<W: Write>(tag: u8, number: SmallView, writer: &mut W) -> Result<
     put_element(INTEGER, &[number.number], writer)
 }
 
-/// Writes what a diagnostic is of. `Failed` where the writer failed.
+/// Writes the source and number of a diagnostic.
 fn write_source<W: Write>(source: SourceView, writer: &mut W) -> Result<(), Failed>
     ensures ok { OnOk result (Written (canonical_source (source_of source)) (W.taken writer.old) (W.taken writer.new)) }
     ensures counts { CountsFailure (W.failures writer.old) (W.failures writer.new) result }
@@ -122,7 +123,7 @@ fn write_source<W: Write>(source: SourceView, writer: &mut W) -> Result<(), Fail
     }
 }
 
-/// Writes a diagnostic. `Failed` where the writer failed.
+/// Writes a diagnostic.
 fn write_diagnostic<W: Write>(source: SourceView, writer: &mut W) -> Result<(), Failed>
     ensures ok { OnOk result (Written (element_around 0xA3 (canonical_source (source_of source))) (W.taken writer.old)
         (W.taken writer.new)) }
@@ -132,7 +133,7 @@ fn write_diagnostic<W: Write>(source: SourceView, writer: &mut W) -> Result<(), 
     write_source(source, writer)
 }
 
-/// Writes user information, where there is some. `Failed` where the writer failed.
+/// Writes user information, if there is some.
 fn write_info<W: Write>(info: Option<InfoView>, writer: &mut W) -> Result<(), Failed>
     requires { IsSome (canonical_info (info_meaning info)) }
     ensures ok { OnOk result (Written (canonical_info (info_meaning info.entry)) (W.taken writer.old)
@@ -145,7 +146,7 @@ fn write_info<W: Write>(info: Option<InfoView>, writer: &mut W) -> Result<(), Fa
     }
 }
 
-/// Writes the content of an AARQ or an AUDT. `Failed` where the writer failed.
+/// Writes the content of an AARQ or an AUDT.
 fn write_named<W: Write>(
     context: ObjectIdView,
     info: Option<InfoView>,
@@ -161,7 +162,7 @@ fn write_named<W: Write>(
     write_info(info, writer)
 }
 
-/// Writes the content of a PDU. `Failed` where the writer failed.
+/// Writes the content of a PDU.
 fn write_pdu_content<W: Write>(dialogue: DialogueView, writer: &mut W) -> Result<(), Failed>
     requires { IsSome (canonical_pdu_content (dialogue_of dialogue)) }
     ensures ok { OnOk result (Written (canonical_pdu_content (dialogue_of dialogue.entry)) (W.taken writer.old)
@@ -190,7 +191,7 @@ fn write_pdu_content<W: Write>(dialogue: DialogueView, writer: &mut W) -> Result
     }
 }
 
-/// The tag of a PDU (Q.773 4.2.3).
+/// Returns the tag of a PDU (Q.773 4.2.3).
 fn tag(dialogue: DialogueView) -> u8
     ensures { result ≡ pdu_tag (dialogue_of dialogue.entry) }
 {
@@ -202,7 +203,7 @@ fn tag(dialogue: DialogueView) -> u8
     }
 }
 
-/// The name of a PDU's abstract syntax, by its contents (Q.773 4.2.3).
+/// Returns the contents of the name of a PDU's abstract syntax (Q.773 4.2.3).
 fn name(dialogue: DialogueView) -> [u8; 7]
     ensures { result ≡ as_id (pdu_syntax (dialogue_of dialogue.entry)) }
 {
@@ -212,7 +213,7 @@ fn name(dialogue: DialogueView) -> [u8; 7]
     }
 }
 
-/// Writes a PDU that is within the limits. `Failed` where the writer failed.
+/// Writes a PDU.
 fn write_pdu<W: Write>(dialogue: DialogueView, writer: &mut W) -> Result<(), Failed>
     requires { IsSome (canonical_pdu (dialogue_of dialogue)) }
     ensures ok { OnOk result (Written (canonical_pdu (dialogue_of dialogue.entry)) (W.taken writer.old)
@@ -226,7 +227,7 @@ fn write_pdu<W: Write>(dialogue: DialogueView, writer: &mut W) -> Result<(), Fai
     write_pdu_content(dialogue, writer)
 }
 
-/// Writes the content of a dialogue portion's EXTERNAL, which is within the limits. `Failed` where the writer failed.
+/// Writes the content of a dialogue portion's EXTERNAL.
 fn write_external_content<W: Write>(dialogue: DialogueView, writer: &mut W) -> Result<(), Failed>
     requires { IsSome (canonical_external_content (dialogue_of dialogue)) }
     ensures ok { OnOk result (Written (canonical_external_content (dialogue_of dialogue.entry)) (W.taken writer.old)
@@ -241,8 +242,12 @@ fn write_external_content<W: Write>(dialogue: DialogueView, writer: &mut W) -> R
     write_pdu(dialogue, writer)
 }
 
-/// Writes the content of a dialogue portion that is within the limits: the EXTERNAL with this PDU (Q.773 4.2.3).
-/// `Failed` where the writer failed. It takes no memory.
+/// Writes the content of a dialogue portion: the EXTERNAL with this PDU (Q.773 4.2.3). No content may have more than
+/// 65,535 octets, as [`len_dialogue`] checks. It does not allocate.
+///
+/// # Errors
+///
+/// `Failed` if the writer fails.
 pub fn write_dialogue<W: Write>(dialogue: DialogueView, writer: &mut W) -> Result<(), Failed>
     requires { IsSome (canonical_dialogue (dialogue_of dialogue)) }
     ensures ok { OnOk result (Written (canonical_dialogue (dialogue_of dialogue.entry)) (W.taken writer.old)

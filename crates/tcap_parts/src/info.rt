@@ -12,7 +12,7 @@ use std::alloc::{AllocError, Global};
 use std::marker::Model;
 use tcap_ber::{Fault, RawView, Tlv, Window};
 
-/// User information, lent: the octets of its EXTERNALs.
+/// Borrowed user information.
 #[derive(Clone, Copy, Debug)]
 pub struct InfoView<'a> {
     /// The octets of the EXTERNALs, one after the other; there may be none.
@@ -20,7 +20,7 @@ pub struct InfoView<'a> {
     pub ghost externals: { are_externals octets.now ≡ true },
 }
 
-/// User information: the octets of its EXTERNALs, each kept verbatim; there may be none.
+/// Owned user information: the octets of its EXTERNALs, verbatim; there may be none.
 #[derive(Debug, Drop)]
 pub struct Info {
     octets: Vec<u8>,
@@ -37,7 +37,7 @@ impl Model for Info {
     ghost invariant = { λ a. are_externals a.octets.items ≡ true };
 }
 
-/// The EXTERNAL at the front of a window, and the window behind it.
+/// Reads the EXTERNAL at the front of a window. Returns its octets and the window after it.
 #[tactic(auto, unfolding(crate::specs::InfoReading::external_at))]
 fn read_external(window: Window) -> Result<(RawView, Window), Fault>
     ensures exact { Gives (λ x. (x.0.octets.now, span x.1)) result (external_at (span window.entry)) }
@@ -45,7 +45,7 @@ fn read_external(window: Window) -> Result<(RawView, Window), Fault>
     RawView::required(window, EXTERNAL)
 }
 
-/// Reads each EXTERNAL of `content`, counts them, and refuses the first fault.
+/// Reads each EXTERNAL of `content`. Returns their number, or the first fault.
 fn count_externals(content: Window) -> Result<usize, Fault>
     ensures ok { IfOk result (λ n. (externals : List (List ℕ)) × (externals_at (span content.entry) ≡ Ok externals)
         × (n ≡ length externals)) }
@@ -61,7 +61,7 @@ fn count_externals(content: Window) -> Result<usize, Fault>
     Ok(count)
 }
 
-/// Whether `octets` are EXTERNALs, one after the other up to their end.
+/// Returns whether `octets` are EXTERNALs one after the other.
 fn are_externals(octets: &[u8]) -> bool
     ensures all { IsTrue result ↔ AreExternals octets.now }
     ensures exact { result ≡ are_externals octets.now }
@@ -70,8 +70,7 @@ fn are_externals(octets: &[u8]) -> bool
 }
 
 impl<'a> InfoView<'a> {
-    /// `octets` as user information; `None` exactly where they are not EXTERNALs, one after the other up to their
-    /// end.
+    /// Returns a view of `octets` if they are EXTERNALs one after the other, else `None`.
     pub fn new(octets: &'a [u8]) -> Option<InfoView<'a>>
         ensures found { IfSome result (λ info. info.octets.now ≡ octets.entry.now) }
         ensures exact { IsSome result ↔ AreExternals octets.entry.now }
@@ -93,16 +92,20 @@ impl<'a> InfoView<'a> {
         })
     }
 
-    /// The user information that an element of tag BE holds, lent from its octets (Q.773 4.2.3). The first
-    /// fault from left to right in its content: those of [`RawView::required`] at each EXTERNAL but `Missing`, which
-    /// cannot arise.
+    /// Reads the user information in an element of tag BE, and returns a view that borrows its octets (Q.773 4.2.3).
+    /// The tag is not checked.
+    ///
+    /// # Errors
+    ///
+    /// The first fault from left to right in the content: one of [`RawView::required`] at an EXTERNAL, but never
+    /// `Missing`.
     pub fn read(tlv: Tlv<'a>) -> Result<InfoView<'a>, Fault>
-        // What is read is spelled by all of the content.
+        // On success, all of the content spells the user information.
         ensures found { IfOk result (λ view. info.spells view.octets.now tlv.entry.content.octets.now) }
-        // What is spelled by all of the content is read.
+        // User information that all of the content spells is read.
         ensures only { (value : List ℕ) → info.spells value tlv.entry.content.octets.now
             → IsOkAnd result (λ view. view.octets.now ≡ value) }
-        // What is refused is faulty there, and what is faulty is refused by that fault.
+        // The result is a fault exactly if the element has that fault.
         ensures faulty { (fault : Fault) → (result ≡ Err fault)
             ↔ info.faulty tlv.entry.start (span tlv.entry.content) fault.reason fault.place }
         ensures exact { Gives (λ info. info.octets.now) result (info_of (element tlv.entry)) }
@@ -110,8 +113,7 @@ impl<'a> InfoView<'a> {
         InfoView::from_content(tlv)
     }
 
-    /// The count of the EXTERNALs: exactly those that the octets spell. It costs the time of reading their headers, and
-    /// of walking those of indefinite length.
+    /// Returns the number of EXTERNALs. This reads their headers again, and walks those of indefinite length.
     pub fn count(self) -> usize
         ensures spelled { (externals : List (List ℕ)) × (each external).spells externals self.entry.octets.now
             × (result ≡ length externals) }
@@ -123,7 +125,11 @@ impl<'a> InfoView<'a> {
         count
     }
 
-    /// The user information as a value of its own.
+    /// Copies the user information into an owned value.
+    ///
+    /// # Errors
+    ///
+    /// `AllocError` if memory runs out.
     pub fn to_info(self, alloc: Global) -> Result<Info, AllocError>
         ensures { IfOk result (λ info. info ≡ self.entry.octets.now) }
     {
@@ -134,8 +140,7 @@ impl<'a> InfoView<'a> {
 }
 
 impl Info {
-    /// `octets` as user information; `None` exactly where they are not EXTERNALs, one after the other up to their
-    /// end.
+    /// Returns `octets` as user information if they are EXTERNALs one after the other, else `None`.
     pub fn new(octets: Vec<u8>) -> Option<Info>
         ensures found { IfSome result (λ info. info ≡ octets.items) }
         ensures exact { IsSome result ↔ AreExternals octets.items }
@@ -147,7 +152,7 @@ impl Info {
         }
     }
 
-    /// The octets of the EXTERNALs.
+    /// Returns the octets of the EXTERNALs.
     pub fn octets(&self) -> &[u8]
         ensures value { result.now ≡ self.now }
         ensures externals { AreExternals result.now }
@@ -155,7 +160,7 @@ impl Info {
         self.octets.as_slice()
     }
 
-    /// The user information, lent.
+    /// Returns a view of the user information.
     pub fn view(&self) -> InfoView<'_>
         ensures { result.octets.now ≡ self.now }
     {

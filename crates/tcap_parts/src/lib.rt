@@ -1,5 +1,5 @@
-//! The parts of TCAP messages (Q.773): components, and the PDUs of dialogue portions, each read into a view that
-//! borrows the octets, and the values that are made of views.
+//! The parts of TCAP messages (Q.773): components, and the PDUs of dialogue portions. A reader returns a view that
+//! borrows the octets, and a view can be copied into an owned value.
 #![tactic(auto)]
 
 mod code;

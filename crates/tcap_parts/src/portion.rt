@@ -15,18 +15,18 @@ use std::fmt;
 use std::marker::Model;
 use tcap_ber::{Fault, Reason, Tlv, Window};
 
-/// A component portion as octets, which are components up to their end.
+/// The octets of a component portion, which are all components.
 #[derive(Clone, Copy)]
 pub struct OctetPortion<'a> {
     content: Window<'a>,
-    // How many components they are.
+    // The number of components.
     count: usize,
     pub ghost whole: { is_read (components_at (span content)) ≡ true },
     pub ghost some: { 0 < length content.octets.now },
     pub ghost counted: { count ≡ length (read_or_none (components_at (span content))) },
 }
 
-// Its octets alone are printed: how many components they are follows from them.
+// Prints the octets only: the count follows from them.
 impl fmt::Debug for OctetPortion<'_> {
     fn fmt<W: fmt::Write>(&self, f: &mut fmt::Formatter<W>) -> fmt::Result {
         f.debug_struct("OctetPortion")
@@ -35,16 +35,16 @@ impl fmt::Debug for OctetPortion<'_> {
     }
 }
 
-/// A component portion, lent from the octets that were read or from a value.
+/// A borrowed component portion, which is octets or a value.
 #[derive(Clone, Copy, Debug)]
 pub enum PortionView<'a> {
-    /// Its octets.
+    /// A portion as octets.
     Octets(OctetPortion<'a>),
-    /// This value.
+    /// A portion as a value.
     Value(&'a Portion),
 }
 
-/// Components, at least one.
+/// An owned component portion: at least one component.
 #[derive(Debug, Drop)]
 pub struct Portion {
     components: Vec<Component>,
@@ -64,7 +64,7 @@ impl Model for Portion {
 impl Portion {
     ghost use Rattle.tcap_parts.specs.Meaning.{components_of};
 
-    /// The components as a portion; `None` exactly where there are none.
+    /// Returns the components as a portion, or `None` if there are none.
     pub fn new(components: Vec<Component>) -> Option<Portion>
         ensures found { IfSome result (λ portion. portion ≡ components.items) }
         ensures exact { IsSome result ↔ (components.items ≢ []) }
@@ -76,7 +76,7 @@ impl Portion {
         }
     }
 
-    /// The components in their order.
+    /// Returns the components in their order.
     pub fn items(&self) -> &[Component]
         ensures value { result.now ≡ self.now }
         ensures some { result.now ≢ [] }
@@ -84,14 +84,18 @@ impl Portion {
         self.components.as_slice()
     }
 
-    /// The portion, lent.
+    /// Returns a view of the portion.
     pub fn view(&self) -> PortionView<'_>
         ensures { components_of result ≡ self.now }
     {
         PortionView::Value(self)
     }
 
-    /// An equal portion of its own.
+    /// Copies the portion.
+    ///
+    /// # Errors
+    ///
+    /// `AllocError` if memory runs out.
     pub fn copy(&self, alloc: Global) -> Result<Portion, AllocError>
         ensures { IfOk result (λ portion. portion ≡ self.now) }
     {
@@ -99,7 +103,7 @@ impl Portion {
     }
 }
 
-/// Reads each component of `content`, and answers how many they are; refuses it at the first fault.
+/// Reads each component of `content`. Returns their number, or the first fault.
 fn check_components(content: Window) -> Result<usize, Fault>
     ensures ok { OnOk result (is_read (components_at (span content.entry)) ≡ true) }
     ensures counted { IfOk result (λ n. n ≡ length (read_or_none (components_at (span content.entry)))) }
@@ -135,16 +139,19 @@ impl<'a> PortionView<'a> {
         }))
     }
 
-    /// The component portion that an element of tag 6C holds, lent from its octets. `EmptyComponents` at
-    /// the element where it has no content, else the first fault from left to right in its content
-    /// (Q.773 4.2.2).
+    /// Reads the component portion in an element of tag 6C, and returns a view that borrows its octets (Q.773 4.2.2).
+    /// The tag is not checked.
+    ///
+    /// # Errors
+    ///
+    /// `EmptyComponents` at the element if it has no content, else the first fault from left to right in its content.
     pub fn read(tlv: Tlv<'a>) -> Result<PortionView<'a>, Fault>
-        // What is read is spelled by all of the content.
+        // On success, all of the content spells the components.
         ensures found { IfOk result (λ view. SpellsPortion (components_of view) tlv.entry.content.octets.now) }
-        // What is spelled by all of the content is read.
+        // Components that all of the content spells are read.
         ensures only { (components : List Component) → SpellsPortion components tlv.entry.content.octets.now
             → IsOkAnd result (λ view. components_of view ≡ components) }
-        // What is refused is faulty there, and what is faulty is refused by that fault.
+        // The result is a fault exactly if the element has that fault.
         ensures faulty { (fault : Fault) → (result ≡ Err fault)
             ↔ portion.faulty tlv.entry.start (span tlv.entry.content) fault.reason fault.place }
         ensures exact { Gives components_of result (portion_at (element tlv.entry)) }
@@ -164,14 +171,14 @@ impl<'a> PortionView<'a> {
         }
     }
 
-    /// The components, one after the other.
+    /// Returns an iterator over the components.
     pub fn components(self) -> Components<'a>
         ensures { components_left result ≡ components_of self.entry }
     {
         self.some_components()
     }
 
-    /// The count of the components.
+    /// Returns the number of components.
     pub fn count(self) -> usize
         ensures { result ≡ length (components_of self.entry) }
     {
@@ -181,8 +188,8 @@ impl<'a> PortionView<'a> {
         }
     }
 
-    /// The component with that index, from 0, of which there has to be one. Where the components are octets, it
-    /// costs the time of reading those before it too.
+    /// Returns the component at `index`, counted from 0. There must be one. If the portion is octets, the components
+    /// before it are read too.
     pub fn component(self, index: usize) -> ComponentView<'a>
         requires { index < length (components_of self) }
         ensures { slice_get (components_of self.entry) index ≡ Some (component_of result) }
@@ -193,7 +200,11 @@ impl<'a> PortionView<'a> {
         }
     }
 
-    /// The components as values of their own.
+    /// Copies the components into an owned portion.
+    ///
+    /// # Errors
+    ///
+    /// `AllocError` if memory runs out.
     pub fn to_portion(self, alloc: Global) -> Result<Portion, AllocError>
         ensures { IfOk result (λ portion. portion ≡ components_of self.entry) }
     {

@@ -10,17 +10,17 @@ use tcap_ber::{Fault, Reason, Small, SmallView, Window, required_any, small_numb
 /// Why a component is rejected: the kind of problem, and its number.
 #[derive(Clone, Copy, Debug)]
 pub enum Problem {
-    /// A general problem, as 0 for an unrecognized component.
+    /// A general problem: 0 is an unrecognized component, for example.
     General(Small),
-    /// A problem of an Invoke, as 0 for a duplicate invoke ID.
+    /// A problem of an Invoke: 0 is a duplicate invoke ID, for example.
     Invoke(Small),
-    /// A problem of a Return Result, as 0 for an unrecognized invoke ID.
+    /// A problem of a Return Result: 0 is an unrecognized invoke ID, for example.
     ReturnResult(Small),
-    /// A problem of a Return Error, as 0 for an unrecognized invoke ID.
+    /// A problem of a Return Error: 0 is an unrecognized invoke ID, for example.
     ReturnError(Small),
 }
 
-/// Why a component is rejected, as views of octets hold it.
+/// A problem as views of octets hold it.
 #[derive(Clone, Copy, Debug)]
 pub enum ProblemView {
     /// A general problem.
@@ -41,7 +41,7 @@ const RETURN_RESULT: u8 = 0x82;
 
 const RETURN_ERROR: u8 = 0x83;
 
-/// The problem at the front of a window, and the window behind it (Q.773 4.2.2).
+/// Reads the problem at the front of a window (Q.773 4.2.2). Returns it and the window after it.
 #[tactic(auto, unfolding(crate::specs::Reading::problem_at))]
 pub(crate) fn read_problem(window: Window) -> Result<(ProblemView, Window), Fault>
     ensures exact { Gives (λ x. (problem_of x.0, span x.1)) result (problem_at (span window.entry)) }
@@ -62,7 +62,7 @@ pub(crate) fn read_problem(window: Window) -> Result<(ProblemView, Window), Faul
 }
 
 impl ProblemView {
-    /// The problem as a value of its own.
+    /// Returns the problem as an owned value.
     pub fn to_problem(self) -> Problem
         ensures { result ≡ problem_of self }
     {
@@ -76,7 +76,7 @@ impl ProblemView {
 }
 
 impl Problem {
-    /// The problem as views hold it.
+    /// Returns the problem in the type that views hold.
     pub fn view(self) -> ProblemView
         ensures { problem_of result ≡ self }
     {

@@ -1,4 +1,4 @@
-//! Reading components (Q.773 4.2.2).
+//! Reading components (Q.773 4.2.2). The readers of a part at the front of a window return it and the window after it.
 
 ghost use Rattle.std.specs.Prelude.{◌≡◌, ◌<◌, ◌↔◌, ◌++◌, ℕ, List, length, Err, IfOk, IsOkAnd};
 ghost use Rattle.std.specs.Option.{option_map};
@@ -22,7 +22,7 @@ use tcap_ber::{
     Fault, RawView, Reason, Window, begins_with, ended, null, octet_integer, required, required_any,
 };
 
-/// The invoke ID at the front of a window, whatever its header.
+/// Reads the invoke ID at the front of a window, in any form.
 #[tactic(auto, unfolding(crate::specs::Reading::invoke_id_at))]
 #[inline(never)]
 fn invoke_id_of_any_form(window: Window) -> Result<(i8, Window), Fault>
@@ -32,7 +32,7 @@ fn invoke_id_of_any_form(window: Window) -> Result<(i8, Window), Fault>
     Ok((octet_integer(found)?, rest))
 }
 
-/// The invoke ID at the front of a window.
+/// Reads the invoke ID at the front of a window. A header of two octets takes a fast path.
 #[inline(always)]
 fn invoke_id(window: Window) -> Result<(i8, Window), Fault>
     ensures exact { Gives (λ x. (x.0, span x.1)) result (invoke_id_at (span window.entry)) }
@@ -43,7 +43,7 @@ fn invoke_id(window: Window) -> Result<(i8, Window), Fault>
     }
 }
 
-/// The linked ID at the front of a window, or `None` where the next tag is not its own.
+/// Reads the linked ID at the front of a window. `None` if the next tag is another one.
 #[tactic(auto, unfolding(crate::specs::Reading::linked_id_at))]
 #[inline(always)]
 fn linked_id(window: Window) -> Result<(Option<i8>, Window), Fault>
@@ -56,7 +56,7 @@ fn linked_id(window: Window) -> Result<(Option<i8>, Window), Fault>
     Ok((Some(octet_integer(found)?), rest))
 }
 
-/// The invoke ID at the front of a window, or `None` where a NULL stands there.
+/// Reads the ID of a Reject at the front of a window: an invoke ID, or `None` for NULL.
 #[tactic(auto, unfolding(crate::specs::Reading::rejected_id_at))]
 fn rejected_id(window: Window) -> Result<(Option<i8>, Window), Fault>
     ensures exact { Gives (λ x. (x.0, span x.1)) result (rejected_id_at (span window.entry)) }
@@ -72,7 +72,7 @@ fn rejected_id(window: Window) -> Result<(Option<i8>, Window), Fault>
     }
 }
 
-/// The parts of an Invoke, which are all of `content`.
+/// Reads the parts of an Invoke, which are all of `content`.
 #[tactic(auto, unfolding(crate::specs::Reading::invoke_at))]
 #[inline(always)]
 fn view_invoke(content: Window) -> Result<ComponentView, Fault>
@@ -91,7 +91,7 @@ fn view_invoke(content: Window) -> Result<ComponentView, Fault>
     })
 }
 
-/// What a Return Result carries, which is all of `content`.
+/// Reads the body of a Return Result, which is all of `content`.
 #[tactic(auto, unfolding(crate::specs::Reading::result_body_at))]
 fn view_result_body(content: Window) -> Result<ResultBodyView, Fault>
     ensures exact { Gives body_of result (result_body_at (span content.entry)) }
@@ -102,7 +102,7 @@ fn view_result_body(content: Window) -> Result<ResultBodyView, Fault>
     Ok(ResultBodyView { code, parameter })
 }
 
-/// What a Return Result carries at the front of a window, or `None` where the next tag is not its own.
+/// Reads the body of a Return Result at the front of a window. `None` if the next tag is another one.
 #[tactic(auto, unfolding(crate::specs::Reading::optional_body_at))]
 fn optional_body(window: Window) -> Result<(Option<ResultBodyView>, Window), Fault>
     ensures exact { Gives (λ x. (option_map body_of x.0, span x.1)) result (optional_body_at (span window.entry)) }
@@ -114,7 +114,7 @@ fn optional_body(window: Window) -> Result<(Option<ResultBodyView>, Window), Fau
     Ok((Some(view_result_body(found.content)?), rest))
 }
 
-/// The parts of a Return Result, which are all of `content`.
+/// Reads the parts of a Return Result, which are all of `content`.
 #[tactic(auto, unfolding(crate::specs::Reading::return_result_at))]
 fn view_return_result(last: bool, content: Window) -> Result<ComponentView, Fault>
     ensures exact { Gives component_of result (return_result_at last (span content.entry)) }
@@ -125,7 +125,7 @@ fn view_return_result(last: bool, content: Window) -> Result<ComponentView, Faul
     Ok(ComponentView::ReturnResult { last, id, body })
 }
 
-/// The parts of a Return Error, which are all of `content`.
+/// Reads the parts of a Return Error, which are all of `content`.
 #[tactic(auto, unfolding(crate::specs::Reading::return_error_at))]
 fn view_return_error(content: Window) -> Result<ComponentView, Fault>
     ensures exact { Gives component_of result (return_error_at (span content.entry)) }
@@ -141,7 +141,7 @@ fn view_return_error(content: Window) -> Result<ComponentView, Fault>
     })
 }
 
-/// The parts of a Reject, which are all of `content`.
+/// Reads the parts of a Reject, which are all of `content`.
 #[tactic(auto, unfolding(crate::specs::Reading::reject_at))]
 fn view_reject(content: Window) -> Result<ComponentView, Fault>
     ensures exact { Gives component_of result (reject_at (span content.entry)) }
@@ -174,23 +174,31 @@ fn read_component(window: Window) -> Result<(ComponentView, Window), Fault>
     Ok((component, rest))
 }
 
-/// The first component of a window, lent from its octets, and the window behind it (Q.773 4.2.2).
+/// Reads the first component of a window (Q.773 4.2.2). Returns a view that borrows its octets, and the window after
+/// it.
 ///
-/// A fault is the first from left to right: those of [`required_any`] for the component, a code, a problem
-/// and what a Reject is about, and `UnexpectedTag` where they have none of their tags; those of
-/// [`required`] for the invoke ID; those of [`tcap_ber::next_tlv`] at a linked ID and at what a Return Result
-/// carries; `BadInteger` or `BadSize` at an invoke ID, a linked ID or a problem;
-/// `BadInteger` or `CodeTooWide` at a local code, `BadObjectId` at a global one; `BadSize` at a NULL with
-/// content; those of [`RawView::parameter`]; and `Trailing` behind the last part.
+/// # Errors
+///
+/// The first fault from left to right:
+///
+/// - the faults of [`required_any`] at the component, a code, a problem or the ID of a Reject,
+/// - `UnexpectedTag` at one of these if it has none of its allowed tags,
+/// - the faults of [`required`] at an invoke ID,
+/// - the faults of [`tcap_ber::next_tlv`] at a linked ID or the body of a Return Result,
+/// - `BadInteger` or `BadSize` at an invoke ID, a linked ID or a problem,
+/// - `BadInteger` or `CodeTooWide` at a local code, `BadObjectId` at a global one,
+/// - `BadSize` at a NULL with content,
+/// - the faults of [`RawView::parameter`] at a parameter,
+/// - `Trailing` after the last part of a structure.
 #[inline(always)]
 pub fn view_component(window: Window) -> Result<(ComponentView, Window), Fault>
-    // What is read is spelled there.
+    // On success, the octets at the front spell the component.
     ensures found { IfOk result (λ x. Taken component (span window.entry) (component_of x.0) (span x.1)) }
-    // What is spelled there is read.
+    // A component that the front spells is read.
     ensures only { (c : Component) (front rest : List ℕ) → SpellsComponent c front
         → window.entry.octets.now ≡ front ++ rest
         → IsOkAnd result (λ x. (component_of x.0 ≡ c) × (x.1.octets.now ≡ rest)) }
-    // What is refused is faulty there, and what is faulty is refused by that fault.
+    // The result is a fault exactly if the window has that fault.
     ensures faulty { (fault : Fault) → (result ≡ Err fault)
         ↔ component.faulty (span window.entry) fault.reason fault.place }
     ensures exact { Gives (λ x. (component_of x.0, span x.1)) result (component_at (span window.entry)) }

@@ -1,4 +1,4 @@
-//! INTEGERs of one octet behind a header of two octets, as most invoke IDs and local codes are.
+//! INTEGERs of one octet after a header of two octets, a fast path: most invoke IDs and local codes have this form.
 
 ghost use Rattle.std.specs.Prelude.{◌≡◌, ◌∷◌, [], IfSome};
 ghost use Rattle.tcap_ber.specs.Integer.{signed};
@@ -6,7 +6,7 @@ ghost use Rattle.tcap_parts.specs.ShortInteger.{BeginsWithOctet};
 
 use crate::tags::INTEGER;
 
-/// The number that one octet stands for (X.690 8.3.3).
+/// Returns the number of one octet in two's complement (X.690 8.3.3).
 fn number(octet: u8) -> i8
     ensures { result ≡ signed (octet ∷ []) }
 {
@@ -17,8 +17,8 @@ fn number(octet: u8) -> i8
     }
 }
 
-/// The number of the INTEGER of one octet at the front, which has a header of two octets; `None` where no such element
-/// stands there.
+/// Returns the number of the INTEGER at the front if it has a header of two octets and one octet of content, else
+/// `None`.
 pub(crate) fn short_integer(octets: &[u8]) -> Option<i8>
     ensures found { IfSome result (λ n. BeginsWithOctet n octets.now) }
 {

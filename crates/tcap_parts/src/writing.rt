@@ -1,4 +1,7 @@
-//! Components as they are written: with the shortest definite lengths, parameters verbatim.
+//! Writing components with the shortest definite lengths, and parameters verbatim.
+//!
+//! A `len_` function returns a length in octets. If a content has more than 65,535 octets, it returns `None`. A
+//! `write_` function returns `Failed` if the writer fails.
 
 ghost use Rattle.std.specs.Prelude.{◌≡◌, ℕ, ◌^◌, ◌+◌, ◌<◌, ◌≤◌, List, length, Some, IfSome, OnOk};
 ghost use Rattle.tcap_ber.specs.Element.{content_limit, shortest_header_limit};
@@ -22,7 +25,7 @@ use tcap_ber::{
     put_integer,
 };
 
-/// The count of octets of an INTEGER with a tag of one octet.
+/// Returns the length of an INTEGER with a tag of one octet.
 fn len_integer(value: i32) -> usize
     ensures exact { (tag : ℕ) → option_map length (canonical_integer tag value) ≡ Some result }
     ensures most { result ≤ 6 }
@@ -30,7 +33,7 @@ fn len_integer(value: i32) -> usize
     2 + integer_len(value)
 }
 
-/// The count of octets of an invoke ID or a linked ID.
+/// Returns the length of an invoke ID or a linked ID.
 fn len_id(id: i8) -> usize
     ensures exact { (tag : ℕ) → option_map length (canonical_integer tag id) ≡ Some result }
     ensures most { result ≤ 6 }
@@ -38,7 +41,7 @@ fn len_id(id: i8) -> usize
     len_integer(i32::from(id))
 }
 
-/// The count of octets of a parameter: 0 where there is none.
+/// Returns the length of a parameter, 0 if there is none.
 fn len_parameter(parameter: Option<RawView>) -> usize
     ensures exact { result ≡ length (parameter_octets (parameter_of parameter.entry)) }
     ensures within { result < 2 ^ 63 }
@@ -49,7 +52,7 @@ fn len_parameter(parameter: Option<RawView>) -> usize
     }
 }
 
-/// The count of octets of a code; `None` exactly where its content is over 65,535 octets.
+/// Returns the length of a code.
 fn len_code(code: CodeView) -> Option<usize>
     ensures exact { result ≡ option_map length (canonical_code (code_of code.entry)) }
     ensures most { IfSome result (λ n. n ≤ content_limit + shortest_header_limit) }
@@ -60,7 +63,7 @@ fn len_code(code: CodeView) -> Option<usize>
     }
 }
 
-/// The count of octets of a code and a parameter; `None` exactly where a content is over 65,535 octets.
+/// Returns the length of a code and a parameter.
 fn len_coded(code: CodeView, parameter: Option<RawView>) -> Option<usize>
     ensures exact { result ≡ option_map length (canonical_coded (code_of code.entry) (parameter_of parameter.entry)) }
     ensures most { IfSome result (λ n. n < 2 ^ 63 + (content_limit + shortest_header_limit)) }
@@ -68,8 +71,7 @@ fn len_coded(code: CodeView, parameter: Option<RawView>) -> Option<usize>
     Some(len_code(code)? + len_parameter(parameter))
 }
 
-/// The count of octets of what a Return Result carries, 0 where it carries nothing; `None` exactly where a
-/// content is over 65,535 octets.
+/// Returns the length of the body of a Return Result, 0 if there is none.
 fn len_body(body: Option<ResultBodyView>) -> Option<usize>
     ensures exact { result ≡ option_map length (canonical_body (option_map body_of body.entry)) }
     ensures most { IfSome result (λ n. n ≤ content_limit + shortest_header_limit) }
@@ -80,7 +82,7 @@ fn len_body(body: Option<ResultBodyView>) -> Option<usize>
     }
 }
 
-/// The count of octets of a linked ID, 0 where there is none.
+/// Returns the length of a linked ID, 0 if there is none.
 fn len_linked(linked: Option<i8>) -> usize
     ensures exact { option_map length (canonical_linked linked) ≡ Some result }
     ensures most { result ≤ 6 }
@@ -91,7 +93,7 @@ fn len_linked(linked: Option<i8>) -> usize
     }
 }
 
-/// The count of octets of the invoke ID of a Reject, or of NULL.
+/// Returns the length of the ID of a Reject: an invoke ID or NULL.
 fn len_rejected(id: Option<i8>) -> usize
     ensures exact { option_map length (canonical_rejected id) ≡ Some result }
     ensures most { result ≤ 6 }
@@ -102,8 +104,7 @@ fn len_rejected(id: Option<i8>) -> usize
     }
 }
 
-/// The count of octets of a component's content; `None` exactly where a content inside is over 65,535
-/// octets.
+/// Returns the length of a component's content.
 fn len_content(component: ComponentView) -> Option<usize>
     ensures exact { result ≡ option_map length (canonical_content (component_of component.entry)) }
 {
@@ -124,7 +125,7 @@ fn len_content(component: ComponentView) -> Option<usize>
     }
 }
 
-/// The count of octets of a component; `None` exactly where a content is over 65,535 octets.
+/// Returns the length of a component.
 fn len_component(component: ComponentView) -> Option<usize>
     ensures exact { result ≡ option_map length (canonical_component (component_of component.entry)) }
     ensures most { IfSome result (λ n. n ≤ content_limit + shortest_header_limit) }
@@ -132,8 +133,8 @@ fn len_component(component: ComponentView) -> Option<usize>
     element_len(len_content(component)?)
 }
 
-/// The count of octets of the content of a component portion; `None` exactly where a content, the portion's
-/// own included, is over 65,535 octets. It takes no memory.
+/// Returns the length in octets of the content of a component portion. `None` if any content, the portion's included,
+/// has more than 65,535 octets. It does not allocate.
 pub fn len_components(portion: PortionView) -> Option<usize>
     ensures { result ≡ option_map length (canonical_portion (components_of portion.entry)) }
 {
@@ -147,7 +148,7 @@ pub fn len_components(portion: PortionView) -> Option<usize>
     Some(total)
 }
 
-/// Writes an invoke ID or a linked ID. `Failed` where the writer failed.
+/// Writes an invoke ID or a linked ID.
 fn write_id<W: Write>(tag: u8, id: i8, writer: &mut W) -> Result<(), Failed>
     ensures ok { OnOk result (Written (canonical_integer tag id) (W.taken writer.old) (W.taken writer.new)) }
     ensures counts { CountsFailure (W.failures writer.old) (W.failures writer.new) result }
@@ -155,7 +156,7 @@ fn write_id<W: Write>(tag: u8, id: i8, writer: &mut W) -> Result<(), Failed>
     put_integer(tag, i32::from(id), writer)
 }
 
-/// Writes a code. `Failed` where the writer failed.
+/// Writes a code.
 fn write_code<W: Write>(code: CodeView, writer: &mut W) -> Result<(), Failed>
     requires { IsSome (canonical_code (code_of code)) }
     ensures ok { OnOk result (Written (canonical_code (code_of code.entry)) (W.taken writer.old) (W.taken writer.new)) }
@@ -167,7 +168,7 @@ fn write_code<W: Write>(code: CodeView, writer: &mut W) -> Result<(), Failed>
     }
 }
 
-/// Writes a code and a parameter. `Failed` where the writer failed.
+/// Writes a code and a parameter.
 fn write_coded<W: Write>(
     code: CodeView,
     parameter: Option<RawView>,
@@ -185,7 +186,7 @@ fn write_coded<W: Write>(
     }
 }
 
-/// Writes what a Return Result carries, where it carries something. `Failed` where the writer failed.
+/// Writes the body of a Return Result, if there is one.
 fn write_body<W: Write>(body: Option<ResultBodyView>, writer: &mut W) -> Result<(), Failed>
     requires { IsSome (canonical_body (option_map body_of body)) }
     ensures ok { OnOk result (Written (canonical_body (option_map body_of body.entry)) (W.taken writer.old)
@@ -202,7 +203,7 @@ fn write_body<W: Write>(body: Option<ResultBodyView>, writer: &mut W) -> Result<
     write_coded(body.code, body.parameter, writer)
 }
 
-/// Writes a linked ID, where there is one. `Failed` where the writer failed.
+/// Writes a linked ID, if there is one.
 fn write_linked<W: Write>(linked: Option<i8>, writer: &mut W) -> Result<(), Failed>
     ensures ok { OnOk result (Written (canonical_linked linked) (W.taken writer.old) (W.taken writer.new)) }
     ensures counts { CountsFailure (W.failures writer.old) (W.failures writer.new) result }
@@ -213,7 +214,7 @@ fn write_linked<W: Write>(linked: Option<i8>, writer: &mut W) -> Result<(), Fail
     }
 }
 
-/// Writes the invoke ID of a Reject, or NULL. `Failed` where the writer failed.
+/// Writes the ID of a Reject: an invoke ID or NULL.
 fn write_rejected<W: Write>(id: Option<i8>, writer: &mut W) -> Result<(), Failed>
     ensures ok { OnOk result (Written (canonical_rejected id) (W.taken writer.old) (W.taken writer.new)) }
     ensures counts { CountsFailure (W.failures writer.old) (W.failures writer.new) result }
@@ -224,7 +225,7 @@ fn write_rejected<W: Write>(id: Option<i8>, writer: &mut W) -> Result<(), Failed
     }
 }
 
-/// The tag and the number of a problem (Q.773 4.2.2).
+/// Returns the tag and the number of a problem (Q.773 4.2.2).
 fn problem_parts(problem: ProblemView) -> (u8, u8)
     ensures tag { result.0 ≡ problem_tag (problem_of problem) }
     ensures number { result.1 ≡ problem_number (problem_of problem) }
@@ -237,7 +238,7 @@ fn problem_parts(problem: ProblemView) -> (u8, u8)
     }
 }
 
-/// Writes a problem. `Failed` where the writer failed.
+/// Writes a problem.
 fn write_problem<W: Write>(problem: ProblemView, writer: &mut W) -> Result<(), Failed>
     ensures ok { OnOk result (Written (canonical_problem (problem_of problem)) (W.taken writer.old)
         (W.taken writer.new)) }
@@ -247,7 +248,7 @@ fn write_problem<W: Write>(problem: ProblemView, writer: &mut W) -> Result<(), F
     put_element(tag, &[number], writer)
 }
 
-/// Writes the content of a component. `Failed` where the writer failed.
+/// Writes the content of a component.
 fn write_content<W: Write>(component: ComponentView, writer: &mut W) -> Result<(), Failed>
     requires { IsSome (canonical_content (component_of component)) }
     ensures ok { OnOk result (Written (canonical_content (component_of component.entry)) (W.taken writer.old)
@@ -284,7 +285,7 @@ fn write_content<W: Write>(component: ComponentView, writer: &mut W) -> Result<(
     }
 }
 
-/// The tag of a component (Q.773 4.2.2).
+/// Returns the tag of a component (Q.773 4.2.2).
 fn tag(component: ComponentView) -> u8
     ensures { result ≡ component_tag (component_of component.entry) }
 {
@@ -297,7 +298,7 @@ fn tag(component: ComponentView) -> u8
     }
 }
 
-/// Writes a component that is within the limit. `Failed` where the writer failed.
+/// Writes a component.
 fn write_component<W: Write>(component: ComponentView, writer: &mut W) -> Result<(), Failed>
     requires { IsSome (canonical_component (component_of component)) }
     ensures ok { OnOk result (Written (canonical_component (component_of component.entry)) (W.taken writer.old)
@@ -311,8 +312,12 @@ fn write_component<W: Write>(component: ComponentView, writer: &mut W) -> Result
     write_content(component, writer)
 }
 
-/// Writes the content of a component portion that is within the limits: its components one after the other.
-/// `Failed` where the writer failed. It takes no memory.
+/// Writes the content of a component portion: its components one after the other. No content may have more than 65,535
+/// octets, as [`len_components`] checks. It does not allocate.
+///
+/// # Errors
+///
+/// `Failed` if the writer fails.
 pub fn write_components<W: Write>(portion: PortionView, writer: &mut W) -> Result<(), Failed>
     requires { IsSome (canonical_portion (components_of portion)) }
     ensures ok { OnOk result (Written (canonical_portion (components_of portion.entry)) (W.taken writer.old)

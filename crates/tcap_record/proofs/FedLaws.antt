@@ -1,4 +1,4 @@
--- What was taken of a record stays the dropped entries and what is held.
+-- All octets taken of a record remain the dropped entries and the octets held.
 use Rattle.std.proofs.Common.{◌≡◌, ℕ, ◌+◌, ◌-◌, List, [], ◌∷◌, ◌++◌, length, take, Option, None, ap, subst, ◌∙◌, inl, inr, arith, append_assoc}
 use Rattle.std.proofs.lemmas.List.{length-append}
 use Rattle.tcap_record.specs.declared.entry.Entry.{Entry}
@@ -7,7 +7,7 @@ use Rattle.tcap_record.specs.Framed.{octet_of, IsEntry, FramedFrom}
 use Rattle.tcap_record.specs.Held.{Held, Fed, IsFront, grown, dropped}
 use Rattle.tcap_record.proofs.FramingLaws.{IsEntryAt, entry_shorter, framed_more}
 
--- an entry stands before whatever comes behind
+-- an entry stays at the front if more octets follow
 entry_on : (place : ℕ) (entry : Entry) (octets others more : List ℕ) → IsEntry place entry octets others
     → IsEntry place entry (octets ++ more) (others ++ more)
 entry_on place entry octets others more (inl sent) = inl (record {
@@ -26,7 +26,7 @@ entry_on place entry octets others more (inr mark) = inr (record {
   place_is = mark.place_is;
 })
 
--- with more octets behind them, octets are the same entries and a longer rest
+-- with more octets after them, octets are the same entries and a longer rest
 pub framed_on : (place : ℕ) (entries : List Entry) (octets rest more : List ℕ) → FramedFrom place entries octets rest
     → FramedFrom place entries (octets ++ more) (rest ++ more)
 framed_on place [] octets rest more framed = ap (λ (x : List ℕ). x ++ more) framed
@@ -60,7 +60,7 @@ fed_dropped octets entries h entry front fed =
       place_is = omega (arith, fed.place_is);
     }
 
--- the same, where the octets and their count are told by others
+-- `Fed` after dropping the entry at the front
 pub fed_emptied : (octets : List ℕ) (entries : List Entry) (h : Held) (entry : Entry) (left : List ℕ) (len : ℕ) → left ≡ []
     → len ≡ length h.octets → h.fault ≡ None → IsFront entry h → Fed octets entries h
     → Fed octets (entries ++ entry ∷ []) (record { octets = left; place = h.place + len; count = h.count + 1; fault = h.fault })

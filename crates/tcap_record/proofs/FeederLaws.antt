@@ -1,4 +1,4 @@
--- What was fed stays the entries taken, those that wait, and what is held.
+-- All octets fed remain the entries taken, the entries queued and the octets held.
 use Rattle.std.proofs.Common.{◌≡◌, ℕ, ◌+◌, ◌-◌, ◌<◌, ◌≤◌, List, [], ◌∷◌, ◌++◌, length, take, drop, refl, sym, ap, subst, ◌∙◌, arith, append_assoc, take-add, drop-drop, Option, None, Result, Ok, Err, inl, inr}
 use Rattle.std.specs.Prelude.{◌↔◌, Bool, true, false, ◌==◌, MatchResult, IsOk}
 use Rattle.std.proofs.lemmas.Bool.{eqb-true, eqb-false}
@@ -11,7 +11,6 @@ use Rattle.tcap_record.specs.Held.{Held, Fed, IsHeld, IsHeldWith, IsPart, IsWhol
 use Rattle.tcap_record.specs.Feeding.{FinishesAs}
 use Rattle.tcap_record.proofs.FrontLaws.{part_not_whole}
 
--- what is not less is all
 pub no_less : (n all : ℕ) → n ≤ all → (n < all → ⊥) → n ≡ all
 no_less n all most not_less = by_test (n == all) refl
   where
@@ -19,14 +18,14 @@ no_less n all most not_less = by_test (n == all) refl
     by_test true e = eqb-true n all e
     by_test false e = let apart = eqb-false n all e in absurd (not_less (omega (arith, most, apart)))
 
--- behind an entry that was held one more may stand
+-- after a held entry, the record may have one more
 pub held_dropped : (h : Held) → IsHeld h → h.fault ≡ None → IsWhole h.octets → IsHeld (dropped h)
 held_dropped h held sound whole =
     let with : IsHeldWith h None = subst (IsHeldWith h) sound held.1 in
     let room : h.count < entry_limit = with.0 (λ none. part_not_whole [] tt (subst IsWhole none whole)) in
     (omega (arith, room), ((λ some. absurd (some refl)), inl tt))
 
--- octets of a piece, and more of what is left of it, are octets of the piece
+-- octets taken from the rest of a piece are octets of the piece
 pub taken_on : (octets piece rest : List ℕ) (n m : ℕ) → rest ≡ drop n piece
     → (octets ++ take n piece) ++ take m rest ≡ octets ++ take (n + m) piece
 taken_on octets piece rest n m is =
@@ -34,14 +33,14 @@ taken_on octets piece rest n m is =
     ∙ ap (λ (x : List ℕ). octets ++ (take n piece ++ take m x)) is
     ∙ ap (λ (x : List ℕ). octets ++ x) (sym (take-add n m piece))
 
--- with the rest, all of a piece was taken
+-- with the rest, all of the piece was taken
 pub taken_all : (octets piece rest : List ℕ) (n m : ℕ) → rest ≡ drop n piece → m ≡ length rest → n ≤ length piece
     → octets ++ take (n + m) piece ≡ octets ++ piece
 taken_all octets piece rest n m is all most =
     ap (λ (k : ℕ). octets ++ take k piece) (omega (arith, all, ap length is, length-drop n piece, most))
     ∙ ap (λ (x : List ℕ). octets ++ x) (take-length piece)
 
--- what is left of a rest is what is left of the piece
+-- what is left of the rest is what is left of the piece
 pub rest_on : (piece rest : List ℕ) (n m : ℕ) → rest ≡ drop n piece → m ≤ length rest
     → take (length rest - m) (drop m rest) ≡ drop (n + m) piece
 rest_on piece rest n m is most =
@@ -50,17 +49,16 @@ rest_on piece rest n m is most =
     ∙ ap (drop m) is
     ∙ drop-drop m n piece
 
--- what is behind the octets taken is the rest
 pub rest_is : (piece : List ℕ) (n : ℕ) → take (length piece - n) (drop n piece) ≡ drop n piece
 rest_is piece n = ap (λ (k : ℕ). take k (drop n piece)) (sym (length-drop n piece)) ∙ take-length (drop n piece)
 
--- the same with one entry more that waits
+-- `Fed` with one more queued entry
 pub entry_waits : (octets : List ℕ) (taken waiting : List Entry) (entry : Entry) (h : Held)
     → Fed octets ((taken ++ waiting) ++ entry ∷ []) h → Fed octets (taken ++ (waiting ++ entry ∷ [])) h
 entry_waits octets taken waiting entry h fed =
     subst (λ (entries : List Entry). Fed octets entries h) (append_assoc taken waiting (entry ∷ [])) fed
 
--- what was taken of the rest of a piece was taken of the piece
+-- octets taken from the rest of a piece were taken from the piece
 pub fed_behind : (P : List ℕ → Type 0) (octets piece rest : List ℕ) (n : ℕ) (kept : Result (Unit {0}) FeedFault)
     → rest ≡ drop n piece → n ≤ length piece
     → MatchResult kept (λ _. P ((octets ++ take n piece) ++ rest))
@@ -72,7 +70,7 @@ fed_behind P octets piece rest n (Ok done) is most fed =
 fed_behind P octets piece rest n (Err f) is most (m, few, fed) =
     (n + m, omega (arith, most, few, ap length is, length-drop n piece), subst P (taken_on octets piece rest n m is) fed)
 
--- what came behind is off again
+-- cutting the added octets restores the state
 pub cut_back : (h new : Held) (more : List ℕ) (len : ℕ) → h.fault ≡ None → len ≡ length h.octets → new ≡ grown h more None
     → cut_to len new ≡ h
 cut_back h new more len sound is grew =
@@ -82,7 +80,7 @@ cut_back h new more len sound is grew =
     ∙ ap (λ (x : Option FeedFault). let c : Held = record { octets = h.octets; place = h.place; count = h.count; fault = x } in c)
     (sym sound)
 
--- where a part is held at most, the record may end exactly where nothing is
+-- if at most a part is held, the record may end exactly if nothing is held
 pub may_end : (r : Result (Unit {0}) FeedFault) (h : Held) → (h.fault ≡ None → IsPart h.octets) → FinishesAs r h
     → IsOk r ↔ ((h.fault ≡ None) × (h.octets ≡ []))
 may_end (Ok done) h is_part (sound, inl none) = (λ _. (sound, none), λ _. refl)

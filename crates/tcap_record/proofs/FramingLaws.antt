@@ -1,4 +1,4 @@
--- What the entries of a record are, and where they stand.
+-- The contents and places of a record's entries.
 use Rattle.std.proofs.Common.{◌≡◌, ℕ, ◌+◌, ◌-◌, ◌<◌, ◌≤◌, List, [], ◌∷◌, ◌++◌, length, Some, None, Result, Ok, Err, refl, sym, ap, subst, ◌∙◌, inl, inr, arith}
 use Rattle.std.specs.Prelude.{◌==◌}
 use Rattle.std.proofs.lemmas.Bool.{eqb-true}
@@ -88,7 +88,7 @@ pub no_end : (octet : ℕ) → end_in octet ≡ None → IsEndOctet octet → �
 no_end octet e (inl h) = let k : end_in octet ≡ Some ends.A = rw h refl in cc
 no_end octet e (inr h) = let k : end_in octet ≡ Some ends.B = rw h refl in cc
 
--- An entry at the front of a window, and what is left behind it.
+-- An entry at the front of a window, and the window after it.
 pub record IsEntryAt (s : Span) (entry : Entry) (rest : Span) : Type 0 where
   pub is_entry : IsEntry s.place entry s.octets rest.octets
   pub behind : rest.place + length rest.octets ≡ s.place + length s.octets
@@ -120,7 +120,7 @@ ends_as count total rest feed.Memory place offset at h = absurd (not_memory coun
 
 -- ---- entries, one after the other
 
--- what stands behind an entry is shorter
+-- the octets after an entry are fewer
 pub entry_shorter : (place : ℕ) (entry : Entry) (octets others : List ℕ) → IsEntry place entry octets others
     → length others < length octets
 entry_shorter place entry octets others (inl sent) = omega (arith, ap length sent.joined, length-append sent.element others)

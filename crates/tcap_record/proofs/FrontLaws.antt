@@ -1,4 +1,4 @@
--- What octets of a record begin with is what stands there.
+-- Framing the front of a record's octets returns what they begin with.
 use Rattle.std.proofs.Common.{◌≡◌, ◌≢◌, ℕ, ◌+◌, ◌<◌, ◌≤◌, List, [], ◌∷◌, ◌++◌, length, take, drop, Option, Some, None, Result, Ok, Err, refl, sym, ap, subst, ◌∙◌, inl, inr, arith, add-one}
 use Rattle.std.specs.Prelude.{true, false, nat_lt, ◌==◌}
 use Rattle.tcap_ber.specs.declared.fault.Fault.{Fault}
@@ -22,11 +22,9 @@ use Rattle.tcap_record.proofs.FramingLaws.{end_is, is_end, no_end}
 use Rattle.std.proofs.lemmas.Bool.{eqb-true, eqb-false, ltb-true, ltb-false}
 use Rattle.std.proofs.lemmas.List.{take_at, take-append-drop, take-append-le, length-append, append-nil}
 
--- equal answers name equal counts
 whole_is : (n m : ℕ) → (let a : Front = Whole n in a) ≡ Whole m → n ≡ m
 whole_is n m e = cc
 
--- equal refusals have equal reasons and places
 refused_is : (r s : FeedReason) (a b : ℕ) → (let x : Front = Refused r a in x) ≡ Refused s b → (r ≡ s) × (a ≡ b)
 refused_is r s a b e = (cc, cc)
 
@@ -62,7 +60,7 @@ front_whole count n (first ∷ more) e =
     of_end room None a b = absurd cc
     of_end room (Some side) a b = of_outer room side a (outer_at more) refl b
 
--- a part of one
+-- a part of an entry
 pub front_part : (count : ℕ) (octets : List ℕ) → front_at count octets ≡ Part → IsPart octets × (octets ≢ [] → count ≢ entry_limit) × (length octets ≤ 65551)
 front_part count [] e = (tt, λ some. absurd (some refl), omega arith)
 front_part count (first ∷ more) e =
@@ -86,17 +84,17 @@ front_part count (first ∷ more) e =
     of_end room None a b = absurd cc
     of_end room (Some side) a b = of_outer room side a (outer_at more) refl b
 
--- a reason that stands there, and is not that octets are missing
+-- a fault of the octets other than CutRecord
 abbrev IsRefusal : ℕ → List ℕ → FeedReason → ℕ → Type 0
 IsRefusal count octets reason offset = IsRestFault count octets reason offset × (reason ≢ feed.CutRecord)
 
--- what equal answers refuse
+-- equal refusals are of equal faults
 refused_so : (count : ℕ) (octets : List ℕ) (r s : FeedReason) (a b : ℕ) → (let x : Front = Refused r a in x) ≡ Refused s b → IsRefusal count octets r a → IsRefusal count octets s b
 refused_so count octets r s a b e refusal =
     let same = refused_is r s a b e in
     subst (λ (x : FeedReason). IsRefusal count octets x b) same.0 (subst (λ (x : ℕ). IsRefusal count octets r x) same.1 refusal)
 
--- what is refused
+-- a refusal
 pub front_refused : (count offset : ℕ) (octets : List ℕ) (reason : FeedReason) → count ≤ entry_limit → front_at count octets ≡ Refused reason offset → IsRestFault count octets reason offset × (reason ≢ feed.CutRecord)
 front_refused count offset [] reason within e = absurd cc
 front_refused count offset (first ∷ more) reason within e =
@@ -119,18 +117,18 @@ front_refused count offset (first ∷ more) reason within e =
     of_end room loud None a b = refused_so count (first ∷ more) feed.BadEnd reason 0 offset b ((room, no_end first a, loud, refl), λ same. cc)
     of_end room loud (Some side) a b = of_outer room side a (outer_at more) refl b
 
--- an element that is no longer than the first of two parts begins it
+-- octets begin with a second front that is no longer than they are
 begins : (a b c d : List ℕ) → a ++ b ≡ c ++ d → length c ≤ length a → a ≡ c ++ drop (length c) a
 begins a b c d e room =
     let front : take (length c) a ≡ c = sym (take-append-le (length c) a b room) ∙ ap (take (length c)) e ∙ take_at c d (length c) refl in
     sym (take-append-drop (length c) a) ∙ ap (λ (x : List ℕ). x ++ drop (length c) a) front
 
--- the octet of an end is no quiet mark
+-- the octet of an end is not that of a quiet mark
 end_loud : (octet : ℕ) → IsEndOctet octet → octet ≢ quiet_octet
 end_loud octet (inl h) e = omega (arith, h, e)
 end_loud octet (inr h) e = omega (arith, h, e)
 
--- the element that unfinished octets begin is longer than they are
+-- the element that incomplete octets begin is longer than they are
 element_longer : (octets more : List ℕ) (n : ℕ) → IsUnfinished octets → BeginsElement (octets ++ more) n → length octets < n
 element_longer octets more n unfinished there =
     elim (chosen (nat_lt (length octets) n) true false _ refl) [
@@ -140,7 +138,7 @@ element_longer octets more n unfinished there =
           absurd (unfinished.no_element there.tag there.content there.element _ there.is_element (begins octets more there.element there.rest there.joined room))
     ]
 
--- a part is not whole, whatever comes behind: the whole entry is longer
+-- a part is shorter than the whole entry that it begins
 pub part_longer : (count n : ℕ) (part more : List ℕ) → IsPart part → front_at count (part ++ more) ≡ Whole n → length part < n
 part_longer count n [] more is_part e = (front_whole count n more e).1
 part_longer count n (first ∷ octets) more is_part e =
@@ -161,7 +159,7 @@ part_longer count n (first ∷ octets) more is_part e =
     of_end None b = absurd cc
     of_end (Some side) b = of_outer (outer_at (octets ++ more)) refl b
 
--- a part is no whole entry
+-- a part is not a whole entry
 pub part_not_whole : (octets : List ℕ) → IsPart octets → IsWhole octets → ⊥
 part_not_whole [] is_part (inl mark) = absurd cc
 part_not_whole [] is_part (inr (side, element, joined, raw)) = absurd cc
@@ -170,7 +168,7 @@ part_not_whole (first ∷ more) is_part (inr (side, element, joined, raw)) =
     let same : more ≡ element = cc in
     is_part.1.no_element raw.0 raw.1 element [] raw.2 (same ∙ sym (append-nil element))
 
--- parts of entries are few octets
+-- a part has at most 65,551 octets
 pub part_within : (octets : List ℕ) → IsPart octets → length octets ≤ 65551
 part_within [] is_part = omega arith
 part_within (first ∷ more) is_part = of_outer (outer_at more) refl

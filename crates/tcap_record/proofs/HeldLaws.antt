@@ -1,4 +1,4 @@
--- What is held of a record: the entry at the front, whole or in part.
+-- The octets held of a record: the entry at the front, whole or in part.
 use Rattle.std.proofs.Common.{◌≡◌, ◌≢◌, ℕ, ◌+◌, ◌≤◌, List, [], ◌∷◌, length, drop, append-nil, Option, Some, None, Result, Ok, Err, refl, sym, ap, ◌∙◌, inl, inr, arith}
 use Rattle.std.specs.Prelude.{slice_index, Bool, true, false}
 use Rattle.std.proofs.lemmas.List.{length-append}
@@ -18,7 +18,7 @@ use Rattle.tcap_record.specs.Front.{IsAnswerWithin}
 use Rattle.tcap_record.proofs.FramingLaws.{outer_fault_within, element_is}
 use Rattle.tcap_record.proofs.FrontLaws.{part_not_whole}
 
--- what a walk over few octets answers is within them
+-- the result of framing few octets is within their limit
 pub answer_within : (octets : List ℕ) (read r : Result Outer Fault) → length octets ≤ 65551 → read ≡ outer_at octets
     → Gives (λ (x : Outer). x) r read → IsAnswerWithin r
 answer_within octets read (Ok (Whole n)) few e gives =
@@ -27,12 +27,12 @@ answer_within octets read (Ok (Whole n)) few e gives =
 answer_within octets read (Ok (Need n)) few e gives = tt
 answer_within octets read (Err f) few e gives = omega (arith, outer_fault_within octets f (sym e ∙ gives))
 
--- an end is what its octet stands for
+-- `end_in` is the inverse of `octet_of`
 pub end_there : (side : End) → end_in (octet_of side) ≡ Some side
 end_there ends.A = refl
 end_there ends.B = refl
 
--- octets that are an entry, which is no quiet mark, are what its end and its element are
+-- an entry that is not a quiet mark is given by its end and its element
 pub entry_whole : (place : ℕ) (octets : List ℕ) (side : Option End) (body : Body) → IsWhole octets
     → slice_index octets 0 ≢ quiet_octet → side ≡ end_in (slice_index octets 0)
     → body ≡ body_at (record { octets = drop 1 octets; place = place + 1 })
@@ -57,12 +57,12 @@ pub none_there : (o : Option FeedFault) → ((f : FeedFault) → o ≡ Some f �
 none_there None none = refl
 none_there (Some f) none = absurd (none f refl)
 
--- where a part is held, no whole entry is told
+-- if a part is held, the flag of a whole entry is false
 pub not_told : (told : Bool) (octets : List ℕ) → (told ≡ true → IsWhole octets) → IsPart octets → told ≡ false
 not_told true octets whole is_part = absurd (part_not_whole octets is_part (whole refl))
 not_told false octets whole is_part = refl
 
--- where a whole entry is held, it is told
+-- if a whole entry is held, the flag is true
 pub is_told : (told : Bool) (octets : List ℕ) → (told ≡ false → IsPart octets) → IsWhole octets → told ≡ true
 is_told true octets is_part whole = refl
 is_told false octets is_part whole = absurd (part_not_whole octets (is_part refl) whole)

@@ -4,7 +4,7 @@ use Rattle.std.proofs.lemmas.Bool.{and_parts, cases_lt, eqb-true}
 use Rattle.hex.specs.Hex.{digit_or_error, hex_digit_value, pair_value, ◌>>=◌}
 use Rattle.hex.specs.declared.error.FromHexError.{FromHexError}
 
--- the values of the digits by their octet, 255 where an octet is none
+-- the value of each digit by its octet, or 255 if the octet is not a digit
 unfoldable pub values : List ℕ
 values =
     255 ∷ 255 ∷ 255 ∷ 255 ∷ 255 ∷ 255 ∷ 255 ∷ 255 ∷ 255 ∷ 255 ∷ 255 ∷ 255 ∷ 255 ∷ 255 ∷ 255 ∷ 255 ∷
@@ -24,16 +24,16 @@ values =
     255 ∷ 255 ∷ 255 ∷ 255 ∷ 255 ∷ 255 ∷ 255 ∷ 255 ∷ 255 ∷ 255 ∷ 255 ∷ 255 ∷ 255 ∷ 255 ∷ 255 ∷ 255 ∷
     255 ∷ 255 ∷ 255 ∷ 255 ∷ 255 ∷ 255 ∷ 255 ∷ 255 ∷ 255 ∷ 255 ∷ 255 ∷ 255 ∷ 255 ∷ 255 ∷ 255 ∷ 255 ∷ []
 
--- a place of the table is right
+-- the table entry is right
 is_right : ℕ → Bool
 is_right digit = slice_index values digit == unwrap_or (hex_digit_value digit) 255
 
--- the first n places are
+-- the first n table entries are right
 are_right : ℕ → Bool
 are_right zero = true
 are_right (suc n) = is_right n && are_right n
 
--- each of them is
+-- each of them is right
 right_at : (n digit : ℕ) → are_right n ≡ true → digit < n → is_right digit ≡ true
 unfolding are_right
 right_at zero digit all lt = absurd (omega arith)
@@ -46,7 +46,7 @@ right_at (suc n) digit all lt =
           rw e parts.0
     ]
 
--- what the table says of a digit
+-- each table entry is the digit's value
 pub value_is : (digit : ℕ) → digit < 256 → slice_index values digit ≡ unwrap_or (hex_digit_value digit) 255
 unfolding is_right are_right values
 value_is digit lt = eqb-true (slice_index values digit) (unwrap_or (hex_digit_value digit) 255) (right_at 256 digit refl lt)
@@ -55,11 +55,11 @@ value_is digit lt = eqb-true (slice_index values digit) (unwrap_or (hex_digit_va
 value_small : (digit v : ℕ) → hex_digit_value digit ≡ Some v → v < 16
 value_small digit v is = grind (arith)
 
--- a value as the table has it
+-- a digit's value, or 255
 abbrev pub value_or_none : ℕ → ℕ
 value_or_none digit = unwrap_or (hex_digit_value digit) 255
 
--- what two digits are, by their values
+-- the value of two digits, given the value of each
 pair_of : ℕ → ℕ → ℕ → Option ℕ → Option ℕ → Result ℕ FromHexError
 pair_of high low i a b = digit_or_error high i a >>= λ h. (digit_or_error low (i + 1) b >>= λ l. Ok (h * 16 + l))
 
@@ -78,13 +78,13 @@ pair_fails high low i (Some a) None small_a small_b big = (_, refl)
 pair_fails high low i (Some a) (Some b) small_a small_b (inl big) = absurd (omega (arith, big, small_a a refl))
 pair_fails high low i (Some a) (Some b) small_a small_b (inr big) = absurd (omega (arith, big, small_b b refl))
 
--- two digits whose values are below 16
+-- two digits with values below 16
 pub reads_pair : (high low i : ℕ) → value_or_none high ≤ 15 → value_or_none low ≤ 15
     → pair_value high low i ≡ Ok (value_or_none high * 16 + value_or_none low)
 unfolding pair_of
 reads_pair high low i few_high few_low = pair_reads high low i (hex_digit_value high) (hex_digit_value low) few_high few_low
 
--- two of which one has none
+-- two octets, one not a digit
 pub refuses_pair : (high low i : ℕ) → (15 < value_or_none high) ⊎ (15 < value_or_none low)
     → (e : FromHexError) × (pair_value high low i ≡ Err e)
 unfolding pair_of

@@ -1,4 +1,4 @@
--- An entry at the front of octets, lent from them.
+-- An entry lent from the front of octets.
 use Rattle.std.proofs.Common.{◌≡◌, ℕ, ◌+◌, ◌<◌, ◌≤◌, List, [], ◌∷◌, ◌++◌, length, take, drop, Some, None, Ok, refl, sym, ap, subst, ◌∙◌, inl, inr, arith, add-one, append-nil, take-append-drop}
 use Rattle.std.proofs.lemmas.List.{take_at}
 use Rattle.tcap_ber.specs.declared.element.Outer.{Outer}
@@ -26,17 +26,17 @@ use Rattle.tcap_record.proofs.FrontLaws.{front_whole}
 use Rattle.tcap_record.proofs.FramingLaws.{end_is}
 use Rattle.tcap_record.proofs.FedLaws.{fed_grown, fed_dropped}
 
--- a whole entry has few octets
+-- a whole entry has at most 65,546 octets
 pub whole_within : (octets : List ℕ) → IsWhole octets → length octets ≤ 65546
 whole_within octets (inl mark) = omega (arith, ap length mark)
 whole_within octets (inr (side, element, joined, raw)) = omega (arith, ap length joined, element_within raw.0 raw.1 element raw.2)
 
--- behind the octet of an end it is there where its element is
+-- after the octet of an end, a whole element makes a whole entry
 sent_front : (side : End) (element : List ℕ) (n : ℕ) → outer_at element ≡ Ok (WholeElement n) → front_at 0 (octet_of side ∷ element) ≡ Whole (n + 1)
 sent_front ends.A element n e = ap front_by e
 sent_front ends.B element n e = ap front_by e
 
--- what octets begin with, where a whole entry begins them
+-- the front of octets that begin with a whole entry
 whole_front : (octets : List ℕ) (n : ℕ) → IsWhole (take n octets) → (m : ℕ) × (front_at 0 octets ≡ Whole m)
 whole_front octets n w = by_form w
   where
@@ -51,11 +51,11 @@ whole_front octets n w = by_form w
           ∙ sent_front side (element ++ drop n octets) (length element) (outer_of_element raw.0 raw.1 element (drop n octets) raw.2),
     )
 
--- where none is found, none begins them
+-- if no whole entry is found, none begins the octets
 pub none_whole : (octets : List ℕ) (n : ℕ) → whole_in (front_at 0 octets) ≡ None → IsWhole (take n octets) → ⊥
 none_whole octets n e w = let there = whole_front octets n w in let no : Some there.0 ≡ None = sym (ap whole_in there.1) ∙ e in absurd cc
 
--- what is found begins them
+-- a whole entry that is found begins the octets
 pub found_whole : (octets : List ℕ) (n : ℕ) → whole_in (front_at 0 octets) ≡ Some n → (n ≤ length octets) × IsWhole (take n octets)
 found_whole octets n e = of_front (front_at 0 octets) refl e
   where
@@ -67,7 +67,7 @@ found_whole octets n e = of_front (front_at 0 octets) refl e
     of_front Part there same = absurd cc
     of_front (Refused reason place) there same = absurd cc
 
--- the element that a message begins is whole
+-- the element of a message is whole
 outer_there : (octets : List ℕ) (x : Message × ℕ) → message_at octets ≡ Ok x → outer_at octets ≡ Ok (WholeElement x.1)
 unfolding message_at
 outer_there octets x e = let a = bind_ok (outer_at octets) (in_outer octets) x e in of_outer a.0 a.1 a.2
@@ -79,7 +79,7 @@ outer_there octets x e = let a = bind_ok (outer_at octets) (in_outer octets) x e
         there ∙ ap (λ (k : ℕ). Ok (WholeElement k)) same
     of_outer (Need n) there within = absurd cc
 
--- a message behind the octet of an end is an entry
+-- a message after the octet of an end is an entry
 pub good_lent : (place first n : ℕ) (element : List ℕ) (side : End) (m : Message) → end_in first ≡ Some side → message_at element ≡ Ok (m, n)
     → IsLent place (first ∷ element) (record { side = Some side; place = place + 1; body = Good m }) (n + 1)
 good_lent place first n element side m e read =
@@ -107,11 +107,11 @@ good_lent place first n element side m e read =
 
 -- ---- an entry that is passed
 
--- behind it one more may stand
+-- after it, the record may have one more entry
 pub held_passed : (h : Held) (len : ℕ) → h.fault ≡ None → h.octets ≡ [] → h.count < entry_limit → IsHeld (record { octets = h.octets; place = h.place + len; count = h.count + 1; fault = h.fault })
 held_passed h len sound nothing room = rw (sound, nothing) (omega (arith, room), ((λ some. absurd (some refl)), inl tt))
 
--- what was taken is one entry more
+-- the octets taken are one more entry
 pub fed_passed : (told : List ℕ) (entries : List Entry) (h : Held) (entry : Entry) (octets : List ℕ) → h.fault ≡ None → h.octets ≡ [] → IsEntry h.place entry octets [] → Fed told entries h
     → Fed (told ++ octets) (entries ++ entry ∷ []) (record { octets = h.octets; place = h.place + length octets; count = h.count + 1; fault = h.fault })
 fed_passed told entries h entry octets sound nothing there fed =

@@ -1,4 +1,4 @@
--- Texts that grow, and the lines of entries one after the other.
+-- Growing texts, and the lines of entries one after the other.
 use Rattle.std.proofs.Common.{◌≡◌, ℕ, ◌+◌, ◌<◌, suc, List, [], ◌∷◌, ◌++◌, length, take, get_or, arith, length-take-le, Option, sym, ap, ◌∙◌, subst, append_assoc, append-nil}
 use Rattle.std.proofs.KnownBytes.{Appends-trans}
 use Rattle.std.proofs.lemmas.List.{take_more}
@@ -6,7 +6,7 @@ use Rattle.std.specs.Io.KnownBytes.{Appends}
 use Rattle.tcap_record.specs.declared.entry.Entry.{Entry}
 use Rattle.tcap_record.specs.Lines.{entry_lines, lines_from, lines_of}
 
--- the lines of one entry more
+-- the lines of one more entry
 pub lines_one_more : (number k : ℕ) (entries : List Entry) (entry : Entry) → k ≡ number + length entries
     → lines_from number (entries ++ entry ∷ []) ≡ lines_from number entries ++ entry_lines k entry
 lines_one_more number k [] entry e =
@@ -23,7 +23,7 @@ lines_step entries i entry within is =
     ap lines_of (take_more entries i entry within ∙ ap (λ x. take i entries ++ x ∷ []) is)
     ∙ lines_one_more 0 i (take i entries) entry same
 
--- a writer that took the lines of the first i entries took those of the next
+-- after the lines of the first i entries, the writer took those of the next
 pub lines_written : (old mid new : Option (List ℕ)) (entries : List Entry) (i : ℕ) (entry : Entry) (text : List ℕ)
     → i < length entries → entry ≡ get_or entries i entry → text ≡ entry_lines i entry
     → Appends old mid (lines_of (take i entries)) → Appends mid new text → Appends old new (lines_of (take (i + 1) entries))

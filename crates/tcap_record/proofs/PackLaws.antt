@@ -1,4 +1,4 @@
--- What packing lines of hex digits does, step by step.
+-- The effect of each step of packing lines of hexadecimal digits.
 use Rattle.std.proofs.Common.{◌≡◌, ◌≢◌, ℕ, ◌+◌, ◌-◌, ◌*◌, ◌<◌, ◌≤◌, ◌⊎◌, List, [], ◌∷◌, ◌++◌, length, take, drop, Option, Some, None, Result, Ok, Err, IfOk, refl, sym, ap, subst, ◌∙◌, inl, inr, arith, append_assoc, append-nil}
 use Rattle.std.specs.Prelude.{slice_index}
 use Rattle.std.proofs.lemmas.List.{drop_more, length-append, take-append-drop, take_all}
@@ -22,12 +22,12 @@ use Rattle.tcap_record.specs.Packing.{Finishes, IsBehind, IsContentOf, IsFresh, 
 err_is : {A : Type 0} (x y : PackFault) → (let r : Result A PackFault = Err x in r) ≡ Err y → x ≡ y
 err_is x y e = cc
 
--- a fault that `?` handed on
+-- a fault that `?` passes on
 pub handed_on : {A B : Type 0} (result : Result A PackFault) (made fault given : PackFault) → result ≡ Err made → made ≡ given
     → result ≡ Err fault → (let r : Result B PackFault = Err given in r) ≡ Err fault
 handed_on result made fault given a b e = ap Err (sym b ∙ err_is made fault (sym a ∙ e))
 
--- ---- lines behind lines
+-- ---- lines after lines
 
 entries_more : (lines others : List (Option (List ℕ))) → entries_in (lines ++ others) ≡ entries_in lines ++ entries_in others
 entries_more [] others = refl
@@ -68,7 +68,7 @@ plain_more : (front more : List ℕ) → HasNoNewline front → HasNoNewline mor
 plain_more [] more a b = b
 plain_more (octet ∷ front) more (first, a) b = (first, plain_more front more a b)
 
--- the line that is held grew by the first octets of a piece
+-- the line held has no newline after appending octets without one
 pub plain_held : (line front held piece : List ℕ) (n : ℕ) → held ≡ line ++ front → front ≡ take n piece → HasNoNewline line
     → HasNoNewline (take n piece) → HasNoNewline held
 plain_held line front held piece n grown is plain more =
@@ -90,7 +90,7 @@ ended_line line content plain (inr (no_return, is)) = (
 
 -- ---- steps
 
--- what comes then
+-- octets held and two pieces, as lines and a rest
 joined_then : (held octets more front mid front' rest : List ℕ) → held ++ octets ≡ front ++ mid → mid ++ more ≡ front' ++ rest
     → held ++ (octets ++ more) ≡ (front ++ front') ++ rest
 joined_then held octets more front mid front' rest before then =
@@ -126,7 +126,7 @@ stops_then old mid octets more fault untold a b c before then =
       written = written_more a b c before.lines then.lines before.written then.written;
     }
 
--- it stops at once
+-- packing stops at once
 pub stops_here : (p : Packing) (octets : List ℕ) (fault : FeedFault) (untold a b : Option (List ℕ)) → p.lines ≤ lines_limit → b ≡ a
     → ((total : ℕ) → StopsAs p.lines total (p.line.items ++ octets) untold fault.reason fault.place)
     → PacksUpTo p octets fault untold a b
@@ -152,7 +152,7 @@ refused_stops count content rest untold fault (inl (is, none)) line total =
 refused_stops count content rest untold fault (inr is) line total =
     subst (λ (f : FeedFault). StopsAs count total rest untold f.reason f.place) (sym is) refl
 
--- There may be no more lines.
+-- No more lines are allowed.
 pub stops_full : (p : Packing) (octets : List ℕ) (untold a : Option (List ℕ)) → p.lines ≡ lines_limit → 0 < length octets
     → PacksUpTo p octets (feed_fault feed.BadHexLine (p.lines + 1)) untold a a
 stops_full p octets untold a full some =
@@ -179,7 +179,7 @@ stops_long p front behind number Bad untold a within is plain more long =
       ))),
     ))
 
--- The line ends and is none, or memory ran out.
+-- The line is bad, or memory ran out.
 pub stops_line : (p : Packing) (front behind line content : List ℕ) (fault : FeedFault) (untold a b : Option (List ℕ))
     → p.lines ≤ lines_limit → b ≡ a
     → line ≡ p.line.items ++ front → HasNoNewline line → IsContentOf line content → IsLineRefused content (p.lines + 1) fault
@@ -194,7 +194,7 @@ stops_line p front behind line content fault untold a b within same held plain i
         sym (append_assoc p.line.items front (newline ∷ behind)) ∙ ap (λ (x : List ℕ). x ++ newline ∷ behind) (sym held)
         ∙ sym (append_assoc line (newline ∷ []) behind)
 
--- The last line is none, or memory ran out.
+-- The last line is bad, or memory ran out.
 pub stops_last : (p : Packing) (fault : FeedFault) (untold a b : Option (List ℕ)) → p.lines ≤ lines_limit → b ≡ a
     → HasNoNewline p.line.items → p.line.items ≢ []
     → IsAtEnd untold → IsLineRefused p.line.items (p.lines + 1) fault → PacksUpTo p [] fault untold a b
@@ -228,7 +228,7 @@ tail_is : (behind more : List ℕ) (octet : ℕ) → behind ≡ octet ∷ more �
 tail_is behind more octet e =
     ap (λ (x : List ℕ). take (length x - 1) (drop 1 x)) e ∙ take_all (length (octet ∷ more) - 1) more (omega arith)
 
--- a piece with a newline is what stands before it, and the newline, and what is behind
+-- a piece with a newline is the octets before it, the newline, and the octets after it
 pub cut_there : (piece front behind : List ℕ) (n : ℕ) → n < length piece → front ≡ take n piece → behind ≡ drop n piece
     → slice_index piece n ≡ newline
     → piece ≡ front ++ newline ∷ take (length behind - 1) (drop 1 behind)
@@ -241,7 +241,7 @@ cut_there piece front behind n within front_is behind_is there =
 
 -- ---- the whole text
 
--- lines within the limits are few octets
+-- lines within the limits have a limited number of octets
 lines_within : (lines : List (Option (List ℕ))) (text : List ℕ) → AreLines lines text → length text ≤ length lines * 131094
 lines_within [] text none = omega (arith, ap length none)
 lines_within (line ∷ lines) text (content, octets, more, ended, stands, joined, are_lines) =
@@ -334,7 +334,7 @@ pub packed_then : (start p : Packing) (told more : List ℕ) (fault : FeedFault)
 packed_then start p told more fault untold a b c fresh packs then =
     packed_up_to start (told ++ more) fault untold a c fresh (stops_then start p told more fault untold a b c packs then)
 
--- The reader failed behind what was told.
+-- The reader failed after these octets.
 pub packed_unread : (start p : Packing) (told : List ℕ) (untold a b : Option (List ℕ)) → IsFresh start → Packs start p told a b
     → IsOpen p
     → IsPackedUpTo told (feed_fault feed.Read (length told)) untold a b
@@ -349,7 +349,7 @@ packed_unread start p told untold a b fresh packs is_open = record {
   written = packs.written;
 }
 
--- It stops for no failure of the reader.
+-- This fault is not a failure of the reader.
 pub stops_unread : (p : Packing) (octets : List ℕ) (fault : FeedFault) (untold a b : Option (List ℕ))
     → PacksUpTo p octets fault untold a b → fault.reason ≢ feed.Read
 stops_unread p octets fault untold a b packs read =
@@ -358,21 +358,21 @@ stops_unread p octets fault untold a b packs read =
     (packs.stops total)).0 in
     absurd (omega (arith, at 0, at 1))
 
--- A read told nothing more.
+-- A read returned no octets.
 pub told_no_more : (a b c : Option (List ℕ)) (told buffer : List ℕ) (n : ℕ) → n ≡ 0 → Consumes a b told
     → Consumes b c (take n buffer) → Consumes a c told
 told_no_more a b c told buffer n none before more =
     subst (Consumes a c) (append-nil told)
     (Consumes-trans a b c told [] before (subst (λ (k : ℕ). Consumes b c (take k buffer)) none more))
 
--- A read that failed told nothing.
+-- A failed read consumed nothing.
 pub told_nothing : (a b c : Option (List ℕ)) (told : List ℕ) → Consumes a b told → Keeps b c → Consumes a c told
 told_nothing None b c told before keeps = tt
 told_nothing (Some xs) None c told before keeps = absurd before
 told_nothing (Some xs) (Some ys) None told before keeps = absurd keeps
 told_nothing (Some xs) (Some ys) (Some zs) told before keeps = before ∙ ap (λ (x : List ℕ). told ++ x) (sym keeps)
 
--- what the end answers
+-- the result at the reader's end
 pub packed_ok : (result : Result ℕ PackFault) (start p : Packing) (told : List ℕ) (old new a b c : Option (List ℕ)) → IsFresh start
     → Packs start p told a b → IsOpen p
     → IsAtEnd new → Consumes old new told → IfOk result (λ count. Finishes p count b c)

@@ -1,4 +1,4 @@
--- How what was fed of a record is what was read of it.
+-- The octets fed of a record are the octets read of it.
 use Rattle.std.proofs.Common.{◌≡◌, ◌≢◌, ℕ, ◌+◌, ◌<◌, ◌≤◌, List, [], ◌∷◌, ◌++◌, length, take, drop, Some, None, Result, Ok, Err, refl, sym, ap, subst, ◌∙◌, inl, inr, arith, append_assoc, take-append-drop}
 use Rattle.std.proofs.lemmas.List.{length-append}
 use Rattle.tcap_ber.proofs.StayLaws.{walk_fault_stays}
@@ -16,7 +16,7 @@ use Rattle.tcap_record.proofs.FramingLaws.{ends_as}
 use Rattle.tcap_record.proofs.FrontLaws.{part_not_whole}
 use Rattle.tcap_record.proofs.FedLaws.{framed_on}
 
--- with more octets behind, what is wrong is wrong still
+-- a fault stays if more octets follow
 fault_on : (count : ℕ) (rest more : List ℕ) (reason : FeedReason) (offset : ℕ) → IsRestFault count rest reason offset
     → reason ≢ feed.CutRecord → IsRestFault count (rest ++ more) reason offset
 fault_on count [] more reason offset h other = absurd h
@@ -29,13 +29,13 @@ fault_on count (first ∷ octets) more feed.BadHexLine offset h other = absurd h
 fault_on count (first ∷ octets) more feed.Read offset h other = absurd h
 fault_on count (first ∷ octets) more feed.Memory offset h other = absurd h
 
--- a part of an entry is a cut one
+-- a part of an entry is CutRecord at its end
 part_cut : (count : ℕ) (octets : List ℕ) → IsPart octets → octets ≢ [] → count < entry_limit
     → IsRestFault count octets feed.CutRecord (length octets)
 part_cut count [] is_part some room = absurd (some refl)
 part_cut count (first ∷ more) is_part some room = (room, is_part.0, is_part.1, omega arith)
 
--- These octets were fed, and nothing is wrong with them; what is held is a part of an entry.
+-- These octets were fed without a fault, and a part of an entry is held.
 pub record IsFed (told : List ℕ) (entries : List Entry) (h : Held) : Type 0 where
   pub fed : Fed told entries h
   pub held : IsHeld h
@@ -76,7 +76,7 @@ read_finished (Ok done) told entries h f (sound, inr whole) = absurd (part_not_w
 read_finished (Err fault) told entries h f (inl wrong) = let e = sym wrong ∙ f.sound in absurd cc
 read_finished (Err fault) told entries h f (inr (sound, some, part, is)) = rw is (read_cut told entries h f some)
 
--- where memory ran out; more octets were read than were fed
+-- memory ran out; more octets were read than were fed
 pub read_to_memory : (told more : List ℕ) (entries : List Entry) (h : Held) → Fed told entries h → IsHeld h
     → IsReadAs entries (Err (feed_fault feed.Memory 0)) (told ++ more)
 read_to_memory told more entries h fed held = record {
@@ -86,7 +86,7 @@ read_to_memory told more entries h fed held = record {
   ends = refl;
 }
 
--- where something is wrong with the octets
+-- the octets have a fault
 pub read_to_fault : (told more : List ℕ) (entries : List Entry) (h : Held) (f : FeedFault) → Fed told entries h → IsHeld h
     → h.fault ≡ Some f → IsReadAs entries (Err f) (told ++ more)
 read_to_fault told more entries h f fed held wrong =
@@ -102,7 +102,7 @@ read_to_fault told more entries h f fed held wrong =
           (omega (arith, with.1, fed.place_is, length-append told more, length-append h.octets more)) there;
     }
 
--- where a piece is refused
+-- a piece is refused
 pub read_refused : (told piece : List ℕ) (old new : Kept) (f : FeedFault) → IsFed told old.waiting old.held → IsHeld new.held
     → FeedsNot f old new piece
     → ((n : ℕ) × (n ≤ length piece) × FedTo (told ++ take n piece) [] new) → IsReadAs new.waiting (Err f) (told ++ piece)

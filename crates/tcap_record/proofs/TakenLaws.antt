@@ -1,4 +1,4 @@
--- What is taken of a piece that comes behind a part of an entry.
+-- The octets taken of a piece after a part of an entry.
 use Rattle.std.proofs.Common.{◌≡◌, ℕ, ◌+◌, ◌-◌, ◌<◌, ◌≤◌, List, [], ◌∷◌, ◌++◌, length, take, min, sym, ap, subst, ◌∙◌, arith}
 use Rattle.std.proofs.lemmas.List.{length-append, length-take-le, take_all, take-append-le}
 use Rattle.std.proofs.Math.Seq.{take-append-add}
@@ -12,7 +12,7 @@ use Rattle.tcap_record.specs.Front.{entry_room, front_at, taken_of, IsLonger, Be
 use Rattle.tcap_ber.proofs.OuterLaws.{walk_fault_within}
 use Rattle.tcap_record.proofs.FrontLaws.{front_whole, front_part, front_refused, part_longer, part_within}
 
--- a window of a piece behind a part, as much as there is room for
+-- the window of a piece after a part, as far as there is room
 pub record Comes (old piece window : List ℕ) : Type 0 where
   pub rest : List ℕ
   pub is_part : IsPart old
@@ -46,7 +46,7 @@ taken_within count old window (Whole n) e = omega (arith, (front_whole count n (
 taken_within count old window Part e = omega arith
 taken_within count old window (Refused reason offset) e = omega arith
 
--- what is refused begins within the octets
+-- a fault is at most at the end of the octets
 refused_within : (count : ℕ) (octets : List ℕ) (reason : FeedReason) (offset : ℕ) → IsRestFault count octets reason offset → offset ≤ length octets
 refused_within count [] reason offset h = absurd h
 refused_within count (first ∷ more) feed.TooManyEntries offset h = omega (arith, h.1)

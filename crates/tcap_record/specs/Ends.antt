@@ -1,9 +1,9 @@
--- The two ends of a record.
+-- The two ends of a record, and their letters.
 use Rattle.std.specs.Prelude.{ℕ, Bool, true, false, List, codes}
 use Rattle.tcap_record.specs.declared.entry.End.{End}
 use Rattle.tcap_record.specs.declared.entry.End.TheVariants as ends
 
--- the other one
+-- the other end
 abbrev pub other : End → End
 other ends.A = ends.B
 other ends.B = ends.A

@@ -1,10 +1,10 @@
--- The numbers of the reasons why octets are not a record.
+-- What is the number of each reason why octets are not a record?
 use Rattle.std.specs.Prelude.{ℕ}
 use Rattle.tcap_ber.specs.Fault.{number_of}
 use Rattle.tcap_record.specs.declared.fault.FeedReason.{FeedReason}
 use Rattle.tcap_record.specs.declared.fault.FeedReason.TheVariants as feed
 
--- the number that a line of output gives for a reason
+-- the number that output lines print for a reason
 abbrev pub feed_number_of : FeedReason → ℕ
 feed_number_of (feed.Element reason) = number_of reason
 feed_number_of feed.BadEnd = 20

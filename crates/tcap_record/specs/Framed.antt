@@ -1,4 +1,4 @@
--- Records: entries one after the other, each an end's octet and one element, or a quiet mark.
+-- Which octets are a record? Entries one after the other: each is an end's octet and one element, or a quiet mark.
 use Rattle.std.specs.Prelude.{◌≡◌, ◌≢◌, ℕ, ◌+◌, ◌-◌, ◌<◌, ◌⊎◌, List, [], ◌∷◌, ◌++◌, length, Some, None}
 use Rattle.tcap_ber.specs.Element.{IsRaw}
 use Rattle.tcap_ber.specs.Walked.{IsWalkFault, IsUnfinished}
@@ -21,8 +21,8 @@ octet_of ends.B = 0x42
 abbrev pub quiet_octet : ℕ
 quiet_octet = 0x51
 
--- What an element at a place of the record is: the message that it spells; or, where it spells none, a
--- fault of it, whose place is counted in the record.
+-- The content of an element at this place of the record: the message that it spells or, if it spells none, its fault,
+-- whose place is counted in the record.
 abbrev pub IsBody : Body → ℕ → List ℕ → Type 0
 IsBody (Good m) place element = Spells m element
 IsBody (Bad f) place element =
@@ -30,8 +30,8 @@ IsBody (Bad f) place element =
     × ((offset : ℕ) × (f.place ≡ place + offset) × IsFaulty element f.reason offset)
 IsBody Quiet place element = ⊥
 
--- A message that an end sent begins the octets, which are at that place of the record: the end's octet and one
--- element, whose first octet has the entry's place.
+-- The octets at this place of the record begin with a message that an end sent: the end's octet and one element. The
+-- entry's place is that of the element's first octet.
 pub record IsSent (place : ℕ) (entry : Entry) (octets others : List ℕ) : Type 0 where
   pub side : End
   pub element : List ℕ
@@ -41,18 +41,18 @@ pub record IsSent (place : ℕ) (entry : Entry) (octets others : List ℕ) : Typ
   pub place_is : entry.place ≡ place + 1
   pub body : IsBody entry.body entry.place element
 
--- A quiet mark begins them: its octet alone.
+-- The octets begin with a quiet mark, which is its octet alone.
 pub record IsMark (place : ℕ) (entry : Entry) (octets others : List ℕ) : Type 0 where
   pub side_is : entry.side ≡ None
   pub body_is : entry.body ≡ Quiet
   pub joined : octets ≡ quiet_octet ∷ others
   pub place_is : entry.place ≡ place
 
--- the entry begins the octets, and others stand behind it
+-- the octets begin with the entry, and `others` come after it
 abbrev pub IsEntry : ℕ → Entry → List ℕ → List ℕ → Type 0
 IsEntry place entry octets others = IsSent place entry octets others ⊎ IsMark place entry octets others
 
--- The octets from a place of the record on are these entries and a rest.
+-- The octets from this place of the record on are these entries and a rest.
 abbrev pub FramedFrom : ℕ → List Entry → List ℕ → List ℕ → Type 0
 FramedFrom place [] octets rest = octets ≡ rest
 FramedFrom place (entry ∷ entries) octets rest =
@@ -63,15 +63,16 @@ FramedFrom place (entry ∷ entries) octets rest =
 abbrev pub Framed : List Entry → List ℕ → List ℕ → Type 0
 Framed entries octets rest = FramedFrom 0 entries octets rest
 
--- the greatest count of entries of a record, this profile's limit
+-- the greatest number of entries of a record, this profile's limit
 abbrev pub entry_limit : ℕ
 entry_limit = 100000
 
+-- the octet of an end
 abbrev pub IsEndOctet : ℕ → Type 0
 IsEndOctet octet = (octet ≡ 0x41) ⊎ (octet ≡ 0x42)
 
--- Why the rest behind so many entries is no further entry; the place is counted from the rest's first
--- octet. The count of entries is looked at first.
+-- The faults of a rest that begins no further entry, after `count` entries. The offset is counted from the rest's first
+-- octet. TooManyEntries comes first.
 abbrev pub IsRestFault : ℕ → List ℕ → FeedReason → ℕ → Type 0
 IsRestFault count [] reason offset = ⊥
 IsRestFault count (first ∷ more) feed.TooManyEntries offset = (count ≡ entry_limit) × (offset ≡ 0)

@@ -1,4 +1,4 @@
--- What octets of a record begin with, as a function.
+-- What does framing the front of a record's octets return?
 use Rattle.std.specs.Prelude.{◌≡◌, ◌≢◌, ℕ, ◌+◌, ◌-◌, ◌<◌, ◌≤◌, List, [], ◌∷◌, ◌++◌, length, take, Option, Some, None, Result, Ok, Err, ◌==◌, if◌then◌else◌}
 use Rattle.tcap_ber.specs.declared.fault.Fault.{Fault}
 use Rattle.tcap_ber.specs.declared.element.Outer.{Outer}
@@ -13,61 +13,62 @@ use Rattle.tcap_record.specs.Framed.{quiet_octet, entry_limit, IsRestFault}
 use Rattle.tcap_record.specs.Framing.{end_in}
 use Rattle.tcap_record.specs.Held.{IsPart, IsWhole}
 
--- upper bound, in octets, of what is held: an unfinished entry has one octet of its end, a header and a content, and a
--- header that has begun behind them
+-- An upper bound of the octets held: one of an end, the header and content of an incomplete element, and the octets of
+-- a header that has begun.
 abbrev pub entry_room : ℕ
 entry_room = 1 + content_limit + opening_limit + header_limit
 
--- the count and the place are those of few octets
+-- the count or the place is within `entry_room`
 abbrev pub IsAnswerWithin : Result Outer Fault → Type 0
 IsAnswerWithin (Ok (WholeElement n)) = n ≤ entry_room
 IsAnswerWithin (Ok (Need n)) = Unit {0}
 IsAnswerWithin (Err f) = f.place ≤ entry_room
 
--- by its element
+-- the front after an end's octet, given the result of framing its element
 abbrev pub front_by : Result Outer Fault → Front
 front_by (Ok (WholeElement n)) = Whole (n + 1)
 front_by (Ok (Need n)) = Part
 front_by (Err f) = Refused (feed.Element f.reason) (f.place + 1)
 
+-- the front after this first octet: BadEnd if it is not an end's
 abbrev pub front_of : Option End → List ℕ → Front
 front_of None more = Refused feed.BadEnd 0
 front_of (Some side) more = front_by (outer_at more)
 
--- What begins octets behind so many entries: a whole entry of so many octets, a part of one, or what is refused there,
--- at its place among them.
+-- The front of octets after `count` entries: a whole entry of this many octets, a part of one, or a refusal at its
+-- place in the octets.
 abbrev pub front_at : ℕ → List ℕ → Front
 front_at count [] = Part
 front_at count (first ∷ more) =
     if count == entry_limit then Refused feed.TooManyEntries 0
     else (if first == quiet_octet then Whole 1 else front_of (end_in first) more)
 
--- how many octets a whole entry at the front has
+-- the number of octets of a whole entry at the front
 abbrev pub whole_in : Front → Option ℕ
 whole_in (Whole n) = Some n
 whole_in Part = None
 whole_in (Refused reason place) = None
 
--- a whole entry is no shorter than the octets that are held
+-- a whole entry is no shorter than the octets held
 abbrev pub IsLonger : ℕ → Front → Type 0
 IsLonger held (Whole n) = held ≤ n
 IsLonger held Part = Unit {0}
 IsLonger held (Refused reason place) = Unit {0}
 
--- how many of so many octets that come behind those that are held belong to what all of them begin with
+-- how many of `count` new octets belong to the entry at the front
 abbrev pub taken_of : ℕ → ℕ → Front → ℕ
 taken_of held count (Whole n) = n - held
 taken_of held count Part = count
 taken_of held count (Refused reason place) = count
 
--- these octets behind so many entries are a whole entry, or a part of one, or begin with what is refused
+-- after `count` entries, these octets are a whole entry, a part of one, or refused
 abbrev pub BeginsAs : ℕ → List ℕ → Front → Type 0
 BeginsAs count octets (Whole n) = IsWhole octets × (count < entry_limit)
 BeginsAs count octets Part = IsPart octets × (octets ≢ [] → count < entry_limit)
 BeginsAs count octets (Refused reason offset) = IsRestFault count octets reason offset × (reason ≢ feed.CutRecord)
     × (offset ≤ length octets)
 
--- So many octets of a piece were taken behind a part; all of the piece, where what is there then is a part.
+-- `taken` octets of the piece were appended to a part. If the entry is still a part, all of the piece was.
 pub record IsTaken (count : ℕ) (old piece new : List ℕ) (front : Front) (taken : ℕ) : Type 0 where
   pub most : taken ≤ length piece
   pub grown : new ≡ old ++ take taken piece

@@ -1,4 +1,4 @@
--- Lines of hex digits, of which `pack` makes a record.
+-- Which lines of hexadecimal digits does `pack` accept, and which record does it make of them?
 use Rattle.std.specs.Prelude.{◌≡◌, ◌≢◌, ℕ, ◌+◌, ◌<◌, ◌≤◌, ◌⊎◌, List, [], ◌∷◌, ◌++◌, length, Option, Some, None, Ok}
 use Rattle.std.specs.List.{AllByRecursion, concat}
 use Rattle.std.specs.Io.KnownBytes.{Appends, IsAtEnd}
@@ -22,32 +22,35 @@ number_sign = 35
 abbrev pub space : ℕ
 space = 32
 
--- the greatest count of octets of a line, its end left out, and of lines: this profile's limits
+-- the greatest number of octets of a line without its end, this profile's limit
 abbrev pub line_limit : ℕ
 line_limit = 131092
 
+-- the greatest number of lines, this profile's limit
 abbrev pub lines_limit : ℕ
 lines_limit = 1000000
 
+-- no octet is a newline
 abbrev pub HasNoNewline : List ℕ → Type 0
 HasNoNewline octets = AllByRecursion (λ octet. octet ≢ newline) octets
 
+-- the last octet is a carriage return
 abbrev pub EndsInReturn : List ℕ → Type 0
 EndsInReturn octets = (front : List ℕ) × (octets ≡ front ++ carriage_return ∷ [])
 
--- The octets are that content and its end: a newline, or a carriage return and a newline.
+-- The octets are the content and the line end: a newline, or a carriage return and a newline.
 abbrev pub IsEndedLine : List ℕ → List ℕ → Type 0
 IsEndedLine content octets =
     HasNoNewline content
     × ((octets ≡ content ++ carriage_return ∷ newline ∷ [])
     ⊎ ((EndsInReturn content → ⊥) × (octets ≡ content ++ newline ∷ [])))
 
--- a line that is skipped: an empty one, or a comment
+-- a skipped line: an empty one, or a comment
 abbrev pub IsSkipped : List ℕ → Type 0
 IsSkipped [] = Unit {0}
 IsSkipped (first ∷ more) = first ≡ number_sign
 
--- a message that an end sent: the end's letter, a space, and digits that are exactly one element
+-- a message that an end sent: the end's letter, a space, and the digits of exactly one element
 pub record IsSentLine (content entry : List ℕ) : Type 0 where
   pub side : End
   pub digits : List ℕ
@@ -57,25 +60,25 @@ pub record IsSentLine (content entry : List ℕ) : Type 0 where
   pub raw : IsRaw element
   pub entry_is : entry ≡ octet_of side ∷ element
 
--- What a line stands for, by its content: nothing where it is skipped, or the octets of an entry.
+-- The octets of the entry that a line of this content means, or None if it is skipped.
 abbrev pub StandsFor : List ℕ → Option (List ℕ) → Type 0
 StandsFor content None = (length content ≤ line_limit) × IsSkipped content
 StandsFor content (Some entry) =
     (length content ≤ line_limit)
     × (IsSentLine content entry ⊎ ((content ≡ quiet_octet ∷ []) × (entry ≡ quiet_octet ∷ [])))
 
--- no such line
+-- the content is neither skipped nor an entry
 abbrev pub IsNoLine : List ℕ → Type 0
 IsNoLine content = (line : Option (List ℕ)) → StandsFor content line → ⊥
 
--- a text of lines, each with its end, and what they stand for
+-- the text is these lines, each with its end
 abbrev pub AreLines : List (Option (List ℕ)) → List ℕ → Type 0
 AreLines [] text = text ≡ []
 AreLines (line ∷ lines) text =
     (content octets more : List ℕ) × IsEndedLine content octets × StandsFor content line × (text ≡ octets ++ more)
     × AreLines lines more
 
--- a whole text: its last line may lack its end
+-- the text is these lines, and the last may lack its end
 abbrev pub IsText : List (Option (List ℕ)) → List ℕ → Type 0
 IsText lines text =
     AreLines lines text
@@ -83,14 +86,15 @@ IsText lines text =
     × (lines ≡ before ++ last ∷ []) × (text ≡ front ++ content) × AreLines before front
     × (content ≢ []) × HasNoNewline content × StandsFor content last)
 
--- the entries that lines stand for
+-- the entries of lines
 abbrev pub entries_in : List (Option (List ℕ)) → List (List ℕ)
 entries_in [] = []
 entries_in (None ∷ lines) = entries_in lines
 entries_in (Some entry ∷ lines) = entry ∷ entries_in lines
 
--- Why what was told behind so many lines goes on with no such line: there may be no more lines; or a whole line is
--- none, or has too many octets, whatever its end will be; or the last line, at the reader's end, is none.
+-- The rest after `count` lines goes on with no acceptable line, for one of four reasons. No more lines are allowed. A
+-- complete line is neither skipped nor an entry. A line is too long, no matter how it ends. The last line, at the
+-- reader's end, is neither skipped nor an entry.
 abbrev pub IsRefusedLine : ℕ → List ℕ → Option (List ℕ) → Type 0
 IsRefusedLine count rest untold =
     ((count ≡ lines_limit) × (rest ≢ []))
@@ -98,8 +102,8 @@ IsRefusedLine count rest untold =
     ⊎ ((content more : List ℕ) × HasNoNewline content × (rest ≡ content ++ more) × (line_limit + 1 < length content))
     ⊎ (IsAtEnd untold × HasNoNewline rest × (rest ≢ []) × IsNoLine rest)
 
--- Why packing stopped behind so many lines: at a line that is none; or the reader failed, and what is left has no whole
--- line and nothing that is refused already; or memory ran out.
+-- Why packing stopped after `count` lines: at a bad line, at a failure of the reader, or because memory ran out. If the
+-- reader failed, the rest is an incomplete line without a fault.
 abbrev pub StopsAs : ℕ → ℕ → List ℕ → Option (List ℕ) → FeedReason → ℕ → Type 0
 StopsAs count total rest untold feed.BadHexLine place = (place ≡ count + 1) × IsRefusedLine count rest untold
 StopsAs count total rest untold feed.Read place =
@@ -107,7 +111,7 @@ StopsAs count total rest untold feed.Read place =
 StopsAs count total rest untold feed.Memory place = place ≡ 0
 StopsAs count total rest untold _ place = ⊥
 
--- What was told is a text of lines, and their entries were written, and are so many.
+-- What was read is a text of lines, and their `count` entries were written.
 pub record IsPacked (told : List ℕ) (count : ℕ) (taken taken' : Option (List ℕ)) : Type 0 where
   pub lines : List (Option (List ℕ))
   pub is_text : IsText lines told
@@ -115,7 +119,7 @@ pub record IsPacked (told : List ℕ) (count : ℕ) (taken taken' : Option (List
   pub count_is : count ≡ length (entries_in lines)
   pub written : Appends taken taken' (concat (entries_in lines))
 
--- What was told begins with these lines, whose entries were written; and this is why it was packed no further.
+-- What was read begins with these lines, whose entries were written, and packing stopped there for this fault.
 pub record IsPackedUpTo (told : List ℕ) (fault : FeedFault) (untold : Option (List ℕ)) (taken taken' : Option (List ℕ))
     : Type 0 where
   pub lines : List (Option (List ℕ))

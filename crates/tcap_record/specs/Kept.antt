@@ -1,4 +1,4 @@
--- What a feeder keeps of a record that comes in pieces.
+-- What does a feeder keep of a record that comes in pieces?
 use Rattle.std.specs.Prelude.{◌≡◌, ◌≢◌, ℕ, ◌⊎◌, List, [], ◌++◌, Some, None}
 use Rattle.tcap_record.specs.declared.entry.Entry.{Entry}
 use Rattle.tcap_record.specs.declared.fault.FeedFault.{FeedFault}
@@ -6,17 +6,17 @@ use Rattle.tcap_record.specs.declared.fault.FeedReason.TheVariants as feed
 use Rattle.tcap_record.specs.Framing.{feed_fault}
 use Rattle.tcap_record.specs.Held.{Held, Fed}
 
--- what is held of the entry at the front, and the entries before it that were not taken yet, in their order
+-- the octets held of the entry at the front, and the entries before it that were not taken yet, in their order
 pub record Kept : Type 0 where
   pub held : Held
   pub waiting : List Entry
 
--- All octets that were fed are the entries taken, those that wait, and what is held.
+-- All octets fed so far are the entries taken, the entries queued and the octets held.
 abbrev pub FedTo : List ℕ → List Entry → Kept → Type 0
 FedTo octets taken kept = Fed octets (taken ++ kept.waiting) kept.held
 
--- Something was wrong before, and nothing changes; or memory ran out at some octets, and nothing changes; or it is with
--- these octets.
+-- There was a fault before, and nothing changes. Or memory ran out at some octets, and nothing changes. Or the octets
+-- have this fault.
 abbrev pub FeedsNot : FeedFault → Kept → Kept → List ℕ → Type 0
 FeedsNot f old new piece =
     ((old.held.fault ≡ Some f) × (new ≡ old))

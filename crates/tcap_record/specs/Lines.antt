@@ -1,4 +1,4 @@
--- The text that `show` prints, line by line.
+-- Which text does `show` print, line by line?
 use Rattle.std.specs.Prelude.{Bool, true, false, ℕ, ℤ, suc, List, [], ◌∷◌, ◌++◌, length, Option, Some, None, codes}
 use Rattle.std.specs.List.{flat_map}
 use Rattle.std.specs.Fmt.{decimal, signed_decimal}
@@ -91,7 +91,7 @@ kind_name kinds.Continue = codes "Continue"
 kind_name kinds.End = codes "End"
 kind_name kinds.Abort = codes "Abort"
 
--- a transaction ID behind that label
+-- a transaction ID after this label
 abbrev pub id_text : List ℕ → Option (List ℕ) → List ℕ
 id_text label None = []
 id_text label (Some id) = label ++ encode_lower id
@@ -100,7 +100,7 @@ abbrev pub cause_text : Option ℕ → List ℕ
 cause_text None = []
 cause_text (Some cause) = codes " cause=" ++ decimal cause
 
--- the count of the EXTERNALs of user information
+-- the number of EXTERNALs of user information
 abbrev pub info_text : Option (List ℕ) → List ℕ
 info_text None = []
 info_text (Some info) = codes " info=" ++ decimal (length (externals_of info))
@@ -127,17 +127,18 @@ dialogue_text (Response context result diagnostic info) =
 dialogue_text (Abort source info) = abort_source_text source ++ info_text info
 dialogue_text (Uni context info) = named_text (codes "AUDT") context ++ info_text info
 
+-- the PDU of a dialogue portion, or nothing
 abbrev pub dialogue_portion_text : Option Dialogue → List ℕ
 dialogue_portion_text None = []
 dialogue_portion_text (Some dialogue) = dialogue_text dialogue
 
--- what a message is, but for its components: its kind, and those of its parts that it has
+-- a message without its components: its kind, and those of its parts that it has
 abbrev pub head_text : Message → List ℕ
 head_text m =
     kind_name (kind_in m) ++ id_text (codes " otid=") (otid_in m) ++ id_text (codes " dtid=") (dtid_in m) ++ cause_text (cause_in m)
     ++ dialogue_portion_text (dialogue_in m)
 
--- a message behind the number and the end of its entry, and the lines of its components
+-- a message, as it comes after its entry's number and end, and the lines of its components
 abbrev pub message_text : Message → List ℕ
 message_text m = head_text m ++ line_end ++ flat_map component_line (components_in m)
 
@@ -145,18 +146,19 @@ message_text m = head_text m ++ line_end ++ flat_map component_line (components_
 abbrev pub fault_line : ℕ → ℕ → List ℕ
 fault_line number place = codes "FAULT " ++ decimal number ++ codes " " ++ decimal place ++ line_end
 
+-- the rest of an entry's line, and the lines of its components
 abbrev pub body_text : Body → List ℕ
 body_text (Good m) = message_text m
 body_text (Bad f) = fault_line (number_of f.reason) f.place
 body_text Quiet = codes "Q" ++ line_end
 
--- the end that sent the entry; a quiet mark has none
+-- the end that sent the entry, or nothing for a quiet mark
 abbrev pub side_text : Option End → List ℕ
 side_text None = []
 side_text (Some ends.A) = codes "A "
 side_text (Some ends.B) = codes "B "
 
--- the lines of the entry of that number
+-- the lines of the entry with this number
 abbrev pub entry_lines : ℕ → Entry → List ℕ
 entry_lines number entry = decimal number ++ codes " " ++ side_text entry.side ++ body_text entry.body
 

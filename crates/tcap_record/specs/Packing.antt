@@ -1,4 +1,4 @@
--- How lines of hex digits are packed, step by step.
+-- What does each step of packing lines do?
 use Rattle.std.specs.Prelude.{◌≡◌, ◌≢◌, ℕ, ◌+◌, ◌<◌, ◌≤◌, ◌⊎◌, List, [], ◌∷◌, ◌++◌, length, Option, Some, None}
 use Rattle.std.specs.List.{concat}
 use Rattle.std.specs.Io.KnownBytes.{Appends}
@@ -13,30 +13,30 @@ use Rattle.tcap_record.specs.Framed.{octet_of, quiet_octet}
 use Rattle.tcap_record.specs.Framing.{feed_fault}
 use Rattle.tcap_record.specs.HexLines.{AreLines, EndsInReturn, HasNoNewline, IsNoLine, StandsFor, StopsAs, carriage_return, entries_in, line_limit, lines_limit}
 
--- what stands before a newline is that content, and perhaps a carriage return
+-- the content of a line before its newline: without a carriage return at its end
 abbrev pub IsContentOf : List ℕ → List ℕ → Type 0
 IsContentOf octets content =
     (octets ≡ content ++ carriage_return ∷ [])
     ⊎ ((EndsInReturn octets → ⊥) × (content ≡ octets))
 
--- the octets that a line stands for
+-- the octets of a line's entry
 abbrev pub line_of : Line → Option (List ℕ)
 line_of Skipped = None
 line_of Mark = Some (quiet_octet ∷ [])
 line_of (Sent side element) = Some (octet_of side ∷ element.items)
 
--- why the line of this number stands for nothing
+-- the fault of the line with this number
 abbrev pub line_fault : ℕ → LineFault → FeedFault
 line_fault number Bad = feed_fault feed.BadHexLine number
 line_fault number Memory = feed_fault feed.Memory 0
 
--- a line of this content and number was refused: it is none, or memory ran out
+-- the line with this content and number was refused: it is bad, or memory ran out
 abbrev pub IsLineRefused : List ℕ → ℕ → FeedFault → Type 0
 IsLineRefused content number fault =
     ((fault ≡ feed_fault feed.BadHexLine number) × IsNoLine content)
     ⊎ (fault ≡ feed_fault feed.Memory 0)
 
--- what is held is a line that has no end yet, behind lines within the limits
+-- the state holds the front of the current line, after lines within the limits
 pub record IsOpen (p : Packing) : Type 0 where
   pub plain : HasNoNewline p.line.items
   pub short : length p.line.items ≤ line_limit + 1
@@ -44,17 +44,17 @@ pub record IsOpen (p : Packing) : Type 0 where
   pub room : p.line.items ≢ [] → p.lines < lines_limit
   pub fewer : p.entries ≤ p.lines
 
--- nothing was packed
+-- the state before the first line
 abbrev pub IsFresh : Packing → Type 0
 IsFresh p = (p.line.items ≡ []) × (p.lines ≡ 0) × (p.entries ≡ 0)
 
--- one line was packed, and nothing is held behind it
+-- one line was packed, and no octet is held after it
 pub record IsBehind (line : Option (List ℕ)) (old new : Packing) : Type 0 where
   pub nothing : new.line.items ≡ []
   pub lines_are : new.lines ≡ old.lines + 1
   pub entries_are : new.entries ≡ old.entries + length (entries_in (line ∷ []))
 
--- What was held and octets that came are lines, whose entries were written and counted, and what is held then.
+-- The octets held and the new ones are lines, whose entries were written and counted, and then the octets now held.
 pub record Packs (old new : Packing) (octets : List ℕ) (taken taken' : Option (List ℕ)) : Type 0 where
   pub lines : List (Option (List ℕ))
   pub front : List ℕ
@@ -64,13 +64,13 @@ pub record Packs (old new : Packing) (octets : List ℕ) (taken taken' : Option 
   pub entries_are : new.entries ≡ old.entries + length (entries_in lines)
   pub written : Appends taken taken' (concat (entries_in lines))
 
--- the first octets of a piece were packed, some at least, and these are left
+-- at least one of the first octets of the piece was packed, and `rest` is left
 abbrev pub PacksFrom : Packing → Packing → List ℕ → List ℕ → Option (List ℕ) → Option (List ℕ) → Type 0
 PacksFrom old new piece rest taken taken' =
     (octets : List ℕ) × (piece ≡ octets ++ rest) × (length rest < length piece) × Packs old new octets taken taken'
 
--- What was held and octets that came begin with lines, whose entries were written; and this is why they were packed no
--- further, however many octets were told in all.
+-- The octets held and the new ones begin with lines, whose entries were written. Packing stopped there for this fault,
+-- no matter how many octets were read in all.
 pub record PacksUpTo (old : Packing) (octets : List ℕ) (fault : FeedFault)
     (untold taken taken' : Option (List ℕ)) : Type 0 where
   pub lines : List (Option (List ℕ))
@@ -82,7 +82,7 @@ pub record PacksUpTo (old : Packing) (octets : List ℕ) (fault : FeedFault)
   pub stops : (total : ℕ) → StopsAs (old.lines + length lines) total rest untold fault.reason fault.place
   pub written : Appends taken taken' (concat (entries_in lines))
 
--- What is held is the last line, or nothing; its entry was written, and this is the count of all entries.
+-- The octets held are the last line, or none. Its entry was written, and `count` is the number of all entries.
 abbrev pub Finishes : Packing → ℕ → Option (List ℕ) → Option (List ℕ) → Type 0
 Finishes old count taken taken' =
     ((old.line.items ≡ []) × (count ≡ old.entries) × Appends taken taken' [])

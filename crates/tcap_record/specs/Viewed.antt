@@ -1,4 +1,4 @@
--- The entry that a view lends.
+-- Which entry does a view hold?
 use Rattle.tcap_msg.specs.Meaning.{message_of}
 use Rattle.tcap_record.specs.declared.entry.Body.{Body}
 use Rattle.tcap_record.specs.declared.entry.Body.TheVariants.{Good, Bad, Quiet}

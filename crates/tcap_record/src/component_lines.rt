@@ -1,4 +1,4 @@
-//! The lines of components.
+//! The lines of components. Each function appends to `text`, and returns `AllocError` if memory runs out.
 
 ghost use Rattle.std.specs.Prelude.{◌≡◌, ◌++◌, OnOk};
 ghost use Rattle.std.specs.List.{flat_map};
@@ -14,7 +14,7 @@ use std::alloc::AllocError;
 use tcap_ber::RawView;
 use tcap_parts::{CodeView, ComponentView, Components, ProblemView, ResultBodyView};
 
-/// Appends a parameter, where there is one.
+/// Appends a parameter, if there is one.
 fn push_parameter(text: &mut String, parameter: Option<RawView>) -> Result<(), AllocError>
     ensures { OnOk result (string_bytes text.new
         ≡ string_bytes text.old ++ parameter_text (parameter_of parameter.entry)) }
@@ -55,7 +55,7 @@ fn push_coded(
     push_parameter(text, parameter)
 }
 
-/// Appends an operation code and a parameter, named.
+/// Appends an operation code with its label, and a parameter.
 #[inline(always)]
 fn push_operation(
     text: &mut String,
@@ -69,7 +69,7 @@ fn push_operation(
     push_coded(text, code, parameter)
 }
 
-/// Appends an error code and a parameter, named.
+/// Appends an error code with its label, and a parameter.
 fn push_error_code(
     text: &mut String,
     code: CodeView,
@@ -103,7 +103,7 @@ fn push_invoke(
     push_operation(text, code, parameter)
 }
 
-/// The name of a Return Result, the last one or not.
+/// Returns the printed name of a Return Result.
 fn name_of_result(last: bool) -> &'static str
     ensures { result.now ≡ result_name last }
 {
@@ -176,8 +176,11 @@ fn push_reject(text: &mut String, id: Option<i8>, problem: ProblemView) -> Resul
     push_problem(text, problem)
 }
 
-/// Appends the line of a component (Q.773 4.2.2), as it stands under the line of its entry. `AllocError` where memory ran
-/// out.
+/// Appends the line of a component (Q.773 4.2.2), as it is printed under the line of its entry.
+///
+/// # Errors
+///
+/// `AllocError` if memory runs out.
 pub fn push_component(text: &mut String, component: ComponentView) -> Result<(), AllocError>
     ensures { OnOk result (string_bytes text.new
         ≡ string_bytes text.old ++ component_line (component_of component.entry)) }

@@ -8,10 +8,10 @@ ghost use Rattle.hex.specs.declared.error.FromHexError.{FromHexError};
 use std::alloc::{AllocError, Global};
 use std::str;
 
-/// So many octets are spelled one after the other.
+/// The greatest number of octets whose digits are appended one octet at a time, for speed.
 const FEW: usize = 8;
 
-/// The digits of `octets`, made in `room`.
+/// Writes the digits of `octets` into `room`, and returns them.
 fn digits_of<'a>(octets: &[u8], room: &'a mut [u8; 256]) -> &'a str
     requires { length octets.now ≤ 128 }
     ensures { result.now ≡ encode_lower octets.now }
@@ -26,7 +26,7 @@ fn digits_of<'a>(octets: &[u8], room: &'a mut [u8; 256]) -> &'a str
     digits
 }
 
-/// The digit of a number below 16.
+/// Returns the lower-case digit of a number below 16.
 fn digit(number: u8) -> char
     requires { number < 16 }
     ensures digit { result ≡ slice_index lower_digits number }
@@ -48,7 +48,7 @@ fn push_octet(text: &mut String, octet: u8) -> Result<(), AllocError>
     Ok(())
 }
 
-/// Appends the digits of octets, one after the other.
+/// Appends the digits of octets, one octet at a time.
 #[inline(always)]
 fn push_few(text: &mut String, octets: &[u8]) -> Result<(), AllocError>
     ensures { OnOk result (string_bytes text.new ≡ string_bytes text.old ++ encode_lower octets.now) }
@@ -61,7 +61,7 @@ fn push_few(text: &mut String, octets: &[u8]) -> Result<(), AllocError>
     Ok(())
 }
 
-/// Appends the digits of octets, those of 128 octets at once.
+/// Appends the digits of octets, 128 octets at a time.
 #[inline(never)]
 fn push_many(text: &mut String, octets: &[u8]) -> Result<(), AllocError>
     ensures { OnOk result (string_bytes text.new ≡ string_bytes text.old ++ encode_lower octets.now) }
@@ -73,7 +73,11 @@ fn push_many(text: &mut String, octets: &[u8]) -> Result<(), AllocError>
     Ok(())
 }
 
-/// Appends the digits of octets, two of each, lower ones. `AllocError` where memory ran out.
+/// Appends the digits of octets, two lower-case digits for each.
+///
+/// # Errors
+///
+/// `AllocError` if memory runs out.
 #[inline(always)]
 pub fn push_hex(text: &mut String, octets: &[u8]) -> Result<(), AllocError>
     ensures { OnOk result (string_bytes text.new ≡ string_bytes text.old ++ encode_lower octets.now) }
@@ -85,10 +89,10 @@ pub fn push_hex(text: &mut String, octets: &[u8]) -> Result<(), AllocError>
     }
 }
 
-/// What stands for no digit's value.
+/// The table entry of an octet that is not a digit.
 const NO: u8 = 0xff;
 
-/// The values of the digits, in either case, by their octet.
+/// The value of each digit, upper or lower case, indexed by its octet.
 const VALUES: [u8; 256] = [
     NO, NO, NO, NO, NO, NO, NO, NO, NO, NO, NO, NO, NO, NO, NO, NO, NO, NO, NO, NO, NO, NO, NO, NO,
     NO, NO, NO, NO, NO, NO, NO, NO, NO, NO, NO, NO, NO, NO, NO, NO, NO, NO, NO, NO, NO, NO, NO, NO,
@@ -103,14 +107,14 @@ const VALUES: [u8; 256] = [
     NO, NO, NO, NO, NO, NO, NO, NO, NO, NO, NO, NO, NO, NO,
 ];
 
-/// The value of a digit, in either case, or `NO`.
+/// Returns the value of a digit, upper or lower case, or `NO`.
 fn value_of(digit: u8) -> u8
     ensures { result ≡ unwrap_or (hex_digit_value digit) 255 }
 {
     VALUES[usize::from(digit)]
 }
 
-/// Reads pairs of digits, and answers whether all of them are digits.
+/// Reads pairs of digits into `octets`. Returns whether all are digits.
 fn read_pairs(digits: &[u8], octets: &mut [u8]) -> bool
     requires { length digits.now ≡ 2 * length octets.old }
     ensures digits { IsTrue result → decode_pairs 0 digits.now ≡ Ok octets.new }
@@ -127,7 +131,8 @@ fn read_pairs(digits: &[u8], octets: &mut [u8]) -> bool
     true
 }
 
-/// The octets that digits spell, two an octet, in either case; `None` where they spell none.
+/// Returns the octets of hexadecimal digits, upper or lower case, two for each octet. `None` if `digits` are something
+/// else, `AllocError` if memory runs out.
 pub(crate) fn octets_of(alloc: Global, digits: &[u8]) -> Result<Option<Vec<u8>>, AllocError>
     ensures { IfOk result (λ found. MatchOption found ((e : FromHexError) × (decode_of digits.now ≡ Err e))
         (λ octets. decode_of digits.now ≡ Ok octets.items)) }

@@ -7,7 +7,7 @@ use std::alloc::{AllocError, Global};
 use tcap_ber::Fault;
 use tcap_msg::{Message, MessageParts, MessageView};
 
-/// An end of the dialogue.
+/// An end: one of the two sides of a record.
 #[derive(Clone, Copy, Debug, PartialEq, Eq)]
 pub enum End {
     /// The end whose octet is 41.
@@ -19,7 +19,7 @@ pub enum End {
 impl End {
     ghost use Rattle.tcap_record.specs.Ends.{is_side, letter, other};
 
-    /// The other end.
+    /// Returns the other end.
     pub fn other(self) -> End
         ensures { result ≡ other self }
     {
@@ -47,54 +47,52 @@ impl End {
     }
 }
 
-/// What an entry is.
+/// The content of an entry.
 #[derive(Debug, Drop)]
 pub enum Body {
     /// The message that the element spells.
     Good(Message),
-    /// The element spells no message: why, and at which place of the record.
+    /// The fault of an element that spells no message, with its offset in the record.
     Bad(Fault),
-    /// A quiet mark, by which a bench says that it saw all quiet.
+    /// A quiet mark: nothing was in transit then, and no transaction was open.
     Quiet,
 }
 
 /// A message that an end sent, or a quiet mark.
 #[derive(Debug, Drop)]
 pub struct Entry {
-    /// The end that sent it; `None` exactly where it is a quiet mark.
+    /// The end that sent the message, or `None` for a quiet mark.
     pub side: Option<End>,
-    /// The place of the element's first octet, or that of the quiet mark's octet, counted from the record's first
-    /// octet.
+    /// The offset in the record of the element's first octet, or of the quiet mark's octet.
     pub place: u64,
-    /// What it is.
+    /// The content.
     pub body: Body,
 }
 
-/// What an entry is, lent.
+/// The borrowed content of an entry.
 #[derive(Clone, Copy, Debug)]
 pub enum BodyView<'a> {
     /// The message that the element spells.
     Good(MessageView<'a>),
-    /// The element spells no message: why, and at which place of the record.
+    /// The fault of an element that spells no message, with its offset in the record.
     Bad(Fault),
     /// A quiet mark.
     Quiet,
 }
 
-/// An entry, lent.
+/// A borrowed entry.
 #[derive(Clone, Copy, Debug)]
 pub struct EntryView<'a> {
-    /// The end that sent it; `None` exactly where it is a quiet mark.
+    /// The end that sent the message, or `None` for a quiet mark.
     pub side: Option<End>,
-    /// The place of the element's first octet, or that of the quiet mark's octet, counted from the record's first
-    /// octet.
+    /// The offset in the record of the element's first octet, or of the quiet mark's octet.
     pub place: u64,
-    /// What it is.
+    /// The content.
     pub body: BodyView<'a>,
 }
 
 impl Body {
-    /// The body, lent.
+    /// Returns a view of the content.
     fn view(&self) -> BodyView<'_>
         ensures { body_read result ≡ self.now }
     {
@@ -107,7 +105,7 @@ impl Body {
 }
 
 impl Entry {
-    /// The entry, lent.
+    /// Returns a view of the entry.
     pub fn view(&self) -> EntryView<'_>
         ensures { entry_read result ≡ self.now }
     {
@@ -120,7 +118,7 @@ impl Entry {
 }
 
 impl BodyView<'_> {
-    /// The body as a value of its own.
+    /// Copies the content into an owned value.
     fn to_body(self, alloc: Global) -> Result<Body, AllocError>
         ensures { IfOk result (λ body. body ≡ body_read self.entry) }
     {
@@ -133,7 +131,11 @@ impl BodyView<'_> {
 }
 
 impl EntryView<'_> {
-    /// The entry as a value of its own. Fails where memory ran out.
+    /// Copies the entry into an owned value.
+    ///
+    /// # Errors
+    ///
+    /// `AllocError` if memory runs out.
     pub fn to_entry(self, alloc: Global) -> Result<Entry, AllocError>
         ensures { IfOk result (λ entry. entry ≡ entry_read self.entry) }
     {
@@ -145,7 +147,7 @@ impl EntryView<'_> {
     }
 }
 
-/// Entries in their order.
+/// The entries of a record, in their order.
 #[derive(Debug, Drop)]
 pub struct Record {
     /// The entries, numbered from 0.

@@ -1,4 +1,4 @@
-//! The lines of an entry.
+//! The lines of an entry. Each function appends to `text`, and returns `AllocError` if memory runs out.
 
 ghost use Rattle.std.specs.Prelude.{◌≡◌, ◌++◌, OnOk, codes};
 ghost use Rattle.std.specs.Fmt.{decimal};
@@ -12,7 +12,7 @@ use crate::lines::push_message;
 use crate::numbers::push_number;
 use std::alloc::AllocError;
 
-/// Appends what stands behind an entry's number: the end that sent it, where one did.
+/// Appends the end that sent an entry, between spaces, or a space for a quiet mark.
 #[inline(always)]
 fn push_side(text: &mut String, side: Option<End>) -> Result<(), AllocError>
     ensures { OnOk result (string_bytes text.new ≡ string_bytes text.old ++ codes " " ++ side_text side) }
@@ -24,7 +24,7 @@ fn push_side(text: &mut String, side: Option<End>) -> Result<(), AllocError>
     }
 }
 
-/// Appends an entry's number, and the end that sent it, where one did.
+/// Appends an entry's number, and the end that sent it, if one did.
 #[inline(always)]
 fn push_front(text: &mut String, number: usize, side: Option<End>) -> Result<(), AllocError>
     ensures { OnOk result (string_bytes text.new
@@ -34,22 +34,25 @@ fn push_front(text: &mut String, number: usize, side: Option<End>) -> Result<(),
     push_side(text, side)
 }
 
-/// Appends the line of a fault: the number of its reason, and its place. `Err` where memory ran out: what `text` holds
-/// then is not said.
+/// Appends the line of a fault: the number of its reason, and its offset.
+///
+/// # Errors
+///
+/// `AllocError` if memory runs out. The content of `text` is then unspecified.
 pub fn push_fault(text: &mut String, number: u8, place: u64) -> Result<(), AllocError>
     ensures { OnOk result (string_bytes text.new ≡ string_bytes text.old ++ fault_line number place) }
 {
     writeln!(text, "FAULT {number} {place}")
 }
 
-/// Appends what a quiet mark is.
+/// Appends the line of a quiet mark.
 fn push_quiet(text: &mut String) -> Result<(), AllocError>
     ensures { OnOk result (string_bytes text.new ≡ string_bytes text.old ++ body_text Quiet) }
 {
     text.push_str("Q\n")
 }
 
-/// Appends what stands behind the number and the end of an entry that is lent, and the lines of its components.
+/// Appends the content of an entry: the rest of its line, and the lines of its components.
 #[inline(always)]
 fn push_body_view(text: &mut String, body: &BodyView) -> Result<(), AllocError>
     ensures { OnOk result (string_bytes text.new ≡ string_bytes text.old ++ body_text (body_read body.now)) }
@@ -61,8 +64,11 @@ fn push_body_view(text: &mut String, body: &BodyView) -> Result<(), AllocError>
     }
 }
 
-/// Appends to `text` the lines of the entry of that number, as `show` writes them, of an entry that is lent. `Err`
-/// where memory ran out: what `text` holds then is not said.
+/// Appends the lines of an entry with this number, as `show` prints them.
+///
+/// # Errors
+///
+/// `AllocError` if memory runs out. The content of `text` is then unspecified.
 #[inline(always)]
 pub fn push_view(text: &mut String, number: usize, entry: &EntryView) -> Result<(), AllocError>
     ensures { OnOk result (string_bytes text.new ≡ string_bytes text.old ++ entry_lines number (entry_read entry.now)) }

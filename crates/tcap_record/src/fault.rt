@@ -5,18 +5,18 @@ ghost use Rattle.tcap_record.specs.FeedFault.{feed_number_of};
 
 use tcap_ber::Reason;
 
-/// Why octets are refused as a record, beyond the messages in it.
+/// The reason why octets are refused as a record, apart from faults of the messages in it.
 #[derive(Clone, Copy, Debug, PartialEq, Eq)]
 pub enum FeedReason {
-    /// An entry's element is wrong, as far as a walk over it meets.
+    /// An entry's element has a framing fault: one that a walk over it meets.
     Element(Reason),
-    /// An entry's first octet is neither 41, 42 nor 51.
+    /// An entry's first octet is not 41, 42 or 51.
     BadEnd,
     /// The octets end within an entry.
     CutRecord,
-    /// There are over 100,000 entries, this profile's limit.
+    /// The record has more than 100,000 entries, this profile's limit.
     TooManyEntries,
-    /// A line of hex digits stands for no entry and is not skipped.
+    /// A line of hexadecimal digits is neither an entry nor skipped.
     BadHexLine,
     /// The reader failed.
     Read,
@@ -24,18 +24,18 @@ pub enum FeedReason {
     Memory,
 }
 
-/// A refusal of a record: the reason and the place of the octet that it names, counted from 0. For `CutRecord` and
-/// `Read` the place is the count of octets read, for `BadHexLine` the line's number from 1, for `Memory` it is 0.
+/// A refusal of a record: the reason and the offset of the faulty octet, counted from 0. For `CutRecord` and `Read`,
+/// `place` is the number of octets read, for `BadHexLine` the line number from 1, for `Memory` 0.
 #[derive(Clone, Copy, Debug, PartialEq, Eq)]
 pub struct FeedFault {
-    /// Why the octets are refused.
+    /// The reason.
     pub reason: FeedReason,
-    /// The place of the octet that the reason names.
+    /// The offset of the faulty octet, or the number that the reason needs instead.
     pub place: u64,
 }
 
 impl FeedReason {
-    /// The number that a line of output gives for this reason.
+    /// Returns the number that output lines print for this reason.
     pub fn number(self) -> u8
         ensures { result ≡ feed_number_of self }
     {

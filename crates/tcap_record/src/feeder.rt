@@ -1,4 +1,4 @@
-//! The entries of a record as its octets come, kept until they are taken.
+//! Reading a record in pieces, with a queue of its entries.
 
 ghost use Rattle.std.specs.Prelude.{◌≡◌, ◌≢◌, ◌++◌, ◌∷◌, ◌≤◌, ◌⊎◌, [], ℕ, List, length, take, true, false, Some, None, Ok, Err, OnOk, OnErr, IfOk, IfErr, IfSome, MatchResult};
 ghost use Rattle.tcap_record.specs.declared.entry.Entry.{Entry};
@@ -15,11 +15,11 @@ use std::alloc::{AllocError, Global};
 use std::collections::VecDeque;
 use std::marker::Model;
 
-/// The entries of a record, read as its octets come, in whatever pieces, and kept until they are taken.
+/// A reader of a record in pieces of any length. It queues the entries until they are taken.
 #[derive(Debug, Drop)]
 pub struct Feeder {
     alloc: Global,
-    // The entry at the front of what was fed and is no whole entry yet.
+    // The incomplete entry at the end of what was fed.
     frames: Frames,
     // The entries that were not taken yet.
     waiting: VecDeque<Entry>,
@@ -37,7 +37,7 @@ impl Model for Feeder {
     ghost invariant = { λ a. IsHeld a.frames × (a.frames.fault ≡ None → IsPart a.frames.octets) };
 }
 
-/// Appends the entry at the front as a value of its own, and answers whether a whole one stands there.
+/// Appends a copy of the whole entry at the front to `waiting`. Returns whether there is one.
 fn keep_front(
     alloc: Global,
     frames: &Frames,
@@ -58,7 +58,7 @@ fn keep_front(
     Ok(true)
 }
 
-/// Takes all octets of `piece`, up to a fault, and keeps the entries that are whole then.
+/// Feeds all of `piece`, up to a fault, and appends the entries that are then whole to `waiting`.
 fn keep_all(
     alloc: Global,
     frames: &mut Frames,
@@ -86,7 +86,7 @@ fn keep_all(
     }
 }
 
-/// Whether memory ran out.
+/// Returns whether memory ran out.
 fn ran_out(kept: Result<(), FeedFault>) -> bool
     ensures { result ≡ false → IfErr kept (λ f. f ≢ feed_fault FeedReason.Memory 0) }
 {
@@ -96,8 +96,8 @@ fn ran_out(kept: Result<(), FeedFault>) -> bool
     }
 }
 
-/// Keeps the entry at the front and those in `piece` behind it: what is held then, and how the piece goes on. `None`
-/// where no whole entry stands at the front.
+/// Appends the entry at the front, and those in `piece` after it, to `waiting`. Returns the framer after them and the
+/// result of feeding `piece`. `None` if there is no whole entry at the front.
 fn keep_rest(
     alloc: Global,
     frames: &Frames,
@@ -136,7 +136,7 @@ impl Feeder {
     ghost use Rattle.tcap_record.specs.Feeding.{FinishesAs};
     ghost use Rattle.tcap_record.specs.Kept.{Kept, FedTo, FeedsNot};
 
-    /// A feeder to which nothing was fed.
+    /// Creates a feeder to which nothing was fed.
     pub fn new(alloc: Global) -> Feeder
         ensures { result ≡ record { held = nothing_held; waiting = [] } }
     {
@@ -147,19 +147,23 @@ impl Feeder {
         }
     }
 
-    /// Reads the entries on as far as `piece` goes. Fails where something is wrong with the octets, which it does from
-    /// then on: `TooManyEntries`, `BadEnd` and `Element` at its place in the record; the entries before it can still be
-    /// taken. `Memory` where memory ran out: then nothing was fed, and the piece may be fed again.
+    /// Feeds the next piece, and queues the entries that are then whole.
+    ///
+    /// # Errors
+    ///
+    /// - `TooManyEntries`, `BadEnd` or `Element`, at its offset in the record. Every later call returns the same fault.
+    ///   The entries before it can still be taken.
+    /// - `Memory` if memory runs out. Then nothing was fed, and the piece may be fed again.
     pub fn feed(&mut self, piece: &[u8]) -> Result<(), FeedFault>
-        // Nothing is wrong, and what is held is a part of an entry, or nothing.
+        // On success, there is no fault, and only a part of an entry or nothing is held.
         ensures sound { OnOk result ((self.old.held.fault ≡ None) × (self.new.held.fault ≡ None)
             × IsPart self.new.held.octets) }
         ensures fails { (f : FeedFault) → result ≡ Err f → FeedsNot f self.old self.new piece.now }
-        // What is held is as it has to be.
+        // The octets held stay consistent.
         ensures held { IsHeld self.new.held }
-        // The entries that waited wait still, before the new ones.
+        // The queued entries stay, before the new ones.
         ensures kept { (more : List Entry) × (self.new.waiting ≡ self.old.waiting ++ more) }
-        // All octets fed so far are the entries taken, those that wait, and what is held.
+        // All octets fed so far are the entries taken, the entries queued and the octets held.
         ensures fed { (octets : List ℕ) (taken : List Entry) → FedTo octets taken self.old
             → MatchResult result (λ _. FedTo (octets ++ piece.now) taken self.new)
             (λ _. (n : ℕ) × (n ≤ length piece.now) × FedTo (octets ++ take n piece.now) taken self.new) }
@@ -181,7 +185,7 @@ impl Feeder {
         }
     }
 
-    /// Takes the first entry that waits. `None` where none does.
+    /// Takes the first queued entry, or returns `None` if there is none.
     pub fn take(&mut self) -> Option<Entry>
         ensures first { MatchOption result ((self.old.waiting ≡ []) × (self.new ≡ self.old))
             (λ entry. self.old.waiting ≡ entry ∷ self.new.waiting) }
@@ -192,22 +196,26 @@ impl Feeder {
         self.waiting.pop_front()
     }
 
-    /// How many octets were fed.
+    /// Returns the number of octets fed.
     pub(crate) fn fed(&self) -> u64
         ensures { result ≡ self.now.held.place + length self.now.held.octets }
     {
         self.frames.taken()
     }
 
-    /// The entries that wait, in their order.
+    /// Returns the queued entries, in their order.
     pub(crate) fn into_waiting(self) -> Vec<Entry>
         ensures { result.items ≡ self.waiting }
     {
         self.waiting.into_vec()
     }
 
-    /// Whether the record may end here: the fault where something is wrong with the octets, else `CutRecord` at the
-    /// count of all octets where a part of an entry is held. Entries may wait still.
+    /// Checks that the record may end here. Entries may still be queued.
+    ///
+    /// # Errors
+    ///
+    /// The fault of [`feed`](Feeder::feed), if there was one. Otherwise `CutRecord` at the number of octets fed, if a
+    /// part of an entry is held.
     pub fn finish(&self) -> Result<(), FeedFault>
         ensures ok { IsOk result ↔ ((self.now.held.fault ≡ None) × (self.now.held.octets ≡ [])) }
         ensures ends { FinishesAs result self.now.held }

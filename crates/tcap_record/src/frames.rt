@@ -1,4 +1,4 @@
-//! The entries of a record as its octets come, one at a time.
+//! Framing the entries of a record in pieces, one entry at a time.
 
 ghost use Rattle.std.specs.Prelude.{◌≡◌, ◌≢◌, ◌+◌, ◌<◌, ◌≤◌, ◌++◌, [], ℕ, List, length, drop, Result, IfOk, IfErr};
 ghost use Rattle.tcap_ber.specs.Walking.{outer_at};
@@ -16,35 +16,35 @@ use std::alloc::{AllocError, Global};
 use std::marker::Model;
 use tcap_ber::{Fault, Outer, Walk};
 
-/// More octets than an entry has that is not whole: one of its end, and those of an element.
+/// More octets than an incomplete entry has: one of its end, and more than an incomplete element has.
 const ENTRY_ROOM: usize = 65_552;
 
-/// What octets begin with.
+/// The result of framing the front of a record's octets.
 #[derive(Clone, Copy, Debug)]
 pub(crate) enum Front {
-    /// With a whole entry of so many octets.
+    /// A whole entry of this many octets.
     Whole(usize),
-    /// With a part of one.
+    /// A part of an entry.
     Part,
-    /// With what is refused for this reason, at that place among them.
+    /// A refusal for this reason, at this offset in the octets.
     Refused(FeedReason, usize),
 }
 
-/// The entries of a record, framed as its octets come, in whatever pieces. It holds at most one entry, as octets, and
-/// goes over each octet once.
+/// A framer of a record's entries in pieces of any length. It holds the octets of at most one entry, and walks each
+/// octet once.
 #[derive(Debug, Drop)]
 pub struct Frames {
-    // The octets that were taken and belong to no dropped entry.
+    // The octets taken that belong to no dropped entry.
     octets: Vec<u8>,
-    // The place of the first of them, counted from the record's first octet.
+    // The offset in the record of the first of these octets.
     place: u64,
-    // How many entries were dropped.
+    // The number of entries dropped.
     count: usize,
-    // The walk over their element.
+    // The walk over the element of the octets held.
     walk: Walk,
-    // Whether they are a whole entry.
+    // Whether the octets held are a whole entry.
     whole: bool,
-    // What is wrong with them.
+    // The framing fault, if one was found.
     fault: Option<FeedFault>,
 }
 
@@ -69,7 +69,7 @@ impl Model for Frames {
         × (a.place ≤ a.count * entry_room) };
 }
 
-/// What octets begin with behind the octet of an end, by their element.
+/// Returns the front of octets that begin with an end's octet, given the result of framing the element after it.
 fn front_by(answer: Result<Outer, Fault>) -> Front
     requires { IsAnswerWithin answer }
     ensures { result ≡ front_by answer }
@@ -81,7 +81,7 @@ fn front_by(answer: Result<Outer, Fault>) -> Front
     }
 }
 
-/// What octets begin with behind so many entries, and the walk over their element.
+/// Frames the first octets of an entry, after `count` entries. Returns the front, and the walk over its element.
 fn begin(count: usize, walk: Walk, octets: &[u8]) -> (Front, Walk)
     requires some { 0 < length octets.now }
     requires fits { length octets.now ≤ entry_room }
@@ -103,7 +103,7 @@ fn begin(count: usize, walk: Walk, octets: &[u8]) -> (Front, Walk)
     go_on(walk, &octets[..1], more)
 }
 
-/// What a part of an entry and the octets behind it begin with, and the walk over their element.
+/// Frames a part of an entry and the octets after it. Returns their front, and the walk over their element.
 fn go_on(walk: Walk, part: &[u8], octets: &[u8]) -> (Front, Walk)
     requires fits { length part.now + length octets.now ≤ entry_room }
     requires some { 0 < length part.now }
@@ -116,7 +116,8 @@ fn go_on(walk: Walk, part: &[u8], octets: &[u8]) -> (Front, Walk)
     (front_by(answer), walk)
 }
 
-/// What the octets of a part of an entry and those behind them begin with, and the walk over their element.
+/// Frames the octets held, which may be none, and those after them. Returns their front, and the walk over their
+/// element.
 fn front_with(part: &[u8], count: usize, walk: Walk, octets: &[u8]) -> (Front, Walk)
     requires part { IsPart part.now }
     requires room { part.now ≢ [] → count < entry_limit }
@@ -134,7 +135,8 @@ fn front_with(part: &[u8], count: usize, walk: Walk, octets: &[u8]) -> (Front, W
     }
 }
 
-/// How many of `count` octets behind `held` others belong to what all of them begin with.
+/// Returns how many of the `count` new octets belong to the entry that the `held` octets begin: all of them if it is
+/// incomplete or refused.
 fn taken_of(front: Front, held: usize, count: usize) -> usize
     requires { IsLonger held front }
     ensures { result ≡ taken_of held count front }
@@ -145,8 +147,8 @@ fn taken_of(front: Front, held: usize, count: usize) -> usize
     }
 }
 
-/// Takes the octets of a piece that belong to what a part of an entry and the piece begin with. Answers what that is,
-/// the walk over its element, and how many octets were taken.
+/// Appends octets of `piece` to `part`, up to the end of its entry. Returns the front, the walk over its element, and
+/// how many octets were taken.
 fn extend(
     part: &mut Vec<u8>,
     count: usize,
@@ -184,7 +186,7 @@ impl Frames {
     ghost use Rattle.tcap_record.specs.Viewed.{entry_read};
     ghost use Rattle.tcap_record.specs.Lent.{IsLent};
 
-    /// Frames of which nothing was taken.
+    /// Creates an empty framer.
     pub fn new(alloc: Global) -> Frames
         ensures { result ≡ nothing_held }
     {
@@ -198,7 +200,7 @@ impl Frames {
         }
     }
 
-    /// How many octets are held: those that were taken and belong to no dropped entry.
+    /// Returns the number of octets held: those taken that belong to no dropped entry.
     pub fn buffered(&self) -> usize
         ensures count { result ≡ length self.now.octets }
         ensures most { result ≤ entry_room }
@@ -206,14 +208,14 @@ impl Frames {
         self.octets.len()
     }
 
-    /// How many octets were taken in all.
+    /// Returns the number of octets taken in all.
     pub fn taken(&self) -> u64
         ensures { result ≡ self.now.place + length self.now.octets }
     {
         self.place + self.octets.len() as u64
     }
 
-    /// How many entries were dropped: the number of the entry at the front.
+    /// Returns the number of entries dropped, which is the number of the entry at the front.
     pub fn dropped(&self) -> usize
         ensures count { result ≡ self.now.count }
         ensures most { result ≤ entry_limit }
@@ -221,23 +223,26 @@ impl Frames {
         self.count
     }
 
-    /// Takes octets of `piece` until a whole entry stands at the front or the piece ends, and answers how many; none
-    /// where one stands there. Fails where something is wrong with the octets, which it does from then on:
-    /// `TooManyEntries`, `BadEnd` and `Element` at its place in the record. `Memory` where memory ran out: then nothing
-    /// was taken, and the piece may be given again. What is held is at most one entry.
+    /// Takes octets of `piece` until there is a whole entry at the front or the piece ends. Returns how many; 0 if
+    /// there was a whole entry already. At most one entry is held.
+    ///
+    /// # Errors
+    ///
+    /// - `TooManyEntries`, `BadEnd` or `Element`, at its offset in the record. Every later call returns the same fault.
+    /// - `Memory` if memory runs out. Then nothing was taken, and the piece may be given again.
     pub fn feed_some(&mut self, piece: &[u8]) -> Result<usize, FeedFault>
         ensures most { IfOk result (λ n. n ≤ length piece.now) }
-        // The octets taken stand behind those that were held, and nothing is wrong.
+        // The octets taken follow those that were held, and there is no fault.
         ensures taken { IfOk result (λ n. (self.old.fault ≡ None)
             × (self.new ≡ grown self.old (take n piece.now) None)) }
-        // All were taken but those behind a whole entry.
+        // If octets are left, there is a whole entry at the front.
         ensures all { IfOk result (λ n. n < length piece.now → IsWhole self.new.octets) }
-        // None behind one are.
+        // If there was a whole entry, no octet is taken.
         ensures none { IsWhole self.old.octets → IfOk result (λ n. n ≡ 0) }
         ensures fails { (f : FeedFault) → result ≡ Err f → FailsFrom f self.old self.new piece.now }
-        // What is held is as it has to be.
+        // The octets held stay consistent.
         ensures held { IsHeld self.new }
-        // All octets taken so far are the dropped entries and what is held.
+        // All octets taken so far are the dropped entries and the octets held.
         ensures fed { (octets : List ℕ) (entries : List Entry) → Fed octets entries self.old
             → MatchResult result (λ n. Fed (octets ++ take n piece.now) entries self.new)
             (λ _. (n : ℕ) × (n ≤ length piece.now) × Fed (octets ++ take n piece.now) entries self.new) }
@@ -265,7 +270,7 @@ impl Frames {
         Ok(taken)
     }
 
-    /// The entry at the front, lent, where a whole one stands there.
+    /// Returns the whole entry at the front as a view, if there is one.
     pub fn front(&self) -> Option<EntryView<'_>>
         ensures exact { IsSome result ↔ ((self.now.fault ≡ None) × IsWhole self.now.octets) }
         ensures entry { IfSome result (λ v. IsFront (entry_read v) self.now) }
@@ -276,7 +281,7 @@ impl Frames {
         Some(entry_view(&self.octets, self.place))
     }
 
-    /// Drops the entry at the front, and answers whether a whole one stood there.
+    /// Drops the whole entry at the front. Returns whether there was one.
     pub fn drop_front(&mut self) -> bool
         ensures exact { IsTrue result ↔ ((self.old.fault ≡ None) × IsWhole self.old.octets) }
         ensures dropped { self.old.fault ≡ None → IsWhole self.old.octets → self.new ≡ dropped self.old }
@@ -296,9 +301,9 @@ impl Frames {
         true
     }
 
-    /// The entry at the front of `piece`, lent from it, and the count of its octets, where nothing is held and nothing
-    /// is wrong, a whole one stands there, and there are fewer entries than may be. Nothing is taken: see
-    /// [`pass`](Frames::pass).
+    /// Returns the entry at the front of `piece` as a view, and its length in octets, without taking octets: see
+    /// [`pass`](Frames::pass). `None` if octets are held, a fault was found, the record may have no more entries, or no
+    /// whole entry begins `piece`.
     pub fn lend<'a>(&self, piece: &'a [u8]) -> Option<(EntryView<'a>, usize)>
         ensures exact { IsSome result ↔ ((self.now.fault ≡ None) × (self.now.octets ≡ [])
             × (self.now.count < entry_limit)
@@ -312,7 +317,7 @@ impl Frames {
         }
     }
 
-    /// Takes and drops at once an entry that is all of `octets`, where nothing is held and nothing is wrong.
+    /// Takes and drops an entry that is all of `octets`. No octets may be held, and no fault found.
     pub fn pass(&mut self, octets: &[u8])
         requires sound { self.old.fault ≡ None }
         requires nothing { self.old.octets ≡ [] }
@@ -329,7 +334,7 @@ impl Frames {
         self.count = count;
     }
 
-    /// The walk over the element of an entry that is held in part.
+    /// Returns the walk over the element of the part of an entry that is held.
     pub(crate) fn walk(&self) -> Walk
         ensures { self.now.fault ≡ None → IsPart self.now.octets
             → (more : List ℕ) → resumes result more ≡ outer_at (drop 1 self.now.octets ++ more) }
@@ -337,8 +342,8 @@ impl Frames {
         self.walk
     }
 
-    /// Takes octets off the end again, so that `len` are held, which are a part of an entry; the walk is that over
-    /// them.
+    /// Removes octets from the end, so that `len` are left, which are a part of an entry. `walk` is the walk over its
+    /// element.
     pub(crate) fn cut(&mut self, len: usize, walk: Walk)
         requires sound { self.old.fault ≡ None }
         requires part { IsPart (take len self.old.octets) }
@@ -350,7 +355,7 @@ impl Frames {
         self.whole = false;
     }
 
-    /// Frames behind the entry at the front, of which nothing was taken.
+    /// Returns an empty framer that begins after the entry at the front.
     pub(crate) fn behind_front(&self, alloc: Global) -> Frames
         requires sound { self.now.fault ≡ None }
         requires whole { IsWhole self.now.octets }
@@ -366,8 +371,12 @@ impl Frames {
         }
     }
 
-    /// Whether the record may end here: the fault where something is wrong with the octets, else `CutRecord` at the
-    /// count of all octets where a part of an entry is held.
+    /// Checks that the record may end here.
+    ///
+    /// # Errors
+    ///
+    /// The fault of [`feed_some`](Frames::feed_some), if there was one. Otherwise `CutRecord` at the number of octets
+    /// taken, if a part of an entry is held.
     pub fn finish(&self) -> Result<(), FeedFault>
         ensures { FinishesAs result self.now }
     {

@@ -1,4 +1,4 @@
-//! What an entry begins with, and the fault where memory ran out.
+//! The first octets of entries, and the fault if memory runs out.
 
 ghost use Rattle.std.specs.Prelude.{◌≡◌};
 ghost use Rattle.tcap_record.specs.declared.fault.FeedReason.{FeedReason};
@@ -9,7 +9,7 @@ use crate::entry::End;
 use crate::fault::{FeedFault, FeedReason};
 use std::alloc::{AllocError, AllocFailed};
 
-/// The greatest count of entries of a record, this profile's limit.
+/// The greatest number of entries of a record, this profile's limit.
 pub(crate) const ENTRY_LIMIT: usize = 100_000;
 
 /// The octet of a quiet mark.
@@ -40,7 +40,7 @@ impl<T: Drop> From<AllocFailed<T>> for FeedFault {
     }
 }
 
-/// The octet of an end.
+/// Returns the octet of an end.
 pub(crate) fn octet_of(side: End) -> u8
     ensures { result ≡ octet_of side }
 {
@@ -50,7 +50,7 @@ pub(crate) fn octet_of(side: End) -> u8
     }
 }
 
-/// The end that the octet stands for.
+/// Returns the end with this octet, or `None` if it is not an end's.
 pub(crate) fn end_of(octet: u8) -> Option<End>
     ensures { result ≡ end_in octet }
 {

@@ -1,4 +1,4 @@
-//! Entries that are lent from octets.
+//! Entries that borrow from octets.
 
 ghost use Rattle.std.specs.Prelude.{◌≡◌, ◌+◌, ◌^◌, ◌<◌, [], ℕ, length, take, None, IfSome};
 ghost use Rattle.tcap_ber.specs.Reading.{span};
@@ -14,7 +14,7 @@ use crate::framing::{QUIET_OCTET, end_of};
 use tcap_ber::{Fault, Outer, Window, outer};
 use tcap_msg::view;
 
-/// What the octets of one element are, lent.
+/// Reads one element as the content of an entry. Faults get their offset in the record.
 #[tactic(auto, unfolding(crate::specs::Framing::body_at))]
 fn body_view(element: Window) -> BodyView
     ensures { body_read result ≡ body_at (span element.entry) }
@@ -28,7 +28,7 @@ fn body_view(element: Window) -> BodyView
     }
 }
 
-/// The entry that octets are, lent, with the place of their first octet.
+/// Returns the entry that `octets` are exactly, as a view. `place` is the offset of their first octet.
 pub(crate) fn entry_view(octets: &[u8], place: u64) -> EntryView<'_>
     requires whole { IsWhole octets.now }
     requires fits { place + length octets.now < 2 ^ 64 }
@@ -52,7 +52,7 @@ pub(crate) fn entry_view(octets: &[u8], place: u64) -> EntryView<'_>
     }
 }
 
-/// How many octets the entry at the front has, where a whole one stands there.
+/// Returns the length in octets of the whole entry at the front, or `None` if there is none.
 fn whole_len(octets: &[u8]) -> Option<usize>
     ensures { result ≡ whole_in (front_at 0 octets.now) }
 {
@@ -69,8 +69,8 @@ fn whole_len(octets: &[u8]) -> Option<usize>
     }
 }
 
-/// The entry at the front, lent, and the count of its octets, where a whole one stands there; the place is that of the
-/// first octet.
+/// Returns the whole entry at the front as a view, and its length in octets, or `None` if there is none. `place` is the
+/// offset of the first octet.
 #[inline(never)]
 pub(crate) fn front_view(octets: &[u8], place: u64) -> Option<(EntryView<'_>, usize)>
     requires fits { place + entry_room < 2 ^ 64 }

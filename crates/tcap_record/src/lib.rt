@@ -1,4 +1,5 @@
-//! Records of TCAP messages: entries one after the other, each an end's octet and one message.
+//! Records of TCAP messages: entries one after the other. An entry is an end's octet and one element, usually a
+//! message, or a quiet mark.
 #![tactic(auto)]
 
 mod component_lines;

@@ -1,4 +1,4 @@
-//! The lines of a message.
+//! The lines of a message. Each function appends to `text`, and returns `AllocError` if memory runs out.
 
 ghost use Rattle.std.specs.Prelude.{◌≡◌, ◌++◌, OnOk};
 ghost use Rattle.std.specs.String.{string_bytes};
@@ -14,7 +14,7 @@ use tcap_ber::{ObjectIdView, SmallView};
 use tcap_msg::{Kind, MessageParts, TransactionIdView};
 use tcap_parts::{DialogueView, InfoView, SourceView};
 
-/// Appends the name of a kind of messages.
+/// Appends the name of a kind of message.
 #[inline(always)]
 fn push_kind(text: &mut String, kind: Kind) -> Result<(), AllocError>
     ensures { OnOk result (string_bytes text.new ≡ string_bytes text.old ++ kind_name kind) }
@@ -28,7 +28,7 @@ fn push_kind(text: &mut String, kind: Kind) -> Result<(), AllocError>
     }
 }
 
-/// Appends a transaction ID behind that label, where there is one.
+/// Appends a transaction ID after this label, if there is one.
 #[inline(always)]
 fn push_id(text: &mut String, label: &str, id: Option<TransactionIdView>) -> Result<(), AllocError>
     ensures { OnOk result (string_bytes text.new ≡ string_bytes text.old ++ id_text label.now (id_of id.entry)) }
@@ -42,7 +42,7 @@ fn push_id(text: &mut String, label: &str, id: Option<TransactionIdView>) -> Res
     }
 }
 
-/// Appends a P-Abort cause, where there is one.
+/// Appends a P-Abort cause, if there is one.
 fn push_cause(text: &mut String, cause: Option<SmallView>) -> Result<(), AllocError>
     ensures { OnOk result (string_bytes text.new ≡ string_bytes text.old ++ cause_text (cause_of cause)) }
 {
@@ -56,7 +56,7 @@ fn push_cause(text: &mut String, cause: Option<SmallView>) -> Result<(), AllocEr
     }
 }
 
-/// Appends the count of the EXTERNALs of user information, where there is some.
+/// Appends the number of EXTERNALs of user information, if there is some.
 fn push_info(text: &mut String, info: Option<InfoView>) -> Result<(), AllocError>
     ensures { OnOk result (string_bytes text.new ≡ string_bytes text.old ++ info_text (info_meaning info.entry)) }
 {
@@ -144,7 +144,7 @@ fn push_dialogue(text: &mut String, dialogue: DialogueView) -> Result<(), AllocE
     }
 }
 
-/// Appends the PDU of a dialogue portion, where there is one.
+/// Appends the PDU of a dialogue portion, if there is one.
 fn push_dialogue_portion(
     text: &mut String,
     dialogue: Option<DialogueView>,
@@ -158,9 +158,13 @@ fn push_dialogue_portion(
     }
 }
 
-/// Appends what a message is but for its components, on no line of its own: its kind, its transaction IDs in hexadecimal
-/// digits, a P-Abort cause and the PDU of its dialogue portion (Q.773 4.2), as the line of an entry has them behind the
-/// number and the end. `AllocError` where memory ran out.
+/// Appends a message without its components, and without a line end (Q.773 4.2). These are its kind, its transaction
+/// IDs in hexadecimal digits, its P-Abort cause and the PDU of its dialogue portion. The line of an entry has this text
+/// after the number and the end.
+///
+/// # Errors
+///
+/// `AllocError` if memory runs out.
 pub fn push_head<M: MessageParts>(text: &mut String, message: &M) -> Result<(), AllocError>
     ensures { OnOk result (string_bytes text.new ≡ string_bytes text.old ++ head_text (M.meaning message.now)) }
 {
@@ -171,7 +175,7 @@ pub fn push_head<M: MessageParts>(text: &mut String, message: &M) -> Result<(), 
     push_dialogue_portion(text, message.dialogue())
 }
 
-/// Appends the text of a message and the lines of its components.
+/// Appends a message and the lines of its components.
 pub(crate) fn push_message<M: MessageParts>(
     text: &mut String,
     message: &M,

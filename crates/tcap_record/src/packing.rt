@@ -1,4 +1,4 @@
-//! Packing lines of hex digits into a record.
+//! Packing lines of hexadecimal digits into a record.
 
 ghost use Rattle.std.specs.Prelude.{◌≡◌, ◌≢◌, ◌+◌, ◌<◌, ◌≤◌, ◌++◌, ◌∷◌, [], ℕ, List, Option, Ok, Err, length, slice_index, take, IfOk, OnOk, MatchResult};
 ghost use Rattle.std.specs.List.{concat};
@@ -23,29 +23,29 @@ use memchr::memchr;
 use std::alloc::{AllocError, Global};
 use tcap_ber::{Failed, RawView, Read, Write};
 
-/// The greatest count of octets of a line, its end left out, a limit of this profile.
+/// The greatest number of octets of a line without its end, a limit of this profile.
 pub const LINE_LIMIT: usize = 131_092;
 
-/// The greatest count of lines, a limit of this profile.
+/// The greatest number of lines, a limit of this profile.
 pub const LINES_LIMIT: u64 = 1_000_000;
 
 const NEWLINE: u8 = b'\n';
 
 const CARRIAGE_RETURN: u8 = b'\r';
 
-/// Why lines could not be packed.
+/// Why lines were not packed.
 #[derive(Clone, Copy, Debug, PartialEq, Eq)]
 pub enum PackFault {
-    /// A line stands for no entry and is not skipped, the reader failed, or memory ran out.
+    /// A line is neither an entry nor skipped, the reader failed, or memory ran out.
     Fault(FeedFault),
     /// The writer failed.
     Write,
 }
 
-/// What a line of hex digits stands for.
+/// The meaning of a line of hexadecimal digits.
 #[derive(Debug, Drop)]
 pub enum Line {
-    /// Nothing: it is skipped.
+    /// No entry: the line is skipped.
     Skipped,
     /// A quiet mark.
     Mark,
@@ -54,7 +54,7 @@ pub enum Line {
 }
 
 impl Line {
-    /// How many entries it stands for.
+    /// Returns the number of entries of this line.
     fn count(&self) -> u64
         ensures { result ≡ length (entries_in (line_of self.now ∷ [])) }
     {
@@ -64,7 +64,7 @@ impl Line {
         }
     }
 
-    /// Writes the entry that it stands for.
+    /// Writes the entry of this line, if it has one.
     fn write<W: Write>(&self, writer: &mut W) -> Result<(), Failed>
         ensures taken { OnOk result (Appends (W.taken writer.old) (W.taken writer.new)
             (concat (entries_in (line_of self.now ∷ [])))) }
@@ -84,7 +84,7 @@ impl Line {
 /// Why a line was not read.
 #[derive(Clone, Copy, Debug, PartialEq, Eq)]
 pub enum LineFault {
-    /// It is no line of a record.
+    /// The line is neither an entry nor skipped.
     Bad,
     /// Memory ran out.
     Memory,
@@ -106,7 +106,7 @@ impl From<AllocError> for LineFault {
     }
 }
 
-/// The element that digits of hex are.
+/// Returns the element that hexadecimal digits spell. `Bad` if they do not spell exactly one.
 fn read_element(alloc: Global, digits: &[u8]) -> Result<Vec<u8>, LineFault>
     ensures element { IfOk result (λ element. (decode_of digits.now ≡ Ok element.items) × IsRaw element.items) }
     ensures bad { result ≡ Err LineFault.Bad → (element : List ℕ) → decode_of digits.now ≡ Ok element → IsRaw element
@@ -121,8 +121,11 @@ fn read_element(alloc: Global, digits: &[u8]) -> Result<Vec<u8>, LineFault>
     Ok(octets)
 }
 
-/// What a line of this content, which has no end, stands for: as [`pack`] reads it. `Bad` where that is no such line, `Memory` where memory
-/// ran out.
+/// Reads one line, given its content without the line end. [`pack`] describes the lines.
+///
+/// # Errors
+///
+/// `Bad` if the line is neither an entry nor skipped, `Memory` if memory runs out.
 pub fn read_line(alloc: Global, content: &[u8]) -> Result<Line, LineFault>
     ensures stands { MatchResult result (λ line. StandsFor content.now (line_of line))
         (λ fault. fault ≡ LineFault.Bad → IsNoLine content.now) }
@@ -141,7 +144,7 @@ pub fn read_line(alloc: Global, content: &[u8]) -> Result<Line, LineFault>
     }
 }
 
-/// How many octets a line has without a carriage return at its end.
+/// Returns the length of a line without a carriage return at its end.
 fn content_len(line: &[u8]) -> usize
     ensures most { result ≤ length line.now }
     ensures content { IsContentOf line.now (take result line.now) }
@@ -152,7 +155,7 @@ fn content_len(line: &[u8]) -> usize
     }
 }
 
-/// How many octets stand before the first newline.
+/// Returns the number of octets before the first newline, or of all if there is none.
 fn line_len(octets: &[u8]) -> usize
     ensures most { result ≤ length octets.now }
     ensures front { HasNoNewline (take result octets.now) }
@@ -161,7 +164,7 @@ fn line_len(octets: &[u8]) -> usize
     memchr(NEWLINE, octets).unwrap_or(octets.len())
 }
 
-/// Lines as they are packed: what came of the line that has no end yet, and how many lines and entries were before it.
+/// The state of packing: the front of the current line, and the numbers of lines and entries before it.
 #[derive(Debug, Drop)]
 struct Packing {
     alloc: Global,
@@ -171,7 +174,7 @@ struct Packing {
 }
 
 impl Packing {
-    /// Nothing was packed.
+    /// Creates the state before the first line.
     fn new(alloc: Global) -> Packing
         ensures { IsFresh result }
     {
@@ -183,7 +186,7 @@ impl Packing {
         }
     }
 
-    /// The fault that the line which has no end yet is no line of a record.
+    /// Returns the fault `BadHexLine` at the current line.
     fn bad_line(&self) -> FeedFault
         requires { self.now.lines ≤ lines_limit }
         ensures { result ≡ feed_fault FeedReason.BadHexLine (self.now.lines + 1) }
@@ -194,7 +197,7 @@ impl Packing {
         }
     }
 
-    /// The fault that the line which has no end yet stands for nothing, for that reason.
+    /// Returns the fault of the current line for this reason.
     fn refused(&self, fault: LineFault) -> FeedFault
         requires { self.now.lines ≤ lines_limit }
         ensures { result ≡ line_fault (self.now.lines + 1) fault }
@@ -205,7 +208,7 @@ impl Packing {
         }
     }
 
-    /// Adds octets without a newline to the line.
+    /// Appends octets without a newline to the current line. `Bad` if it is then too long.
     fn hold(&mut self, octets: &[u8]) -> Result<(), LineFault>
         requires fits { length self.old.line.items ≤ line_limit + 1 }
         ensures held { OnOk result (self.new.line.items ≡ self.old.line.items ++ octets.now) }
@@ -220,7 +223,7 @@ impl Packing {
         Ok(())
     }
 
-    /// Packs the line, whose content is its first `len` octets.
+    /// Packs the current line, whose content is its first `len` octets.
     fn end_line<W: Write>(&mut self, len: usize, writer: &mut W) -> Result<(), PackFault>
         requires within { len ≤ length self.old.line.items }
         requires open { IsOpen self.old }
@@ -245,7 +248,7 @@ impl Packing {
         Ok(())
     }
 
-    /// Packs the last line, which has no end, and answers the count of entries.
+    /// Packs the last line, which has no line end. Returns the number of entries.
     fn finish<W: Write>(mut self, writer: &mut W) -> Result<u64, PackFault>
         requires open { IsOpen «self» }
         ensures packed { IfOk result (λ count. Finishes «self» count (W.taken writer.old) (W.taken writer.new)) }
@@ -262,7 +265,7 @@ impl Packing {
         Ok(self.entries)
     }
 
-    /// Packs the line that ends in `piece`, or holds all of it, and answers what is behind.
+    /// Packs the current line if it ends in `piece`, or else appends all of `piece` to it. Returns the octets left.
     fn pack_line<'a, W: Write>(
         &mut self,
         piece: &'a [u8],
@@ -295,7 +298,7 @@ impl Packing {
         }
     }
 
-    /// Packs the lines that end in `piece`, and holds what is behind them.
+    /// Packs the lines that end in `piece`, and holds the octets after them.
     fn pack_piece<W: Write>(&mut self, piece: &[u8], writer: &mut W) -> Result<(), PackFault>
         requires open { IsOpen self.old }
         ensures packed { OnOk result (Packs self.old self.new piece.now (W.taken writer.old) (W.taken writer.new)) }
@@ -313,12 +316,25 @@ impl Packing {
     }
 }
 
-/// Packs the lines of hex that `reader` tells up to its end, and answers the count of entries that were written. A line
-/// is `A` or `B`, a space and the digits of one element, in either case, or `Q` for a quiet mark; empty lines and lines
-/// that begin with `#` are skipped. A carriage return before a newline is dropped, and the last line needs no newline.
-/// `BadHexLine`, its place the line's number from 1, at the first other line, one of over 131,092 octets or the one
-/// behind 1,000,000; `Read` at the count of octets read where the reader failed, `Memory` where memory ran out. The
-/// entries of the lines before are written then. `Write` where the writer failed: what went out is not said.
+/// Packs lines of hexadecimal digits into a record, up to the end of `reader`. Returns the number of entries written.
+///
+/// A line is one of these:
+///
+/// - `A` or `B`, a space and the digits of one element, upper or lower case,
+/// - `Q` for a quiet mark,
+/// - an empty line or a comment that begins with `#`, which is skipped.
+///
+/// A carriage return before a newline is dropped, and the last line needs no newline.
+///
+/// # Errors
+///
+/// - `BadHexLine` at the first other line, at a line of more than 131,092 octets, or at line 1,000,001. Its place is
+///   the line number from 1.
+/// - `Read` at the number of octets read, if the reader fails.
+/// - `Memory` if memory runs out.
+/// - `Write` if the writer fails. How many octets were written is then unknown.
+///
+/// After a fault other than `Write`, the entries of the lines before it are written.
 pub fn pack<R: Read, W: Write>(
     alloc: Global,
     reader: &mut R,
@@ -330,7 +346,7 @@ pub fn pack<R: Read, W: Write>(
     ensures refused { (fault : FeedFault) → result ≡ Err (PackFault.Fault fault) → (told : List ℕ)
         × Consumes (R.untold reader.old) (R.untold reader.new) told
         × IsPackedUpTo told fault (R.untold reader.new) (W.taken writer.old) (W.taken writer.new) }
-    // The reader's failures are counted: one more at `Read`, none else; and so are the writer's.
+    // Each failure of the reader or writer is counted once, and nothing else is.
     ensures read { (fault : FeedFault) → result ≡ Err (PackFault.Fault fault) → fault.reason ≡ FeedReason.Read
         → R.failures reader.new ≡ one_more (R.failures reader.old) }
     ensures unread { ((fault : FeedFault) → result ≡ Err (PackFault.Fault fault) → fault.reason ≢ FeedReason.Read)

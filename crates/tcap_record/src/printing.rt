@@ -11,7 +11,7 @@ use crate::entry_lines::push_view;
 use std::alloc::{AllocError, Global};
 use tcap_ber::{Failed, Write};
 
-/// Why lines could not be written.
+/// Why lines were not written.
 #[derive(Clone, Copy, Debug, PartialEq, Eq)]
 pub enum ShowFault {
     /// The writer failed.
@@ -36,15 +36,18 @@ impl From<AllocError> for ShowFault {
     }
 }
 
-/// Writes the lines of the entries of `record`, one entry after the other, each as soon as its text is
-/// made. `Write` at the writer's first failure, `Memory` where memory ran out.
+/// Writes the lines of the entries of `record`, one entry at a time.
+///
+/// # Errors
+///
+/// `Write` at the writer's first failure, `Memory` if memory runs out.
 pub fn show<W: Write>(alloc: Global, record: &Record, writer: &mut W) -> Result<(), ShowFault>
-    // What was written is the lines of the entries and nothing else.
+    // On success, exactly the lines of all entries were written.
     ensures ok { OnOk result (Appends (W.taken writer.old) (W.taken writer.new) (lines_of «record».now.entries.items)) }
-    // Where memory ran out, it is the lines of the first entries, whole ones.
+    // If memory ran out, exactly the lines of the first entries were written.
     ensures memory { result ≡ Err ShowFault.Memory → (n : ℕ)
         × Appends (W.taken writer.old) (W.taken writer.new) (lines_of (take n «record».now.entries.items)) }
-    // The writer's failures are counted: one more at `Write`, none else.
+    // A failure of the writer is counted once, and nothing else is.
     ensures write { result ≡ Err ShowFault.Write → W.failures writer.new ≡ one_more (W.failures writer.old) }
     ensures others { result ≢ Err ShowFault.Write → W.failures writer.new ≡ W.failures writer.old }
 {

@@ -14,10 +14,10 @@ use crate::feeder::Feeder;
 use std::alloc::Global;
 use tcap_ber::{Failed, Read};
 
-/// How many octets are asked of a reader at once.
+/// The number of octets requested of a reader at once.
 pub const PIECE_LEN: usize = 8192;
 
-/// Feeds what `reader` tells, up to its end or the first fault.
+/// Feeds the octets of `reader`, up to its end or the first fault.
 fn feed_all<R: Read>(feeder: &mut Feeder, reader: &mut R) -> Result<(), FeedFault>
     requires { feeder.old ≡ record { held = nothing_held; waiting = [] } }
     ensures told { (told : List ℕ) × Consumes (R.untold reader.old) (R.untold reader.new) told
@@ -42,10 +42,18 @@ fn feed_all<R: Read>(feeder: &mut Feeder, reader: &mut R) -> Result<(), FeedFaul
     }
 }
 
-/// The record that a reader tells up to its end. The faults are those of the first octets that are no entry:
-/// `TooManyEntries` behind 100,000 entries, `BadEnd` at an octet that begins none, `Element` where an entry's element
-/// is wrong, `CutRecord` where the octets end within an entry. `Read` is answered where the reader failed and what it
-/// told before is entries and at most a cut one, and `Memory` where memory ran out.
+/// Reads a record up to the end of `reader`.
+///
+/// # Errors
+///
+/// The first of these faults:
+///
+/// - `TooManyEntries` after 100,000 entries.
+/// - `BadEnd` at an octet that begins no entry.
+/// - `Element` if an entry's element has a framing fault.
+/// - `CutRecord` if the octets end within an entry.
+/// - `Read` if the reader fails. The octets before it are entries; the last may be incomplete.
+/// - `Memory` if memory runs out.
 pub fn read_record<R: Read>(alloc: Global, reader: &mut R) -> Result<Record, FeedFault>
     ensures told { (told : List ℕ) × Consumes (R.untold reader.old) (R.untold reader.new) told
         × MatchResult result

@@ -1,4 +1,4 @@
--- what is left decides, from whether a subidentifier begins there
+-- the octets left decide, given whether the next one begins a subidentifier
 use Rattle.std.proofs.Common.{◌≡◌, true, drop}
 use Rattle.tcap_ber.specs.Reading.{are_subidentifiers}
 use Rattle.tcap_ber.proofs.object_ids.is_read_object_id.Given as goal

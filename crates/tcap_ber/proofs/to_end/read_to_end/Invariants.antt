@@ -1,4 +1,4 @@
--- what the vector gained is what the reader told; each read but the last adds to it
+-- the vector gained what the reader consumed; each read but the last adds to it
 use Rattle.std.proofs.Common.{◌≡◌, ℕ, ◌-◌, ◌^◌, ◌++◌, List, vec_len}
 use Rattle.std.specs.Io.KnownBytes.{Consumes}
 use Rattle.tcap_ber.proofs.to_end.read_to_end.Given as goal

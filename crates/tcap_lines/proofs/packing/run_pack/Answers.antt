@@ -3,7 +3,7 @@ use Rattle.tcap_record.specs.declared.fault.FeedFault.{FeedFault}
 use Rattle.tcap_record.specs.declared.packing.PackFault.{PackFault}
 use Rattle.tcap_lines.proofs.packing.run_pack.Goals as goal
 
--- the faults of equal refusals are equal
+-- equal refusals have equal faults
 fault_is : (a : PackFault) (f g : FeedFault) → a ≡ PackFault.Fault f
     → (let r : Result ℕ PackFault = Err a in r) ≡ Err (PackFault.Fault g) → f ≡ g
 fault_is a f g is e = let same : PackFault.Fault f ≡ PackFault.Fault g = cc in cc

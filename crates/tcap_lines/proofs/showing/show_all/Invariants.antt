@@ -1,4 +1,4 @@
--- what the reader told was taken and shown, and nothing is wrong with it
+-- the octets read were taken and shown, without a fault
 use Rattle.std.proofs.Common.{◌≡◌, ℕ, ◌+◌, ◌-◌, ◌^◌, None, List, length}
 use Rattle.std.specs.Io.KnownBytes.{Consumes}
 use Rattle.tcap_record.specs.declared.entry.Entry.{Entry}

@@ -1,4 +1,4 @@
--- what was appended, and the lines of the components that are left, are the lines of all
+-- the appended text and the lines of the components left are the lines of all
 use Rattle.std.proofs.Common.{◌≡◌, ◌++◌}
 use Rattle.std.specs.List.{flat_map}
 use Rattle.std.specs.String.{string_bytes}

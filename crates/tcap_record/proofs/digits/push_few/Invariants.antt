@@ -1,4 +1,4 @@
--- what was appended, and the digits of the octets that are left, are the digits of all
+-- the appended text and the digits of the octets left are the digits of all
 use Rattle.std.proofs.Common.{◌≡◌, ◌++◌, length}
 use Rattle.std.specs.String.{string_bytes}
 use Rattle.hex.specs.Hex.{encode_lower}

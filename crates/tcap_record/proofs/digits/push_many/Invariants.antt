@@ -1,4 +1,4 @@
--- what was appended, and the digits of the octets that are left, are the digits of all
+-- the appended text and the digits of the octets left are the digits of all
 use Rattle.std.proofs.Common.{◌≡◌, ◌++◌}
 use Rattle.std.specs.String.{string_bytes}
 use Rattle.std.specs.Slice.Iter.{chunks_rest, chunks_size}

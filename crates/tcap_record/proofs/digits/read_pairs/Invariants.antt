@@ -1,4 +1,4 @@
--- the octets that were read, and those that the digits left spell, are what all digits spell
+-- the octets so far and those of the digits left are the octets of all digits
 use Rattle.std.proofs.Common.{◌≡◌, ◌*◌, take, drop}
 use Rattle.hex.specs.Hex.{decode_pairs}
 use Rattle.hex.proofs.Pairs.{prepend}

@@ -1,4 +1,4 @@
--- all that was told was packed, as far as there are whole lines, and what is behind them is held
+-- the whole lines of all octets read were packed, and the octets after them are held
 use Rattle.std.proofs.Common.{◌≡◌, ℕ, ◌-◌, ◌^◌, List, length}
 use Rattle.std.specs.Io.KnownBytes.{Consumes}
 use Rattle.tcap_record.specs.Packing.{IsOpen, Packs}

@@ -1,4 +1,4 @@
--- what the reader told was fed, and nothing is wrong with it; each piece adds to it
+-- the octets read were fed without a fault; each piece adds to them
 use Rattle.std.proofs.Common.{◌≡◌, ℕ, ◌+◌, ◌-◌, ◌^◌, List, length}
 use Rattle.std.specs.Io.KnownBytes.{Consumes}
 use Rattle.tcap_record.proofs.ReadingLaws.{IsFed}

@@ -1,4 +1,4 @@
--- what the writer took is the beginning of what was to be written, and the rest is left
+-- the writer took the front of the octets, and the rest is left
 use Rattle.std.proofs.Common.{◌≡◌, ℕ, ◌≤◌, length, take, drop}
 use Rattle.std.specs.Io.KnownBytes.{Appends}
 use Rattle.tcap_ber.proofs.counted.Counted.write_rest.Given as goal

@@ -1,4 +1,4 @@
--- an interrupted read tells nothing and counts nothing
+-- an interrupted read consumes nothing and counts no failure
 use Rattle.std.proofs.Common.{◌≡◌}
 use Rattle.std.specs.Io.KnownBytes.{Keeps}
 use Rattle.tcap_ber.proofs.counted.CountedRead.read.Given as goal

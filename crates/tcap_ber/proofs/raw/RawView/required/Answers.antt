@@ -6,7 +6,7 @@ use Rattle.tcap_ber.proofs.ResultLaws.{field_found, field_only, field_faulty}
 use Rattle.tcap_ber.proofs.VerbatimLaws.{reads_verbatim}
 use Rattle.tcap_ber.proofs.raw.RawView.required.Goals as goal
 
--- the octets that a view lends
+-- the octets of a view
 abbrev octets_of : RawView → List ℕ
 octets_of raw = raw.octets.now
 

@@ -6,7 +6,6 @@ use Rattle.tcap_ber.proofs.OpeningLaws.{from}
 use Rattle.tcap_ber.proofs.ResumingLaws.{whole_goes_behind, gives_by}
 use Rattle.tcap_ber.proofs.walk.Walk.behind_whole.Goals as goal
 
--- the header that was read
 read_there : (place : ℕ) (octets : List ℕ) (found : Option Opening) (opening : Opening) → opening_at (from place octets) ≡ Ok found → found ≡ Some opening → opening_at (from place octets) ≡ Ok (Some opening)
 read_there place octets found opening read some = read ∙ ap (λ (o : Option Opening). Ok o) some
 

@@ -10,14 +10,14 @@ use Rattle.tcap_ber.proofs.ResumingLaws.{ends_with}
 use Rattle.tcap_ber.proofs.walk.Walk.go_on.Goals.{then-is_empty-via-then-is_empty, then-is_empty-via-else-is_empty+then-is_stopped}
 use Rattle.tcap_ber.proofs.walk.Walk.go_on.Goals as goal
 
--- behind the loop no octets are left, or the walk is over
+-- after the loop no octets are left, or the walk is over
 over : (c : goal.After-answer) → (c.skipping.result.1.now ≡ []) ⊎ IsStopped c.skipping.result.0
 over c = elim c.then-is_empty.branch [
   | then-is_empty-via-then-is_empty w ↦ inl (nil_from_length c.skipping.result.1.now (eqb-true (length c.skipping.result.1.now) 0 (sym c.is_empty.ensures ∙ w.if-is_empty.true)))
   | then-is_empty-via-else-is_empty+then-is_stopped w ↦ inr (w.is_stopped.ensures.0 w.if-is_stopped.true)
 ]
 
--- and it gives of what comes then what it gave before of all
+-- the walk returns for later octets what it returned for all of them before
 gives : (c : goal.After-answer) (more : List ℕ) → resumes c.skipping.result.0 more ≡ resumes c.args.self.now (c.args.octets.now ++ more)
 gives c = ends_with c.skipping.result.0 c.args.self.now c.skipping.result.1.now c.args.octets.now (λ more. c.skipping.ensures.same more ∙ c.loop-rest.invariant more) (over c)
 

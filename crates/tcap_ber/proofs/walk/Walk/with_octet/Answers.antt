@@ -9,12 +9,12 @@ use Rattle.tcap_ber.proofs.OpeningPlaceLaws.{opening_exact}
 use Rattle.tcap_ber.proofs.ResumingLaws.{octet_fails, octet_fails_behind, octet_held, octet_goes_behind, gives_by}
 use Rattle.tcap_ber.proofs.walk.Walk.with_octet.Goals as goal
 
--- the header that was read is that of the octets held and the one behind them
+-- the header read is that of the octets held and the next one
 read_there : (place : ℕ) (all joined : List ℕ) (found : Option Opening) (opening : Opening) → all ≡ joined → opening_at (from place all) ≡ Ok found → found ≡ Some opening
     → opening_at (from place joined) ≡ Ok (Some opening)
 read_there place all joined found opening same read some = ap (λ (x : List ℕ). opening_at (from place x)) (sym same) ∙ read ∙ ap (λ (o : Option Opening). Ok o) some
 
--- behind it the walk is at least behind those octets
+-- the step goes at least past those octets
 far_enough : (p next : Progress) (header : List ℕ) (octet held : ℕ) (opening : Opening) → length header ≡ held → opening_at (from p.at header) ≡ Ok None
     → opening_at (from p.at (header ++ octet ∷ [])) ≡ Ok (Some opening) → behind_header p (header ++ octet ∷ []) opening ≡ Ok next → held + 1 ≤ next.at - p.at
 far_enough p next header octet held opening len none read behind =
