@@ -66,7 +66,7 @@ class Module:
     def about(self):
         """Returns the first sentence of the file."""
         head = itertools.takewhile(lambda line: line.startswith("-- "), self.lines)
-        return re.match(r".*?\.(?= [A-Z]|$)", " ".join(line[3:].strip() for line in head))[0]
+        return re.match(r".*?[.?](?= [A-Z]|$)", " ".join(line[3:].strip() for line in head))[0]
 
 
 def modules():
