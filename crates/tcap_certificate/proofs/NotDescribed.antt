@@ -1,4 +1,4 @@
--- The worked runs that a certificate does not describe: what of it does not fit.
+-- Why a certificate does not describe the worked runs of `refused`.
 use Rattle.std.proofs.Common.{arith, ◌≡◌, ℕ, pos, List, [], ◌∷◌, ◌++◌, map, Option, Some, None, refl}
 use Rattle.std.specs.List.{AllByRecursion}
 use Rattle.tcap_parts.specs.declared.code.Code.TheVariants.{Local}
@@ -38,7 +38,7 @@ marks_fate = ((_, refl, refl), by)
     by : Described refused.marks_fate → ⊥
     by f = let (here, implied, rest, sends, here_is, all, sends_is, joined, more) = f.gaps in cc
 
--- What is listed and is no event happens in no run.
+-- A None among the events of a gap matches no events.
 none_first : (events : List Event) (more : List (Option Event)) → map Some events ≡ None ∷ more → ⊥
 none_first [] more is = cc
 none_first (event ∷ events) more is = cc
@@ -54,11 +54,11 @@ expiry_over_a_mark = ((_, refl, refl), by)
         let (a4, b4, c4, d4, e4, f4, g4, h4, last) = fourth in
         none_first c4 _ last
 
--- the Begins of the run with an expiry that is not listed
+-- the Begins of the run with an unlisted expiry
 abbrev begin_from : ℕ → Message
 begin_from otid = Begin (otid ∷ []) None (Some (Invoke (pos 1) None (Local (pos 45)) None ∷ []))
 
--- In the first gap nothing happens, and nothing is implied by a Begin that is sent at once.
+-- The first gap has no events, and the Begin sent first implies no expiries.
 at_first : (here implied rest more : List Event) (sends : Event) → map Some here ≡ []
     → AllByRecursion (IsImplied (Sent A (begin_from 1))) implied
     → Sends A (begin_from 1) ∷ more ≡ here ++ implied ++ sends ∷ rest → rest ≡ more
@@ -73,7 +73,7 @@ at_first [] (Closes side n ∷ implied) rest more sends here_is all is = cc
 at_first [] (Quiet ∷ implied) rest more sends here_is all is = cc
 at_first [] (Tells side n ∷ implied) rest more sends here_is all is = cc
 
--- In the second, behind the delivery, the next Begin implies no expiry in the half of the first.
+-- In the second gap, after the delivery, the next Begin implies no expiry in the first half.
 not_implied : (here implied rest more : List Event) (sends : Event) → map Some here ≡ Some (Receives B 0) ∷ []
     → AllByRecursion (IsImplied (Sent A (begin_from 3))) implied → sends ≡ Sends A (begin_from 3)
     → Receives B 0 ∷ Expires A (Own (1 ∷ [])) (pos 1) ∷ more ≡ here ++ implied ++ sends ∷ rest → ⊥

@@ -1,4 +1,4 @@
--- The worked events that are no step: the run, and that there is none behind it.
+-- The worked events that cannot happen after a run.
 use Rattle.std.proofs.Common.{refl}
 use Rattle.tcap_certificate.specs.Refused as refused
 

@@ -1,4 +1,5 @@
--- The worked runs follow their certificates: gap by gap, what happens in it, the expiries right before the next item, and that item.
+-- The worked runs follow their certificates: for each gap its events, the expiries that the next item implies, and the
+-- item.
 use Rattle.std.proofs.Common.{rules, ◌≡◌, ℕ, ◌+◌, ◌≤◌, pos, List, [], ◌∷◌, ◌++◌, length, map, None, Some, refl, subst}
 use Rattle.std.specs.List.{AllByRecursion}
 use Rattle.std.proofs.lemmas.List.{append-nil}
@@ -13,23 +14,23 @@ use Rattle.tcap_end.specs.Table.{Table}
 use Rattle.tcap_model.specs.WorkedItems.{answer, begin, further, invoke, prearranged, table}
 use Rattle.tcap_certificate.specs.Worked.{IsDescribedRun, OneSided, by_the_other_name, IsWorked, IsWorkedBy, Worked, IsWorkedFor, continues_behind_its_end, end_is_not_heard, empty_record, two_entries, three_entries, crossing, late_reject, delayed, closed_half, refused_begin, lost_begin, over_a_mark, both_again, in_a_row, end_implies, both_close}
 
--- From a gap on, the events are what the certificate says, with the items that are left between.
+-- `FollowsFrom`, with the run as a parameter
 record From (w : Worked) (n : ℕ) (left : List Item) (events : List Event) : Type 0 where
   follows : FollowsFrom w.certificate w.items n left events
 
--- the whole run
+-- the whole run follows
 abbrev Gaps : Worked → Type 0
 Gaps w = From w 0 w.items (without_losses w.events)
 
--- the losses of an end, in order
+-- the losses of an end are those of the certificate
 abbrev Losses : Worked → Side → Type 0
 Losses w side = losses_from side w.events ≡ lost_from side 0 w.certificate.fates w.items
 
--- The last gap.
+-- the last gap
 last : {w : Worked} {n : ℕ} {events : List Event} → map Some events ≡ gap_events w.certificate w.items n → From w n [] events
 last said = record { follows = said }
 
--- A gap, and the item behind it, which implies some expiries,
+-- a gap, the expiries that the next item implies, and the item
 implying : {w : Worked} {n : ℕ} {item : Item} {more : List Item} {sends : Event} {rest : List Event} (here implied : List Event)
     → AllByRecursion (IsImplied item) implied
     → map Some here ≡ gap_events w.certificate w.items n → sending w.certificate n item ≡ Some sends
@@ -38,7 +39,7 @@ implying {sends = sends} {rest = rest} here implied all said sent on = record {
   follows = (here, implied, rest, sends, said, all, sent, refl, on.follows);
 }
 
--- or none.
+-- a gap and an item that implies no expiry
 gap : {w : Worked} {n : ℕ} {item : Item} {more : List Item} {sends : Event} {rest : List Event} (here : List Event)
     → map Some here ≡ gap_events w.certificate w.items n → sending w.certificate n item ≡ Some sends
     → From w (n + 1) more rest → From w n (item ∷ more) (here ++ sends ∷ rest)
@@ -46,7 +47,7 @@ gap {sends = sends} {rest = rest} here said sent on = record {
   follows = (here, [], rest, sends, said, tt, sent, rw (append-nil here) refl, on.follows);
 }
 
--- The run is the one that the certificate describes.
+-- A run that satisfies all parts follows the certificate.
 follows : (w : Worked) → length w.certificate.fates ≡ length w.items → FatesFit (length w.items) 0 w.certificate.fates
     → AllByRecursion (λ c. c.gap ≤ length w.items) w.certificate.close
     → AllByRecursion (λ x. x.gap ≤ length w.items) w.certificate.expire
@@ -197,7 +198,7 @@ continues_behind_its_end_runs = lawful_for table continues_behind_its_end (_, re
 pub end_is_not_heard_runs : IsWorkedFor table end_is_not_heard
 end_is_not_heard_runs = lawful_for table end_is_not_heard (_, refl, refl) refl
 
--- What a run calls by the other name is followed by the name that the certificate uses.
+-- the run with the half's name that the certificate uses
 abbrev named_by_own : Worked
 named_by_own = record by_the_other_name {
   events = Sends A (begin None (Some (invoke 45 ∷ []))) ∷ Receives B 0 ∷ Sends B (answer None None) ∷ Receives A 1
@@ -213,14 +214,14 @@ named_by_own_gaps =
 named_by_own_follows : Follows by_the_other_name.certificate by_the_other_name.items named_by_own.events
 named_by_own_follows = follows named_by_own refl (search rules) (search rules) (search rules) named_by_own_gaps refl refl
 
--- From a world on, events are the same but for names.
+-- `AreSameEvents`, as a record
 record SameFrom (w : World) (events others : List Event) : Type 0 where
   are : AreSameEvents table w events others
 
 no_more : {w : World} → SameFrom w [] []
 no_more = record { are = refl }
 
--- One event more.
+-- one more event
 one_same : {w next : World} {event first : Event} {events rest : List Event} → after table event w ≡ Some next
     → IsSameEvent w event first → SameFrom next events rest → SameFrom w (event ∷ events) (first ∷ rest)
 one_same {w} {next} {event} {first} {events} {rest} is same on = record {

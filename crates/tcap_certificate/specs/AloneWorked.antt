@@ -1,4 +1,4 @@
--- Worked replays of one end: the run that a certificate gives for it, or why it gives none.
+-- Worked replays of one end: the run that a certificate gives for this end, or why it gives none.
 use Rattle.std.specs.Prelude.{◌≡◌, ℕ, List, [], ◌∷◌, map, None, Ok, Some}
 use Rattle.tcap_msg.specs.declared.message.Message.TheVariants.{Unidirectional, Begin, Continue}
 use Rattle.tcap_record.specs.declared.entry.End.{End as Side}
@@ -20,28 +20,29 @@ use Rattle.tcap_model.specs.WorkedItems.{answer, begin, end_to, id, invoke}
 use Rattle.tcap_certificate.specs.Worked.{both_close, by_fates, continues_behind_its_end, end_is_not_heard}
 use Rattle.tcap_certificate.specs.Unheard.{steps_of, unheard_of}
 
--- A record, a certificate, and the run that it gives for one end.
+-- The judged end, a record, a certificate, and the run that the certificate gives for this end.
 pub record WorkedAlone : Type 0 where
   pub side : Side
   pub items : List Item
   pub certificate : Certificate
   pub events : List Event
 
--- It gives that run. So many are its steps, without the losses of what the end sent, and so many of its peer's messages
--- the end does not receive.
+-- The certificate gives this run. It has this many steps, not counting losses of the judged end's own messages, and
+-- leaves this many of the peer's messages unheard.
 abbrev pub IsGivenAlone : Table → WorkedAlone → ℕ → ℕ → Type 0
 IsGivenAlone table w steps unheard =
     (replayed_by (Some w.side) table w.certificate (map entry_of w.items) ≡ Ok w.events)
     × (steps_of w.side w.events ≡ steps) × (unheard_of w.side w.events ≡ unheard)
 
--- It gives none, for that reason, at that entry.
+-- The certificate gives no run, for this reason at this entry.
 abbrev pub RefusesAlone : Side → Table → Certificate → List Item → Reason → ℕ → Type 0
 RefusesAlone side table certificate items reason entry =
     replayed_by (Some side) table certificate (map entry_of items) ≡ refused reason entry
 
--- ---- a peer that continues behind its End
+-- ---- a peer that continues after its End
 
--- B's Continue behind its End is answered by an Abort with cause 1: A keeps the rules, and receives all else.
+-- A's provider answers B's Continue after B's End with an Abort of cause 1. A keeps the rules, and every message of B
+-- is received or answered.
 abbrev pub answered_behind_the_end : WorkedAlone
 answered_behind_the_end = record {
   side = A;
@@ -51,7 +52,7 @@ answered_behind_the_end = record {
       ∷ Receives A 2 ∷ Tells B (Continue (id 1) (id 2) None None) ∷ Replies A 3 ∷ Loses A 4 ∷ [];
 }
 
--- A ends as if B's End had not come: by the certificate it was lost.
+-- A sends an End although B sent one before: by the certificate, B's End is lost.
 abbrev pub goes_on_behind_a_lost_end : WorkedAlone
 goes_on_behind_a_lost_end = record {
   side = A;
@@ -62,12 +63,13 @@ goes_on_behind_a_lost_end = record {
       ∷ [];
 }
 
--- Where it came, A may not end.
+-- If B's End is delivered, A may not send an End.
 abbrev pub ends_twice : Type 0
 ends_twice = RefusesAlone A worked.table (by_fates (Gap 1 ∷ Gap 2 ∷ Gap 3 ∷ Gap 4 ∷ Gap 5 ∷ [])) end_is_not_heard.items
     (SendRefused faults.WrongPhase) 4
 
--- What A can't receive is discarded, though the certificate delivers it: here the Continue, which nothing answers.
+-- A discards a message that it cannot receive, even if the certificate delivers the message. Here it is the Continue
+-- after B's End, which nothing answers.
 abbrev pub discards_what_it_cannot_receive : WorkedAlone
 discards_what_it_cannot_receive = record {
   side = A;
@@ -78,36 +80,36 @@ discards_what_it_cannot_receive = record {
       ∷ Receives A 2 ∷ Tells B (Continue (id 1) (id 2) None None) ∷ Loses B 3 ∷ [];
 }
 
--- Its certificate discards these messages, for these reasons.
+-- The certificate discards these messages, for these reasons.
 abbrev pub Discards : Table → WorkedAlone → List (ℕ × EndFault) → Type 0
 Discards table w discards = discards_by (Some w.side) table w.certificate (map item_of (map entry_of w.items)) ≡ Ok discards
 
--- There is no half of it.
+-- A has no half for the Continue.
 abbrev pub discards_it_for_that : Type 0
 discards_it_for_that = Discards worked.table discards_what_it_cannot_receive ((3, faults.NoTransaction) ∷ [])
 
--- What the certificate says is lost is not discarded.
+-- A message that the certificate loses is not a discard.
 abbrev pub loses_without_a_discard : Type 0
 loses_without_a_discard = Discards worked.table goes_on_behind_a_lost_end []
 
--- What was discarded is not answered.
+-- A's provider does not answer a discarded message.
 abbrev pub answers_what_it_discards : Type 0
 answers_what_it_discards = RefusesAlone A worked.table (by_fates (Gap 1 ∷ Gap 2 ∷ Gap 3 ∷ Gap 4 ∷ Gap 5 ∷ []))
     continues_behind_its_end.items BadReply 4
 
--- B, which told them, may not have: it continues where its half is closed.
+-- B, which sent these messages, is not lawful: it sends a Continue although its half is closed.
 abbrev pub continues_where_it_closed : Type 0
 continues_where_it_closed = RefusesAlone B worked.table (by_fates (Gap 1 ∷ Gap 2 ∷ Gap 3 ∷ By 4 ∷ Gap 5 ∷ []))
     continues_behind_its_end.items (SendRefused faults.WrongPhase) 3
 
 -- ---- order
 
--- B's second Begin comes before its first: a channel keeps order, whoever tells.
+-- B's second Begin is delivered before its first: a channel keeps order also for an end that keeps no rules.
 abbrev pub overtakes_what_was_told : Type 0
 overtakes_what_was_told = RefusesAlone A worked.table (by_fates (Gap 3 ∷ Gap 2 ∷ Gap 3 ∷ []))
     (Sent B (begin None None) ∷ Sent B (Begin (id 3) None None) ∷ Sent B (Begin (id 4) None None) ∷ []) OutOfOrder 1
 
--- What A sends may come in any order, or never: nothing is asked of that.
+-- The fates of A's own messages may be in any order: a replay of A does not use them.
 abbrev pub own_order_is_free : WorkedAlone
 own_order_is_free = record {
   side = A;
@@ -119,7 +121,7 @@ own_order_is_free = record {
 
 -- ---- quiet marks
 
--- At a mark A's half closes unseen, whose Begin nobody answered.
+-- A gives up its unanswered Begin, and closes its half, before the mark.
 abbrev pub gives_up_at_a_mark : WorkedAlone
 gives_up_at_a_mark = record {
   side = A;
@@ -128,12 +130,12 @@ gives_up_at_a_mark = record {
   events = Sends A (begin None None) ∷ Loses A 0 ∷ Closes A (Own (id 1)) ∷ Quiet ∷ [];
 }
 
--- B's half, which received that Begin, may not without leave,
+-- B may not close the half that received this Begin.
 abbrev pub open_at_a_mark : Type 0
 open_at_a_mark =
     RefusesAlone B worked.table (by_fates (Gap 1 ∷ Gap 2 ∷ [])) (Sent A (begin None None) ∷ Item.Quiet ∷ []) NotQuiet 1
 
--- but where transactions may end by prearrangement.
+-- With prearranged end, B may close it.
 abbrev pub closes_at_a_mark : WorkedAlone
 closes_at_a_mark = record {
   side = B;
@@ -142,7 +144,7 @@ closes_at_a_mark = record {
   events = Tells A (begin None None) ∷ Receives B 0 ∷ Closes B (Peer (id 1)) ∷ Quiet ∷ [];
 }
 
--- What is listed of the other end is passed over.
+-- Expiries and closings of the peer are ignored.
 abbrev pub passes_over_the_peers : WorkedAlone
 passes_over_the_peers = record {
   side = A;

@@ -1,4 +1,4 @@
--- The runs that a certificate describes for the items of a record.
+-- Which runs a certificate describes for the items of a record.
 use Rattle.std.specs.Prelude.{◌≡◌, ℕ, ℤ, ◌+◌, ◌≤◌, ◌<◌, Bool, true, false, List, [], ◌∷◌, ◌++◌, map, take, drop, length, filter, filter_map, slice_get, Contains, Option, Some, None, ◌==◌, nat_lt, cond}
 use Rattle.std.specs.List.{AllByRecursion}
 use Rattle.tcap_parts.specs.declared.component.Component.{Component}
@@ -20,33 +20,36 @@ use Rattle.tcap_certificate.specs.declared.certificate.Fate.{Fate}
 use Rattle.tcap_certificate.specs.declared.certificate.Fate.TheVariants.{Gap, Lost, By}
 use Rattle.tcap_certificate.specs.Certificate.{Certificate}
 
--- ---- what is listed
+-- ---- listed expiries and closings
 
--- the entry that a listed event of a gap names: it stands before the gap, and no quiet mark stands between
+-- the item of the entry that an expiry or a closing in this gap names, or None unless the entry is before the gap with
+-- no quiet mark between
 abbrev pub named_entry : List Item → ℕ → ℕ → Option Item
 named_entry items gap entry = cond (has_quiet (drop entry (take gap items))) None
     (where_so (nat_lt entry gap) (slice_get items entry))
 
--- An end's half of the transaction that a Begin with this originating ID began: by its own ID for who sent the Begin,
--- else by its peer's. A half that knows both IDs has two names (`Named`); this is the one that it has from the
--- beginning.
+-- The half that an end has in the transaction of a Begin with this originating ID. The sender of the Begin identifies
+-- it by its own ID, the other end by its peer's ID. A half that knows both IDs has two names (`Named`); this name is
+-- the one that it has from the start.
 abbrev pub half_begun : Side → Side → List ℕ → HalfName
 half_begun side sender otid = cond (is_side side sender) (names.Own otid) (names.Peer otid)
 
--- the closing of a half that this entry began, where it is a Begin
+-- the closing of the half that this item began, or None unless the item is a Begin
 abbrev pub closing_by : Closing → Item → Option Event
 closing_by c (Sent sender (Begin otid dialogue components)) = Some (Closes c.side (half_begun c.side sender otid))
 closing_by c _ = None
 
--- the closing that is listed
+-- the event of a listed closing, or None
 abbrev pub closing_event : List Item → Closing → Option Event
 closing_event items c = then_so (named_entry items c.gap c.entry) (closing_by c)
 
+-- the invoke ID of an Invoke
 abbrev pub invoke_id : Component → Option ℤ
 invoke_id (Invoke id linked code parameter) = Some id
 invoke_id _ = None
 
--- the expiry of what this entry invoked, where it is a Begin or a Continue of that end, and its component an Invoke
+-- the expiry of the invocation in this component, or None unless the item is a Begin or a Continue of this end and the
+-- component an Invoke
 abbrev pub expiry_by : Expiry → Item → Option Event
 expiry_by x (Sent sender message) =
     where_so (is_side x.side sender)
@@ -55,13 +58,13 @@ expiry_by x (Sent sender message) =
     (λ id. Some (Expires x.side (names.Own otid) id))))
 expiry_by x Item.Quiet = None
 
--- the expiry that is listed
+-- the event of a listed expiry, or None
 abbrev pub expiry_event : List Item → Expiry → Option Event
 expiry_event items x = then_so (named_entry items x.gap x.entry) (expiry_by x)
 
 -- ---- gaps
 
--- the deliveries of a gap, by the numbers of the messages; the first of these items has number n
+-- the deliveries in a gap, by the numbers of the messages; the first of these items has number n
 abbrev pub deliveries : ℕ → ℕ → List Fate → List Item → List Event
 deliveries gap n (fate ∷ fates) (item ∷ items) = by item fate (deliveries gap (n + 1) fates items)
   where
@@ -70,7 +73,7 @@ deliveries gap n (fate ∷ fates) (item ∷ items) = by item fate (deliveries ga
     by _ _ others = others
 deliveries gap n _ _ = []
 
--- What happens in a gap: the closings that are listed for it, the expiries that are, then the deliveries by number.
+-- The events in a gap: the closings listed for the gap, the expiries listed for it, then the deliveries by number.
 abbrev pub gap_events : Certificate → List Item → ℕ → List (Option Event)
 gap_events certificate items gap =
     map (closing_event items) (filter (λ c. c.gap == gap) certificate.close)
@@ -79,19 +82,19 @@ gap_events certificate items gap =
 
 -- ---- sending
 
--- the numbers of the messages that are taken by the reply of that number; the first of these fates has number n
+-- the numbers of the messages that the reply with this number takes; the first of these fates has number n
 abbrev pub taken_by : ℕ → ℕ → List Fate → List ℕ
 taken_by reply n [] = []
 taken_by reply n (By k ∷ fates) = cond (k == reply) (n ∷ taken_by reply (n + 1) fates) (taken_by reply (n + 1) fates)
 taken_by reply n (_ ∷ fates) = taken_by reply (n + 1) fates
 
--- a quiet mark of that number, whose fate is the next gap
+-- the quiet mark with this number, or None unless its fate is the next gap
 abbrev pub quiet_by : ℕ → Option Fate → Option Event
 quiet_by number (Some (Gap g)) = where_so (g == number + 1) (Some Quiet)
 quiet_by number _ = None
 
--- The event that adds the item of that number to the sent list, where these messages are taken by it: an Abort with a
--- cause is the provider's reply to the one message that is; nothing is taken by another item.
+-- The event that sends the item with this number, which takes these messages, or None. An Abort with a cause is a
+-- provider's reply, and takes exactly one message. Other items take none.
 abbrev pub sending_by : Certificate → ℕ → Item → List ℕ → Option Event
 sending_by c number (Sent side (Abort dtid (Some (Cause cause)))) (taken ∷ []) = Some (Replies side taken)
 sending_by c number (Sent side (Abort dtid (Some (Cause cause)))) _ = None
@@ -100,19 +103,20 @@ sending_by c number (Sent side message) (taken ∷ more) = None
 sending_by c number Item.Quiet [] = quiet_by number (slice_get c.fates number)
 sending_by c number Item.Quiet (taken ∷ more) = None
 
+-- the event that sends the item with this number, which takes the messages whose fate is this entry
 abbrev pub sending : Certificate → ℕ → Item → Option Event
 sending c number item = sending_by c number item (taken_by number 0 c.fates)
 
--- the half over which a message is sent, if it is one that carries Invokes over a half
+-- the half whose invocations the Invokes of a message are, or None for a message without a half
 abbrev pub invoking_half : Message → Option HalfName
 invoking_half (Begin otid dialogue components) = Some (names.Own otid)
 invoking_half (Continue otid dtid dialogue components) = Some (names.Own otid)
 invoking_half (EndMessage dtid dialogue components) = Some (names.Peer dtid)
 invoking_half _ = None
 
--- An expiry right before an item is sent, of an ID that this item invokes, on its half. Where a run makes these and then
--- sends the item, they are exactly the IDs that the item invokes and that were in use: each has to end, and no other
--- can (`given::implied_are_needed`).
+-- An expiry just before an item is sent, of an invoke ID that this item uses again on its half. If a run makes these
+-- expiries and then sends the item, their IDs are exactly those that the item invokes and that were in use. Each of
+-- these has to end, and no other can (`given::implied_are_needed`).
 abbrev pub IsImplied : Item → Event → Type 0
 IsImplied (Sent sender message) (Expires side name id) =
     (side ≡ sender) × (invoking_half message ≡ Some name) × Contains (filter_map invoke_id (components_in message)) id
@@ -120,29 +124,31 @@ IsImplied _ _ = ⊥
 
 -- ---- runs
 
+-- whether an event is a loss
 abbrev pub is_loss : Event → Bool
 is_loss (Loses side number) = true
 is_loss _ = false
 
+-- the events without the losses
 abbrev pub without_losses : List Event → List Event
 without_losses [] = []
 without_losses (event ∷ events) = cond (is_loss event) (without_losses events) (event ∷ without_losses events)
 
--- the messages of an end that are lost, in order
+-- the numbers of this end's messages that are lost, in order
 abbrev pub losses_from : Side → List Event → List ℕ
 losses_from side [] = []
 losses_from side (Loses sender number ∷ events) = cond (is_side side sender) (number ∷ losses_from side events)
     (losses_from side events)
 losses_from side (_ ∷ events) = losses_from side events
 
--- those whose fate says so; the first of these items has number n
+-- the numbers of this end's messages whose fate is a loss; the first of these items has number n
 abbrev pub lost_from : Side → ℕ → List Fate → List Item → List ℕ
 lost_from side n (Lost ∷ fates) (Sent sender message ∷ items) =
     cond (is_side side sender) (n ∷ lost_from side (n + 1) fates items) (lost_from side (n + 1) fates items)
 lost_from side n (_ ∷ fates) (_ ∷ items) = lost_from side (n + 1) fates items
 lost_from side n _ _ = []
 
--- a send, a delivery, an expiry or a quiet mark
+-- The event is a sending, a delivery, an expiry or a quiet mark.
 abbrev pub IsPlain : Event → Type 0
 IsPlain (Replies side number) = ⊥
 IsPlain (Loses side number) = ⊥
@@ -150,7 +156,7 @@ IsPlain (Closes side name) = ⊥
 IsPlain (Tells side message) = ⊥
 IsPlain _ = Unit {0}
 
--- From a gap on, the events are gap by gap what the certificate says, with the items that are still to be sent between.
+-- From this gap on, the events are those of each gap and the sendings of the remaining items, in turn.
 abbrev pub FollowsFrom : Certificate → List Item → ℕ → List Item → List Event → Type 0
 FollowsFrom certificate items gap [] events = map Some events ≡ gap_events certificate items gap
 FollowsFrom certificate items gap (item ∷ more) events =
@@ -161,15 +167,16 @@ FollowsFrom certificate items gap (item ∷ more) events =
     × (events ≡ here ++ implied ++ sends ∷ rest)
     × FollowsFrom certificate items (gap + 1) more rest
 
--- A message is delivered in a gap behind its entry, which may be the last gap, or taken by an entry behind it.
+-- Each fate is in range: a message is delivered in a gap after its entry, up to the last gap, or taken by a later
+-- entry.
 abbrev pub FatesFit : ℕ → ℕ → List Fate → Type 0
 FatesFit count n [] = Unit {0}
 FatesFit count n (Gap g ∷ fates) = (n < g) × (g ≤ count) × FatesFit count (n + 1) fates
 FatesFit count n (By k ∷ fates) = (n < k) × (k < count) × FatesFit count (n + 1) fates
 FatesFit count n (Lost ∷ fates) = FatesFit count (n + 1) fates
 
--- The events are what the certificate describes for these items. Losses stand anywhere. Whether they are a run, and one
--- that sends these items, `IsRunOf` says.
+-- The certificate describes these events for these items. Losses may appear anywhere. Whether the events are a run, and
+-- whether it sends these items, is the question of `IsRunOf`.
 pub record Follows (certificate : Certificate) (items : List Item) (events : List Event) : Type 0 where
   pub counted : length certificate.fates ≡ length items
   pub fates : FatesFit (length items) 0 certificate.fates

@@ -23,19 +23,22 @@ pub record Worked : Type 0 where
   pub certificate : Certificate
   pub events : List Event
 
--- It is a run of so many steps of two ends that sends the items, and the certificate describes it.
+-- The events are a run of this many steps that sends the items, both ends keep the rules, and the certificate describes
+-- the run.
 abbrev pub IsWorkedBy : Table → Worked → ℕ → Type 0
 IsWorkedBy table w moves =
     IsRunOf w.items table w.events × BothKeepRules w.events × (length w.events ≡ moves)
     × Follows w.certificate w.items w.events
 
+-- a worked run by the operation table `table`
 abbrev pub IsWorked : Worked → ℕ → Type 0
 IsWorked = IsWorkedBy table
 
+-- a certificate with these fates, and without expiries or closings
 abbrev pub by_fates : List Fate → Certificate
 by_fates fates = record { fates = fates; expire = []; close = [] }
 
--- nothing was sent
+-- no entries
 abbrev pub empty_record : Worked
 empty_record = record { items = []; certificate = by_fates []; events = [] }
 
@@ -47,7 +50,7 @@ two_entries = record {
   events = Sends A (begin None (Some (invoke 45 ∷ []))) ∷ Receives B 0 ∷ Sends B (end_to 1 (Some (result ∷ []))) ∷ Receives A 1 ∷ [];
 }
 
--- a dialogue: asked for by a Begin, accepted by a Continue, ended by an End
+-- a dialogue: a Begin requests it, a Continue accepts it, an End ends it
 abbrev pub three_entries : Worked
 three_entries = record {
   items = dialogue_items;
@@ -56,7 +59,7 @@ three_entries = record {
       ∷ Sends A (end_to 2 None) ∷ Receives B 2 ∷ [];
 }
 
--- A's End and B's Continue cross: A's provider answers the Continue by an Abort with cause 1.
+-- A's End and B's Continue cross, and A's provider answers the Continue with an Abort of cause 1
 abbrev pub crossing : Worked
 crossing = record {
   items = crossing_items;
@@ -65,7 +68,7 @@ crossing = record {
       ∷ Sends B (answer None None) ∷ Receives B 2 ∷ Replies A 3 ∷ Receives B 4 ∷ [];
 }
 
--- A's invocation ends by its timer before the result comes, so A rejects the result.
+-- A's invocation expires before its result comes, so A rejects the result
 abbrev pub late_reject : Worked
 late_reject = record {
   items = Sent A (begin None (Some (invoke 45 ∷ []))) ∷ Sent B (answer None (Some (result ∷ [])))
@@ -75,7 +78,8 @@ late_reject = record {
       ∷ Expires A (Own (id 1)) (pos 1) ∷ Receives A 1 ∷ Sends A (end_to 2 (Some (rejects_result 0 ∷ []))) ∷ Receives B 2 ∷ [];
 }
 
--- B's result comes late: A's invocation has ended, its ID was used again, for an operation that reports no success, and A rejects the result.
+-- B's result comes late: A's invocation has ended, and A uses its ID again for an operation that reports no success, so
+-- A rejects the result
 abbrev pub delayed : Worked
 delayed = record {
   items = Sent A (begin None (Some (invoke 45 ∷ []))) ∷ Sent B (answer None None) ∷ Sent B (answer None (Some (result ∷ [])))
@@ -86,7 +90,7 @@ delayed = record {
       ∷ Receives B 3 ∷ Sends A (further (rejects_result 1)) ∷ Receives B 4 ∷ [];
 }
 
--- A's half closes unseen: its provider answers B's Continue by an Abort with cause 1.
+-- A's half closes, and A's provider answers B's Continue with an Abort of cause 1
 abbrev pub closed_half : Worked
 closed_half = record {
   items = Sent A (begin None None) ∷ Sent B (answer None None) ∷ Sent A (provider_abort (id 2) 1) ∷ [];
@@ -94,7 +98,7 @@ closed_half = record {
   events = Sends A (begin None None) ∷ Receives B 0 ∷ Sends B (answer None None) ∷ Closes A (Own (id 1)) ∷ Replies A 1 ∷ Receives B 2 ∷ [];
 }
 
--- B's provider answers A's Begin by an Abort with cause 4.
+-- B's provider answers A's Begin with an Abort of cause 4
 abbrev pub refused_begin : Worked
 refused_begin = record {
   items = Sent A (begin None (Some (invoke 45 ∷ []))) ∷ Sent B (provider_abort (id 1) 4) ∷ [];
@@ -102,6 +106,7 @@ refused_begin = record {
   events = Sends A (begin None (Some (invoke 45 ∷ []))) ∷ Replies B 0 ∷ Receives A 1 ∷ [];
 }
 
+-- a Begin that is lost
 abbrev pub lost_begin : Worked
 lost_begin = record {
   items = Sent A (begin None (Some (invoke 45 ∷ []))) ∷ [];
@@ -109,7 +114,7 @@ lost_begin = record {
   events = Sends A (begin None (Some (invoke 45 ∷ []))) ∷ Loses A 0 ∷ [];
 }
 
--- Behind a quiet mark a transaction ID is used again, as A's own and as B's peer's.
+-- after a quiet mark, A uses its transaction ID again
 abbrev pub over_a_mark : Worked
 over_a_mark = record {
   items = over_a_mark_items;
@@ -118,7 +123,7 @@ over_a_mark = record {
       ∷ Sends A (begin None (Some (invoke 45 ∷ []))) ∷ Receives B 3 ∷ Sends B (end_to 1 (Some (result ∷ []))) ∷ Receives A 4 ∷ [];
 }
 
--- Behind it both are, A's own and B's.
+-- after a quiet mark, both ends use their transaction IDs again
 abbrev pub both_again : Worked
 both_again = record {
   items = Sent A (begin None None) ∷ Sent B (answer None None) ∷ Sent A (end_to 2 None) ∷ Item.Quiet
@@ -129,7 +134,7 @@ both_again = record {
       ∷ Receives B 6 ∷ [];
 }
 
--- Two messages are on their way, and both come.
+-- two messages are in transit at once, and both are delivered
 abbrev pub in_a_row : Worked
 in_a_row = record {
   items = Sent A (begin None None) ∷ Sent A (Begin (id 3) None None) ∷ [];
@@ -137,7 +142,7 @@ in_a_row = record {
   events = Sends A (begin None None) ∷ Sends A (Begin (id 3) None None) ∷ Receives B 0 ∷ Receives B 1 ∷ [];
 }
 
--- B's End invokes an ID again: an expiry in the half with that peer is implied.
+-- B's End invokes an ID again, which implies an expiry in the half with this peer ID
 abbrev pub end_implies : Worked
 end_implies = record {
   items = Sent A (begin None None) ∷ Sent B (answer None (Some (invoke 45 ∷ []))) ∷ Sent B (end_to 1 (Some (invoke 45 ∷ []))) ∷ [];
@@ -146,7 +151,8 @@ end_implies = record {
       ∷ Expires B (Peer (id 1)) (pos 1) ∷ Sends B (end_to 1 (Some (invoke 45 ∷ []))) ∷ Receives A 2 ∷ [];
 }
 
--- Both ends close by prearrangement, A's half by its own ID, B's by its peer's. A Unidirectional is sent between.
+-- Both ends close by prearranged end: A's half by its own ID, B's half by its peer's ID. A Unidirectional is sent
+-- before.
 abbrev pub both_close : Worked
 both_close = record {
   items = Sent A (begin None None) ∷ Sent B (answer None None) ∷ Sent B (Unidirectional None (invoke 48 ∷ [])) ∷ Item.Quiet ∷ [];
@@ -157,7 +163,8 @@ both_close = record {
       ∷ Sends B (Unidirectional None (invoke 48 ∷ [])) ∷ Closes A (Own (id 1)) ∷ Closes B (Peer (id 1)) ∷ Receives A 2 ∷ Quiet ∷ [];
 }
 
--- A's Continue invokes an ID again, and the run calls the half in which the earlier invocation ends by its peer's ID.
+-- A's Continue invokes an ID again, and the run names the half in which the earlier invocation expires by its peer's
+-- ID.
 abbrev pub by_the_other_name : Worked
 by_the_other_name = record {
   items = Sent A (begin None (Some (invoke 45 ∷ []))) ∷ Sent B (answer None None) ∷ Sent A (further (invoke 45)) ∷ [];
@@ -166,25 +173,26 @@ by_the_other_name = record {
       ∷ Expires A (Peer (id 2)) (pos 1) ∷ Sends A (further (invoke 45)) ∷ Receives B 2 ∷ [];
 }
 
--- It is a run of so many steps, and the certificate describes it, by other names.
+-- The events are a run of this many steps that sends the items, and the certificate describes it up to the names of
+-- halves.
 abbrev pub IsDescribedRun : Worked → ℕ → Type 0
 IsDescribedRun w moves =
     IsRunOf w.items table w.events × (length w.events ≡ moves) × IsDescribedBy table w.certificate w.items w.events
 
 -- ---- an end that keeps the rules, and one that does not
 
--- A run in which this end keeps the rules sends the items, whatever the other sends.
+-- A run that sends the items, in which this end keeps the rules and its peer may do anything.
 pub record OneSided : Type 0 where
   pub side : Side
   pub items : List Item
   pub events : List Event
 
--- So that end may have sent its part.
+-- The events are such a run, so this end may have sent its part.
 abbrev pub IsWorkedFor : Table → OneSided → Type 0
 IsWorkedFor table w = IsRunOf w.items table w.events × KeepsRules w.side w.events × IsLawfulFor w.side w.items table
 
--- B tells a Begin, an End and then a Continue, which it may not. A's half has closed by the End: its provider answers
--- the Continue by an Abort with cause 1.
+-- B sends a Begin, an End and then, against the rules, a Continue. The End closes A's half, so A's provider answers the
+-- Continue with an Abort of cause 1.
 abbrev pub continues_behind_its_end : OneSided
 continues_behind_its_end = record {
   side = A;
@@ -194,7 +202,7 @@ continues_behind_its_end = record {
       ∷ Tells B (Continue (id 1) (id 2) None None) ∷ Replies A 3 ∷ [];
 }
 
--- The same, but that A goes on as if the End had not come: it was lost.
+-- B sends the messages of `continues_behind_its_end`, but its End is lost, and A goes on.
 abbrev pub end_is_not_heard : OneSided
 end_is_not_heard = record {
   side = A;

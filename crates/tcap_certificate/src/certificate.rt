@@ -1,4 +1,4 @@
-//! Certificates: what became of each message of a record, and what happened unseen.
+//! Certificates: what became of each message of a record, and which invocations expired and halves closed.
 
 ghost use Rattle.std.specs.Prelude.{◌≡◌, ◌↔◌, Some, None, IsTrue};
 ghost use Rattle.std.specs.List.{AllByRecursion};
@@ -12,48 +12,48 @@ use tcap_record::End;
 /// The greatest number in a certificate.
 pub const NUMBER_LIMIT: u32 = 100_000;
 
-/// The greatest count of fates.
+/// The greatest number of fates in a certificate.
 pub const FATES_LIMIT: usize = 100_000;
 
-/// What became of an entry. Entries are counted from 0. Gap 0 is before the first entry, gap g between the entries
-/// g - 1 and g, the last gap behind the last entry.
+/// The fate of an entry. Entries are counted from 0. Gap 0 is before the first entry, gap g is between entries g - 1
+/// and g, and the last gap is after the last entry.
 #[derive(Clone, Copy, Debug, PartialEq, Eq)]
 pub enum Fate {
-    /// The message was delivered in that gap. A quiet mark has the next gap as its fate.
+    /// The message was delivered in this gap. The fate of a quiet mark is the next gap.
     Gap(u32),
     /// The message was lost.
     Lost,
-    /// The message was taken by the provider's reply that is that entry.
+    /// The provider's reply in this entry answered the message.
     By(u32),
 }
 
-/// An own invocation of an end ended unseen: the one that then had the ID of a component of an entry, an Invoke, in the half
-/// of that entry. The entry is a Begin or a Continue of that end.
+/// The expiry of an own invocation of an end, without a message. An Invoke in an entry, which is a Begin or a Continue
+/// of this end, identifies the invocation: it is the one with this invoke ID in the same half at that time.
 #[derive(Clone, Copy, Debug, PartialEq, Eq)]
 pub struct Expiry {
-    /// The gap in which it ended.
+    /// The gap in which the invocation expired.
     pub gap: u32,
     /// The place of the Invoke among the entry's components, from 0.
     pub component: u32,
-    /// The end whose invocation it was.
+    /// The end that invoked the operation.
     pub side: End,
     /// The number of the entry.
     pub entry: u32,
 }
 
-/// An end's half of a transaction closed unseen.
+/// The closing of a half of an end, without a message.
 #[derive(Clone, Copy, Debug, PartialEq, Eq)]
 pub struct Closing {
-    /// The gap in which it closed.
+    /// The gap in which the half closed.
     pub gap: u32,
-    /// The end whose half it was.
+    /// The end that closed its half.
     pub side: End,
     /// The number of the Begin that began the transaction.
     pub entry: u32,
 }
 
-/// What became of each entry of a record, and what happened unseen: an untrusted claim, which is replayed. Its numbers
-/// are at most 100,000, and it has at most 100,000 fates.
+/// An untrusted claim that says what became of each entry of a record, and which invocations expired and halves closed.
+/// A replay checks it. Its numbers are at most 100,000, and it has at most 100,000 fates.
 #[derive(Debug, Drop)]
 pub struct Certificate {
     fates: Vec<Fate>,
@@ -73,7 +73,7 @@ impl Model for Certificate {
         (record { fates = c.fates.items; expire = c.expire.items; close = c.close.items }) };
 }
 
-/// Whether the number of a fate is within the limit.
+/// Returns whether the number of a fate is within the limit.
 fn fate_fits(fate: &Fate) -> bool
     ensures { IsTrue result ↔ FateFits fate.now }
 {
@@ -84,35 +84,35 @@ fn fate_fits(fate: &Fate) -> bool
     }
 }
 
-/// Whether the numbers of an expiry are within the limit.
+/// Returns whether the numbers of an expiry are within the limit.
 fn expiry_fits(x: &Expiry) -> bool
     ensures { IsTrue result ↔ ExpiryFits x.now }
 {
     x.gap <= NUMBER_LIMIT && x.component <= NUMBER_LIMIT && x.entry <= NUMBER_LIMIT
 }
 
-/// Whether the numbers of a closing are within the limit.
+/// Returns whether the numbers of a closing are within the limit.
 fn closing_fits(x: &Closing) -> bool
     ensures { IsTrue result ↔ ClosingFits x.now }
 {
     x.gap <= NUMBER_LIMIT && x.entry <= NUMBER_LIMIT
 }
 
-/// Whether all fates fit.
+/// Returns whether all fates are within the limit.
 fn fates_fit(fates: &[Fate]) -> bool
     ensures { IsTrue result ↔ AllByRecursion FateFits fates.now }
 {
     fates.iter().all(fate_fits)
 }
 
-/// Whether all expiries fit.
+/// Returns whether all expiries are within the limit.
 fn expiries_fit(expire: &[Expiry]) -> bool
     ensures { IsTrue result ↔ AllByRecursion ExpiryFits expire.now }
 {
     expire.iter().all(expiry_fits)
 }
 
-/// Whether all closings fit.
+/// Returns whether all closings are within the limit.
 fn closings_fit(close: &[Closing]) -> bool
     ensures { IsTrue result ↔ AllByRecursion ClosingFits close.now }
 {
@@ -120,8 +120,8 @@ fn closings_fit(close: &[Closing]) -> bool
 }
 
 impl Certificate {
-    /// The certificate of these fates, one for each entry, and of what is listed. `None` exactly where a number is
-    /// over 100,000 or there are over 100,000 fates.
+    /// Creates a certificate of these fates, one for each entry, expiries and closings. Returns `None` if and only if a
+    /// number is over 100,000 or there are over 100,000 fates.
     pub fn new(fates: Vec<Fate>, expire: Vec<Expiry>, close: Vec<Closing>) -> Option<Certificate>
         ensures made { (c : Meant) → result ≡ Some c
             → (c ≡ record { fates = fates.items; expire = expire.items; close = close.items }) × IsInLimits c }
@@ -140,7 +140,7 @@ impl Certificate {
         }
     }
 
-    /// The certificate of these, which are within those limits.
+    /// Creates a certificate of these parts, which have to be within the limits.
     pub fn of_parts(fates: Vec<Fate>, expire: Vec<Expiry>, close: Vec<Closing>) -> Certificate
         requires { IsInLimits (record { fates = fates.items; expire = expire.items; close = close.items }) }
         ensures { result ≡ record { fates = fates.items; expire = expire.items; close = close.items } }
@@ -152,7 +152,7 @@ impl Certificate {
         }
     }
 
-    /// The fates, one for each entry.
+    /// Returns the fates, one for each entry.
     pub fn fates(&self) -> &[Fate]
         ensures lends { result.now ≡ self.now.fates }
         ensures limits { IsInLimits self.now }
@@ -160,14 +160,14 @@ impl Certificate {
         &self.fates
     }
 
-    /// The listed expiries, in their order.
+    /// Returns the expiries, in the listed order.
     pub fn expiries(&self) -> &[Expiry]
         ensures { result.now ≡ self.now.expire }
     {
         &self.expire
     }
 
-    /// The listed closings, in their order.
+    /// Returns the closings, in the listed order.
     pub fn closings(&self) -> &[Closing]
         ensures { result.now ≡ self.now.close }
     {

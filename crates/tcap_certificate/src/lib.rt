@@ -1,5 +1,5 @@
-//! Certificates, which say what became of each message of a record, and what they give, for both ends or for one, by definitions and
-//! worked runs (Q.774 3.2 and 3.3).
+//! Certificates, which say what became of each message of a record (Q.774 3.2 and 3.3). Definitions and worked runs
+//! show which run a certificate gives for both ends or for one.
 #![tactic(auto)]
 
 pub mod alone_worked;

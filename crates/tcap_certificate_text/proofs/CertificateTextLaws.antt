@@ -21,38 +21,38 @@ use Rattle.tcap_certificate.specs.Certificate.{IsInLimits, fates_limit, ClosingF
 
 -- ---- what is written is read again
 
--- a number within the limit is read again
+-- a number within the limit
 number_again : (n : ℕ) → n ≤ 100000 → number_in (number_data n) ≡ Some n
 number_again n h = rw (le-leb _ _ h) refl
 
--- an end is read again
+-- an end
 side_again : (side : Side) → side_in (side_data side) ≡ Some side
 side_again A = refl
 side_again B = refl
 
--- a fate within the limit is read again
+-- a fate within the limit
 fate_again : (fate : Fate) → FateFits fate → fate_in (fate_data fate) ≡ Some fate
 fate_again (Gap gap) h = rw (number_again gap h) refl
 fate_again Lost h = refl
 fate_again (By reply) h = rw (number_again reply h) refl
 
--- a closing within the limits is read again
+-- a closing within the limits
 closing_again : (x : Closing) → ClosingFits x → closing_in (closing_data x) ≡ Some x
 closing_again x h = rw (number_again x.gap h.0, side_again x.side, number_again x.entry h.1) refl
 
--- an expiry within the limits is read again
+-- an expiry within the limits
 expiry_again : (x : Expiry) → ExpiryFits x → expiry_in (expiry_data x) ≡ Some x
 expiry_again x h =
     rw (number_again x.gap h.0, number_again x.component h.1, side_again x.side, number_again x.entry h.2) refl
 
--- a list is read again, where each of its items is
+-- a list whose items are read again
 each_again : {A : Type 0} (P : A → Type 0) (one : Data → Option A) (back : A → Data)
     → ((x : A) → P x → one (back x) ≡ Some x) → (xs : List A) → AllByRecursion P xs
     → each_in one (items_of (map back xs)) ≡ Some xs
 each_again P one back again [] h = refl
 each_again P one back again (x ∷ xs) h = rw (again x h.0, each_again P one back again xs h.1) refl
 
--- What is written for a certificate within the limits says that certificate.
+-- The data written for a certificate within the limits represents it.
 pub certificate_again : (c : Certificate) → IsInLimits c → certificate_in (certificate_data c) ≡ Some c
 certificate_again c h =
     rw (
@@ -64,7 +64,7 @@ certificate_again c h =
 
 -- ---- what is read is within the limits
 
--- a whole number that is read is within the limit
+-- a whole number
 number_by_fits : (z : ℤ) (n : ℕ) → number_by z ≡ Some n → n ≤ number_limit
 number_by_fits (negsuc m) n e = absurd cc
 number_by_fits (pos m) n e = by (nat_le m number_limit) refl e
@@ -73,7 +73,7 @@ number_by_fits (pos m) n e = by (nat_le m number_limit) refl e
     by false f g = absurd cc
     by true f g = subst (λ k. k ≤ number_limit) (same_Some _ _ g) (leb-true _ _ f)
 
--- data that is read as a number is a number within the limit
+-- a number of data
 number_in_fits : (d : Data) (n : ℕ) → number_in d ≡ Some n → n ≤ number_limit
 number_in_fits d n e = by (whole_in d) e
   where
@@ -81,7 +81,7 @@ number_in_fits d n e = by (whole_in d) e
     by None f = absurd cc
     by (Some z) f = number_by_fits z n f
 
--- the number at a key is within the limit
+-- the number at a key
 number_at_fits : (key : List ℕ) (members : Members) (n : ℕ) → number_at key members ≡ Some n → n ≤ number_limit
 number_at_fits key members n e = by (get_member key members) e
   where
@@ -89,13 +89,13 @@ number_at_fits key members n e = by (get_member key members) e
     by None f = absurd cc
     by (Some d) f = number_in_fits d n f
 
--- a number that is read fits the fate that it is made
+-- a fate with such a number
 some_fits : (make : ℕ → Fate) → ((n : ℕ) → n ≤ number_limit → FateFits (make n)) → (o : Option ℕ)
     → ((n : ℕ) → o ≡ Some n → n ≤ number_limit) → (fate : Fate) → option_map make o ≡ Some fate → FateFits fate
 some_fits make fits None small fate e = absurd cc
 some_fits make fits (Some n) small fate e = subst FateFits (same_Some _ _ e) (fits n (small n refl))
 
--- a fate that is read is within the limit
+-- a fate
 fate_fits : (d : Data) (fate : Fate) → fate_in d ≡ Some fate → FateFits fate
 fate_fits null fate e = some_fits Gap (λ n h. h) (number_in null) (number_in_fits null) fate e
 fate_fits (boolean b) fate e = some_fits Gap (λ n h. h) (number_in (boolean b)) (number_in_fits (boolean b)) fate e
@@ -122,7 +122,7 @@ closing_by_fits None side entry x g h e = absurd cc
 closing_by_fits (Some gap) None entry x g h e = absurd cc
 closing_by_fits (Some gap) (Some side) None x g h e = absurd cc
 
--- a closing that is read is within the limits
+-- a closing
 closing_fits : (d : Data) (x : Closing) → closing_in d ≡ Some x → ClosingFits x
 closing_fits null x e = absurd cc
 closing_fits (boolean b) x e = absurd cc
@@ -147,7 +147,7 @@ expiry_by_fits (Some gap) None side entry x g h i e = absurd cc
 expiry_by_fits (Some gap) (Some component) None entry x g h i e = absurd cc
 expiry_by_fits (Some gap) (Some component) (Some side) None x g h i e = absurd cc
 
--- an expiry that is read is within the limits
+-- an expiry
 expiry_fits : (d : Data) (x : Expiry) → expiry_in d ≡ Some x → ExpiryFits x
 expiry_fits null x e = absurd cc
 expiry_fits (boolean b) x e = absurd cc
@@ -164,7 +164,7 @@ expiry_fits (object members) x e =
     by false f = absurd cc
 
 module _ {A : Type 0} (P : A → Type 0) (one : Data → Option A) (fits : (d : Data) (x : A) → one d ≡ Some x → P x) where
-  -- each part of a list fits, where each that is read does
+  -- a list whose items are within the limits
   each_fits : (ds : Items) (xs : List A) → each_in one ds ≡ Some xs → AllByRecursion P xs
   each_fits no_items xs e = subst (AllByRecursion P) (same_Some _ _ e) tt
   each_fits (item d ds) xs e = by (one d) (each_in one ds) refl (each_fits ds) e
@@ -175,7 +175,7 @@ module _ {A : Type 0} (P : A → Type 0) (one : Data → Option A) (fits : (d : 
       by (Some x) None f g h = absurd cc
       by (Some x) (Some rest) f g h = subst (AllByRecursion P) (same_Some _ _ h) (fits d x f, g rest refl)
 
-  -- the same, for data that is a list
+  -- data that is such a list
   list_fits : (d : Data) (xs : List A) → list_in one d ≡ Some xs → AllByRecursion P xs
   list_fits null xs e = absurd cc
   list_fits (boolean b) xs e = absurd cc
@@ -184,7 +184,7 @@ module _ {A : Type 0} (P : A → Type 0) (one : Data → Option A) (fits : (d : 
   list_fits (object ms) xs e = absurd cc
   list_fits (array ds) xs e = each_fits ds xs e
 
-  -- the same, for the list at a key
+  -- the list at a key
   list_at_fits : (key : List ℕ) (members : Members) (xs : List A) → list_at one key members ≡ Some xs
       → AllByRecursion P xs
   list_at_fits key members xs e = by (get_member key members) e
@@ -193,7 +193,7 @@ module _ {A : Type 0} (P : A → Type 0) (one : Data → Option A) (fits : (d : 
       by None f = absurd cc
       by (Some d) f = list_fits d xs f
 
--- The parts that are read at the keys of a certificate are within the limits.
+-- The lists of a certificate are within the limits.
 pub lists_fit : (members : Members) (close : List Closing) (expire : List Expiry) (fates : List Fate)
     → list_at closing_in (codes "close") members ≡ Some close
     → list_at expiry_in (codes "expire") members ≡ Some expire
@@ -206,7 +206,7 @@ lists_fit members close expire fates e f g h = record {
   expiries = list_at_fits ExpiryFits expiry_in expiry_fits (codes "expire") members expire f;
 }
 
--- a certificate of lists within the limits
+-- a certificate of such lists
 certificate_by_fits : (members : Members) (close : Option (List Closing)) (expire : Option (List Expiry))
     (fates : Option (List Fate)) (c : Certificate)
     → list_at closing_in (codes "close") members ≡ close
@@ -226,7 +226,7 @@ certificate_by_fits members (Some close) (Some expire) (Some fates) c e f g h =
     by false i j = absurd cc
     by true i j = subst IsInLimits (same_Some _ _ j) (lists_fit members close expire fates e f g (leb-true _ _ i))
 
--- What data says is within the limits.
+-- A certificate that data represents is within the limits.
 pub certificate_fits : (d : Data) (c : Certificate) → certificate_in d ≡ Some c → IsInLimits c
 certificate_fits null c e = absurd cc
 certificate_fits (boolean b) c e = absurd cc
@@ -242,26 +242,26 @@ certificate_fits (object members) c e =
     by true f = certificate_by_fits members _ _ _ c refl refl refl f
     by false f = absurd cc
 
--- ---- what is written has no float, and is not deep
+-- ---- what is written has no float, and is shallow
 
--- a list has no float, where no item has one
+-- a list whose items have no float
 items_plain : {A : Type 0} (back : A → Data) → ((x : A) → has_float (back x) ≡ false) → (xs : List A)
     → items_have_float (items_of (map back xs)) ≡ false
 items_plain back plain [] = refl
 items_plain back plain (x ∷ xs) = rw (plain x, items_plain back plain xs) refl
 
--- a fate's data has no float
+-- the data of a fate
 fate_plain : (fate : Fate) → has_float (fate_data fate) ≡ false
 fate_plain (Gap gap) = refl
 fate_plain Lost = refl
 fate_plain (By reply) = refl
 
--- an end's data has no float
+-- the data of an end
 side_plain : (side : Side) → has_float (side_data side) ≡ false
 side_plain A = refl
 side_plain B = refl
 
--- What is written for a certificate has no float.
+-- The data of a certificate has no float.
 pub certificate_plain : (c : Certificate) → has_float (certificate_data c) ≡ false
 certificate_plain c =
     rw (
@@ -270,24 +270,24 @@ certificate_plain c =
       items_plain fate_data fate_plain c.fates,
     ) refl
 
--- items are no deeper than 1, where none of them is
+-- a list whose items have depth 1 at most
 items_shallow : {A : Type 0} (back : A → Data) → ((x : A) → depth (back x) ≤ 1) → (xs : List A)
     → items_depth (items_of (map back xs)) ≤ 1
 items_shallow back shallow [] = omega arith
 items_shallow back shallow (x ∷ xs) = omega (arith, shallow x, items_shallow back shallow xs)
 
--- a fate's data is no deeper than 1
+-- the data of a fate has depth 1 at most
 fate_shallow : (fate : Fate) → depth (fate_data fate) ≤ 1
 fate_shallow (Gap gap) = omega arith
 fate_shallow Lost = omega arith
 fate_shallow (By reply) = omega arith
 
--- an end's data has no depth
+-- the data of an end has depth 0
 side_shallow : (side : Side) → depth (side_data side) ≡ 0
 side_shallow A = refl
 side_shallow B = refl
 
--- What is written for a certificate is not deep.
+-- The data of a certificate is shallow.
 pub certificate_shallow : (c : Certificate) → depth (certificate_data c) ≤ 127
 certificate_shallow c =
     omega (
@@ -297,14 +297,14 @@ certificate_shallow c =
       items_shallow fate_data fate_shallow c.fates,
     )
 
--- The text of a value that is that of a certificate.
+-- the text of a certificate's data
 pub text_written : {E : Type 0} (d : Data) (c : Certificate) (r : Result (String Global) E) → d ≡ certificate_data c
     → IfOk r (λ s. has_float d ≡ false → string_bytes s ≡ compact_text d)
     → IfOk r (λ s. string_bytes s ≡ compact_text (certificate_data c))
 text_written d c (Err e) is text = tt
 text_written d c (Ok s) is text = text (ap has_float is ∙ certificate_plain c) ∙ ap compact_text is
 
--- The text of a value that is that of a certificate within the limits says that certificate.
+-- The text of the data of a certificate within the limits represents it.
 pub text_read : {E : Type 0} (d : Data) (c : Certificate) (r : Result (String Global) E) → d ≡ certificate_data c
     → IsInLimits c → IfOk r (λ s. depth d ≤ 127 → read (string_bytes s) ≡ Some d)
     → IfOk r (λ s. IsCertificateText (string_bytes s) c)

@@ -1,4 +1,4 @@
--- Data whose text is read again as that data.
+-- Data that is read again from its text.
 use Rattle.std.proofs.Common.{◌≡◌, ◌≤◌, ◌<◌, ◌^◌, ℕ, suc, Bool, true, false, List, [], ◌∷◌, ◌++◌, codes, map, Some, option_map, option_and_then, IsUtf8, decimal, refl, ap, sym, ◌∙◌, arith, append-nil}
 use Rattle.std.proofs.lemmas.Str.{IsUtf8-append, IsUtf8-from_ascii, IsUtf8-nil}
 use Rattle.std.proofs.lemmas.Fmt.{IsAscii-decimal}
@@ -28,7 +28,7 @@ use Rattle.tcap_certificate.specs.Certificate.{IsInLimits, ClosingFits, ExpiryFi
 use Rattle.tcap_certificate_text.proofs.CertificateTextLaws.{certificate_again, certificate_shallow}
 use Rattle.tcap_certificate_text.proofs.BehindLaws.{tokens_behind}
 
--- the outline of data is as deep as the data
+-- the outline of data has its depth
 mutual
   outline_depth : (d : Data) → tree.depth (outline d) ≡ depth d
   outline_depth null = refl
@@ -64,7 +64,7 @@ abbrev mutual
   MembersHaveUtf8 no_members = Unit {0}
   MembersHaveUtf8 (member k d ms) = IsUtf8 k × HasUtf8 d × MembersHaveUtf8 ms
 
--- a comma, where there is one
+-- a comma, if there is one
 comma_utf8 : (later : Bool) → IsUtf8 (comma_if later)
 comma_utf8 true = IsUtf8-are_ascii (44 ∷ []) refl
 comma_utf8 false = IsUtf8-nil
@@ -93,20 +93,20 @@ mutual
       (IsUtf8-append (58 ∷ []) _ (IsUtf8-are_ascii (58 ∷ []) refl)
       (IsUtf8-append (compact_text d) _ (text_utf8 d h.1) (members_utf8 true ms h.2))))
 
--- Data that JSON says by its compact text: its outline is read as it, its numbers are numbers of JSON, and its text is
+-- Data is read again from its compact text: its outline represents it, its numbers are JSON numbers, and its text is
 -- UTF-8.
 record IsWritten (d : Data) : Type 0 where
   back : of_json (outline d) ≡ Some d
   numbers : tree.HasNumbers (outline d)
   utf8 : HasUtf8 d
 
--- the same of items
+-- the same for items
 record AreWritten (ds : Items) : Type 0 where
   back : of_items (items_outline ds) ≡ Some ds
   numbers : tree.ItemsHaveNumbers (items_outline ds)
   utf8 : ItemsHaveUtf8 ds
 
--- The compact text of such data is read as that data, with a gap behind it.
+-- The compact text of such data, with a gap after it, is read as this data.
 written_is_read : (gap : List ℕ) (d : Data) → ends_word gap ≡ true → lex between gap ≡ [] → IsWritten d → depth d ≤ 127
     → read (compact_text d ++ gap) ≡ Some d
 written_is_read gap d ended no_lexeme w shallow =
@@ -131,7 +131,7 @@ number_written n h = record {
 string_written : (s : List ℕ) → IsUtf8 s → IsWritten (string s)
 string_written s h = record { back = refl; numbers = tt; utf8 = h }
 
--- items, each of which is written
+-- items, each of which is read again
 items_written : {A : Type 0} (P : A → Type 0) (one : A → Data) → ((x : A) → P x → IsWritten (one x)) → (xs : List A)
     → AllByRecursion P xs → AreWritten (items_of (map one xs))
 items_written P one each [] h = record { back = refl; numbers = tt; utf8 = tt }
@@ -144,14 +144,14 @@ items_written P one each (x ∷ xs) h =
       utf8 = (first.utf8, rest.utf8);
     }
 
--- a list, each part of which is written
+-- a list whose items are read again
 list_written : {A : Type 0} (P : A → Type 0) (one : A → Data) → ((x : A) → P x → IsWritten (one x)) → (xs : List A)
     → AllByRecursion P xs → IsWritten (list_data one xs)
 list_written P one each xs h =
     let all = items_written P one each xs h in
     record { back = rw all.back refl; numbers = all.numbers; utf8 = all.utf8 }
 
--- ---- what is written for a certificate
+-- ---- certificates
 
 -- a number within the limit
 limit_written : (n : ℕ) → n ≤ number_limit → IsWritten (number_data n)
@@ -236,7 +236,7 @@ certificate_written c h =
       );
     }
 
--- What is written for a certificate says that certificate, with a gap behind it.
+-- The text of a certificate, with a gap after it, represents it.
 pub certificate_said : (gap : List ℕ) (c : Certificate) → ends_word gap ≡ true → lex between gap ≡ [] → IsUtf8 gap
     → IsInLimits c → IsCertificateText (compact_text (certificate_data c) ++ gap) c
 certificate_said gap c ended no_lexeme utf8 h =

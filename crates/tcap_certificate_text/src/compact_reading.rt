@@ -1,4 +1,4 @@
-//! Reading a certificate from the text that is written for one, octet by octet.
+//! Reads a certificate octet by octet from a text in the layout in which certificates are written.
 
 ghost use Rattle.std.specs.Prelude.{◌≡◌, ◌≤◌, ◌<◌, ◌++◌, ◌⊎◌, codes, decimal, IfOk, IfSome, IsTrue};
 ghost use Rattle.std.specs.List.{AllByRecursion};
@@ -14,26 +14,26 @@ use std::alloc::{AllocError, Global};
 use tcap_certificate::{Certificate, Closing, Expiry, FATES_LIMIT, Fate, NUMBER_LIMIT};
 use tcap_record::End;
 
-/// What stands in a list of a certificate, as it is written.
+/// An item of a list of a certificate, in this layout.
 trait Piece: Sized + Drop {
     ghost piece_data: { Self → Data };
 
     ghost piece_fits: { Self → Type 0 };
 
-    /// The part that the octets begin with, and what is behind it.
+    /// Reads an item from the front of the octets, and returns it with the rest.
     fn read(octets: &[u8]) -> Option<(Self, &[u8])>
         ensures text { IfSome result (λ x. octets.now ≡ compact_text (piece_data x.0) ++ x.1.now) }
         ensures fits { IfSome result (λ x. piece_fits x.0) };
 }
 
-/// What is behind a text that the octets begin with.
+/// Returns the octets after a text with which they begin.
 fn behind<'o>(octets: &'o [u8], text: &[u8]) -> Option<&'o [u8]>
     ensures { IfSome result (λ rest. octets.now ≡ text.now ++ rest.now) }
 {
     octets.strip_prefix(text)
 }
 
-/// The number whose digits are those of a number above 0 and the next ones, and what is behind them.
+/// Reads the digits after the first ones, whose number is `first`, and returns the whole number with the rest.
 fn more_digits(first: u32, octets: &[u8]) -> Option<(u32, &[u8])>
     requires { (0 < first) × (first ≤ number_limit) }
     ensures text { IfSome result (λ x. decimal first ++ octets.now ≡ decimal x.0 ++ x.1.now) }
@@ -51,7 +51,7 @@ fn more_digits(first: u32, octets: &[u8]) -> Option<(u32, &[u8])>
     Some((number, left))
 }
 
-/// The number that the octets begin with, in digits without leading noughts, and what is behind it.
+/// Reads a number without leading zeros from the front of the octets, and returns it with the rest.
 fn read_number(octets: &[u8]) -> Option<(u32, &[u8])>
     ensures text { IfSome result (λ x. octets.now ≡ decimal x.0 ++ x.1.now) }
     ensures fits { IfSome result (λ x. x.0 ≤ number_limit) }
@@ -63,7 +63,7 @@ fn read_number(octets: &[u8]) -> Option<(u32, &[u8])>
     }
 }
 
-/// The number behind a text that the octets begin with, and what is behind it.
+/// Reads this text and a number from the front of the octets, and returns the number with the rest.
 fn number_behind<'o>(octets: &'o [u8], text: &[u8]) -> Option<(u32, &'o [u8])>
     ensures text { IfSome result (λ x. octets.now ≡ text.now ++ (decimal x.0 ++ x.1.now)) }
     ensures fits { IfSome result (λ x. x.0 ≤ number_limit) }
@@ -71,7 +71,7 @@ fn number_behind<'o>(octets: &'o [u8], text: &[u8]) -> Option<(u32, &'o [u8])>
     read_number(behind(octets, text)?)
 }
 
-/// The end whose letter the octets begin with, in quotes, and what is behind it.
+/// Reads the letter of an end, in quotes, from the front of the octets, and returns the end with the rest.
 #[tactic(auto, unfolding(json::specs::Print::escape_byte))]
 fn read_side(octets: &[u8]) -> Option<(End, &[u8])>
     ensures { IfSome result (λ x. octets.now ≡ compact_text (side_data x.0) ++ x.1.now) }
@@ -83,7 +83,7 @@ fn read_side(octets: &[u8]) -> Option<(End, &[u8])>
     Some((End::B, rest))
 }
 
-/// The fate that the octets begin with: `"lost"`.
+/// Reads the fate `"lost"` from the front of the octets, and returns it with the rest.
 #[tactic(auto, unfolding(json::specs::Print::escape_byte))]
 fn read_lost(octets: &[u8]) -> Option<(Fate, &[u8])>
     ensures text { IfSome result (λ x. octets.now ≡ compact_text (fate_data x.0) ++ x.1.now) }
@@ -93,7 +93,7 @@ fn read_lost(octets: &[u8]) -> Option<(Fate, &[u8])>
     Some((Fate::Lost, rest))
 }
 
-/// The fate that the octets begin with: `{"by":` and a number.
+/// Reads a fate `{"by":N}` from the front of the octets, and returns it with the rest.
 #[tactic(auto, unfolding(json::specs::Print::escape_byte))]
 fn read_by(octets: &[u8]) -> Option<(Fate, &[u8])>
     ensures text { IfSome result (λ x. octets.now ≡ compact_text (fate_data x.0) ++ x.1.now) }
@@ -158,7 +158,7 @@ impl Piece for Expiry {
     }
 }
 
-/// The list of parts that the octets begin with, and what is behind it.
+/// Reads a list of items from the front of the octets, and returns it with the rest. Fails if memory runs out.
 fn read_list<T: Piece>(alloc: Global, octets: &[u8]) -> Result<Option<(Vec<T>, &[u8])>, AllocError>
     ensures text { IfOk result (λ found. IfSome found
         (λ x. octets.now ≡ compact_text (list_data T.piece_data x.0.items) ++ x.1.now)) }
@@ -184,7 +184,8 @@ fn read_list<T: Piece>(alloc: Global, octets: &[u8]) -> Result<Option<(Vec<T>, &
     }
 }
 
-/// The list behind a text that the octets begin with, and what is behind it.
+/// Reads this text and a list of items from the front of the octets, and returns the list with the rest. Fails if
+/// memory runs out.
 fn list_behind<'o, T: Piece>(
     alloc: Global,
     octets: &'o [u8],
@@ -200,15 +201,15 @@ fn list_behind<'o, T: Piece>(
     }
 }
 
-/// Whether the octets are what is behind the lists, perhaps with a line feed.
+/// Returns whether the octets are the end of a certificate, with or without a line feed.
 fn is_end(octets: &[u8]) -> bool
     ensures { IsTrue result → (octets.now ≡ codes ",\"version\":1}") ⊎ (octets.now ≡ codes ",\"version\":1}\n") }
 {
     octets == b",\"version\":1}".as_slice() || octets == b",\"version\":1}\n".as_slice()
 }
 
-/// The certificate whose text the octets are, as it is written, perhaps with a line feed behind it. `None` where they
-/// are other octets, which may be a text of a certificate too.
+/// Reads a certificate from the layout in which certificates are written, with or without a line feed after it. Returns
+/// `None` for other octets, which may still represent a certificate. Fails if memory runs out.
 pub(crate) fn read_compact(alloc: Global, octets: &[u8]) -> Result<Option<Certificate>, AllocError>
     ensures { IfOk result (λ found. IfSome found (λ c. IsCertificateText octets.now c)) }
 {

@@ -1,4 +1,4 @@
-//! The text of a certificate: read from JSON, and written (RFC 8259).
+//! Reads certificates from JSON, and writes them (RFC 8259).
 #![tactic(auto)]
 
 mod compact_reading;

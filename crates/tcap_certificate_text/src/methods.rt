@@ -1,4 +1,4 @@
-//! The text of a certificate, by methods of the certificate.
+//! Methods of certificates that read and write their text.
 
 ghost use Rattle.std.specs.Prelude.{◌≡◌, ◌≢◌, Ok, Err, IfOk, string_bytes};
 ghost use Rattle.serde_json.specs.Written.{compact_text};
@@ -12,12 +12,20 @@ use crate::text::{from_json, to_json};
 use std::alloc::{AllocError, Global};
 use tcap_certificate::{Certificate, CheckFault};
 
-/// A value that is read from a text of JSON, and written as one.
+/// A value that can be read from a JSON text and written as one.
 pub trait CertificateText: Sized {
-    /// Reads the value that a text is, as [`from_json`](crate::from_json) does.
+    /// Reads a value from a JSON text, as [`from_json`](crate::from_json) does.
+    ///
+    /// # Errors
+    ///
+    /// `CertificateShape` if the text is not a certificate, `Memory` if memory runs out, both with entry 0.
     fn from_json(alloc: Global, octets: &[u8]) -> Result<Self, CheckFault>;
 
-    /// Writes the text of this value, as [`to_json`](crate::to_json) does.
+    /// Writes this value as a JSON text, as [`to_json`](crate::to_json) does.
+    ///
+    /// # Errors
+    ///
+    /// `AllocError` if memory runs out.
     fn to_json(&self, alloc: Global) -> Result<String, AllocError>;
 }
 

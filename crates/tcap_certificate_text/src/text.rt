@@ -1,4 +1,4 @@
-//! Reading a certificate from a text of JSON (RFC 8259), and what is written for one.
+//! Reads a certificate from a JSON text (RFC 8259), and writes one.
 
 ghost use Rattle.std.specs.Prelude.{◌≡◌, ◌≢◌, ◌&&◌, codes, Option, Some, None, Ok, Err, IfOk, map, option_map, string_bytes};
 ghost use Rattle.std.specs.List.{list_any};
@@ -26,29 +26,29 @@ use tcap_certificate::{
 };
 use tcap_record::End;
 
-/// What stands in a list of a certificate.
+/// An item of a list of a certificate.
 trait Part: Sized + Drop {
     ghost part_in: { Data → Option Self };
 
     ghost part_data: { Self → Data };
 
-    /// The part that a value is, where it has its shape.
+    /// Returns the item that a value represents, or `None` if the value has not its shape.
     fn read(value: &Value) -> Option<Self>
         ensures { result ≡ part_in (view value.now) };
 
-    /// The value that is written for it.
+    /// Returns the value written for this item. Fails if memory runs out.
     fn to_value(&self, alloc: Global) -> Result<Value, AllocError>
         ensures { IfOk result (λ v. view v ≡ part_data self.now) };
 }
 
-/// Whether a key is one of these.
+/// Returns whether a key is one of these.
 fn is_one_of(keys: &[&str], key: &str) -> bool
     ensures { result ≡ list_any (bytes_eq key.now) (map (λ k. k.now) keys.now) }
 {
     keys.contains(&key)
 }
 
-/// Whether each key of an object is one of these.
+/// Returns whether an object has no keys but these.
 fn has_only(keys: &[&str], members: &Map<String, Value>) -> bool
     ensures { result ≡ has_only (map (λ k. k.now) keys.now) (members_view members.now.entries) }
 {
@@ -60,7 +60,7 @@ fn has_only(keys: &[&str], members: &Map<String, Value>) -> bool
     true
 }
 
-/// A whole number, from 0 to the limit.
+/// Returns a whole number from 0 to the limit.
 fn number_in(value: &Value) -> Option<u32>
     ensures { result ≡ number_in (view value.now) }
 {
@@ -71,21 +71,21 @@ fn number_in(value: &Value) -> Option<u32>
     Some(number)
 }
 
-/// The value at a key of an object.
+/// Returns the value at a key of an object.
 fn member<'v>(members: &'v Map<String, Value>, key: &str) -> Option<&'v Value>
     ensures { option_map (λ v. view v.now) result ≡ get_member key.now (members_view members.now.entries) }
 {
     members.get(key)
 }
 
-/// The number at a key of an object.
+/// Returns the number at a key of an object.
 fn number_at(members: &Map<String, Value>, key: &str) -> Option<u32>
     ensures { result ≡ number_at key.now (members_view members.now.entries) }
 {
     number_in(member(members, key)?)
 }
 
-/// An end, by its letter.
+/// Returns the end with this letter.
 fn side_in(value: &Value) -> Option<End>
     ensures { result ≡ side_in (view value.now) }
 {
@@ -96,14 +96,14 @@ fn side_in(value: &Value) -> Option<End>
     }
 }
 
-/// The end at a key of an object.
+/// Returns the end at a key of an object.
 fn side_at(members: &Map<String, Value>, key: &str) -> Option<End>
     ensures { result ≡ side_at key.now (members_view members.now.entries) }
 {
     side_in(member(members, key)?)
 }
 
-/// The letter of an end.
+/// Returns the value of an end, its letter. Fails if memory runs out.
 fn side_value(alloc: Global, side: End) -> Result<Value, AllocError>
     ensures { IfOk result (λ v. view v ≡ side_data side) }
 {
@@ -113,7 +113,7 @@ fn side_value(alloc: Global, side: End) -> Result<Value, AllocError>
     }
 }
 
-/// A text as a fate.
+/// Returns the fate of a text, which is `"lost"`.
 fn lost_in(text: &str) -> Option<Fate>
     ensures { result ≡ if_text (codes "lost") Fate.Lost text.now None }
 {
@@ -123,7 +123,7 @@ fn lost_in(text: &str) -> Option<Fate>
     }
 }
 
-/// An object as a fate: the entry that took the message.
+/// Returns the fate of an object, which has the entry that took the message.
 fn by_in(members: &Map<String, Value>) -> Option<Fate>
     ensures { result ≡ fate_in (object (members_view members.now.entries)) }
 {
@@ -155,7 +155,7 @@ impl Part for Fate {
     }
 }
 
-/// An object as a closing.
+/// Returns the closing that an object represents.
 fn closing_of(members: &Map<String, Value>) -> Option<Closing>
     ensures { result ≡ closing_in (object (members_view members.now.entries)) }
 {
@@ -187,7 +187,7 @@ impl Part for Closing {
     }
 }
 
-/// An object as an expiry.
+/// Returns the expiry that an object represents.
 fn expiry_of(members: &Map<String, Value>) -> Option<Expiry>
     ensures { result ≡ expiry_in (object (members_view members.now.entries)) }
 {
@@ -220,7 +220,7 @@ impl Part for Expiry {
     }
 }
 
-/// The parts that the items of a list are.
+/// Returns the items of a list, or `None` if a value represents no item. Fails if memory runs out.
 fn each_in<T: Part>(alloc: Global, items: &[Value]) -> Result<Option<Vec<T>>, AllocError>
     ensures { IfOk result (λ parts. option_map (λ v. v.items) parts ≡ each_in T.part_in (items_view items.now)) }
 {
@@ -234,7 +234,7 @@ fn each_in<T: Part>(alloc: Global, items: &[Value]) -> Result<Option<Vec<T>>, Al
     Ok(Some(found))
 }
 
-/// The parts of the list at a key of an object.
+/// Returns the items of the list at a key of an object. Fails if memory runs out.
 fn list_at<T: Part>(
     alloc: Global,
     key: &str,
@@ -249,7 +249,7 @@ fn list_at<T: Part>(
     each_in(alloc, items)
 }
 
-/// The list that is written for parts.
+/// Returns the list written for these items. Fails if memory runs out.
 fn list_value<T: Part>(alloc: Global, parts: &[T]) -> Result<Value, AllocError>
     ensures { IfOk result (λ v. view v ≡ list_data T.part_data parts.now) }
 {
@@ -260,7 +260,7 @@ fn list_value<T: Part>(alloc: Global, parts: &[T]) -> Result<Value, AllocError>
     Ok(Value::Array(items))
 }
 
-/// The value that is written for a certificate of these parts.
+/// Returns the value written for a certificate with these parts. Fails if memory runs out.
 fn certificate_value(
     alloc: Global,
     fates: &[Fate],
@@ -276,7 +276,7 @@ fn certificate_value(
     json!(in alloc; {"close": close, "expire": expire, "fates": fates, "version": 1u32})
 }
 
-/// Whether an object has the keys of a certificate and its version.
+/// Returns whether an object has only the keys of a certificate, and its version.
 fn is_certificate(members: &Map<String, Value>) -> bool
     ensures { result ≡ (has_only certificate_keys (members_view members.now.entries)
         && is_version (number_at (codes "version") (members_view members.now.entries))) }
@@ -285,7 +285,7 @@ fn is_certificate(members: &Map<String, Value>) -> bool
         && number_at(members, "version") == Some(1)
 }
 
-/// The certificate that a value of JSON is.
+/// Returns the certificate that a JSON value represents. Fails if memory runs out.
 fn certificate_in(alloc: Global, value: &Value) -> Result<Option<Certificate>, AllocError>
     ensures { IfOk result (λ c. c ≡ certificate_in (view value.now)) }
 {
@@ -307,14 +307,14 @@ fn certificate_in(alloc: Global, value: &Value) -> Result<Option<Certificate>, A
     Ok(Some(Certificate::of_parts(fates, expire, close)))
 }
 
-/// A refusal of a text.
+/// Creates a fault with this reason, at entry 0.
 fn refused(reason: Reason) -> CheckFault
     ensures { result ≡ fault_at reason 0 }
 {
     CheckFault { reason, entry: 0 }
 }
 
-/// The certificate that a text of JSON is, however it is laid out.
+/// Reads a certificate from a JSON text in any layout. Fails if the text is not a certificate, or if memory runs out.
 fn read_any(alloc: Global, octets: &[u8]) -> Result<Certificate, CheckFault>
     ensures read { (c : Meant) → result ≡ Ok c → IsCertificateText octets.now c }
     ensures refused { (f : CheckFault) → result ≡ Err f → f ≢ fault_at reasons.Memory 0
@@ -332,8 +332,12 @@ fn read_any(alloc: Global, octets: &[u8]) -> Result<Certificate, CheckFault>
     }
 }
 
-/// The certificate that a text of JSON is; FORMAT.md has its shape. `CertificateShape` where it is none, `Memory` where memory ran
-/// out, both with entry 0. A text that is laid out as it is written makes no tree of values.
+/// Reads a certificate from a JSON text, whose shape is in FORMAT.md. A text in the layout of `to_json` is read without
+/// a tree of values.
+///
+/// # Errors
+///
+/// `CertificateShape` if the text is not a certificate, `Memory` if memory runs out, both with entry 0.
 pub fn from_json(alloc: Global, octets: &[u8]) -> Result<Certificate, CheckFault>
     ensures read { (c : Meant) → result ≡ Ok c → IsCertificateText octets.now c }
     ensures refused { (f : CheckFault) → result ≡ Err f → f ≢ fault_at reasons.Memory 0
@@ -346,7 +350,11 @@ pub fn from_json(alloc: Global, octets: &[u8]) -> Result<Certificate, CheckFault
     }
 }
 
-/// A certificate as a text of JSON, without spaces, its keys in order. Fails where memory ran out.
+/// Writes a certificate as a JSON text without spaces, with its keys in order.
+///
+/// # Errors
+///
+/// `AllocError` if memory runs out.
 pub fn to_json(alloc: Global, certificate: &Certificate) -> Result<String, AllocError>
     ensures text { IfOk result (λ text. string_bytes text ≡ compact_text (certificate_data certificate.now)) }
     ensures read_again { IfOk result (λ text. IsCertificateText (string_bytes text) certificate.now) }

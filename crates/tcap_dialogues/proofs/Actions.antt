@@ -1,4 +1,4 @@
--- What each step of a run is to one end, where it tells nothing.
+-- Each step of a run, as seen by one end that keeps the rules in it.
 use Rattle.std.proofs.Common.{◌≡◌, ℕ, ℤ, Bool, true, false, List, [], ◌∷◌, ◌++◌, Some, Result, Ok, refl}
 use Rattle.std.specs.Prelude.{◌&&◌, option_map}
 use Rattle.std.specs.Result.{result_ok}
@@ -20,7 +20,7 @@ use Rattle.tcap_model.proofs.RunLaws.{closing, delivery, expiry, loss, quiet as 
 use Rattle.tcap_dialogues.proofs.Views.{Acts, Says, Hears, Refuses, Misses, Drops, Shuts, Told, Marked, Stays, seen}
 
 module _ (table : Table) where
-  -- A message is sent,
+  -- a sending
   sends_seen : (side sender : Side) (m : Message) (w next : World) → after table (Sends sender m) w ≡ Some next
       → Acts table side (seen side w) (seen side next)
   sends_seen side sender m w next is = let s = sending table sender m w next is in rw s.next_is (by side sender s.made s.step)
@@ -32,7 +32,7 @@ module _ (table : Table) where
       by sides.B sides.A made step = Told m refl
       by sides.B sides.B made step = Says m made step refl
 
-  -- one is received,
+  -- a delivery
   receives_seen : (side receiver : Side) (number : ℕ) (w next : World) → after table (Receives receiver number) w ≡ Some next
       → Acts table side (seen side w) (seen side next)
   receives_seen side receiver number w next is =
@@ -46,7 +46,7 @@ module _ (table : Table) where
       by sides.B sides.A head more made was step = Stays refl
       by sides.B sides.B head more made was step = Hears head more made was step refl
 
-  -- one is answered by a provider,
+  -- a provider's reply
   replies_seen : (side replier : Side) (number : ℕ) (w next : World) → after table (Replies replier number) w ≡ Some next
       → Acts table side (seen side w) (seen side next)
   replies_seen side replier number w next is =
@@ -60,7 +60,7 @@ module _ (table : Table) where
       by sides.B sides.A head more abort was step = Told abort refl
       by sides.B sides.B head more abort was step = Refuses head more abort was step refl
 
-  -- one is lost,
+  -- a loss
   loses_seen : (side sender : Side) (number : ℕ) (w next : World) → after table (Loses sender number) w ≡ Some next
       → Acts table side (seen side w) (seen side next)
   loses_seen side sender number w next is =
@@ -73,7 +73,7 @@ module _ (table : Table) where
       by sides.B sides.A head more was = Misses head more was refl
       by sides.B sides.B head more was = Stays refl
 
-  -- an invocation ends unseen,
+  -- an expiry
   expires_seen : (side place : Side) (name : HalfName) (id : ℤ) (w next : World) → after table (Expires place name id) w ≡ Some next
       → Acts table side (seen side w) (seen side next)
   expires_seen side place name id w next is =
@@ -86,7 +86,7 @@ module _ (table : Table) where
       by sides.B sides.A made step = Stays refl
       by sides.B sides.B made step = Drops name id made step refl
 
-  -- a half closes unseen,
+  -- a closing
   closes_seen : (side place : Side) (name : HalfName) (w next : World) → after table (Closes place name) w ≡ Some next
       → Acts table side (seen side w) (seen side next)
   closes_seen side place name w next is =
@@ -99,7 +99,7 @@ module _ (table : Table) where
       by sides.B sides.A made step = Stays refl
       by sides.B sides.B made step = Shuts name made step refl
 
-  -- the other end tells a message,
+  -- a message that the other end sends by `Tells`
   tells_seen : (side teller : Side) (m : Message) (w next : World) → after table (Tells teller m) w ≡ Some next
       → is_side side teller ≡ false → Acts table side (seen side w) (seen side next)
   tells_seen side teller m w next is apart = rw (telling table teller m w next is).next_is (by side teller apart)
@@ -110,7 +110,7 @@ module _ (table : Table) where
       by sides.B sides.A apart = Told m refl
       by sides.B sides.B apart = cc
 
-  -- Both ends are quiet at a quiet mark.
+  -- Both ends are empty at a quiet mark.
   both_quiet : (x y : Result End EndFault) (a b : Bool) (sent : List Item) (next : World) → x ≡ (needs a faults.StillOpen >> Ok nothing)
       → y ≡ (needs b faults.StillOpen >> Ok nothing)
       → then_so (result_ok x) (λ p. option_map (λ q. record { a = p; b = q; from_a = []; from_b = []; sent = sent }) (result_ok y)) ≡ Some next
@@ -129,7 +129,7 @@ module _ (table : Table) where
       by [] (m ∷ b) is = cc
       by (m ∷ a) b is = cc
 
-  -- or all is quiet.
+  -- a quiet mark
   quiet_seen : (side : Side) (w next : World) → after table Quiet w ≡ Some next → Acts table side (seen side w) (seen side next)
   quiet_seen side w next is =
       let q = quiet_step table w next is in
@@ -142,7 +142,7 @@ module _ (table : Table) where
       by sides.A from_a from_b a b = Marked from_b a refl
       by sides.B from_a from_b a b = Marked from_a b refl
 
-  -- Each step in which the end tells nothing is one of these to it.
+  -- Each step in which the end keeps the rules is an act for it.
   pub step_acts : (side : Side) (event : Event) (w next : World) → after table event w ≡ Some next → is_told_by side event ≡ false
       → Acts table side (seen side w) (seen side next)
   step_acts side (Sends sender m) w next is untold = sends_seen side sender m w next is

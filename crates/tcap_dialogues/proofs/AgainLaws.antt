@@ -1,4 +1,4 @@
--- Where it is said of a dialogue that one of its IDs came again, another one that is done has that ID.
+-- If an ID of a dialogue came again, a dialogue that is done has this ID.
 use Rattle.std.proofs.Common.{◌≡◌, ◌⊎◌, inl, inr, ℕ, ◌+◌, Bool, true, false, List, [], ◌∷◌, Some, refl, sym, ap, subst, ◌∙◌}
 use Rattle.std.specs.Prelude.{not, Contains, filter, slice_get}
 use Rattle.std.specs.List.{flat_map, list_any}
@@ -16,7 +16,7 @@ use Rattle.tcap_dialogues.proofs.CutIds.{among_in, in_among, one_of}
 use Rattle.tcap_dialogues.proofs.CutLists.{first_left, found, found_of, kept_in, later_left, none_in}
 use Rattle.tcap_dialogues.proofs.PartLists.{from_zero}
 
--- one that is done, which has an ID of that dialogue, and an entry that it has not
+-- a dialogue that is done and shares an ID with d, and an entry of it that is not in d
 pub record Sharer (done : List Course) (d : Course) : Type 0 where
   pub course : Course
   pub listed : Contains done course
@@ -27,14 +27,14 @@ pub record Sharer (done : List Course) (d : Course) : Type 0 where
   pub its : is_among d.ids id ≡ true
   pub hers : is_among course.ids id ≡ true
 
--- What holds besides of the dialogues so far.
+-- two more properties of the dialogues so far
 pub record AreShared (done live : List Course) : Type 0 where
-  -- Each has an entry,
+  -- Each dialogue has an entry.
   pub entered : (d : Course) → Among done live d → (i : ℕ) × (has_entry d i ≡ true)
-  -- and each one of which it is said that an ID came again shares one with another that is done.
+  -- Each dialogue with a reused ID shares one with a dialogue that is done.
   pub shares : (d : Course) → Among done live d → d.again ≡ true → Sharer done d
 
--- Of none it holds.
+-- They hold without dialogues.
 none_shared : AreShared [] []
 none_shared = record { entered = λ d has. absurd (none d has); shares = λ d has so. absurd (none d has) }
   where
@@ -42,7 +42,7 @@ none_shared = record { entered = λ d has. absurd (none d has); shares = λ d ha
     none d (inl has) = none_in d has
     none d (inr has) = none_in d has
 
--- It holds where live ones are done, too.
+-- They hold after live dialogues are done.
 shared_then : (headings : List Heading) (n : ℕ) (s : Courses) (c : AreCourses headings n s.done s.live) (free : Course → Bool)
     → AreShared s.done s.live
     → AreShared (done_then headings n s.done s.live c free) (left_then headings n s.done s.live c free)
@@ -66,15 +66,15 @@ shared_then headings n s c free a = record {
 module _ (headings : List Heading) (n : ℕ) (h : Heading) (here : slice_get headings n ≡ Some h) (done left : List Course)
     (c : AreCourses headings n done left) (new : Course) (made : IsNew (flat_map (λ d. d.ids) done) n h left new)
     (a : AreShared done left) where
-  -- the IDs of those that are done
+  -- the IDs of dialogues that are done
   abbrev earlier : List IdOf
   earlier = flat_map (λ d. d.ids) done
 
-  -- the live ones with an entry more
+  -- the live dialogues after one more entry
   abbrev more : List Course
   more = with_new earlier n h left new made
 
-  -- One that is done and has an ID of the new one has an entry that the new one has not.
+  -- A dialogue that is done and shares an ID with the new one has an entry that the new one has not.
   with_id : (e : Course) (id : IdOf) → Contains done e → is_among new.ids id ≡ true → is_among e.ids id ≡ true → Sharer done new
   with_id e id old its hers =
       let (i, has) = a.entered e (inl old) in
@@ -90,7 +90,7 @@ module _ (headings : List Heading) (n : ℕ) (h : Heading) (here : slice_get hea
         hers = hers;
       }
 
-  -- So the new one shares an ID where it is said of one that it joins, or where one of its entry's IDs is an earlier one.
+  -- The new dialogue shares an ID if a dialogue that it joins does, or if an ID of its entry is an earlier one.
   new_shares : new.again ≡ true → Sharer done new
   new_shares so = by (or_cases _ _ (sym made.again_is ∙ so))
     where
@@ -108,7 +108,7 @@ module _ (headings : List Heading) (n : ℕ) (h : Heading) (here : slice_get hea
           (among_in (ids_more h left) id its) in
           with_id e id old (id_comes earlier n h left new made id (in_among (ids_in h) id entry_has)) hers
 
-  -- It holds with an entry more.
+  -- They hold after one more entry.
   shared_more : AreShared done more
   shared_more = record { entered = entered_more; shares = shares_more }
     where
@@ -128,7 +128,7 @@ module _ (headings : List Heading) (n : ℕ) (h : Heading) (here : slice_get hea
       shares_more d (inl old) so = a.shares d (inl old) so
       shares_more d (inr has) so = shares_by d (which earlier n h left new made d has) so
 
--- So it holds of the dialogues of the whole stretch, where it does of those of the entries before these.
+-- They hold for a whole segment, if they hold for the entries before.
 shared_behind : (reuse : Reuse) (headings left : List Heading) (n : ℕ) (s : Courses) → ((k : ℕ) → slice_get left k ≡ slice_get headings (n + k))
     → AreCourses headings n s.done s.live → AreShared s.done s.live
     → AreShared (courses_behind reuse s n left).done (courses_behind reuse s n left).live
@@ -139,7 +139,8 @@ shared_behind reuse headings (h ∷ left) n s same c a =
     (shared_more headings n h here _ _ (courses_then headings n s.done s.live c (is_free reuse n s h)) _
     (record { numbers_are = refl; ids_are = refl; again_is = refl }) (shared_then headings n s c (is_free reuse n s h) a))
 
--- A dialogue of which it is said that an ID came again shares one with another of the stretch, which has an entry that it has not.
+-- A dialogue with a reused ID shares it with another dialogue of the segment, which has an entry that the first has
+-- not.
 pub shared_again : (reuse : Reuse) (headings : List Heading) (d : Course) → Contains (courses_of reuse headings) d → d.again ≡ true
     → (e : Course) × Contains (courses_of reuse headings) e
     × ((n : ℕ) × (has_entry e n ≡ true) × (has_entry d n ≡ false))

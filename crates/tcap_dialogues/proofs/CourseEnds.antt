@@ -1,4 +1,4 @@
--- The laws of the dialogues of a stretch in which IDs may come again, from what holds of those of each front of it.
+-- The laws of the dialogues of a segment with reused IDs, from the invariant of each front of it.
 use Rattle.std.proofs.Common.{arith, ◌≡◌, ◌⊎◌, inl, inr, ℕ, ◌+◌, ◌<◌, ◌≤◌, ◌-◌, true, false, List, [], Some, None, length, map, sym, ap, take, ◌∙◌}
 use Rattle.std.specs.Prelude.{Contains, slice_get}
 use Rattle.std.proofs.lemmas.Bool.{cases_lt}
@@ -20,9 +20,9 @@ use Rattle.tcap_dialogues.proofs.CutEnds.{closed_from}
 use Rattle.tcap_dialogues.proofs.CutIds.{among_is}
 use Rattle.tcap_dialogues.proofs.PartLaws.{part_keeps}
 
--- ---- the whole stretch
+-- ---- the whole segment
 
--- what holds where no entry is left
+-- the invariant after the last entry
 record Ended (headings : List Heading) (s : Courses) : Type 0 where
   n : ℕ
   all : AreCourses headings n s.done s.live
@@ -33,7 +33,7 @@ module _ (reuse : Reuse) (headings : List Heading) where
   abbrev pub ended_with : Courses
   ended_with = courses_behind reuse (record { done = []; live = [] }) 0 headings
 
-  -- All this holds of them.
+  -- The invariant holds for them.
   ended : Ended headings ended_with
   ended = record {
     n = length headings;
@@ -41,11 +41,11 @@ module _ (reuse : Reuse) (headings : List Heading) where
     past = λ k. slice_get_past headings (length headings + k) (omega arith);
   }
 
-  -- A dialogue of the stretch is done, or live,
+  -- A dialogue of the segment is done or live.
   pub among : (d : Course) → Contains (courses_of reuse headings) d → Among ended_with.done ended_with.live d
   among d has = Contains-append_cases ended_with.done ended_with.live d has
 
-  -- and each such one is one of the stretch.
+  -- A dialogue that is done or live is one of the segment.
   pub listed : (d : Course) → Among ended_with.done ended_with.live d → Contains (courses_of reuse headings) d
   listed d (inl has) = Contains-append_left ended_with.done ended_with.live d has
   listed d (inr has) = Contains-append_right ended_with.done ended_with.live d has
@@ -62,7 +62,7 @@ module _ (reuse : Reuse) (headings : List Heading) where
 
   -- ---- the laws
 
-  -- Each entry is of one dialogue, and of no other.
+  -- Each entry is in exactly one dialogue.
   pub entry_has_one : (n : ℕ) → n < length headings
       → (d : Course) × Contains (courses_of reuse headings) d × (has_entry d n ≡ true)
       × ((another : Course) → Contains (courses_of reuse headings) another → has_entry another n ≡ true → another ≡ d)
@@ -75,7 +75,8 @@ module _ (reuse : Reuse) (headings : List Heading) where
         λ another has so. ended.all.one_number another o.course n (among another has) o.listed so o.has,
       )
 
-  -- Where two entries share an ID and the first is of a dialogue none of whose IDs came again, the second is of it, or behind all of it.
+  -- If two entries share an ID, and the first is in a dialogue without reused IDs, the second is in it, or after all of
+  -- it.
   shares_behind : (d : Course) (i j : ℕ) (g h : Heading) (id : IdOf) → Contains (courses_of reuse headings) d → d.again ≡ false
       → slice_get headings i ≡ Some g → slice_get headings j ≡ Some h → is_among (ids_in g) id ≡ true → is_among (ids_in h) id ≡ true
       → has_entry d i ≡ true → InOrBehind d j
@@ -85,7 +86,7 @@ module _ (reuse : Reuse) (headings : List Heading) where
       each_behind headings ended.n ended_with.done ended_with.live ended.all d j h id (among d has) anew so (within j h so) hers
       (ap (λ x. is_among x.ids id) (sym same) ∙ o.all id its)
 
--- A dialogue none of whose IDs came again shares none with the rest of the stretch up to each of its entries,
+-- A dialogue without reused IDs shares no ID with the rest of the segment up to each of its entries.
 pub course_shares_nothing : (reuse : Reuse) (items : List Item) (headings : List Heading) (d : Course) (n : ℕ) → has_quiet items ≡ false
     → map bare headings ≡ headings_of items → Contains (courses_of reuse headings) d → d.again ≡ false → has_entry d n ≡ true
     → IsClosed (has_entry d) (take (n + 1) items)
@@ -107,7 +108,7 @@ course_shares_nothing reuse items headings d n unmarked bares has anew of_it = c
         (shares_behind reuse headings d i j g h it has anew at also
         (ap (λ x. is_among (ids_in x) it) one ∙ among_is s m it ∙ hers) (ap (λ x. is_among (ids_in x) it) two ∙ among_is t o it ∙ his) first)
 
--- so what an end may have sent of the stretch up to there that keeps the rules, it may have sent of the dialogue.
+-- A lawful end may have sent its part of the dialogue, up to this entry.
 pub course_keeps : (side : Side) (reuse : Reuse) (items : List Item) (headings : List Heading) (table : Table) (d : Course) (n : ℕ)
     → has_quiet items ≡ false → map bare headings ≡ headings_of items → Contains (courses_of reuse headings) d → d.again ≡ false
     → has_entry d n ≡ true → IsLawfulFor side (take (n + 1) items) table

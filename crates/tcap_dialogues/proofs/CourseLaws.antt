@@ -1,5 +1,6 @@
--- The dialogues of a stretch in which IDs may come again: each entry has one, two live ones share no ID, and what shares an ID with one
--- that is done, none of whose IDs came again, comes behind it. All this holds where live ones are done, too.
+-- The invariant of the dialogues of a segment with reused IDs: each entry has one, two live ones share no ID, and an
+-- entry that shares an ID with a dialogue that is done, without reused IDs, comes after it. It still holds after live
+-- dialogues are done.
 use Rattle.std.proofs.Common.{arith, ◌≡◌, ◌⊎◌, inl, inr, ℕ, ◌<◌, Bool, true, false, List, [], ◌++◌, Some, sym, ap, ◌∙◌}
 use Rattle.std.specs.Prelude.{not, Contains, filter, slice_get}
 use Rattle.std.proofs.lemmas.Bool.{cases_Bool, not-true, not_from_false, true≢false}
@@ -8,7 +9,7 @@ use Rattle.tcap_dialogues.specs.Course.{Course, Heading, has_entry, ids_in}
 use Rattle.tcap_dialogues.specs.Cut.{IdOf, is_among}
 use Rattle.tcap_dialogues.proofs.CutLists.{kept_in, left_in, none_in}
 
--- a dialogue that is done, or a live one
+-- a dialogue that is done or live
 abbrev pub Among : List Course → List Course → Course → Type 0
 Among done live d = Contains done d ⊎ Contains live d
 
@@ -19,30 +20,30 @@ pub record Owner (done live : List Course) (i : ℕ) (ids : List IdOf) : Type 0 
   pub has : has_entry course i ≡ true
   pub all : (id : IdOf) → is_among ids id ≡ true → is_among course.ids id ≡ true
 
--- An entry is of the dialogue, or behind each of its entries.
+-- The entry is in the dialogue, or after each of its entries.
 abbrev pub InOrBehind : Course → ℕ → Type 0
 InOrBehind d j = (has_entry d j ≡ true) ⊎ ((i : ℕ) → has_entry d i ≡ true → i < j)
 
--- What holds of the dialogues of the first entries of a stretch, so many as the number says.
+-- The invariant of the dialogues of the first n entries of a segment.
 pub record AreCourses (headings : List Heading) (n : ℕ) (done live : List Course) : Type 0 where
-  -- Each entry has one, with all its IDs.
+  -- Each entry is in a dialogue, which has all its IDs.
   pub owner : (i : ℕ) (h : Heading) → slice_get headings i ≡ Some h → i < n → Owner done live i (ids_in h)
-  -- All numbers are below that.
+  -- All numbers are below n.
   pub below : (d : Course) (i : ℕ) → Among done live d → has_entry d i ≡ true → i < n
-  -- Two with one number are one,
+  -- Two dialogues with one number are equal.
   pub one_number : (d e : Course) (i : ℕ) → Among done live d → Among done live e → has_entry d i ≡ true → has_entry e i ≡ true → d ≡ e
-  -- and one that is done has no number of a live one.
+  -- A dialogue that is done shares no number with a live one.
   pub no_number : (d e : Course) (i : ℕ) → Contains done d → Contains live e → has_entry d i ≡ true → has_entry e i ≡ true → ⊥
-  -- Two live ones with one ID are one.
+  -- Two live dialogues with one ID are equal.
   pub one_id : (d e : Course) (id : IdOf) → Contains live d → Contains live e → is_among d.ids id ≡ true → is_among e.ids id ≡ true → d ≡ e
-  -- A live one none of whose IDs came again shares none with one that is done.
+  -- A live dialogue without reused IDs shares none with one that is done.
   pub fresh : (d e : Course) (id : IdOf) → Contains live d → d.again ≡ false → Contains done e → is_among d.ids id ≡ true
       → is_among e.ids id ≡ true → ⊥
-  -- An entry with an ID of such a one that is done is of it, or behind it.
+  -- An entry with an ID of a dialogue that is done, without reused IDs, is in it or after it.
   pub behind : (d : Course) (j : ℕ) (h : Heading) (id : IdOf) → Contains done d → d.again ≡ false → slice_get headings j ≡ Some h → j < n
       → is_among (ids_in h) id ≡ true → is_among d.ids id ≡ true → InOrBehind d j
 
--- Of no entry there is none.
+-- It holds without entries.
 pub no_courses : (headings : List Heading) → AreCourses headings 0 [] []
 no_courses headings = record {
   owner = λ i h is less. absurd (omega (arith, less));
@@ -59,7 +60,7 @@ no_courses headings = record {
     none d (inr has) = none_in d has
 
 module _ (headings : List Heading) (n : ℕ) (done live : List Course) (c : AreCourses headings n done live) where
-  -- An entry with an ID of a live one none of whose IDs came again is of it,
+  -- An entry with an ID of a live dialogue without reused IDs is in it.
   live_has : (d : Course) (j : ℕ) (h : Heading) (id : IdOf) → Contains live d → d.again ≡ false → slice_get headings j ≡ Some h → j < n
       → is_among (ids_in h) id ≡ true → is_among d.ids id ≡ true → has_entry d j ≡ true
   live_has d j h id has anew is less its so = by o.listed
@@ -71,27 +72,27 @@ module _ (headings : List Heading) (n : ℕ) (done live : List Course) (c : AreC
       by (inl old) = absurd (c.fresh d o.course id has anew old so (o.all id its))
       by (inr there) = ap (λ e. has_entry e j) (c.one_id d o.course id has there so (o.all id its)) ∙ o.has
 
-  -- so one with an ID of any such one is of it, or behind it.
+  -- An entry with an ID of any dialogue without reused IDs is in it or after it.
   pub each_behind : (d : Course) (j : ℕ) (h : Heading) (id : IdOf) → Among done live d → d.again ≡ false → slice_get headings j ≡ Some h
       → j < n → is_among (ids_in h) id ≡ true → is_among d.ids id ≡ true → InOrBehind d j
   each_behind d j h id (inl old) anew is less its so = c.behind d j h id old anew is less its so
   each_behind d j h id (inr there) anew is less its so = inl (live_has d j h id there anew is less its so)
 
-  -- ---- live ones that are done
+  -- ---- live dialogues that are done now
 
   module _ (free : Course → Bool) where
-    -- those that are done then, and the others
+    -- the dialogues that are done then, and those that are live
     abbrev pub done_then : List Course
     done_then = done ++ filter free live
 
     abbrev pub left_then : List Course
     left_then = filter (λ d. not (free d)) live
 
-    -- Each of the others was live, and is not free,
+    -- Those left were live, and are not free.
     pub left_from : (d : Course) → Contains left_then d → Contains live d × (free d ≡ false)
     left_from d has = let (there, so) = kept_in (λ e. not (free e)) live d has in (there, not-true (free d) so)
 
-    -- each that is done was done, or was live and is free,
+    -- Those done were done, or live and free.
     done_from : (d : Course) → Contains done_then d → Contains done d ⊎ (Contains live d × (free d ≡ true))
     done_from d has = by (Contains-append_cases done (filter free live) d has)
       where
@@ -99,7 +100,7 @@ module _ (headings : List Heading) (n : ℕ) (done live : List Course) (c : AreC
         by (inl old) = inl old
         by (inr there) = inr (kept_in free live d there)
 
-    -- so they are those that there were,
+    -- All were there before.
     pub among_from : (d : Course) → Among done_then left_then d → Among done live d
     among_from d (inr has) = inr (left_from d has).0
     among_from d (inl has) = by (done_from d has)
@@ -108,7 +109,7 @@ module _ (headings : List Heading) (n : ℕ) (done live : List Course) (c : AreC
         by (inl old) = inl old
         by (inr (there, so)) = inr there
 
-    -- all of them.
+    -- None is lost.
     among_then : (d : Course) → Among done live d → Among done_then left_then d
     among_then d (inl has) = inl (Contains-append_left done (filter free live) d has)
     among_then d (inr has) = by (cases_Bool (free d))
@@ -117,7 +118,7 @@ module _ (headings : List Heading) (n : ℕ) (done live : List Course) (c : AreC
         by (inl is) = inl (Contains-append_right done (filter free live) d (left_in free live d has is))
         by (inr is) = inr (left_in (λ e. not (free e)) live d has (not_from_false (free d) is))
 
-    -- All holds then too.
+    -- The invariant holds then.
     pub courses_then : AreCourses headings n done_then left_then
     courses_then = record {
       owner = λ i h is less.

@@ -1,4 +1,4 @@
--- What holds of the dialogues of a stretch in which IDs may come again holds with one entry more.
+-- The invariant of the dialogues of a segment with reused IDs is kept by one more entry.
 use Rattle.std.proofs.Common.{arith, ◌≡◌, ◌⊎◌, inl, inr, ℕ, ◌+◌, ◌<◌, ◌≤◌, true, false, List, Some, sym, ap, ◌∙◌}
 use Rattle.std.specs.Prelude.{Contains, slice_get}
 use Rattle.std.specs.List.{flat_map}
@@ -12,23 +12,23 @@ use Rattle.tcap_dialogues.proofs.CutLists.{finds_of}
 
 module _ (headings : List Heading) (n : ℕ) (h : Heading) (here : slice_get headings n ≡ Some h) (done left : List Course)
     (c : AreCourses headings n done left) (new : Course) (made : IsNew (flat_map (λ d. d.ids) done) n h left new) where
-  -- the IDs of those that are done
+  -- the IDs of dialogues that are done
   abbrev earlier : List IdOf
   earlier = flat_map (λ d. d.ids) done
 
-  -- the live ones with the entry
+  -- the live dialogues with the new one
   abbrev more : List Course
   more = with_new earlier n h left new made
 
-  -- one of those that it joins
+  -- a dialogue that the entry joins
   abbrev Joins : Course → Type 0
   Joins = Hit earlier n h left new made
 
-  -- one that was, and that it does not join
+  -- an old dialogue that it does not join
   abbrev Old : Course → Type 0
   Old d = Contains done d ⊎ (Contains left d × (have_one (ids_in h) d.ids ≡ false))
 
-  -- Each is one that was, or the one that it joins.
+  -- Each dialogue is old or the new one.
   among_which : (d : Course) → Among done more d → Old d ⊎ (new ≡ d)
   among_which d (inl old) = inl (inl old)
   among_which d (inr has) = by (which earlier n h left new made d has)
@@ -37,14 +37,14 @@ module _ (headings : List Heading) (n : ℕ) (h : Heading) (here : slice_get hea
       by (inl there) = inl (inr there)
       by (inr same) = inr same
 
-  -- one that was
+  -- An old dialogue was there before.
   was : (d : Course) → Old d → Among done left d
   was d (inl old) = inl old
   was d (inr (there, misses)) = inr there
 
   -- ---- the entries
 
-  -- An owner stays, or is joined.
+  -- The dialogue of an entry stays, or is joined.
   owner_stays : (i : ℕ) (ids : List IdOf) → Owner done left i ids → Owner done more i ids
   owner_stays i ids o = at o.listed
     where
@@ -64,7 +64,7 @@ module _ (headings : List Heading) (n : ℕ) (h : Heading) (here : slice_get hea
       at (inl old) = record { course = o.course; listed = inl old; has = o.has; all = o.all }
       at (inr there) = by there (cases_Bool (have_one (ids_in h) o.course.ids))
 
-  -- Each entry has one still, and the new one has it.
+  -- Each entry is in a dialogue, the new entry in the new one.
   owner_more : (i : ℕ) (g : Heading) → slice_get headings i ≡ Some g → i < n + 1 → Owner done more i (ids_in g)
   owner_more i g is less = by (cases_lt i n)
     where
@@ -93,13 +93,13 @@ module _ (headings : List Heading) (n : ℕ) (h : Heading) (here : slice_get hea
       by (inl old) = let less = c.below d i (was d old) is in omega (arith, less)
       by (inr same) = new_below (number_of earlier n h left new made i (ap (λ e. has_entry e i) same ∙ is))
 
-  -- ---- two with one number, or one ID
+  -- ---- dialogues with one number, or one ID
 
-  -- A live one that stays is none of those that are joined,
+  -- A live dialogue that stays is not joined.
   apart : (d e : Course) → have_one (ids_in h) d.ids ≡ false → Joins e → d ≡ e → ⊥
   apart d e misses j same = true≢false (sym j.hit ∙ sym (ap (λ x. have_one (ids_in h) x.ids) same) ∙ misses)
 
-  -- so one that stays has no number of the new one,
+  -- It shares no number with the new one.
   no_number : (d : Course) (i : ℕ) → Old d → has_entry d i ≡ true → has_entry new i ≡ true → ⊥
   no_number d i old is so = by (number_of earlier n h left new made i so)
     where
@@ -111,7 +111,7 @@ module _ (headings : List Heading) (n : ℕ) (h : Heading) (here : slice_get hea
       by (inl (e, j, its)) = joined e j its old
       by (inr at) = let less = c.below d i (was d old) is in absurd (omega (arith, less))
 
-  -- and a live one that stays none of its IDs.
+  -- A live dialogue that stays shares no ID with the new one.
   no_id : (d : Course) (id : IdOf) → Contains left d → have_one (ids_in h) d.ids ≡ false → is_among d.ids id ≡ true
       → is_among new.ids id ≡ true → ⊥
   no_id d id there misses is so = by (id_from earlier n h left new made id so)
@@ -120,7 +120,7 @@ module _ (headings : List Heading) (n : ℕ) (h : Heading) (here : slice_get hea
       by (inl (e, j, its)) = apart d e misses j (c.one_id d e id there j.listed is its)
       by (inr its) = true≢false (sym (one_from (ids_in h) d.ids id its is) ∙ misses)
 
-  -- Two with one number are one still,
+  -- Two dialogues with one number are equal.
   one_number_more : (d e : Course) (i : ℕ) → Among done more d → Among done more e → has_entry d i ≡ true → has_entry e i ≡ true → d ≡ e
   one_number_more d e i has hers is so = by (among_which d has) (among_which e hers)
     where
@@ -130,7 +130,7 @@ module _ (headings : List Heading) (n : ℕ) (h : Heading) (here : slice_get hea
       by (inr same) (inl older) = absurd (no_number e i older so (ap (λ x. has_entry x i) same ∙ is))
       by (inr same) (inr equal) = sym same ∙ equal
 
-  -- one that is done has no number of a live one,
+  -- A dialogue that is done shares no number with a live one.
   no_number_more : (d e : Course) (i : ℕ) → Contains done d → Contains more e → has_entry d i ≡ true → has_entry e i ≡ true → ⊥
   no_number_more d e i has hers is so = by (which earlier n h left new made e hers)
     where
@@ -138,7 +138,7 @@ module _ (headings : List Heading) (n : ℕ) (h : Heading) (here : slice_get hea
       by (inl (there, misses)) = c.no_number d e i has there is so
       by (inr same) = no_number d i (inl has) is (ap (λ x. has_entry x i) same ∙ so)
 
-  -- and two live ones with one ID are one.
+  -- Two live dialogues with one ID are equal.
   one_id_more : (d e : Course) (id : IdOf) → Contains more d → Contains more e → is_among d.ids id ≡ true → is_among e.ids id ≡ true → d ≡ e
   one_id_more d e id has hers is so = by (which earlier n h left new made d has) (which earlier n h left new made e hers)
     where
@@ -149,9 +149,9 @@ module _ (headings : List Heading) (n : ℕ) (h : Heading) (here : slice_get hea
       by (inr same) (inl (older, missing)) = absurd (no_id e id older missing so (ap (λ x. is_among x.ids id) same ∙ is))
       by (inr same) (inr equal) = sym same ∙ equal
 
-  -- ---- IDs that came again
+  -- ---- reused IDs
 
-  -- The new one, where none of its IDs came again, shares none with one that is done,
+  -- The new dialogue, without reused IDs, shares none with one that is done.
   new_fresh : (e : Course) (id : IdOf) → new.again ≡ false → Contains done e → is_among new.ids id ≡ true → is_among e.ids id ≡ true → ⊥
   new_fresh e id anew hers is so = by (id_from earlier n h left new made id is)
     where
@@ -162,7 +162,7 @@ module _ (headings : List Heading) (n : ℕ) (h : Heading) (here : slice_get hea
       by (inl old) = joined old
       by (inr its) = joined (had_by earlier n h left new made id anew its (finds_of (is_same id) (λ d. d.ids) done e hers so))
 
-  -- and no live one does.
+  -- So does no live dialogue.
   fresh_more : (d e : Course) (id : IdOf) → Contains more d → d.again ≡ false → Contains done e → is_among d.ids id ≡ true
       → is_among e.ids id ≡ true → ⊥
   fresh_more d e id has anew hers is so = by (which earlier n h left new made d has)
@@ -171,7 +171,7 @@ module _ (headings : List Heading) (n : ℕ) (h : Heading) (here : slice_get hea
       by (inl (old, misses)) = c.fresh d e id old anew hers is so
       by (inr same) = new_fresh e id (ap (λ x. x.again) same ∙ anew) hers (ap (λ x. is_among x.ids id) same ∙ is) so
 
-  -- The entry comes behind each of one that is done.
+  -- The entry comes after each entry of a dialogue that is done.
   behind_more : (d : Course) (j : ℕ) (g : Heading) (id : IdOf) → Contains done d → d.again ≡ false → slice_get headings j ≡ Some g
       → j < n + 1 → is_among (ids_in g) id ≡ true → is_among d.ids id ≡ true → InOrBehind d j
   behind_more d j g id has anew is less its so = by (cases_lt j n)
@@ -180,7 +180,7 @@ module _ (headings : List Heading) (n : ℕ) (h : Heading) (here : slice_get hea
       by (inl old) = c.behind d j g id has anew is old its so
       by (inr past) = inr (λ i of_it. let lower = c.below d i (inl has) of_it in omega (arith, lower, past))
 
-  -- All this holds with the entry too.
+  -- The invariant holds with the entry.
   pub courses_more : AreCourses headings (n + 1) done more
   courses_more = record {
     owner = owner_more;

@@ -1,4 +1,4 @@
--- What holds of the dialogues of a stretch so far, in which IDs may come again.
+-- The invariant of the dialogues of a segment so far, with reused IDs.
 use Rattle.std.proofs.Common.{arith, ◌≡◌, ◌⊎◌, inl, inr, ℕ, ◌+◌, Bool, true, false, cond, List, [], ◌∷◌, ◌++◌, length, Option, Some, None, refl, sym, ap, subst, ◌∙◌}
 use Rattle.std.specs.Prelude.{◌||◌, Contains, filter, not, slice_get}
 use Rattle.std.specs.List.{flat_map}
@@ -15,29 +15,30 @@ use Rattle.tcap_dialogues.proofs.CourseMore.{courses_more}
 use Rattle.tcap_dialogues.proofs.CutLists.{first_left, found_more, later_left, none_in}
 use Rattle.tcap_dialogues.proofs.HeldOvers.{lower_is, over_of}
 
--- What holds of the dialogues so far holds of those with one entry more.
+-- One more entry keeps the invariant.
 pub one_more : (reuse : Reuse) (headings : List Heading) (n : ℕ) (h : Heading) (s : Courses) → slice_get headings n ≡ Some h
     → AreCourses headings n s.done s.live → AreCourses headings (n + 1) (comes reuse n h s).done (comes reuse n h s).live
 one_more reuse headings n h s here c =
     courses_more headings n h here _ _ (courses_then headings n s.done s.live c (is_free reuse n s h)) _
     (record { numbers_are = refl; ids_are = refl; again_is = refl })
 
--- ---- each live dialogue
+-- ---- a live dialogue
 
--- What is said of a live one is of its entries and its IDs, and it has not been over for longer than its IDs linger.
+-- The values of a live dialogue are those of its entries and IDs, and it has not been over for longer than its IDs
+-- linger.
 pub record IsSound (reuse : Reuse) (n : ℕ) (d : Course) : Type 0 where
   pub over_in : (number : ℕ) → d.over ≡ Some number → has_entry d number ≡ true
   pub used_in : (id : IdOf) → is_among d.used id ≡ true → is_among d.ids id ≡ true
   pub begun_in : (id : IdOf) → is_among d.begun id ≡ true → is_among d.ids id ≡ true
   pub lingers : Lingers reuse n d.over
 
--- Its IDs are free because it is past, or because one is used anew.
+-- Its IDs are free by age, or because one of them is reused.
 pub free_is : (reuse : Reuse) (n : ℕ) (s : Courses) (h : Heading) (d : Course)
     → is_free reuse n s h d ≡ (is_past_by reuse n d || is_given_up reuse s h d)
 free_is reuses.Once n s h d = refl
 free_is (reuses.Again linger) n s h d = refl
 
--- One that is not past lingers for one entry more,
+-- A dialogue that is not free lingers for one more entry.
 lingers_on : (reuse : Reuse) (n : ℕ) (s : Courses) (h : Heading) (d : Course) → is_free reuse n s h d ≡ false
     → Lingers reuse (n + 1) d.over
 lingers_on reuses.Once n s h d kept = tt
@@ -47,7 +48,7 @@ lingers_on (reuses.Again linger) n s h d kept = by d.over (or_parts _ _ kept).0
     by None is = tt
     by (Some number) is = let more = ltb-false (number + linger) n is in omega (arith, more)
 
--- and so does one that is over now.
+-- So does one that is over now.
 lingers_new : (reuse : Reuse) (n : ℕ) → Lingers reuse (n + 1) (Some n)
 lingers_new reuses.Once n = tt
 lingers_new (reuses.Again linger) n = omega arith
@@ -56,7 +57,7 @@ lingers_none : (reuse : Reuse) (n : ℕ) → Lingers reuse n None
 lingers_none reuses.Once n = tt
 lingers_none (reuses.Again linger) n = tt
 
--- the number with which it is over is that of the entry
+-- a dialogue is over with the number of the entry
 over_is : (n number : ℕ) (h : Heading) → over_by n h ≡ Some number → n ≡ number
 over_is n number h is = by (Rattle.tcap_dialogues.specs.Course.is_last h.kind || Rattle.tcap_dialogues.specs.Course.is_alone h) is
   where
@@ -64,7 +65,7 @@ over_is n number h is = by (Rattle.tcap_dialogues.specs.Course.is_last h.kind ||
     by true so = cc
     by false so = cc
 
--- the IDs from which a heading is a Begin are among its own, and those among all of it
+-- the IDs of a Begin are among the entry's IDs
 begun_own : (h : Heading) (id : IdOf) → is_among (begun_by h) id ≡ true → is_among (ids_in h) id ≡ true
 begun_own h id is = by (is_begin h.kind) is
   where
@@ -74,7 +75,7 @@ begun_own h id is = by (is_begin h.kind) is
 
 module _ (reuse : Reuse) (n : ℕ) (h : Heading) (earlier : Earlier) (left : List Course)
     (sound : (d : Course) → Contains left d → IsSound reuse (n + 1) d) where
-  -- the one that the entry joins
+  -- the new dialogue
   new : Course
   new = with_entry earlier n h (hit_by h left)
 
@@ -94,7 +95,7 @@ module _ (reuse : Reuse) (n : ℕ) (h : Heading) (earlier : Earlier) (left : Lis
       by (inl old) = let (d, has, so) = over_of (hit_by h left) number old in inl (d, in_hit earlier.ids n h left new made d has, so)
       by (inr now) = inr (over_is n number h now)
 
-  -- Those of its parts that are IDs are among its IDs.
+  -- Its lists of IDs are among its IDs.
   part_in : (part : Course → List IdOf) (more : List IdOf) → ((d : Course) (id : IdOf) → Contains left d → is_among (part d) id ≡ true → is_among d.ids id ≡ true)
       → ((id : IdOf) → is_among more id ≡ true → is_among (ids_in h) id ≡ true) → (id : IdOf)
       → is_among (flat_map part (hit_by h left) ++ more) id ≡ true → is_among new.ids id ≡ true
@@ -132,7 +133,7 @@ module _ (reuse : Reuse) (n : ℕ) (h : Heading) (earlier : Earlier) (left : Lis
           at (inl (d, hit, so)) = subst (Lingers reuse (n + 1)) so (sound d hit.listed).lingers
           at (inr now) = subst (λ k. Lingers reuse (n + 1) (Some k)) now (lingers_new reuse n)
 
-  -- With the entry each is so still.
+  -- Each live dialogue is sound after the entry.
   all_sound : (d : Course) → Contains (filter (λ e. not (have_one (ids_in h) e.ids)) left ++ with_entry earlier n h (hit_by h left) ∷ []) d
       → IsSound reuse (n + 1) d
   unfolding new
@@ -142,7 +143,7 @@ module _ (reuse : Reuse) (n : ℕ) (h : Heading) (earlier : Earlier) (left : Lis
       by (inl (there, misses)) = sound d there
       by (inr same) = subst (IsSound reuse (n + 1)) same new_sound
 
--- Each of those that are left lingers for one entry more.
+-- Each dialogue that stays lingers for one more entry.
 left_sound : (reuse : Reuse) (headings : List Heading) (n : ℕ) (h : Heading) (s : Courses) → AreCourses headings n s.done s.live
     → ((d : Course) → Contains s.live d → IsSound reuse n d) → (d : Course)
     → Contains (filter (λ e. not (is_free reuse n s h e)) s.live) d → IsSound reuse (n + 1) d
@@ -155,9 +156,9 @@ left_sound reuse headings n h s c sound d has =
       lingers = lingers_on reuse n s h d kept;
     }
 
--- ---- the stretch so far
+-- ---- the segment so far
 
--- all of this, of the dialogues of so many entries
+-- both invariants
 pub record AreWell (reuse : Reuse) (headings : List Heading) (n : ℕ) (s : Courses) : Type 0 where
   pub courses : AreCourses headings n s.done s.live
   pub sound : (d : Course) → Contains s.live d → IsSound reuse n d
@@ -188,7 +189,7 @@ well_so_far reuse headings =
     from_nothing : (k : ℕ) → k ≡ 0 + k
     from_nothing k = omega arith
 
--- Its live dialogues are apart.
+-- The live dialogues are apart.
 pub apart_so_far : (reuse : Reuse) (headings : List Heading) → AreApart (courses_so_far reuse headings).live
 apart_so_far reuse headings =
     let well = well_so_far reuse headings in record {
@@ -199,7 +200,7 @@ apart_so_far reuse headings =
       begun_in = λ d id has so. (well.sound d has).begun_in id so;
     }
 
--- Those that are left of them are.
+-- So are some of them.
 pub left_apart : (live left : List Course) → ((d : Course) → Contains left d → Contains live d) → AreApart live → AreApart left
 left_apart live left from apart = record {
   one_id = λ d e id has hers is so. apart.one_id d e id (from d has) (from e hers) is so;
@@ -209,7 +210,7 @@ left_apart live left from apart = record {
   begun_in = λ d id has so. apart.begun_in d id (from d has) so;
 }
 
--- With one entry more it is what comes.
+-- one more heading
 behind_more : (reuse : Reuse) (s : Courses) (n : ℕ) (hs : List Heading) (h : Heading)
     → courses_behind reuse s n (hs ++ h ∷ []) ≡ comes reuse (n + length hs) h (courses_behind reuse s n hs)
 behind_more reuse s n [] h = let at : n ≡ n + 0 = omega arith in ap (λ k. comes reuse k h s) at

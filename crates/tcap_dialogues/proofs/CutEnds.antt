@@ -1,4 +1,4 @@
--- The laws of the dialogues of a list, from what holds of those of each front of it.
+-- The laws of the dialogues of a list, from the invariant of each front of it.
 use Rattle.std.proofs.Common.{arith, ◌≡◌, ◌⊎◌, inl, inr, ℕ, ◌+◌, ◌<◌, ◌≤◌, ◌-◌, Bool, true, false, List, [], ◌∷◌, Some, None, refl, sym, ap, ◌∙◌}
 use Rattle.std.specs.Prelude.{Contains, slice_get}
 use Rattle.std.proofs.lemmas.Bool.{cases_lt}
@@ -17,7 +17,7 @@ use Rattle.tcap_dialogues.proofs.PartLists.{from_zero}
 
 -- ---- a closed part
 
--- A part is closed that has with each message those that share an ID with it.
+-- A part is closed if it has, with each message, those that share an ID with it.
 pub closed_from : (keeps : ℕ → Bool) (items : List Item)
     → ((i j : ℕ) (s t : Side) (m o : Message) → slice_get items i ≡ Some (Sent s m) → slice_get items j ≡ Some (Sent t o) → ShareId s m t o
     → keeps i ≡ true → keeps j ≡ true) → IsClosed keeps items
@@ -35,13 +35,13 @@ closed_from keeps items follows = record { same = λ i j s t m o is so shared. a
 
 -- ---- the whole list
 
--- what holds where no message is left
+-- the invariant after the last message
 record Ended (items : List Item) (dialogues : List Dialogue) : Type 0 where
   n : ℕ
   cut : IsCut items n dialogues
   past : (k : ℕ) → slice_get items (n + k) ≡ None
 
--- So it holds of the dialogues of the whole list, where it does of those of the messages before these.
+-- The invariant holds for a whole list, if it holds for the messages before.
 cut_behind : (items left : List Item) (n : ℕ) (before : List Dialogue) → ((k : ℕ) → slice_get left k ≡ slice_get items (n + k))
     → IsCut items n before → Ended items (dialogues_behind before n left)
 cut_behind items [] n before same c = record { n = n; cut = c; past = λ k. sym (same k) }
@@ -53,11 +53,11 @@ cut_behind items (Item.Quiet ∷ left) n before same c =
     (cut_quiet items n before (first_left items left n Item.Quiet same) c)
 
 module _ (items : List Item) where
-  -- It does of none before the first.
+  -- It holds before the first message.
   ended : Ended items (dialogues_of items)
   ended = cut_behind items items 0 [] (λ k. ap (slice_get items) (sym (from_zero k))) (cut_none items)
 
-  -- Each message has one.
+  -- Each message has a dialogue.
   owner : (i : ℕ) (side : Side) (m : Message) → slice_get items i ≡ Some (Sent side m) → Owner (dialogues_of items) i (ids_of side m)
   owner i side m is = by (cases_lt i ended.n)
     where
@@ -69,7 +69,7 @@ module _ (items : List Item) where
 
   -- ---- the laws
 
-  -- Two messages that share an ID are of one dialogue,
+  -- Two messages that share an ID are in one dialogue.
   one_owner : (i j : ℕ) (s t : Side) (m o : Message) (is : slice_get items i ≡ Some (Sent s m)) (so : slice_get items j ≡ Some (Sent t o))
       → ShareId s m t o → (owner i s m is).dialogue ≡ (owner j t o so).dialogue
   one_owner i j s t m o is so (end, id, has, hers) =
@@ -78,7 +78,7 @@ module _ (items : List Item) where
       let b = owner j t o so in
       ended.cut.one_id a.dialogue b.dialogue it a.listed b.listed (a.all it (among_is s m it ∙ has)) (b.all it (among_is t o it ∙ hers))
 
-  -- so where one is of a dialogue, the other is,
+  -- If one of them is in a dialogue, the other is.
   follows : (d : Dialogue) → Contains (dialogues_of items) d → (i j : ℕ) (s t : Side) (m o : Message) → slice_get items i ≡ Some (Sent s m)
       → slice_get items j ≡ Some (Sent t o) → ShareId s m t o → is_of d i ≡ true → is_of d j ≡ true
   follows d has i j s t m o is so shared of_it =
@@ -87,7 +87,7 @@ module _ (items : List Item) where
       let same : d ≡ b.dialogue = ended.cut.one_number d a.dialogue i has a.listed of_it a.has ∙ one_owner i j s t m o is so shared in
       ap (λ x. is_of x j) same ∙ b.has
 
-  -- and the other way round: a dialogue shares no ID with the rest.
+  -- A dialogue shares no ID with the rest.
   pub share_nothing : (d : Dialogue) → Contains (dialogues_of items) d → IsClosed (is_of d) items
   share_nothing d has = closed_from (is_of d) items (follows d has)
 
@@ -96,7 +96,7 @@ module _ (items : List Item) where
       → is_of d j ≡ true → keeps i ≡ keeps j
   are_whole keeps d i j closed has is so = ended.cut.whole keeps closed d i j has is so
 
-  -- Each message is of one dialogue, and of no other.
+  -- Each message is in exactly one dialogue.
   pub has_its_one : (n : ℕ) (side : Side) (m : Message) → slice_get items n ≡ Some (Sent side m)
       → (d : Dialogue) × Contains (dialogues_of items) d × (is_of d n ≡ true)
       × ((another : Dialogue) → Contains (dialogues_of items) another → is_of another n ≡ true → another ≡ d)
@@ -104,7 +104,7 @@ module _ (items : List Item) where
       let o = owner n side m is in
       (o.dialogue, o.listed, o.has, λ another has so. ended.cut.one_number another o.dialogue n has o.listed so o.has)
 
-  -- What an end may have sent that keeps the rules, it may have sent of each dialogue.
+  -- A lawful end may have sent its part of each dialogue.
   pub dialogue_keeps : (side : Side) (table : Table) (d : Dialogue) → Contains (dialogues_of items) d → IsLawfulFor side items table
       → IsLawfulFor side (part_of (is_of d) 0 items) table
   dialogue_keeps side table d has lawful = part_keeps side items table (is_of d) (share_nothing d has) lawful

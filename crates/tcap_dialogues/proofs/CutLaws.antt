@@ -1,4 +1,5 @@
--- The dialogues of a list: no two share an ID, each is whole, and each message has one. All this is kept by one message more.
+-- The invariant of the dialogues of a list: no two share an ID, each is whole, and each message has one. One more
+-- message keeps it.
 use Rattle.std.proofs.Common.{arith, ◌≡◌, ◌⊎◌, inl, inr, ℕ, ◌+◌, ◌<◌, ◌≤◌, Bool, true, false, List, [], Some, sym, ap, subst, ◌∙◌}
 use Rattle.std.specs.Prelude.{Contains, slice_get}
 use Rattle.std.proofs.lemmas.Bool.{cases_Bool, cases_lt, true≢false}
@@ -27,26 +28,26 @@ pub record Bearer (items : List Item) (d : Dialogue) (id : IdOf) : Type 0 where
   pub has : is_of d i ≡ true
   pub bears : is_among (ids_of side message) id ≡ true
 
--- What holds of the dialogues of the first messages of a list, so many as the number says.
+-- The invariant of the dialogues of the first n messages of a list.
 pub record IsCut (items : List Item) (n : ℕ) (dialogues : List Dialogue) : Type 0 where
-  -- Each message has one, with all its IDs.
+  -- Each message is in a dialogue, which has all its IDs.
   pub owner : (i : ℕ) (side : Side) (m : Message) → slice_get items i ≡ Some (Sent side m) → i < n → Owner dialogues i (ids_of side m)
-  -- All numbers are below that.
+  -- All numbers are below n.
   pub below : (d : Dialogue) (i : ℕ) → Contains dialogues d → is_of d i ≡ true → i < n
-  -- Two with one number are one,
+  -- Two dialogues with one number are equal.
   pub one_number : (d e : Dialogue) (i : ℕ) → Contains dialogues d → Contains dialogues e → is_of d i ≡ true → is_of e i ≡ true → d ≡ e
-  -- and so are two with one ID.
+  -- Two dialogues with one ID are equal.
   pub one_id : (d e : Dialogue) (id : IdOf) → Contains dialogues d → Contains dialogues e → is_among d.ids id ≡ true
       → is_among e.ids id ≡ true → d ≡ e
-  -- Each ID is carried.
+  -- A message of the dialogue carries each ID.
   pub bearer : (d : Dialogue) (id : IdOf) → Contains dialogues d → is_among d.ids id ≡ true → Bearer items d id
-  -- A part that shares no ID with the rest has all its messages, or none.
+  -- A part that shares no ID with the rest has all messages of a dialogue, or none.
   pub whole : (keeps : ℕ → Bool) → IsClosed keeps items → (d : Dialogue) (i j : ℕ) → Contains dialogues d → is_of d i ≡ true
       → is_of d j ≡ true → keeps i ≡ keeps j
 
--- ---- no message, and a mark
+-- ---- no message, and a quiet mark
 
--- Of no message there is none.
+-- It holds without messages.
 pub cut_none : (items : List Item) → IsCut items 0 []
 cut_none items = record {
   owner = λ i side m is less. absurd (omega (arith, less));
@@ -57,7 +58,7 @@ cut_none items = record {
   whole = λ keeps closed d i j has is so. absurd (none_in d has);
 }
 
--- A mark changes nothing.
+-- A quiet mark changes nothing.
 pub cut_quiet : (items : List Item) (n : ℕ) (dialogues : List Dialogue) → slice_get items n ≡ Some Item.Quiet → IsCut items n dialogues
     → IsCut items (n + 1) dialogues
 cut_quiet items n dialogues mark c = record {
@@ -76,7 +77,7 @@ cut_quiet items n dialogues mark c = record {
         let at : i ≡ n = omega arith in
         let bad : Some (Sent side m) ≡ Some Item.Quiet = sym is ∙ ap (slice_get items) at ∙ mark in cc
 
--- ---- one message more
+-- ---- one more message
 
 module _ (items : List Item) (n : ℕ) (dialogues : List Dialogue) (sender : Side) (message : Message)
     (here : slice_get items n ≡ Some (Sent sender message)) (c : IsCut items n dialogues) where
@@ -84,19 +85,19 @@ module _ (items : List Item) (n : ℕ) (dialogues : List Dialogue) (sender : Sid
   abbrev ids : List IdOf
   ids = ids_of sender message
 
-  -- the dialogues with it
+  -- the dialogues with the message
   abbrev more : List Dialogue
   more = with_message n ids dialogues
 
-  -- the one that it joins
+  -- the new dialogue
   abbrev one : Dialogue
   one = new n ids dialogues
 
-  -- one of those that it joins
+  -- a dialogue that the message joins
   abbrev Joins : Dialogue → Type 0
   Joins = Hit n ids dialogues
 
-  -- An owner stays, or is joined.
+  -- The dialogue of a message stays, or is joined.
   owner_stays : (i : ℕ) (of_it : List IdOf) → Owner dialogues i of_it → Owner more i of_it
   owner_stays i of_it o = by (cases_Bool (has_one ids o.dialogue))
     where
@@ -116,7 +117,7 @@ module _ (items : List Item) (n : ℕ) (dialogues : List Dialogue) (sender : Sid
         all = o.all;
       }
 
-  -- The message's is the one that it joins.
+  -- The message is in the new dialogue.
   owner_more : (i : ℕ) (side : Side) (m : Message) → slice_get items i ≡ Some (Sent side m) → i < n + 1 → (i < n) ⊎ (n ≤ i)
       → Owner more i (ids_of side m)
   owner_more i side m is less (inl old) = owner_stays i (ids_of side m) (c.owner i side m is old)
@@ -144,11 +145,11 @@ module _ (items : List Item) (n : ℕ) (dialogues : List Dialogue) (sender : Sid
       by (inl (old, misses)) = let less = c.below d i old is in omega (arith, less)
       by (inr same) = new_below (number_of n ids dialogues i (ap (λ e. is_of e i) same ∙ is))
 
-  -- One that stays is none of those that are joined,
+  -- A dialogue that stays is not joined.
   apart : (d e : Dialogue) → has_one ids d ≡ false → Joins e → d ≡ e → ⊥
   apart d e misses h same = true≢false (sym h.hit ∙ sym (ap (has_one ids) same) ∙ misses)
 
-  -- so it has no number of the new one,
+  -- It shares no number with the new one.
   no_number : (d : Dialogue) (i : ℕ) → Contains dialogues d → has_one ids d ≡ false → is_of d i ≡ true → is_of one i ≡ true → ⊥
   no_number d i old misses is so = by (number_of n ids dialogues i so)
     where
@@ -156,7 +157,7 @@ module _ (items : List Item) (n : ℕ) (dialogues : List Dialogue) (sender : Sid
       by (inl (e, h, its)) = apart d e misses h (c.one_number d e i old h.listed is its)
       by (inr at) = let less = c.below d i old is in absurd (omega (arith, less))
 
-  -- and none of its IDs.
+  -- It shares no ID with the new one.
   no_id : (d : Dialogue) (id : IdOf) → Contains dialogues d → has_one ids d ≡ false → is_among d.ids id ≡ true
       → is_among one.ids id ≡ true → ⊥
   no_id d id old misses is so = by (id_from n ids dialogues id so)
@@ -165,7 +166,7 @@ module _ (items : List Item) (n : ℕ) (dialogues : List Dialogue) (sender : Sid
       by (inl (e, h, its)) = apart d e misses h (c.one_id d e id old h.listed is its)
       by (inr its) = true≢false (sym (one_from ids d.ids id its is) ∙ misses)
 
-  -- Two with one number are one still,
+  -- Two dialogues with one number are equal.
   one_number_more : (d e : Dialogue) (i : ℕ) → Contains more d → Contains more e → is_of d i ≡ true → is_of e i ≡ true → d ≡ e
   one_number_more d e i has hers is so = by (which n ids dialogues d has) (which n ids dialogues e hers)
     where
@@ -175,7 +176,7 @@ module _ (items : List Item) (n : ℕ) (dialogues : List Dialogue) (sender : Sid
       by (inr same) (inl (older, missing)) = absurd (no_number e i older missing so (ap (λ x. is_of x i) same ∙ is))
       by (inr same) (inr equal) = sym same ∙ equal
 
-  -- and so are two with one ID.
+  -- Two dialogues with one ID are equal.
   one_id_more : (d e : Dialogue) (id : IdOf) → Contains more d → Contains more e → is_among d.ids id ≡ true → is_among e.ids id ≡ true → d ≡ e
   one_id_more d e id has hers is so = by (which n ids dialogues d has) (which n ids dialogues e hers)
     where
@@ -185,7 +186,7 @@ module _ (items : List Item) (n : ℕ) (dialogues : List Dialogue) (sender : Sid
       by (inr same) (inl (older, missing)) = absurd (no_id e id older missing so (ap (λ x. is_among x.ids id) same ∙ is))
       by (inr same) (inr equal) = sym same ∙ equal
 
-  -- Each ID of the new one is carried: by the message, or in one that is joined.
+  -- The message, or one of a joined dialogue, carries each ID of the new one.
   bearer_new : (id : IdOf) → is_among one.ids id ≡ true → Bearer items one id
   bearer_new id is = by (id_from n ids dialogues id is)
     where
@@ -203,7 +204,7 @@ module _ (items : List Item) (n : ℕ) (dialogues : List Dialogue) (sender : Sid
       by (inr its) =
           record { i = n; side = sender; message = message; listed = here; has = number_comes n ids dialogues; bears = its }
 
-  -- So is each.
+  -- Some message carries each ID of each dialogue.
   bearer_more : (d : Dialogue) (id : IdOf) → Contains more d → is_among d.ids id ≡ true → Bearer items d id
   bearer_more d id has is = by (which n ids dialogues d has)
     where
@@ -211,7 +212,7 @@ module _ (items : List Item) (n : ℕ) (dialogues : List Dialogue) (sender : Sid
       by (inl (old, misses)) = c.bearer d id old is
       by (inr same) = subst (λ x. Bearer items x id) same (bearer_new id (ap (λ x. is_among x.ids id) same ∙ is))
 
-  -- A part that shares no ID with the rest has the message where it has one of a dialogue that is joined,
+  -- A part that shares no ID with the rest has the message if and only if it has one of a joined dialogue.
   joined_whole : (keeps : ℕ → Bool) → IsClosed keeps items → (e : Dialogue) (i : ℕ) → Joins e → is_of e i ≡ true → keeps i ≡ keeps n
   joined_whole keeps closed e i h is =
       let (id, its, hers) = one_of ids e.ids h.hit in
@@ -220,7 +221,7 @@ module _ (items : List Item) (n : ℕ) (dialogues : List Dialogue) (sender : Sid
       (id.end, id.octets, sym (among_is b.side b.message id) ∙ b.bears, sym (among_is sender message id) ∙ its) in
       c.whole keeps closed e i b.i h.listed is b.has ∙ closed.same b.i n b.side sender b.message message b.listed here shared
 
-  -- so where it has one of the new one,
+  -- So it is for the new dialogue.
   new_whole : (keeps : ℕ → Bool) → IsClosed keeps items → (i : ℕ) → is_of one i ≡ true → keeps i ≡ keeps n
   new_whole keeps closed i is = by (number_of n ids dialogues i is)
     where
@@ -228,7 +229,7 @@ module _ (items : List Item) (n : ℕ) (dialogues : List Dialogue) (sender : Sid
       by (inl (e, h, so)) = joined_whole keeps closed e i h so
       by (inr at) = ap keeps (sym at)
 
-  -- and of each dialogue it has all messages, or none.
+  -- The part has all messages of each dialogue, or none.
   whole_more : (keeps : ℕ → Bool) → IsClosed keeps items → (d : Dialogue) (i j : ℕ) → Contains more d → is_of d i ≡ true → is_of d j ≡ true
       → keeps i ≡ keeps j
   whole_more keeps closed d i j has is so = by (which n ids dialogues d has)
@@ -238,7 +239,7 @@ module _ (items : List Item) (n : ℕ) (dialogues : List Dialogue) (sender : Sid
       by (inr same) =
           new_whole keeps closed i (ap (λ x. is_of x i) same ∙ is) ∙ sym (new_whole keeps closed j (ap (λ x. is_of x j) same ∙ so))
 
-  -- All this holds with the message too.
+  -- The invariant holds with the message.
   pub cut_more : IsCut items (n + 1) (with_message n (ids_of sender message) dialogues)
   cut_more = record {
     owner = λ i side m is less. owner_more i side m is less (cases_lt i n);

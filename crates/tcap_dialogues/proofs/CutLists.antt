@@ -1,4 +1,4 @@
--- Elements of lists: those that pass a test, and those of many lists in one.
+-- Elements of lists: those that pass a test, and those of joined lists.
 use Rattle.std.proofs.Common.{arith, ◌≡◌, ◌⊎◌, inl, inr, ℕ, zero, suc, ◌+◌, Bool, true, false, cond, List, [], ◌∷◌, ◌++◌, Some, refl, sym, ap, subst, ◌∙◌}
 use Rattle.std.specs.Prelude.{◌==◌, ◌||◌, Contains, filter, slice_get}
 use Rattle.std.specs.List.{flat_map, list_any}
@@ -7,26 +7,26 @@ use Rattle.std.proofs.lemmas.List.Folds.{list_any-append, list_any_at}
 
 -- ---- elements
 
--- The first element is one of the list,
+-- The first element is in the list.
 pub first_in : {X : Type 0} (x : X) (xs : List X) → Contains (x ∷ xs) x
 first_in x xs = (0, omega arith, refl)
 
--- each later one is,
+-- Each later element is in the list.
 pub later_in : {X : Type 0} (y x : X) (xs : List X) → Contains xs x → Contains (y ∷ xs) x
 later_in y x xs (k, less, is) = (suc k, omega arith, is)
 
--- and no other is.
+-- No other element is.
 pub in_cases : {X : Type 0} (y x : X) (xs : List X) → Contains (y ∷ xs) x → (y ≡ x) ⊎ Contains xs x
 in_cases y x xs (zero, less, is) = inl is
 in_cases y x xs (suc k, less, is) = inr (k, omega arith, is)
 
--- An empty list has none.
+-- The empty list has no element.
 pub none_in : {X : Type 0} (x : X) → Contains [] x → ⊥
 none_in x (k, less, is) = absurd (omega arith)
 
 -- ---- a test
 
--- What is left by a test is one of the list, and passes it,
+-- An element left by a test is in the list, and passes.
 pub kept_in : {X : Type 0} (test : X → Bool) (xs : List X) (x : X) → Contains (filter test xs) x → Contains xs x × (test x ≡ true)
 kept_in test [] x has = absurd (none_in x has)
 kept_in {X} test (y ∷ xs) x has = by (test y) refl has (λ there. kept_in test xs x there)
@@ -44,7 +44,7 @@ kept_in {X} test (y ∷ xs) x has = by (test y) refl has (λ there. kept_in test
     by true is there rest = at is (in_cases y x (filter test xs) there) rest
     by false is there rest = later (rest there)
 
--- and what passes it is left.
+-- An element that passes is left.
 pub left_in : {X : Type 0} (test : X → Bool) (xs : List X) (x : X) → Contains xs x → test x ≡ true → Contains (filter test xs) x
 left_in test [] x has so = absurd (none_in x has)
 left_in test (y ∷ xs) x has so = by (test y) refl (in_cases y x xs has) (λ there. left_in test xs x there so)
@@ -56,9 +56,9 @@ left_in test (y ∷ xs) x has so = by (test y) refl (in_cases y x xs has) (λ th
     by false is (inl same) rest = absurd (false≢true (sym is ∙ ap test same ∙ so))
     by false is (inr there) rest = rest there
 
--- ---- one that passes
+-- ---- an element that passes
 
--- Where one passes, this is it,
+-- If some element passes, this is one.
 pub found : {X : Type 0} (test : X → Bool) (xs : List X) → list_any test xs ≡ true → (x : X) × Contains xs x × (test x ≡ true)
 found test [] is = absurd (false≢true is)
 found {X} test (y ∷ xs) is = by (or_cases (test y) (list_any test xs) is) (λ more. found test xs more)
@@ -68,13 +68,13 @@ found {X} test (y ∷ xs) is = by (or_cases (test y) (list_any test xs) is) (λ 
     by (inl here) rest = (y, first_in y xs, here)
     by (inr more) rest = let (x, there, so) = rest more in (x, later_in y x xs there, so)
 
--- and where this one does, one does.
+-- If this element passes, some element does.
 pub finds : {X : Type 0} (test : X → Bool) (xs : List X) (x : X) → Contains xs x → test x ≡ true → list_any test xs ≡ true
 finds test xs x has so = list_any_at test xs has.0 x has.1 (ap test has.2 ∙ so)
 
--- ---- many lists in one
+-- ---- joined lists
 
--- What passes in many lists passes in one of them,
+-- An element that passes in joined lists is in one of them.
 pub found_of : {X A : Type 0} (test : A → Bool) (f : X → List A) (xs : List X) → list_any test (flat_map f xs) ≡ true
     → (x : X) × Contains xs x × (list_any test (f x) ≡ true)
 found_of test f [] is = absurd (false≢true is)
@@ -87,7 +87,7 @@ found_of {X} test f (y ∷ xs) is =
     by (inl here) rest = (y, first_in y xs, here)
     by (inr more) rest = let (x, there, so) = rest more in (x, later_in y x xs there, so)
 
--- and the other way round.
+-- If an element of one list passes, some element of the joined lists does.
 pub finds_of : {X A : Type 0} (test : A → Bool) (f : X → List A) (xs : List X) (x : X) → Contains xs x → list_any test (f x) ≡ true
     → list_any test (flat_map f xs) ≡ true
 finds_of test f [] x has so = absurd (none_in x has)
@@ -99,7 +99,7 @@ finds_of test f (y ∷ xs) x has so =
     by (inl same) rest = or_left _ _ (ap (λ z. list_any test (f z)) same ∙ so)
     by (inr there) rest = or_right _ _ (rest there)
 
--- What passes in many lists and one more passes in one of those, or in that,
+-- An element that passes in joined lists and one more is in one of them, or in the last.
 pub found_more : {X A : Type 0} (test : A → Bool) (f : X → List A) (xs : List X) (more : List A)
     → list_any test (flat_map f xs ++ more) ≡ true → ((x : X) × Contains xs x × (list_any test (f x) ≡ true)) ⊎ (list_any test more ≡ true)
 found_more {X} test f xs more is = by (or_cases _ _ (sym (list_any-append test (flat_map f xs) more) ∙ is))
@@ -109,17 +109,17 @@ found_more {X} test f xs more is = by (or_cases _ _ (sym (list_any-append test (
     by (inl some) = inl (found_of test f xs some)
     by (inr one) = inr one
 
--- and what passes in one of those passes in all,
+-- If an element of one list passes, some element of all does.
 pub finds_old : {X A : Type 0} (test : A → Bool) (f : X → List A) (xs : List X) (more : List A) (x : X) → Contains xs x
     → list_any test (f x) ≡ true → list_any test (flat_map f xs ++ more) ≡ true
 finds_old test f xs more x has so = list_any-append test (flat_map f xs) more ∙ or_left _ _ (finds_of test f xs x has so)
 
--- and so does what passes in that.
+-- If an element of the last list passes, some element of all does.
 pub finds_last : {X A : Type 0} (test : A → Bool) (f : X → List A) (xs : List X) (more : List A) → list_any test more ≡ true
     → list_any test (flat_map f xs ++ more) ≡ true
 finds_last test f xs more so = list_any-append test (flat_map f xs) more ∙ or_right _ _ so
 
--- One number alone is that one.
+-- The only number of a list is this one.
 pub alone_is : (n i : ℕ) → list_any (λ k. k == i) (n ∷ []) ≡ true → n ≡ i
 alone_is n i is = by (or_cases (n == i) false is)
   where
@@ -127,9 +127,9 @@ alone_is n i is = by (or_cases (n == i) false is)
     by (inl same) = eqb-true n i same
     by (inr bad) = absurd (false≢true bad)
 
--- ---- what is left of a list
+-- ---- the rest of a list
 
--- Where these elements are left from a number on, the first of them stands at it,
+-- The first element of the rest from place n is at n.
 pub first_left : {X : Type 0} (xs left : List X) (n : ℕ) (x : X) → ((k : ℕ) → slice_get (x ∷ left) k ≡ slice_get xs (n + k))
     → slice_get xs n ≡ Some x
 first_left xs left n x same = ap (slice_get xs) at_front ∙ sym (same 0)
@@ -137,7 +137,7 @@ first_left xs left n x same = ap (slice_get xs) at_front ∙ sym (same 0)
     at_front : n ≡ n + 0
     at_front = omega arith
 
--- and the others are left from the next one on.
+-- The others are the rest from the next place.
 pub later_left : {X : Type 0} (xs left : List X) (n : ℕ) (x : X) → ((k : ℕ) → slice_get (x ∷ left) k ≡ slice_get xs (n + k)) → (k : ℕ)
     → slice_get left k ≡ slice_get xs ((n + 1) + k)
 later_left xs left n x same k = same (suc k) ∙ ap (slice_get xs) further

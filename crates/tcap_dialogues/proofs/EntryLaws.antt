@@ -1,4 +1,4 @@
--- An entry joins the live dialogues that have one of its IDs: which these are, and what is kept of them with it.
+-- An entry joins the live dialogues that have one of its IDs: which these are, and the values kept with it.
 use Rattle.std.proofs.Common.{arith, ◌≡◌, ◌⊎◌, inl, inr, ℕ, suc, Bool, true, false, cond, List, [], ◌∷◌, ◌++◌, Option, Some, None, is_none, is_some, refl, sym, ap, ◌∙◌}
 use Rattle.std.specs.Prelude.{◌==◌, ◌&&◌, ◌||◌, nat_lt, not, Contains, filter, length}
 use Rattle.std.specs.List.{flat_map, list_any}
@@ -21,14 +21,14 @@ use Rattle.tcap_dialogues.proofs.HeldOvers.{lower_none}
 use Rattle.tcap_dialogues.proofs.LiveLaws.{either, some_higher}
 use Rattle.tcap_dialogues.proofs.OwnerLaws.{IsOf, Owns, done_ids, firm_ids}
 
--- What passes in many lists and one more.
+-- a test of joined lists and one more
 pub any_part : {A : Type 0} (p : A → Bool) (f : Course → List A) (ds : List Course) (more : List A)
     → list_any p (flat_map f ds ++ more) ≡ (list_any (λ d. list_any p (f d)) ds || list_any p more)
 any_part p f ds more = list_any-append p (flat_map f ds) more ∙ ap (λ b. b || list_any p more) (any_flat p f ds)
 
 module _ (live : List Course) (names : Course → ℕ) (lives : Rattle.std.specs.BTreeMap.BTreeMap ℕ Live) (apart : AreApart live)
     (are : AreLives live names lives) where
-  -- One has an ID of these where it has the name that is known.
+  -- A dialogue has one of these IDs if it has the name that is known.
   pub owned_is : (ids : List IdOf) (known : Known) → Owns live names ids known known.dialogue → (d : Course)
       → Contains live d → have_one ids d.ids ≡ is_named names known.dialogue d
   owned_is ids known owns d has = by known.dialogue owns
@@ -44,7 +44,7 @@ module _ (live : List Course) (names : Course → ℕ) (lives : Rattle.std.specs
 
   module _ (h : Heading) (own peer : Option ℕ) (own_is : (d : Course) → Contains live d → have_one (own_ids h) d.ids ≡ is_named names own d)
       (peer_is : (d : Course) → Contains live d → have_one (peer_ids h) d.ids ≡ is_named names peer d) where
-    -- those of the one name, and of the others those of the other name; and those that are left
+    -- the dialogues with the own ID's name, those of the rest with the peer ID's name, and those left
     abbrev pub joined_ones : List Course
     joined_ones = those names own live ++ those names peer (others names own live)
 
@@ -56,7 +56,7 @@ module _ (live : List Course) (names : Course → ℕ) (lives : Rattle.std.specs
         list_any-append (is_among d.ids) (own_ids h) (peer_ids h) ∙ ap (λ b. b || have_one (peer_ids h) d.ids) (own_is d has)
         ∙ ap (λ b. is_named names own d || b) (peer_is d has)
 
-    -- These are those that have one of its IDs,
+    -- The former are those that have one of the entry's IDs.
     pub joined_hit : AreSame joined_ones (hit_by h live)
     joined_hit = record {
       there = λ d has. there d (Contains-append_cases (those names own live) _ d has);
@@ -84,7 +84,7 @@ module _ (live : List Course) (names : Course → ℕ) (lives : Rattle.std.specs
             (left_in (is_named names peer) (others names own live) d
             (left_in (λ e. not (is_named names own e)) live d listed (ap not is)) (sym (ap (λ b. b || is_named names peer d) is) ∙ hit))
 
-    -- and these are the others.
+    -- The latter are those that have none.
     pub left_miss : AreSame left_ones (filter (λ d. not (have_one (ids_in h) d.ids)) live)
     left_miss = record {
       there = λ d has.
@@ -112,9 +112,9 @@ module _ (live : List Course) (names : Course → ℕ) (lives : Rattle.std.specs
         second true b is = cc
         second false b is = is
 
--- ---- whether an ID of the entry came again
+-- ---- reused IDs of the entry
 
--- an ID that came again is unsettled where it is not firm
+-- a reused ID is unsettled if it is not firm
 abbrev pub unsettled_by : Earlier → IdOf → Bool
 unsettled_by earlier id = is_among earlier.ids id && not (is_among earlier.firm id)
 
@@ -125,7 +125,7 @@ module _ (live hits : List Course) (names : Course → ℕ) (end : Side) (octets
   abbrev news : IdOf → Bool
   news id = not (list_any (λ d. is_among d.ids id) hits)
 
-  -- A test of it passes where no live one has it.
+  -- The test passes for an ID that no live dialogue has.
   pub again_is : (test : IdOf → Bool) (so : Bool) → so ≡ list_any test (ids_at end octets)
       → list_any test (filter news (ids_at end octets)) ≡ (is_none known.dialogue && so)
   again_is test so is = by octets is owns in_hits
@@ -154,7 +154,7 @@ module _ (live hits : List Course) (names : Course → ℕ) (end : Side) (octets
           one id (news id) ∙ ap (λ b. b && (test id || false)) (at id known.dialogue owned inside)
           ∙ ap (λ b. is_none known.dialogue && b) (sym agrees)
 
--- An ID is unsettled by what is known of it.
+-- What is known of an ID decides whether it is unsettled.
 pub unsettled_at : (s : Courses) (names : Course → ℕ) (end : Side) (octets : Option (List ℕ)) (known : Known)
     → IsOf s names (ids_at end octets) known
     → (is_some known.last && not known.firm) ≡ list_any (unsettled_by (earlier_in s.done)) (ids_at end octets)
@@ -172,9 +172,9 @@ again_both h hits test a b first second =
     ap (λ ids. list_any test ids) (filter-append _ (own_ids h) (peer_ids h))
     ∙ list_any-append test (filter _ (own_ids h)) (filter _ (peer_ids h)) ∙ either _ _ a b first second
 
--- ---- what is kept of them with the entry
+-- ---- the values kept with the entry
 
--- One of two lists has something where both in one have.
+-- A joined list is non-empty if one of both is.
 some_more : {X : Type 0} (xs ys : List X) → nat_lt 0 (length (xs ++ ys)) ≡ (nat_lt 0 (length xs) || nat_lt 0 (length ys))
 some_more [] ys = refl
 some_more (x ∷ xs) ys = is_more (length (xs ++ ys)) ∙ sym (ap (λ b. b || nat_lt 0 (length ys)) (is_more (length xs)))

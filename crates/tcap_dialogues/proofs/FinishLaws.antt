@@ -1,4 +1,4 @@
--- The stretch ends: all that is live is handed over.
+-- At the end of the segment, all live dialogues are handed over.
 use Rattle.std.proofs.Common.{arith, ◌≡◌, ◌⊎◌, inl, inr, ℕ, zero, suc, ◌<◌, ◌≤◌, Bool, true, false, cond, List, [], ◌∷◌, ◌++◌, length, get_or, Some, refl, sym, ap, subst, ◌∙◌}
 use Rattle.std.specs.Prelude.{⊤, Contains, slice_get}
 use Rattle.std.specs.BTreeMap as tree
@@ -21,11 +21,11 @@ use Rattle.tcap_dialogues.specs.declared.gathered.Gathered.{Gathered}
 use Rattle.tcap_dialogues.specs.declared.live.Live.{Live}
 use Rattle.tcap_dialogues.proofs.GatheredLaws.{at_place}
 
--- It stands for what that one is kept of.
+-- A gathered dialogue represents the dialogue that the live one keeps.
 abbrev pub StandsFor : Live → Gathered → Type 0
 StandsFor l g = (d : Course) → AreKept (d ∷ []) l → IsGathered d g
 
--- These stand for those, one by one.
+-- These represent those, one by one.
 pub Stand : List (ℕ × Live) → List Gathered → Type 0
 Stand [] [] = ⊤
 Stand (e ∷ es) (g ∷ gs) = StandsFor e.1 g × Stand es gs
@@ -58,7 +58,7 @@ stand_there (x ∷ es) (g ∷ gs) (suc i) e (first, so) is = stand_there es gs i
 stand_there [] (g ∷ gs) i e so is = absurd so
 stand_there (x ∷ es) [] i e so is = absurd so
 
--- Where a value is found, an entry has it.
+-- A value that is found is that of an entry.
 found_place : (number : ℕ) (es : List (ℕ × Live)) (l : Live) → lookup (is_at (nat_cmp number)) es ≡ Some l
     → (i : ℕ) × (e : ℕ × Live) × (slice_get es i ≡ Some e) × (e.1 ≡ l)
 found_place number [] l is = cc
@@ -102,7 +102,7 @@ module _ (live : List Course) (names : Course → ℕ) (lives : tree.BTreeMap �
       by (inr more) (inl less) = absurd (before j i f e also at (sym same) less)
       by (inr more) (inr less) = omega (arith, more, less)
 
-  -- They stand for all that are live.
+  -- They represent all live dialogues.
   pub all_stand : AreGathered live gs
   all_stand = record {
     each = λ d has.
@@ -125,9 +125,9 @@ module _ (live : List Course) (names : Course → ℕ) (lives : tree.BTreeMap �
       given_at : (i : ℕ) (g : Gathered) → i < length gs → get_or gs i g ≡ g → slice_get gs i ≡ Some g
       given_at i g less is = Rattle.std.proofs.lemmas.Option.slice_get-get_or gs i g less ∙ ap (λ x. Some x) is
 
--- ---- one after the other
+-- ---- in turn
 
--- what stands for these came behind those
+-- the gathered dialogues that represent these are appended
 abbrev pub Handed : List Gathered → List (ℕ × Live) → List Gathered → Type 0
 Handed old es now = (given : List Gathered) × (now ≡ old ++ given) × Stand es given
 

@@ -1,4 +1,4 @@
--- A part that shares no ID with the rest: which IDs are inside it, and that the IDs of a message all are, or none.
+-- A part that shares no ID with the rest: the IDs of a message are all in it, or none.
 use Rattle.std.proofs.Common.{◌≡◌, ℕ, Bool, true, false, List, Option, Some, refl, sym, ap, ◌∙◌}
 use Rattle.std.specs.Prelude.{slice_get}
 use Rattle.std.proofs.lemmas.Slice.Eq.{bytes_eq-Decides}
@@ -13,16 +13,16 @@ use Rattle.tcap_dialogues.specs.Part.{IsClosed, carries}
 use Rattle.tcap_dialogues.proofs.PartLists.{carried_by, carried_in, from_zero, is_carried}
 use Rattle.tcap_dialogues.proofs.SendLaws.{Fits}
 
--- An ID is that ID.
+-- An ID equals itself.
 is_itself : (id : List ℕ) (o : Option (List ℕ)) → o ≡ Some id → is_id id o ≡ true
 is_itself id o is = rw is ((bytes_eq-Decides id id).1 refl)
 
 module _ (keeps : ℕ → Bool) (items : List Item) (closed : IsClosed keeps items) where
-  -- whether an ID of an end is one of the part
+  -- whether an ID of an end is in the part
   abbrev pub in_part : Side → List ℕ → Bool
   in_part end id = is_carried end id keeps 0 items
 
-  -- An ID that a message carries is, where the message is.
+  -- An ID of a message is in the part if the message is.
   carried_is : (end : Side) (id : List ℕ) (i : ℕ) (side : Side) (m : Message) → slice_get items i ≡ Some (Sent side m)
       → carries end id side m ≡ true → in_part end id ≡ keeps i
   carried_is end id i side m listed has = by (keeps i) refl (in_part end id) refl
@@ -35,7 +35,7 @@ module _ (keeps : ℕ → Bool) (items : List Item) (closed : IsClosed keeps ite
           let same = closed.same c.i i c.side side c.message m c.listed listed (end, id, c.has, has) in
           let bad : true ≡ false = sym c.kept ∙ ap keeps (from_zero c.i) ∙ same ∙ so in cc
 
-  -- So it is with the IDs of each message, which are the sender's and the receiver's.
+  -- So it is with all IDs of a sent message.
   pub all_fit : (side : Side) (i : ℕ) (m : Message) → slice_get items i ≡ Some (Sent side m)
       → Fits (in_part side) (in_part (other side)) (keeps i) m
   all_fit sides.A i m listed = record {
@@ -47,7 +47,7 @@ module _ (keeps : ℕ → Bool) (items : List Item) (closed : IsClosed keeps ite
     destination = λ id is. carried_is sides.A id i sides.B m listed (is_itself id (dtid_in m) is);
   }
 
-  -- The same of a message that comes.
+  -- So it is with all IDs of a received message.
   pub all_came : (side : Side) (i : ℕ) (m : Message) → slice_get items i ≡ Some (Sent (other side) m)
       → Fits (in_part (other side)) (in_part side) (keeps i) m
   all_came sides.A i m listed = all_fit sides.B i m listed

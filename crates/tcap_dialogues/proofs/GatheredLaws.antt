@@ -1,4 +1,4 @@
--- Dialogues that are handed over, and what stands for them.
+-- Dialogues that are handed over, and their representations.
 use Rattle.std.proofs.Common.{arith, ◌≡◌, ◌⊎◌, inl, inr, ℕ, zero, suc, ◌+◌, true, List, [], ◌∷◌, ◌++◌, length, Some, sym, ◌∙◌, refl, subst}
 use Rattle.std.specs.Prelude.{Contains, slice_get}
 use Rattle.std.proofs.lemmas.List.Elements.{Contains-append_cases, Contains-append_left, Contains-append_right}
@@ -8,7 +8,7 @@ use Rattle.tcap_dialogues.specs.declared.gathered.Gathered.{Gathered}
 use Rattle.tcap_dialogues.proofs.CutLists.{first_in, in_cases, none_in}
 use Rattle.tcap_dialogues.proofs.HeldLists.{AreSame}
 
--- An element of two lists, one behind the other, is one of the first, or of the second.
+-- An element of two joined lists is in the first, or in the second.
 abbrev Place : {X : Type 0} → List X → List X → ℕ → X → Type 0
 Place xs ys i x = (slice_get xs i ≡ Some x) ⊎ ((j : ℕ) × (i ≡ length xs + j) × (slice_get ys j ≡ Some x))
 
@@ -22,7 +22,7 @@ place (y ∷ xs) ys (suc i) x is = by (place xs ys i x is)
     by (inl here) = inl here
     by (inr (j, at, there)) = inr (j, omega (arith, at), there)
 
--- What stands at a place is one of the list.
+-- The element at a place is in the list.
 pub at_place : {X : Type 0} (xs : List X) (i : ℕ) (x : X) → slice_get xs i ≡ Some x → Contains xs x
 at_place [] i x is = cc
 at_place (y ∷ xs) zero x is = let same : y ≡ x = cc in subst (Contains (y ∷ xs)) same (first_in y xs)
@@ -54,7 +54,7 @@ one_gathered ds d g has only is = record {
     same zero (suc j) f h at also = cc
     same (suc i) j f h at also = cc
 
--- The same dialogues in another order.
+-- the same dialogues in another order
 pub same_gathered : (ds es : List Course) (gs : List Gathered) → AreSame ds es → AreGathered ds gs → AreGathered es gs
 same_gathered ds es gs same are = record {
   each = λ d has. are.each d (same.back d has);
@@ -62,7 +62,7 @@ same_gathered ds es gs same are = record {
   apart = are.apart;
 }
 
--- More, which have no entry of those.
+-- more dialogues, which share no entry with these
 pub more_gathered : (ds es : List Course) (gs hs : List Gathered)
     → ((d e : Course) (n : ℕ) → Contains ds d → Contains es e → has_entry d n ≡ true → has_entry e n ≡ true → ⊥)
     → AreGathered ds gs → AreGathered es hs → AreGathered (ds ++ es) (gs ++ hs)

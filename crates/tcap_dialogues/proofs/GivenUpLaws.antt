@@ -1,4 +1,4 @@
--- Which live dialogue has an ID that its sender uses anew.
+-- Which live dialogue has an ID that its sender reuses.
 use Rattle.std.proofs.Common.{◌≡◌, ◌⊎◌, inl, inr, ℕ, Bool, true, false, List, Option, Some, None, is_some, refl, sym, ap, ◌∙◌}
 use Rattle.std.specs.Prelude.{◌==◌, ◌&&◌, ◌||◌, not, Contains}
 use Rattle.std.specs.List.{flat_map, list_any}
@@ -28,7 +28,7 @@ not_begun : (a c d : Bool) → ((a && false && c) && d) ≡ false
 not_begun true c d = refl
 not_begun false c d = refl
 
--- Two that have an ID of an end, if there is one, are one.
+-- Two dialogues that have an ID of an end are equal.
 one_of_ids : (live : List Course) → AreApart live → (end : Side) (octets : Option (List ℕ)) (d e : Course) → Contains live d → Contains live e
     → have_one (ids_at end octets) d.ids ≡ true → have_one (ids_at end octets) e.ids ≡ true → d ≡ e
 one_of_ids live apart end None d e has hers is so = cc
@@ -36,11 +36,11 @@ one_of_ids live apart end (Some octets) d e has hers is so =
     let id : IdOf = record { end = end; octets = octets } in
     apart.one_id d e id has hers (sym (or_none (is_among d.ids id)) ∙ is) (sym (or_none (is_among e.ids id)) ∙ so)
 
--- whether it accepts one that has not its own ID
+-- whether the heading accepts a dialogue that has not its own ID
 abbrev pub accepts_one : Heading → Course → Bool
 accepts_one h other = accepts h other && not (have_one (own_ids h) other.ids)
 
--- None other than a Continue accepts.
+-- Only a Continue accepts.
 pub accepts_none : (live : List Course) (h : Heading) → is_continue h.kind ≡ false → list_any (accepts_one h) live ≡ false
 accepts_none live h not_one =
     any_none (accepts_one h) live
@@ -58,7 +58,7 @@ module _ (live : List Course) (names : Course → ℕ) (lives : Rattle.std.specs
 
     module _ (name other : ℕ) (d e : Course) (has : Contains live d) (named : names d ≡ name) (hits : have_one (own_ids h) d.ids ≡ true)
         (owner : IsOwner live names (peer_ids h) other peer e) where
-      -- It is another one by its name.
+      -- Another dialogue has another name.
       is_another : have_one (own_ids h) e.ids ≡ (other == name)
       is_another = both_so _ _ there back
         where
@@ -93,9 +93,9 @@ module _ (live : List Course) (names : Course → ℕ) (lives : Rattle.std.specs
           order false false true = refl
           order false false false = refl
 
--- ---- which is given up
+-- ---- the dialogue that is given up
 
--- One of these dialogues has one of these IDs where one of these IDs is one of theirs.
+-- Some dialogue has one of these IDs if they share one with all IDs.
 pub any_has : (ids : List IdOf) (ds : List Course) → list_any (λ d. have_one ids d.ids) ds ≡ have_one ids (flat_map (λ d. d.ids) ds)
 any_has ids ds = both_so _ _ there back
   where
@@ -111,13 +111,13 @@ any_has ids ds = both_so _ _ there back
         finds (λ x. have_one ids x.ids) ds d there (finds (is_among d.ids) ids id has its)
 
 module _ (s : Courses) (names : Course → ℕ) (h : Heading) where
-  -- Where a live dialogue has the peer's ID, an entry names it;
+  -- If a live dialogue has the destination ID, an entry has it.
   pub named_live : (d : Course) → Contains s.live d → have_one (peer_ids h) d.ids ≡ true → names_peer s h ≡ true
   named_live d has is =
       list_any-append (λ x. have_one (peer_ids h) x.ids) s.done s.live
       ∙ or_right _ _ (finds (λ x. have_one (peer_ids h) x.ids) s.live d has is)
 
-  -- where none has, one does where a dialogue that is done had it.
+  -- If no live dialogue has it, an entry has it if a dialogue that is done did.
   pub named_done : (peer : Known) → IsOf s names (peer_ids h) peer → IsNobodys s.live (peer_ids h) peer
       → names_peer s h ≡ is_some peer.last
   named_done peer of nobody =
@@ -127,7 +127,7 @@ module _ (s : Courses) (names : Course → ℕ) (h : Heading) where
       ∙ or_none _ ∙ any_has (peer_ids h) s.done ∙ sym of.came
 
   module _ (d : Course) where
-    -- What has none of its own IDs is not used anew;
+    -- A dialogue without the own ID is not reused.
     pub not_own : have_one (own_ids h) d.ids ≡ false → is_used_anew s h d ≡ false
     not_own is =
         ap (λ b. (is_begin h.kind && b) || (b && list_any (accepts_one h) s.live)
@@ -138,19 +138,19 @@ module _ (s : Courses) (names : Course → ℕ) (h : Heading) where
         by true = refl
         by false = refl
 
-    -- what has one is used anew by a Begin,
+    -- A Begin reuses it.
     pub own_begin : have_one (own_ids h) d.ids ≡ true → is_begin h.kind ≡ true → is_used_anew s h d ≡ true
     own_begin has begins =
         or_left (begins_from h d.ids || gives_to_another s.live h d) (goes_on_with_another s h d)
         (or_left (begins_from h d.ids) (gives_to_another s.live h d) (ap (λ b. b && have_one (own_ids h) d.ids) begins ∙ has))
 
-    -- or by a Continue,
+    -- A Continue may reuse it.
     pub own_other : is_begin h.kind ≡ false
         → is_used_anew s h d ≡ (gives_to_another s.live h d || goes_on_with_another s h d)
     own_other none =
         ap (λ b. (b && have_one (own_ids h) d.ids) || gives_to_another s.live h d || goes_on_with_another s h d) none
 
-    -- and by no other.
+    -- No other kind does.
     pub own_neither : is_begin h.kind ≡ false → is_continue h.kind ≡ false → is_used_anew s h d ≡ false
     own_neither none neither =
         own_other none
@@ -163,7 +163,8 @@ module _ (s : Courses) (names : Course → ℕ) (h : Heading) where
         by true x y z = refl
         by false x y z = refl
 
-    -- A Continue is of one that it accepts, where a live dialogue has the peer's ID,
+    -- If a live dialogue has the destination ID, a Continue belongs to this dialogue if its sender accepts the
+    -- dialogue.
     pub continues_live : (accepts : Bool) → have_one (own_ids h) d.ids ≡ true → names_peer s h ≡ true
         → list_any (accepts_one h) s.live ≡ accepts → (gives_to_another s.live h d || goes_on_with_another s h d) ≡ accepts
     continues_live accepts has named is =
@@ -180,7 +181,7 @@ module _ (s : Courses) (names : Course → ℕ) (h : Heading) where
         by false true false e = refl
         by false false c e = refl
 
-    -- and else of one whose Begin the segment lacks, where no entry named that ID.
+    -- Otherwise it belongs to a dialogue whose Begin is not in the segment, if no entry has that ID.
     pub continues_done : (last begun : Bool) → have_one (own_ids h) d.ids ≡ true → is_continue h.kind ≡ true
         → list_any (accepts_one h) s.live ≡ false → names_peer s h ≡ last → has_begin d ≡ begun
         → (gives_to_another s.live h d || goes_on_with_another s h d) ≡ (begun && (h.under_way || h.known) && not last)
@@ -192,7 +193,7 @@ module _ (s : Courses) (names : Course → ℕ) (h : Heading) where
         ∙ ap (λ b. has_begin d && (h.under_way || h.known) && not b) named
         ∙ ap (λ b. b && (h.under_way || h.known) && not last) begins
 
--- So the code asks.
+-- the test in the code
 pub as_known : (last : Option ℕ) (begun word none : Bool) → is_some last ≡ not none
     → ((none && word) && begun) ≡ (begun && word && not (is_some last))
 as_known last begun word none is = by none word begun ∙ ap (λ b. begun && word && not b) (sym is)
@@ -207,11 +208,11 @@ as_known last begun word none is = by none word begun ∙ ap (λ b. begun && wor
     by false false true = refl
     by false false false = refl
 
--- ---- what the code answers
+-- ---- the result of the code
 
 module _ (s : Courses) (names : Course → ℕ) (lives : Rattle.std.specs.BTreeMap.BTreeMap ℕ Live) (apart : AreApart s.live)
     (are : AreLives s.live names lives) (h : Heading) (own : Known) where
-  -- Where no live dialogue has its own ID none is given up,
+  -- If no live dialogue has the own ID, none is given up.
   pub gives_up_nobody : IsNobodys s.live (own_ids h) own → (d : Course) → Contains s.live d → (is_some d.over && is_used_anew s h d) ≡ false
   gives_up_nobody nobody d has = ap (λ b. is_some d.over && b) (not_own s names h d (nobody.0 d has)) ∙ none (is_some d.over)
     where
@@ -219,7 +220,7 @@ module _ (s : Courses) (names : Course → ℕ) (lives : Rattle.std.specs.BTreeM
       none true = refl
       none false = refl
 
-  -- and else the one that has it, if it is over and used anew.
+  -- Otherwise, the dialogue that has it is given up if it is over and reused.
   pub gives_up_is : (name : ℕ) (e : Course) → IsOwner s.live names (own_ids h) name own e → (gives : Bool)
       → (is_some e.over && is_used_anew s h e) ≡ gives → (d : Course) → Contains s.live d
       → (is_some d.over && is_used_anew s h d) ≡ (names d == name && gives)
@@ -240,12 +241,12 @@ module _ (s : Courses) (names : Course → ℕ) (lives : Rattle.std.specs.BTreeM
           none true = refl
           none false = refl
 
--- It is named where it is given up,
+-- the name, if a dialogue is given up
 pub all_given : (gives named : Bool) → gives ≡ (named && true) → gives ≡ named
 all_given gives true is = is
 all_given gives false is = is
 
--- and else none is.
+-- no name, if none is
 pub none_given : (gives named : Bool) → gives ≡ (named && false) → gives ≡ false
 none_given gives true is = is
 none_given gives false is = is

@@ -1,4 +1,4 @@
--- What can be read of octets that spell a message is the heading of that message.
+-- The heading read of octets that spell a message is that of the message.
 use Rattle.std.proofs.Common.{◌≡◌, ℕ, Bool, true, false, cond, List, [], Option, None, Result, Ok, sym, ap, ◌∙◌, inl, inr}
 use Rattle.std.specs.Prelude.{length, ◌==◌}
 use Rattle.std.proofs.lemmas.List.{append-nil}
@@ -19,7 +19,7 @@ use Rattle.tcap_record.specs.declared.entry.End.{End as Side}
 use Rattle.tcap_dialogues.specs.Course.{Heading, heading_of}
 use Rattle.tcap_dialogues.specs.HeadingReading.{begin_heading_at, continue_heading_at, heading_at, heading_in, heading_of_element, heading_with, last_heading_at, or_nothing}
 
--- Where nothing more may stand, what was read is the answer.
+-- If nothing may follow, the value read is the result.
 ended : {W : Type 0} (w : W) (s : Span) (x : W) → end_at w s ≡ Ok x → w ≡ x
 ended w s x e =
     elim (chosen (length s.octets == 0) _ _ (Ok x) e) [
@@ -27,13 +27,13 @@ ended w s x e =
       | inr h ↦ absurd cc
     ]
 
--- Two choices by the same test answer alike where their branches do.
+-- Two choices by one test agree if their branches do.
 either : {V W : Type 0} (b : Bool) (x y : Result V Fault) (v : V) (x' y' : Result W Fault) (w : W) → (x ≡ Ok v → x' ≡ Ok w) → (y ≡ Ok v → y' ≡ Ok w)
     → cond b x y ≡ Ok v → cond b x' y' ≡ Ok w
 either true x y v x' y' w here there e = here e
 either false x y v x' y' w here there e = there e
 
--- Behind its IDs a Begin, an End or a Continue has portions, which make it what it is.
+-- After its IDs, a Begin, an End or a Continue has portions.
 portions : (make : Option Dialogue → Option (List Component) → Message) (s : Span) (m : Message)
     → (dialogue_portion_at s >>= λ d. component_portion_at d.1 >>= λ c. end_at (make d.0 c.0) c.1) ≡ Ok m
     → (d : Option Dialogue) × (c : Option (List Component)) × (make d c ≡ m)
@@ -43,11 +43,11 @@ portions make s m e =
     (dialogue.0.0, components.0.0, ended (make dialogue.0.0 components.0.0) components.0.1 m components.2)
 
 module _ (sender : Side) where
-  -- The heading of a message that is read.
+  -- the heading of a message
   abbrev read_of : Message → Result Heading Fault
   read_of m = Ok (heading_of sender m)
 
-  -- That of a Unidirectional is read of its tag.
+  -- The tag gives the heading of a Unidirectional.
   of_unidirectional : (s : Span) (m : Message) → unidirectional_at s ≡ Ok m → (let r : Result Heading Fault = Ok (heading_with sender kinds.Unidirectional None None) in r) ≡ read_of m
   unfolding unidirectional_at
   of_unidirectional s m e =
@@ -55,21 +55,21 @@ module _ (sender : Side) where
       let components = bind_ok (required_portion_at dialogue.0.1) _ m dialogue.2 in
       ap read_of (ended (Unidirectional dialogue.0.0 components.0.0) components.0.1 m components.2)
 
-  -- That of a Begin is read of its content, as far as its transaction ID,
+  -- The content up to the originating ID gives that of a Begin.
   of_begin : (s : Span) (m : Message) → begin_at s ≡ Ok m → begin_heading_at sender s ≡ read_of m
   unfolding begin_at begin_heading_at
   of_begin s m e =
       let otid = bind_ok (otid_at s) _ m e in
       rw otid.1 (ap read_of (portions (Begin otid.0.0) otid.0.1 m otid.2).2)
 
-  -- that of an End,
+  -- The content up to the destination ID gives that of an End.
   of_end : (s : Span) (m : Message) → end_message_at s ≡ Ok m → last_heading_at sender kinds.End s ≡ read_of m
   unfolding end_message_at last_heading_at
   of_end s m e =
       let dtid = bind_ok (dtid_at s) _ m e in
       rw dtid.1 (ap read_of (portions (End dtid.0.0) dtid.0.1 m dtid.2).2)
 
-  -- that of a Continue as far as its second one,
+  -- The content up to the destination ID gives that of a Continue.
   of_continue : (s : Span) (m : Message) → continue_at s ≡ Ok m → continue_heading_at sender s ≡ read_of m
   unfolding continue_at continue_heading_at
   of_continue s m e =
@@ -78,7 +78,7 @@ module _ (sender : Side) where
       let parts = portions (Continue otid.0.0 dtid.0.0) dtid.0.1 m dtid.2 in
       rw (otid.1, dtid.1) (ap read_of {x = Continue otid.0.0 dtid.0.0 parts.0 parts.1} parts.2)
 
-  -- and that of an Abort as far as its first one.
+  -- The content up to the destination ID gives that of an Abort.
   of_abort : (s : Span) (m : Message) → abort_at s ≡ Ok m → last_heading_at sender kinds.Abort s ≡ read_of m
   unfolding abort_at last_heading_at
   of_abort s m e =
@@ -87,7 +87,7 @@ module _ (sender : Side) where
       let dialogue = bind_ok (unless_cause_at cause.0.0 cause.0.1) _ m cause.2 in
       rw dtid.1 (ap read_of (ended (Abort dtid.0.0 (make_reason cause.0.0 dialogue.0.0)) dialogue.0.1 m dialogue.2))
 
-  -- Of an element that is a message the heading of that message is read.
+  -- The heading of an element that is a message is that of the message.
   of_element : (e : Element) (m : Message) → message_of_element e ≡ Ok m → heading_of_element sender e ≡ read_of m
   of_element e m =
       either (is_tag 0x61 e.tag) _ _ m _ _ (heading_of sender m) (of_unidirectional e.content m)
@@ -97,7 +97,7 @@ module _ (sender : Side) where
       (either (is_tag 0x67 e.tag) _ _ m _ _ (heading_of sender m) (of_abort e.content m)
       (λ refused. absurd cc)))))
 
-  -- Of octets that spell a message the heading of that message is read.
+  -- So is the heading of octets that spell a message.
   pub heading_is : (octets : List ℕ) (m : Message) → Spells m octets → heading_at sender octets ≡ heading_of sender m
   unfolding message_in heading_in
   heading_is octets m spelled =

@@ -1,4 +1,4 @@
--- Live dialogues by their names, and those that are over by their numbers, where one is looked up or taken out.
+-- Live dialogues by name, and those that are over by number: looked up, and taken out.
 use Rattle.std.proofs.Common.{arith, ◌≡◌, ◌⊎◌, inl, inr, ℕ, ◌+◌, ◌<◌, true, false, cond, List, [], ◌∷◌, Option, Some, None, refl, sym, ap, subst, ◌∙◌}
 use Rattle.std.specs.Prelude.{◌==◌, not, Contains}
 use Rattle.std.specs.BTreeMap as tree
@@ -43,10 +43,10 @@ same_kept ds es l same kept = record {
   unsettled = kept.unsettled ∙ any_same (λ d. d.unsettled) ds es same;
 }
 
--- ---- one of that name
+-- ---- a dialogue by its name
 
 module _ (live : List Course) (names : Course → ℕ) (lives : BTreeMap ℕ Live) (are : AreLives live names lives) where
-  -- What is found by the name of a dialogue is of it,
+  -- The values found under a name are those of the dialogue.
   pub found_live : (d : Course) (number : ℕ) (l : Live) → Contains live d → names d ≡ number → Some l ≡ tree.get nat_cmp lives number
       → (l.name ≡ number) × AreKept (d ∷ []) l
   found_live d number l has named there =
@@ -55,13 +55,13 @@ module _ (live : List Course) (names : Course → ℕ) (lives : BTreeMap ℕ Liv
       let same : kept ≡ l = cc in
       (ap (λ x. x.name) (sym same) ∙ name ∙ named, subst (AreKept (d ∷ [])) same is)
 
-  -- and something is.
+  -- There are such values.
   pub found_some : (d : Course) (number : ℕ) → Contains live d → names d ≡ number → None ≡ tree.get nat_cmp lives number → ⊥
   found_some d number has named there =
       let (kept, at, name, is) = are.there d has in
       let bad : None ≡ Some kept = there ∙ ap (tree.get nat_cmp lives) (sym named) ∙ at in cc
 
-  -- Two of one name are one.
+  -- Two dialogues with one name are equal.
   pub one_name : AreApart live → (d e : Course) → Contains live d → Contains live e → names d ≡ names e → d ≡ e
   one_name apart d e has hers same =
       apart.one_number d e (names d) has hers (are.entry d has) (ap (has_entry e) same ∙ are.entry e hers)
@@ -75,12 +75,12 @@ begun_one d l kept = kept.begun ∙ or_none (has_begin d)
 pub senders_one : (d : Course) (l : Live) (side : Side) → AreKept (d ∷ []) l → has_sent l side ≡ list_any (is_side side) d.senders
 senders_one d l side kept = kept.senders side ∙ or_none (list_any (is_side side) d.senders)
 
--- ---- which has been over for so long
+-- ---- a dialogue that has been over for so long
 
 module _ (live : List Course) (names : Course → ℕ) (lives : BTreeMap ℕ Live) (overs : BTreeMap ℕ ℕ) (apart : AreApart live)
     (are : AreLives live names lives) (ends : AreOvers live names overs) (linger n number : ℕ) (at : (number + linger) + 1 ≡ n)
     (lasts : (d : Course) → Contains live d → Lingers (reuses.Again linger) n d.over) where
-  -- It is over with that number,
+  -- It is over with this number.
   past_at : (d : Course) → Contains live d → is_past linger n d.over ≡ true → d.over ≡ Some number
   past_at d has past = by d.over (lasts d has) past
     where
@@ -90,13 +90,13 @@ module _ (live : List Course) (names : Course → ℕ) (lives : BTreeMap ℕ Liv
           let more = ltb-true (k + linger) n is in
           let same : k ≡ number = omega (arith, at, less, more) in ap (λ x. Some x) same
 
-  -- so where none is, none has,
+  -- If no dialogue is over with this number, none is past.
   pub none_past : None ≡ tree.get nat_cmp overs number → (d : Course) → Contains live d → is_past linger n d.over ≡ false
   none_past none d has =
       false_from_ne_true _
       (λ past. let bad : None ≡ Some (names d) = none ∙ ends.there d number has (past_at d has past) in cc)
 
-  -- and where one is, it has.
+  -- If one is, it is past.
   pub one_past : (found : ℕ) → Some found ≡ tree.get nat_cmp overs number → (d : Course) → Contains live d
       → is_past linger n d.over ≡ (names d == found)
   one_past found is d has = both_so _ _ there back
@@ -113,11 +113,11 @@ module _ (live : List Course) (names : Course → ℕ) (lives : BTreeMap ℕ Liv
           let less : number + linger < n = omega (arith, at) in
           ap (λ x. is_past linger n x.over) same ∙ ap (is_past linger n) over ∙ lt-ltb (number + linger) n less
 
--- ---- one is taken out
+-- ---- a dialogue is taken out
 
 module _ (live : List Course) (names : Course → ℕ) (lives : BTreeMap ℕ Live) (overs : BTreeMap ℕ ℕ) (apart : AreApart live)
     (are : AreLives live names lives) (ends : AreOvers live names overs) where
-  -- Where none has that name, the others are all.
+  -- If none has this name, the others are all.
   module _ (number : Option ℕ) (none : (d : Course) → Contains live d → is_named names number d ≡ false) where
     other_all : (d : Course) → Contains live d → Contains (others names number live) d
     other_all d has = left_in (λ e. not (is_named names number e)) live d has (ap not (none d has))
@@ -141,12 +141,12 @@ module _ (live : List Course) (names : Course → ℕ) (lives : BTreeMap ℕ Liv
     pub none_those : (d : Course) → Contains (those names number live) d → ⊥
     none_those d has = let (there, so) = kept_in (is_named names number) live d has in true≢false (sym so ∙ none d there)
 
-  -- that is so where nothing is found,
+  -- Nothing is found then.
   pub no_name : (number : ℕ) → None ≡ tree.get nat_cmp lives number → (d : Course) → Contains live d → is_named names (Some number) d ≡ false
   no_name number none d has =
       false_from_ne_true _ (λ is. found_some live names lives are d number has (eqb-true (names d) number is) none)
 
-  -- Else that one is taken out.
+  -- Otherwise this dialogue is taken out.
   module _ (number : ℕ) (d : Course) (has : Contains live d) (named : names d ≡ number) where
     is_other : (e : Course) → Contains (others names (Some number) live) e → Contains live e × (names e ≡ number → ⊥)
     is_other e there =
@@ -158,7 +158,7 @@ module _ (live : List Course) (names : Course → ℕ) (lives : BTreeMap ℕ Liv
         left_in (λ x. not (is_named names (Some number) x)) live e listed
         (ap not (false_from_ne_true _ (λ is. differs (eqb-true (names e) number is))))
 
-    -- whether it is another number
+    -- another number
     differs_at : (k : ℕ) → (k ≡ number → ⊥) → is_at (nat_cmp number) k ≡ false
     differs_at k differs = false_from_ne_true _ (λ is. differs (sym (eqb-true number k (sym (at_number number k) ∙ is))))
 
@@ -190,7 +190,7 @@ module _ (live : List Course) (names : Course → ℕ) (lives : BTreeMap ℕ Liv
               name,
             )
 
-    -- It is the only one that is over with its number.
+    -- No other dialogue is over with its number.
     one_over : (e : Course) (k : ℕ) → Contains live e → d.over ≡ Some k → e.over ≡ Some k → names e ≡ number
     one_over e k listed over hers =
         let same = apart.one_number d e k has listed (apart.over_in d k has over) (apart.over_in e k listed hers) in
@@ -232,7 +232,7 @@ module _ (live : List Course) (names : Course → ℕ) (lives : BTreeMap ℕ Liv
               name,
             )
 
-    -- Those of that name are that one.
+    -- It is the only one with this name.
     pub those_one : AreSame (d ∷ []) (those names (Some number) live)
     those_one = record {
       there = λ e there. by e (in_cases d e [] there);
@@ -257,9 +257,9 @@ module _ (live : List Course) (names : Course → ℕ) (lives : BTreeMap ℕ Liv
           (ap (has_entry d) (name ∙ sym named) ∙ are.entry d has),
     )
 
--- ---- what the code takes out
+-- ---- the code
 
--- Its number is taken out where it is over.
+-- The number is removed if the dialogue is over.
 pub number_out : (l : Live) (number : ℕ) (old new : BTreeMap ℕ ℕ) → l.over ≡ Some number
     → ((k : ℕ) → tree.get nat_cmp new k ≡ cond (is_at (nat_cmp number) k) None (tree.get nat_cmp old k)) → (k : ℕ)
     → tree.get nat_cmp new k ≡ cond (is_over_at l.over k) None (tree.get nat_cmp old k)
@@ -270,7 +270,7 @@ pub no_number_out : (l : Live) (old : BTreeMap ℕ ℕ) → l.over ≡ None → 
     → tree.get nat_cmp old k ≡ cond (is_over_at l.over k) None (tree.get nat_cmp old k)
 no_number_out l old over k = ap (λ o. cond (is_over_at o k) None (tree.get nat_cmp old k)) (sym over)
 
--- The same entries are of the same dialogues.
+-- Equal maps keep the same dialogues.
 lives_same : (ds : List Course) (names : Course → ℕ) (old new : BTreeMap ℕ Live) → new.entries ≡ old.entries → AreLives ds names old
     → AreLives ds names new
 lives_same ds names old new same are = record {
@@ -288,7 +288,7 @@ overs_same ds names old new same are = record {
   back = λ k found at. are.back k found (ap (lookup (is_at (nat_cmp k))) (sym same) ∙ at);
 }
 
--- Nothing is of none.
+-- The empty cut keeps no dialogues.
 pub nothing_held : (names : Course → ℕ) (kept : Cut) → kept.live.entries ≡ [] → kept.overs.entries ≡ []
     → ((id : IdOf) → known_at kept.ids id ≡ nothing) → IsHeld (record { done = []; live = [] }) names (λ id. false) kept
 nothing_held names kept no_live no_overs no_ids = record {
@@ -305,7 +305,7 @@ nothing_held names kept no_live no_overs no_ids = record {
       (record { owned = (λ d has. absurd (none_in d has), refl, refl); came = refl; firm_is = refl; sent_is = refl });
 }
 
--- None in one is an empty one.
+-- An empty dialogue keeps none.
 pub none_in_one : (n : ℕ) (ds : List Course) (names : Course → ℕ) (l : Live) → ((d : Course) → Contains ds d → ⊥) → AreKept [] l
     → l.name ≡ n → IsOne n ds names l
 none_in_one n ds names l none kept name = record {
@@ -316,7 +316,7 @@ none_in_one n ds names l none kept name = record {
 
 module _ (live : List Course) (names : Course → ℕ) (old new : Cut) (apart : AreApart live) (are : AreLives live names old.live)
     (ends : AreOvers live names old.overs) (rest : new ≡ record old { live = new.live; overs = new.overs }) where
-  -- One was found,
+  -- A dialogue was found.
   pub out_one : (number : ℕ) (l : Live) → Some l ≡ tree.get nat_cmp old.live number
       → ((k : ℕ) → tree.get nat_cmp new.live k ≡ cond (is_at (nat_cmp number) k) None (tree.get nat_cmp old.live k))
       → ((k : ℕ) → tree.get nat_cmp new.overs k ≡ cond (is_over_at l.over k) None (tree.get nat_cmp old.overs k))
@@ -331,7 +331,7 @@ module _ (live : List Course) (names : Course → ℕ) (old new : Cut) (apart : 
         rest = rest;
       }
 
-  -- or none.
+  -- None was found.
   pub out_none : (number : Option ℕ) → ((d : Course) → Contains live d → is_named names number d ≡ false)
       → new.live.entries ≡ old.live.entries → new.overs.entries ≡ old.overs.entries → IsOut number live names old new None
   out_none number none same_live same_overs = record {

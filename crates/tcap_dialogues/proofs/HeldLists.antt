@@ -1,4 +1,4 @@
--- Whether one of a list passes a test, by which elements it has.
+-- Tests of lists, by the elements that they have.
 use Rattle.std.proofs.Common.{◌≡◌, ◌⊎◌, inl, inr, Bool, true, false, ◌||◌, List, [], ◌∷◌, ◌++◌, refl, sym, ap, ◌∙◌}
 use Rattle.std.specs.Prelude.{Contains, filter, not}
 use Rattle.std.specs.List.{flat_map, list_any}
@@ -18,7 +18,7 @@ pub or_none : (b : Bool) → (b || false) ≡ b
 or_none true = refl
 or_none false = refl
 
--- The same elements are in both lists.
+-- Both lists have the same elements.
 pub record AreSame {X : Type 0} (xs ys : List X) : Type 0 where
   pub there : (x : X) → Contains xs x → Contains ys x
   pub back : (x : X) → Contains ys x → Contains xs x
@@ -34,34 +34,34 @@ appended_same {X} xs ys = record { there = λ x has. turned xs ys x has; back = 
         by (inr is) = Contains-append_left vs us x is
 
 module _ {X : Type 0} (p : X → Bool) where
-  -- Lists with the same elements pass alike.
+  -- Then some element of both passes, or of neither.
   pub any_same : (xs ys : List X) → AreSame xs ys → list_any p xs ≡ list_any p ys
   any_same xs ys same =
       both_so _ _ (λ is. let (x, has, so) = found p xs is in finds p ys x (same.there x has) so)
       (λ is. let (x, has, so) = found p ys is in finds p xs x (same.back x has) so)
 
-  -- Where no other passes, one decides;
+  -- If no other element passes, this one decides.
   pub any_only : (xs : List X) (x : X) → Contains xs x → ((y : X) → Contains xs y → p y ≡ true → y ≡ x) → list_any p xs ≡ p x
   any_only xs x has only =
       both_so _ _ (λ is. let (y, there, so) = found p xs is in sym (ap p (only y there so)) ∙ so) (λ is. finds p xs x has is)
 
-  -- where none passes, none does;
+  -- If no element passes, the test fails.
   pub any_none : (xs : List X) → ((y : X) → Contains xs y → p y ≡ false) → list_any p xs ≡ false
   any_none xs none =
       false_from_ne_true (list_any p xs)
       (λ is. let (y, has, so) = found p xs is in true≢false (sym so ∙ none y has))
 
-  -- and the other way round.
+  -- If the test fails, no element passes.
   pub none_of : (xs : List X) (x : X) → list_any p xs ≡ false → Contains xs x → p x ≡ false
   none_of xs x none has = false_from_ne_true (p x) (λ so. true≢false (sym (finds p xs x has so) ∙ none))
 
--- One of many lists passes where one in one of them does.
+-- the test of joined lists
 pub any_flat : {X A : Type 0} (p : A → Bool) (f : X → List A) (xs : List X)
     → list_any p (flat_map f xs) ≡ list_any (λ x. list_any p (f x)) xs
 any_flat p f [] = refl
 any_flat p f (x ∷ xs) = list_any-append p (f x) (flat_map f xs) ∙ ap (λ b. list_any p (f x) || b) (any_flat p f xs)
 
--- ---- what passes, and what is left
+-- ---- elements that pass, and those left
 
 module _ {X : Type 0} (test : X → Bool) (xs : List X) where
   -- Each passes, or is left.
@@ -72,7 +72,7 @@ module _ {X : Type 0} (test : X → Bool) (xs : List X) where
       by (inl is) = inl (left_in test xs x has is)
       by (inr is) = inr (left_in (λ y. not (test y)) xs x has (ap not is))
 
--- Tests that agree on the elements of a list leave the same.
+-- Tests that agree leave the same elements.
 pub filter_same : {X : Type 0} (p q : X → Bool) (xs : List X) → ((x : X) → Contains xs x → p x ≡ q x) → AreSame (filter p xs) (filter q xs)
 filter_same {X} p q xs agree = record {
   there = λ x has. let (there, so) = kept_in p xs x has in left_in q xs x there (sym (agree x there) ∙ so);

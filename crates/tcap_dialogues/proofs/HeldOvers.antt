@@ -1,4 +1,4 @@
--- The number with which the first of some dialogues is over.
+-- The lowest number with which some dialogues are over.
 use Rattle.std.proofs.Common.{arith, ◌≡◌, ◌⊎◌, inl, inr, ℕ, ◌<◌, ◌≤◌, List, [], ◌∷◌, ◌++◌, Option, Some, None, refl, sym, ap, ◌∙◌}
 use Rattle.std.specs.Prelude.{Contains, min}
 use Rattle.std.proofs.lemmas.Bool.{cases_lt}
@@ -6,7 +6,7 @@ use Rattle.tcap_dialogues.specs.Course.{Course, first_over, lower}
 use Rattle.tcap_dialogues.proofs.CutLists.{first_in, in_cases, later_in, none_in}
 use Rattle.tcap_dialogues.proofs.HeldLists.{AreSame}
 
--- ---- the lower one of two numbers
+-- ---- the lower of two numbers
 
 pub lower_none : (a : Option ℕ) → lower a None ≡ a
 lower_none None = refl
@@ -41,13 +41,13 @@ lower_is (Some a) (Some b) n is = by (cases_lt a b)
     by (inl less) = let it : a ≡ n = omega (arith, same, less) in inl (ap (λ x. Some x) it)
     by (inr more) = let it : b ≡ n = omega (arith, same, more) in inr (ap (λ x. Some x) it)
 
--- ---- those of some dialogues
+-- ---- the lowest of several
 
 pub over_appended : (ds es : List Course) → first_over (ds ++ es) ≡ lower (first_over ds) (first_over es)
 over_appended [] es = refl
 over_appended (d ∷ ds) es = ap (lower d.over) (over_appended ds es) ∙ sym (lower_more d.over (first_over ds) (first_over es))
 
--- It is that of one of them,
+-- It is that of one dialogue.
 pub over_of : (ds : List Course) (n : ℕ) → first_over ds ≡ Some n → (d : Course) × Contains ds d × (d.over ≡ Some n)
 over_of [] n is = cc
 over_of (d ∷ ds) n is = by (lower_is d.over (first_over ds) n is) (λ there. over_of ds n there)
@@ -57,7 +57,7 @@ over_of (d ∷ ds) n is = by (lower_is d.over (first_over ds) n is) (λ there. o
     by (inl here) rest = (d, first_in d ds, here)
     by (inr there) rest = let (e, has, so) = rest there in (e, later_in d e ds has, so)
 
--- and the lowest;
+-- It is the lowest.
 over_low : (ds : List Course) (d : Course) → Contains ds d → lower d.over (first_over ds) ≡ first_over ds
 over_low [] d has = absurd (none_in d has)
 over_low (e ∷ ds) d has = by (in_cases e d ds has) (λ there. over_low ds d there)
@@ -77,7 +77,7 @@ over_lowest (d ∷ ds) low below =
     lower_more d.over (first_over ds) low ∙ ap (lower d.over) (over_lowest ds low (λ e has. below e (later_in d e ds has)))
     ∙ below d (first_in d ds)
 
--- so it is the same of the same ones.
+-- It does not depend on the order.
 pub over_same : (ds es : List Course) → AreSame ds es → first_over ds ≡ first_over es
 over_same ds es same =
     sym (over_lowest es (first_over ds) (λ d has. over_low ds d (same.back d has)))

@@ -1,4 +1,4 @@
--- An end without the halves outside a part: what is found in it, and what a half that is put into it makes of it.
+-- An end without the halves outside a part: which halves it finds, and what it is after a half is put.
 use Rattle.std.proofs.Common.{◌≡◌, ◌⊎◌, inl, inr, ℕ, Bool, true, false, cond, List, [], ◌∷◌, Option, Some, None, Result, Ok, refl, sym, ap, ◌∙◌}
 use Rattle.std.specs.Prelude.{ok_or}
 use Rattle.tcap_end.specs.declared.fault.EndFault.{EndFault}
@@ -17,22 +17,22 @@ use Rattle.tcap_dialogues.proofs.ThinLaws.{all_kept, first_thin, thin, thin_in, 
 
 -- ---- steps
 
--- A step that needs something goes on where that is so.
+-- A step goes on if its condition holds.
 pub needs_so : {A F : Type 0} {so : Bool} {rest r : Result A F} (reason : F) → so ≡ true → rest ≡ r → (needs so reason >> rest) ≡ r
 needs_so {so = true} reason so rest = rest
 needs_so {so = false} reason so rest = cc
 
--- One step goes on to another,
+-- A step goes on with the result of another.
 pub then_so_on : {A B F : Type 0} {step : Result A F} {r : Result B F} (rest : A → Result B F) (x : A) → step ≡ Ok x → rest x ≡ r
     → (step >>= rest) ≡ r
 then_so_on rest x is goes = rw is goes
 
--- from what was found.
+-- A step goes on with what was found.
 pub found_so_on : {A B F : Type 0} {o : Option A} {r : Result B F} (reason : F) (rest : A → Result B F) (x : A) → o ≡ Some x → rest x ≡ r
     → (ok_or o reason >>= rest) ≡ r
 found_so_on reason rest x is goes = rw is goes
 
--- A half that is found passes.
+-- The half found passes.
 first_passes : (passes : Half → Bool) (slot : Slot) (es : List (List ℕ × Half)) (f : KeptHalf) → first_half passes slot es ≡ Some f
     → passes f.half ≡ true
 first_passes passes slot [] f is = cc
@@ -46,7 +46,7 @@ first_passes passes slot (e ∷ es) f is = by (passes e.1) refl is (first_passes
     by true so is rest = let same : first ≡ f = cc in rw (← same) so
     by false so is rest = rest is
 
--- So does one that is found in an end.
+-- So does the half found in an end.
 where_passes : (passes : Half → Bool) (e : End) (f : KeptHalf) → half_where passes e ≡ Some f → passes f.half ≡ true
 where_passes passes e f is = by (first_half passes Begun e.begun) refl
   where
@@ -54,7 +54,7 @@ where_passes passes e f is = by (first_half passes Begun e.begun) refl
     by None none = first_passes passes Accepted e.accepted f (rw none at is)
     by (Some g) some = first_passes passes Begun e.begun f (let same = rw some at is in some ∙ same)
 
--- It has the ID by which it was found.
+-- The half found by an ID has this ID.
 pub own_is : (e : End) (id : List ℕ) (f : KeptHalf) → with_own e id ≡ Some f → f.half.own ≡ Some id
 own_is e id f is = id_is id f.half.own (where_passes (λ h. is_id id h.own) e f is)
 
@@ -63,30 +63,30 @@ peer_is e id f is = id_is id f.half.peer (where_passes (λ h. is_id id h.peer) e
 
 -- ---- an end without the halves outside
 
--- Two tests say which own IDs are inside, and which peers' IDs.
+-- two tests: which own IDs, and which peer IDs, are inside
 module _ (own peer : List ℕ → Bool) where
-  -- the halves inside, by the IDs by which they are kept
+  -- the halves inside, by the IDs under which they are kept
   abbrev pub inside : End → End
   inside e = record { begun = thin own e.begun; accepted = thin peer e.accepted }
 
-  -- whether a half that is kept there is inside
+  -- whether a half kept there is inside
   abbrev pub at_slot : Slot → List ℕ → Bool
   at_slot Begun = own
   at_slot Accepted = peer
 
-  -- The own ID of a half and its peer's are both inside, or both outside.
+  -- The own ID and the peer ID of a half are both inside, or both outside.
   abbrev pub Agrees : Half → Type 0
   Agrees h = (o p : List ℕ) → h.own ≡ Some o → h.peer ≡ Some p → own o ≡ peer p
 
-  -- So it is with each half of an end.
+  -- This holds for each half of an end.
   pub record Matches (e : End) : Type 0 where
     pub agree : (f : KeptHalf) → Has e f → Agrees f.half
 
-  -- It is so of no half.
+  -- It holds without halves.
   pub nothing_matches : Matches nothing
   nothing_matches = record { agree = λ f had. no_half f.slot f.key f.half had }
 
-  -- Where a half is put that does, it stays so.
+  -- It still holds after such a half is put.
   pub put_matches : (e : End) (slot : Slot) (key : List ℕ) (h : Half) → Matches e → Agrees h → Matches (put e slot key h)
   put_matches e slot key h old new = record { agree = λ f had. by f (put_has e slot key h f had) }
     where
@@ -94,29 +94,29 @@ module _ (own peer : List ℕ → Bool) where
       by f (inl there) = rw (there.2) new
       by f (inr had) = old.agree f had
 
-  -- ---- a half stands inside where its IDs do
+  -- ---- a half is inside if its IDs are
 
-  -- by its own ID,
+  -- by its own ID
   own_at : (slot : Slot) (key id : List ℕ) (h : Half) → IsKept slot key h → Agrees h → h.own ≡ Some id → at_slot slot key ≡ own id
   own_at Begun key id h kept agrees is = let same : key ≡ id = cc in ap own same
   own_at Accepted key id h kept agrees is = sym (agrees id key is kept)
 
-  -- or by its peer's
+  -- by its peer ID
   peer_at : (slot : Slot) (key id : List ℕ) (h : Half) → IsKept slot key h → Agrees h → h.peer ≡ Some id → at_slot slot key ≡ peer id
   peer_at Begun key id h kept agrees is = agrees key id kept is
   peer_at Accepted key id h kept agrees is = let same : key ≡ id = cc in ap peer same
 
-  -- the place of a half of an end, by its own ID,
+  -- the place of an end's half, by its own ID
   pub own_place : (e : End) (f : KeptHalf) (id : List ℕ) → IsEnd e → Matches e → Has e f → f.half.own ≡ Some id → at_slot f.slot f.key ≡ own id
   own_place e f id sound matches had is = own_at f.slot f.key id f.half (sound.kept f had) (matches.agree f had) is
 
-  -- or by its peer's
+  -- the place of an end's half, by its peer ID
   pub peer_place : (e : End) (f : KeptHalf) (id : List ℕ) → IsEnd e → Matches e → Has e f → f.half.peer ≡ Some id → at_slot f.slot f.key ≡ peer id
   peer_place e f id sound matches had is = peer_at f.slot f.key id f.half (sound.kept f had) (matches.agree f had) is
 
-  -- ---- what is found
+  -- ---- halves that are found
 
-  -- Each half that passes stands inside.
+  -- Each half that passes is inside.
   abbrev AreInside : (Half → Bool) → End → Type 0
   AreInside passes e = (f : KeptHalf) → Has e f → passes f.half ≡ true → at_slot f.slot f.key ≡ true
 
@@ -136,27 +136,27 @@ module _ (own peer : List ℕ → Bool) where
       by None none = rw (begun, none) accepted
       by (Some f) some = rw (begun, some) refl
 
-  -- So a half with an ID inside is found,
+  -- The half with an own ID inside is found.
   pub own_same : (e : End) (id : List ℕ) → IsEnd e → Matches e → own id ≡ true → with_own (inside e) id ≡ with_own e id
   own_same e id sound matches so = same_half (λ h. is_id id h.own) e sound
       (λ f had passes. own_place e f id sound matches had (id_is id f.half.own passes) ∙ so)
 
-  -- by its own or by its peer's,
+  -- The half with a peer ID inside is found.
   pub peer_same : (e : End) (id : List ℕ) → IsEnd e → Matches e → peer id ≡ true → with_peer (inside e) id ≡ with_peer e id
   peer_same e id sound matches so = same_half (λ h. is_id id h.peer) e sound
       (λ f had passes. peer_place e f id sound matches had (id_is id f.half.peer passes) ∙ so)
 
-  -- whether that name is inside
+  -- whether a name is inside
   abbrev pub named_in : HalfName → Bool
   named_in (names.Own id) = own id
   named_in (names.Peer id) = peer id
 
-  -- or by its name,
+  -- The half with a name inside is found.
   pub named_same : (e : End) (name : HalfName) → IsEnd e → Matches e → named_in name ≡ true → named (inside e) name ≡ named e name
   named_same e (names.Own id) = own_same e id
   named_same e (names.Peer id) = peer_same e id
 
-  -- and it is inside where its name is.
+  -- It is inside if its name is.
   pub named_place : (e : End) (name : HalfName) (f : KeptHalf) → IsEnd e → Matches e → named e name ≡ Some f
       → at_slot f.slot f.key ≡ named_in name
   named_place e (names.Own id) f sound matches is = own_place e f id sound matches (own_has e id sound f is) (own_is e id f is)
@@ -164,7 +164,7 @@ module _ (own peer : List ℕ → Bool) where
 
   -- ---- a half is put
 
-  -- inside,
+  -- a half inside
   pub put_inside : (e : End) (slot : Slot) (key : List ℕ) (h : Half) → IsEnd e → at_slot slot key ≡ true
       → inside (put e slot key h) ≡ put (inside e) slot key h
   put_inside e Begun key h sound so =
@@ -172,7 +172,7 @@ module _ (own peer : List ℕ → Bool) where
   put_inside e Accepted key h sound so =
       ap (λ es. (let x : End = record { begun = thin own e.begun; accepted = es } in x)) (thin_in peer e.accepted key h sound.accepted so)
 
-  -- or outside.
+  -- a half outside
   pub put_outside : (e : End) (slot : Slot) (key : List ℕ) (h : Half) → at_slot slot key ≡ false → inside (put e slot key h) ≡ inside e
   put_outside e Begun key h so =
       ap (λ es. (let x : End = record { begun = es; accepted = thin peer e.accepted } in x)) (thin_out own e.begun key h so)
@@ -181,13 +181,13 @@ module _ (own peer : List ℕ → Bool) where
 
   -- ---- steps
 
-  -- A step of an end is one of the halves inside, where it is of a half inside; else it changes none of them.
+  -- A step of a half inside is a step of the end without the halves outside; any other step leaves this end unchanged.
   pub record Thins (k : Bool) (step : End → Result End EndFault) (e next : End) : Type 0 where
     pub matches : Matches next
     pub kept : k ≡ true → step (inside e) ≡ Ok (inside next)
     pub apart : k ≡ false → inside next ≡ inside e
 
-  -- A half is put,
+  -- A half is put.
   pub thins_put : {k : Bool} {step : End → Result End EndFault} (e next : End) (slot : Slot) (key : List ℕ) (h : Half) → IsEnd e → Matches e
       → (let r : Result End EndFault = Ok (put e slot key h) in r) ≡ Ok next → at_slot slot key ≡ k → Agrees h
       → (k ≡ true → step (inside e) ≡ Ok (put (inside e) slot key h)) → Thins k step e next
@@ -200,7 +200,7 @@ module _ (own peer : List ℕ → Bool) where
       same : put e slot key h ≡ next
       same = cc
 
-  -- or nothing changes.
+  -- Nothing changes.
   pub thins_none : {k : Bool} {step : End → Result End EndFault} (e next : End) → Matches e
       → (let r : Result End EndFault = Ok e in r) ≡ Ok next
       → (k ≡ true → step (inside e) ≡ Ok (inside e)) → Thins k step e next

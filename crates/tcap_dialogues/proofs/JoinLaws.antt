@@ -1,4 +1,4 @@
--- An entry comes to what is left of the live dialogues: what is kept then.
+-- What a cut keeps after an entry joins the live dialogues.
 use Rattle.std.proofs.Common.{◌≡◌, ◌⊎◌, inl, inr, ℕ, ◌+◌, ◌<◌, Bool, true, false, List, [], ◌∷◌, ◌++◌, Option, Some, None, is_some, refl, sym, ap, subst, ◌∙◌}
 use Rattle.std.specs.Prelude.{◌&&◌, ◌||◌, is_none, not, Contains}
 use Rattle.std.specs.List.{list_any}
@@ -46,7 +46,7 @@ module _ (s : Courses) (names : Course → ℕ) (sent : IdOf → Bool) (h : Head
   peer_is : (d : Course) → Contains live d → have_one (peer_ids h) d.ids ≡ is_named names peer.dialogue d
   peer_is = owned_is live names old.live apart held.lives (peer_ids h) peer peer_of.owns
 
-  -- The entry is the first of one more dialogue that has IDs where it has an ID and no live one has one of them.
+  -- The entry begins a new dialogue if it has an ID and no live dialogue has one of its IDs.
   pub begins_is : (has_ids own_none peer_none : Bool) → has_ids ≡ not (is_alone h) → is_some own.dialogue ≡ not own_none
       → is_some peer.dialogue ≡ not peer_none
       → ((has_ids && own_none) && peer_none) ≡ (not (is_alone h) && not (list_any (λ d. have_one (ids_in h) d.ids) live))
@@ -91,7 +91,7 @@ module _ (s : Courses) (names : Course → ℕ) (sent : IdOf → Bool) (h : Head
           order false false true e = refl
           order false false false e = refl
 
-  -- those of the one name, and of the others those of the other name
+  -- the dialogues with the own ID's name, and those of the rest with the peer ID's name
   abbrev pub ones : List Course
   ones = those names own.dialogue live
 
@@ -151,7 +151,7 @@ module _ (s : Courses) (names : Course → ℕ) (sent : IdOf → Bool) (h : Head
       in_peer : (d : Course) → Contains live d → have_one (peer_ids h) d.ids ≡ true → Contains (hit_by h live) d
       in_peer = hit_of (peer_ids h) (λ d is. list_any-append (is_among d.ids) (own_ids h) (peer_ids h) ∙ or_right _ _ is)
 
-      -- A test of its IDs that none of those has passes by what is known of them.
+      -- What is known of both IDs decides the test of those that none of these dialogues has.
       test_both : (test : IdOf → Bool) (a b : Bool) → a ≡ list_any test (own_ids h) → b ≡ list_any test (peer_ids h)
           → list_any test (ids_more h live) ≡ ((is_none own.dialogue && a) || (is_none peer.dialogue && b))
       test_both test a b own_so peer_so =

@@ -1,4 +1,4 @@
--- Two live dialogues, or one, or none, in one.
+-- Two live dialogues, or one, or none, joined into one.
 use Rattle.std.proofs.Common.{◌≡◌, ◌⊎◌, inl, inr, ℕ, Bool, true, false, cond, List, ◌++◌, Some, refl, sym, ap, ◌∙◌}
 use Rattle.std.specs.Prelude.{◌||◌, Contains}
 use Rattle.std.specs.List.{list_any}
@@ -18,7 +18,7 @@ use Rattle.tcap_dialogues.proofs.CutLists.{found}
 use Rattle.tcap_dialogues.proofs.HeldLaws.{same_kept}
 use Rattle.tcap_dialogues.proofs.HeldLists.{AreSame, any_same}
 
--- What is known changes to what it is already.
+-- A change to the same dialogue changes nothing.
 same_dialogue : (known : Known) (name : ℕ) → known.dialogue ≡ Some name → known ≡ changed (changes.JoinTo name) known
 same_dialogue known name is = ap (λ o. let it : Known = record known { dialogue = o } in it) is
 
@@ -28,14 +28,14 @@ module _ (n : ℕ) (ds es : List Course) (names : Course → ℕ) (old new : Cut
     (ids : (id : IdOf) → known_at new.ids id
     ≡ cond (has_id small.a small.b id) (changed (changes.JoinTo large.name) (known_at old.ids id)) (known_at old.ids id))
     (rest : new ≡ record old { ids = new.ids }) where
-  -- whether one of the larger one's has an ID, or one of the smaller one's
+  -- whether the larger one, or the smaller one, has an ID
   abbrev in_large : IdOf → Bool
   in_large id = list_any (λ d. is_among d.ids id) ds
 
   abbrev in_small : IdOf → Bool
   in_small id = list_any (λ d. is_among d.ids id) es
 
-  -- The IDs of the larger one are its own already.
+  -- The IDs of the larger one stay.
   stays : (id : IdOf) → in_large id ≡ true → known_at old.ids id ≡ changed (changes.JoinTo large.name) (known_at old.ids id)
   stays id is =
       let (d, has, its) = found (λ x. is_among x.ids id) ds is in
@@ -75,7 +75,7 @@ module _ (n : ℕ) (ds es : List Course) (names : Course → ℕ) (old new : Cut
           (ap (λ x. list_any (λ d. has_entry d x) (ds ++ es)) name
           ∙ list_any-append (λ d. has_entry d large.name) ds es ∙ or_left _ _ is)
 
--- The same in the other order.
+-- the same dialogues in another order
 pub joined_same : (n : ℕ) (ds es : List Course) (old new : Cut) (l : Live) → AreSame ds es → IsJoined n ds old new l → IsJoined n es old new l
 joined_same n ds es old new l same is = record {
   kept = same_kept ds es l same is.kept;

@@ -1,4 +1,4 @@
--- What is known of transaction IDs where an entry joined the live dialogues that have one of its IDs.
+-- What is known of transaction IDs after an entry joins the live dialogues that have one of its IDs.
 use Rattle.std.proofs.Common.{◌≡◌, ◌⊎◌, inl, inr, ℕ, ◌<◌, Bool, true, false, cond, List, [], Option, Some, None, refl, sym, ap, subst, ◌∙◌}
 use Rattle.std.specs.Prelude.{◌&&◌, ◌||◌, Contains}
 use Rattle.std.specs.List.{list_any}
@@ -29,7 +29,7 @@ module _ (s : Courses) (names : Course → ℕ) (sent : IdOf → Bool) (n : ℕ)
   abbrev earlier : Earlier
   earlier = earlier_in s.done
 
-  -- those that it joins, and the one that they are then
+  -- the dialogues joined, and the new one
   abbrev hits : List Course
   hits = hit_by h live
 
@@ -42,7 +42,7 @@ module _ (s : Courses) (names : Course → ℕ) (sent : IdOf → Bool) (n : ℕ)
   abbrev names_now : Course → ℕ
   names_now = names_then live names earlier n h apart later below k
 
-  -- The one that has an ID of it is one of them.
+  -- The dialogue that has an ID of the new one is one of those joined.
   owner_hit : (d : Course) (id : IdOf) → Contains live d → is_among d.ids id ≡ true → is_among it.ids id ≡ true → Contains hits d
   owner_hit d id listed its has = by (id_from earlier.ids n h live it is_made id has)
     where
@@ -54,7 +54,7 @@ module _ (s : Courses) (names : Course → ℕ) (sent : IdOf → Bool) (n : ℕ)
   in_live : (d : Course) → Contains hits d → Contains live d
   in_live d has = (in_hit earlier.ids n h live it is_made d has).listed
 
-  -- What one of them used or began is what is known.
+  -- What is known is whether one of them used or began the ID.
   flag : (part : Course → List IdOf) (known : Bool) (id : IdOf) → is_among it.ids id ≡ true
       → ((d : Course) → Contains live d → is_among (part d) id ≡ true → is_among d.ids id ≡ true)
       → ((d : Course) → Contains live d → is_among d.ids id ≡ true → known ≡ is_among (part d) id)
@@ -76,7 +76,7 @@ module _ (s : Courses) (names : Course → ℕ) (sent : IdOf → Bool) (n : ℕ)
           (λ e there. false_from_ne_true _ (λ so. true≢false (sym (part_in e (in_live e there) so) ∙ no e (in_live e there))))
           ∙ sym (nobody no)
 
-  -- what is known of one that a dialogue has, or none
+  -- what is known of an ID that a dialogue has, or none
   owned_used : (id : IdOf) (d : Course) → Contains live d → is_among d.ids id ≡ true
       → ((known_at old id).used ≡ is_among d.used id) × ((known_at old id).begun ≡ is_among d.begun id)
   owned_used id d listed its = by (known_at old id).dialogue (are id).owned
@@ -121,7 +121,7 @@ module _ (s : Courses) (names : Course → ℕ) (sent : IdOf → Bool) (n : ℕ)
   abbrev Then : IdOf → Known → Type 0
   Then id known = IsKnown (joined_by n h s.done s.live) names_now (λ x. sent x || is_among (own_ids h) x) id known
 
-  -- An ID of the new one is known as one of it;
+  -- An ID of the new dialogue is known as such.
   of_new : (id : IdOf) (used begun came : Bool) → is_among it.ids id ≡ true
       → used ≡ ((known_at old id).used || is_among (own_ids h) id)
       → begun ≡ ((known_at old id).begun || (is_begin h.kind && is_among (own_ids h) id))
@@ -148,11 +148,11 @@ module _ (s : Courses) (names : Course → ℕ) (sent : IdOf → Bool) (n : ℕ)
     sent_is = is_sent;
   }
 
-  -- The sender of an entry sent from no other ID.
+  -- The sender of the entry sent nothing from another ID.
   not_sent : (id : IdOf) → is_among (own_ids h) id ≡ false → (known_at old id).sent ≡ (sent id || is_among (own_ids h) id)
   not_sent id not_own = (are id).sent_is ∙ sym (ap (λ b. sent id || b) not_own ∙ or_none (sent id))
 
-  -- one of another is known as it was.
+  -- What is known of other IDs stays.
   of_old : (id : IdOf) → is_among it.ids id ≡ false → is_among (own_ids h) id ≡ false → Then id (known_at old id)
   of_old id none not_own = record {
     owned = by (known_at old id).dialogue _ _ (are id).owned;

@@ -1,4 +1,4 @@
--- What is kept of a stretch where an entry joined the live dialogues that have one of its IDs.
+-- What a cut keeps of a segment after an entry joins the live dialogues that have one of its IDs.
 use Rattle.std.proofs.Common.{arith, ◌≡◌, ◌⊎◌, inl, inr, ℕ, ◌<◌, Bool, true, false, cond, List, [], ◌∷◌, Option, Some, None, refl, sym, ap, subst, ◌∙◌}
 use Rattle.std.specs.Prelude.{◌==◌, not, Contains, filter}
 use Rattle.std.specs.BTreeMap as tree
@@ -20,7 +20,7 @@ use Rattle.tcap_dialogues.proofs.CutIds.{same_id}
 use Rattle.tcap_dialogues.proofs.CutLists.{finds, found, left_in}
 use Rattle.tcap_dialogues.proofs.HeldLists.{AreSame, or_none}
 
--- An ID of a heading is known as what is known of the heading's.
+-- What is known of an ID of the heading.
 pub known_here : (ids : Ids) (end : Side) (octets : Option (List ℕ)) (id : IdOf) → is_among (ids_at end octets) id ≡ true
     → known_of ids end octets ≡ known_at ids id
 known_here ids end None id is = cc
@@ -28,7 +28,7 @@ known_here ids end (Some octets) id is =
     let it : IdOf = record { end = end; octets = octets } in
     ap (known_at ids) (sym (same_id id it (sym (or_none (is_same id it)) ∙ is)))
 
--- The one that has an ID is known by its name.
+-- The dialogue that has an ID is known by its name.
 pub name_known : (s : Courses) (names : Course → ℕ) (sent : IdOf → Bool) (ids : Ids) → AreApart s.live
     → ((id : IdOf) → IsKnown s names sent id (known_at ids id)) → (d : Course) (id : IdOf) → Contains s.live d → is_among d.ids id ≡ true
     → (known_at ids id).dialogue ≡ Some (names d)
@@ -56,14 +56,14 @@ ends_apart h id own peer = differ h.sender id.end (end_of h.sender h.otid own) (
 module _ (live : List Course) (names : Course → ℕ) (earlier : Earlier) (n : ℕ) (h : Heading) (apart : AreApart live)
     (later : AreApart (with_one earlier n h live))
     (below : (d : Course) (i : ℕ) → Contains live d → has_entry d i ≡ true → i < n) where
-  -- the one that it joins
+  -- the new dialogue
   abbrev pub new : Course
   new = with_entry earlier n h (hit_by h live)
 
   pub made : IsNew earlier.ids n h live new
   made = record { numbers_are = refl; ids_are = refl; again_is = refl }
 
-  -- one that it does not join
+  -- an old dialogue that it does not join
   abbrev pub Old : Course → Type 0
   Old d = Contains live d × (have_one (ids_in h) d.ids ≡ false)
 
@@ -80,7 +80,7 @@ module _ (live : List Course) (names : Course → ℕ) (earlier : Earlier) (n : 
   not_here d has = false_from_ne_true _ (λ is. let less = below d n has is in absurd (omega (arith, less)))
 
   module _ (k : ℕ) where
-    -- the names then: that of the new one is given
+    -- the names after the entry: the new dialogue has name k
     pub names_then : Course → ℕ
     names_then d = cond (has_entry d n) k (names d)
 
@@ -102,7 +102,7 @@ module _ (live : List Course) (names : Course → ℕ) (earlier : Earlier) (n : 
               let (d, has, so) = found (λ x. has_entry x k) (hit_by h live) is in
               number_stays earlier.ids n h live new made d k (in_hit earlier.ids n h live new made d has) so
 
-      -- Two of these are not one.
+      -- An old dialogue differs from the new one.
       differ : (d : Course) → Old d → d ≡ new → ⊥
       differ d (there, misses) same =
           true≢false (sym (number_comes earlier.ids n h live new made) ∙ ap (λ x. has_entry x n) (sym same) ∙ not_here d there)
@@ -124,7 +124,7 @@ module _ (live : List Course) (names : Course → ℕ) (earlier : Earlier) (n : 
             put.lives q ∙ ap (λ x. cond (x == q) (Some l) (tree.get nat_cmp old.live q)) name
             ∙ ap (λ m. cond (k == q) (Some l) (tree.get nat_cmp m q)) old_lives
 
-        -- Another one has another name.
+        -- Its name differs, too.
         other_name : (d : Course) → Old d → (k == names d) ≡ false
         other_name d o =
             false_from_ne_true _

@@ -1,4 +1,4 @@
--- What is known of transaction IDs, where it changes.
+-- What is known of transaction IDs after a change.
 use Rattle.std.proofs.Common.{◌≡◌, ℕ, Bool, true, false, cond, List, [], ◌∷◌, ◌++◌, Option, Some, None, is_some, bytes_eq, refl, sym, ap, ◌∙◌}
 use Rattle.std.specs.Prelude.{◌&&◌, ◌||◌, nat_lt, not}
 use Rattle.std.specs.BTreeMap as tree
@@ -27,15 +27,15 @@ use Rattle.tcap_dialogues.specs.declared.known.Known.{Known}
 use Rattle.tcap_dialogues.proofs.CutIds.{same_id}
 use Rattle.tcap_dialogues.proofs.HeldLists.{or_none}
 
--- A key finds the same octets.
+-- A key finds equal octets.
 pub at_octets : (a b : List ℕ) → is_at (octets_cmp a) b ≡ bytes_eq b a
 at_octets a b = (eq_by_cmp_equiv nat_list_cmp_total).symm a b ∙ is_eq-slice_cmp b a
 
--- A value became another at one key.
+-- The value at one key is replaced.
 abbrev pub Puts : {X : Type 0} → BTreeMap (List ℕ) X → BTreeMap (List ℕ) X → List ℕ → X → Type 0
 Puts old new key x = (q : List ℕ) → tree.get octets_cmp new q ≡ cond (is_at (octets_cmp key) q) (Some x) (tree.get octets_cmp old q)
 
--- What is known of one ID of an end did.
+-- What is known of one ID of an end is replaced.
 pub set_in : (old new : EndIds) (key : List ℕ) (known : Known) → Puts old.live new.live key known → new.done ≡ old.done
     → (q : List ℕ) → known_in new q ≡ cond (bytes_eq q key) known (known_in old q)
 set_in old new key known puts same q =
@@ -49,7 +49,7 @@ set_in old new key known puts same q =
     by true = refl
     by false = refl
 
--- It became free.
+-- The ID is freed.
 pub freed_in : (old new : EndIds) (key : List ℕ) (gone : Gone) → Puts old.done new.done key gone
     → ((q : List ℕ) → tree.get octets_cmp new.live q ≡ cond (is_at (octets_cmp key) q) None (tree.get octets_cmp old.live q))
     → (q : List ℕ) → known_in new q ≡ cond (bytes_eq q key) (known_by None (Some gone)) (known_in old q)
@@ -66,7 +66,7 @@ freed_in old new key gone puts removed q =
     by true = refl
     by false = refl
 
--- So it did by what was known of it: of one that a live dialogue has, or of one that none has.
+-- So it is with what was known of it, if a live dialogue had it or none.
 pub freed_known : (old new : EndIds) (key : List ℕ) (first : ℕ) (early : Bool) (known : Known) → known ≡ known_in old key
     → Puts old.done new.done key (gone_since first early known)
     → ((q : List ℕ) → tree.get octets_cmp new.live q ≡ cond (is_at (octets_cmp key) q) None (tree.get octets_cmp old.live q))
@@ -84,7 +84,7 @@ known_done ids key known none is = is ∙ ap (λ o. known_by o (tree.get octets_
 
 -- ---- many changes
 
--- A change changes nothing more where it came before.
+-- A second equal change changes nothing.
 last_twice : (first : ℕ) (last : Option ℕ) → last_of first (Some (last_of first last)) ≡ last_of first last
 last_twice first None = either_way (nat_lt first first)
   where
@@ -119,11 +119,11 @@ twice (changes.JoinTo name) known = refl
 abbrev pub is_one : Side → List (List ℕ) → IdOf → Bool
 is_one end keys id = is_side id.end end && list_any (is_at (octets_cmp id.octets)) keys
 
--- All IDs that pass changed.
+-- All IDs that pass are changed.
 abbrev pub Changes : (IdOf → Bool) → Change → Ids → Ids → Type 0
 Changes passes change old new = (id : IdOf) → known_at new id ≡ cond (passes id) (changed change (known_at old id)) (known_at old id)
 
--- These did, and then one more.
+-- one more ID
 pub change_more : (end : Side) (keys : List (List ℕ)) (key : List ℕ) (change : Change) (old now new : Ids)
     → Changes (is_one end keys) change old now
     → ((id : IdOf) → known_at new id
@@ -167,7 +167,7 @@ change_more end keys key change old now new so_far puts id =
         at false = refl
     by false is = so_far id ∙ ap (λ b. cond b (changed change (known_at old id)) (known_at old id)) (sym (or_none (is_one end keys id)))
 
--- One that passes the first test or the second changed.
+-- IDs that pass one of two tests
 pub change_then : (p q : IdOf → Bool) (change : Change) (old now new : Ids) → Changes p change old now → Changes q change now new
     → Changes (λ id. p id || q id) change old new
 change_then p q change old now new first second id =
@@ -180,7 +180,7 @@ change_then p q change old now new first second id =
     by false true = refl
     by false false = refl
 
--- The IDs of both ends are those of one, and those of the other.
+-- The IDs of both ends are those of A and those of B.
 of_both : (a b : BTreeSet (List ℕ)) (id : IdOf)
     → ((is_side id.end sides.A && set.contains octets_cmp a id.octets) || (is_side id.end sides.B && set.contains octets_cmp b id.octets))
     ≡ has_id a b id
@@ -200,18 +200,18 @@ both_change a b change old now new first second id =
     change old now new first second id
     ∙ ap (λ passes. cond passes (changed change (known_at old id)) (known_at old id)) (of_both a b id)
 
--- ---- IDs that their owner sent from
+-- ---- IDs from which their owner sent
 
--- The IDs among these keys that their owner sent from were added to a set.
+-- The IDs among these keys from which their owner sent are added.
 abbrev pub AddsSent : EndIds → List (List ℕ) → BTreeSet (List ℕ) → BTreeSet (List ℕ) → Type 0
 AddsSent ids keys old new =
     (q : List ℕ) → set.contains octets_cmp new q ≡ (set.contains octets_cmp old q || (list_any (is_at (octets_cmp q)) keys && (known_in ids q).sent))
 
--- Of no keys it is the set itself;
+-- no keys
 pub none_sent : (ids : EndIds) (old : BTreeSet (List ℕ)) → AddsSent ids [] old old
 none_sent ids old q = sym (or_none (set.contains octets_cmp old q))
 
--- one key more.
+-- one more key
 pub sent_more : (ids : EndIds) (keys : List (List ℕ)) (key : List ℕ) (old now new : BTreeSet (List ℕ)) → AddsSent ids keys old now
     → ((q : List ℕ) → set.contains octets_cmp new q ≡ (set.contains octets_cmp now q || (bytes_eq q key && (known_in ids q).sent)))
     → AddsSent ids (keys ++ key ∷ []) old new
@@ -232,7 +232,7 @@ sent_more ids keys key old now new so_far adds q =
     by false true false false = refl
     by false false is sent = refl
 
--- One of that key is added where its owner sent from it.
+-- The ID of a key is added if its owner sent from it.
 pub sent_added : (ids : EndIds) (key : List ℕ) (old new : BTreeSet (List ℕ)) → (known_in ids key).sent ≡ true
     → ((q : List ℕ) → set.contains octets_cmp new q ≡ cond (is_at (octets_cmp key) q) true (set.contains octets_cmp old q))
     → (q : List ℕ) → set.contains octets_cmp new q ≡ (set.contains octets_cmp old q || (bytes_eq q key && (known_in ids q).sent))
@@ -261,7 +261,7 @@ sent_not_added ids key old not_sent q = sym (by (bytes_eq q key) refl)
         ∙ or_none (set.contains octets_cmp old q)
     by false is = or_none (set.contains octets_cmp old q)
 
--- The keys of both maps are all of which something is known.
+-- The keys of both maps are all known IDs.
 pub all_sent : (ids : EndIds) (live done : List (List ℕ)) (old new : BTreeSet (List ℕ))
     → ((q : List ℕ) → is_some (tree.get octets_cmp ids.live q) ≡ list_any (is_at (octets_cmp q)) live)
     → ((q : List ℕ) → is_some (tree.get octets_cmp ids.done q) ≡ list_any (is_at (octets_cmp q)) done)

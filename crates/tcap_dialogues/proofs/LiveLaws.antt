@@ -1,4 +1,4 @@
--- A live dialogue with more of what it has.
+-- A live dialogue with one more ID, dialogue or entry.
 use Rattle.std.proofs.Common.{◌≡◌, ℕ, Bool, true, false, cond, List, [], ◌++◌, Option, Some, None, is_none, is_some, bytes_eq, map, refl, sym, ap, ◌∙◌}
 use Rattle.std.specs.Prelude.{◌&&◌, ◌||◌, ◌==◌, length, nat_lt, not}
 use Rattle.std.specs.BTreeMap.{is_at}
@@ -27,7 +27,7 @@ use Rattle.tcap_dialogues.proofs.HeldLists.{or_none}
 use Rattle.tcap_dialogues.proofs.HeldOvers.{over_appended}
 use Rattle.tcap_dialogues.proofs.KnownLaws.{at_octets}
 
--- ---- an ID more
+-- ---- one more ID
 
 abbrev pub Adds : BTreeSet (List ℕ) → BTreeSet (List ℕ) → List ℕ → Type 0
 Adds old new key = (q : List ℕ) → set.contains octets_cmp new q ≡ cond (is_at (octets_cmp key) q) true (set.contains octets_cmp old q)
@@ -61,9 +61,9 @@ add_to_b old new key adds = record { ids_are = λ id. by id id.end; rest = refl 
     by id sides.A = sym (or_none (set.contains octets_cmp old.a id.octets))
     by id sides.B = added old.b new key adds id.octets
 
--- ---- all of another one more
+-- ---- another dialogue
 
--- What an iterator gave until it had no more is all that it had.
+-- An iterator gives all elements before it ends.
 pub drained : {X : Type 0} (keys xs s t : List X) → s ≡ keys → Yields (TakesFirst {A = X} {X = X} (λ x. x)) s xs t → t ≡ [] → xs ≡ keys
 drained keys xs s t begins yields ends =
     sym (map-id xs) ∙ sym (append-nil (map (λ x. x) xs)) ∙ ap (λ more. map (λ x. x) xs ++ more) (sym ends)
@@ -72,13 +72,13 @@ drained keys xs s t begins yields ends =
 pub either : (p q a b : Bool) → p ≡ a → q ≡ b → (p || q) ≡ (a || b)
 either p q a b first second = ap (λ x. x || q) first ∙ ap (λ x. a || x) second
 
--- One of two numbers is there where the higher one is.
+-- The higher of two numbers exists if one of them does.
 pub some_higher : (a b : Option ℕ) → is_some (higher a b) ≡ (is_some a || is_some b)
 some_higher None b = refl
 some_higher (Some a) None = refl
 some_higher (Some a) (Some b) = refl
 
--- An ID has the number of an earlier dialogue where one that is done had it and no live one has it.
+-- An ID has an earlier dialogue if one that is done had it and no live one has it.
 pub some_earlier : (known : Known) → is_some (earlier_of known) ≡ (is_none known.dialogue && is_some known.last)
 some_earlier known = by (is_none known.dialogue)
   where
@@ -86,7 +86,7 @@ some_earlier known = by (is_none known.dialogue)
     by true = refl
     by false = refl
 
--- It is unsettled where, besides, it is not firm.
+-- It is unsettled if it is not firm, either.
 pub some_unsettled : (known : Known) → is_unsettled known ≡ (is_none known.dialogue && (is_some known.last && not known.firm))
 some_unsettled known = by (is_none known.dialogue)
   where
@@ -94,7 +94,7 @@ some_unsettled known = by (is_none known.dialogue)
     by true = refl
     by false = refl
 
--- The IDs, the senders and all else of both.
+-- all values of both dialogues
 pub absorbed : (ds es : List Course) (l m : Live) (numbers : BTreeSet ℕ) (a b : BTreeSet (List ℕ)) (over earlier : Option ℕ)
     → AreKept ds l → AreKept es m
     → ((n : ℕ) → set.contains nat_cmp numbers n ≡ (set.contains nat_cmp l.numbers n || set.contains nat_cmp m.numbers n))
@@ -138,9 +138,9 @@ absorbed ds es l m numbers a b over earlier kept other numbers_are a_is b_is ove
     senders_are sides.A = refl
     senders_are sides.B = refl
 
--- ---- an entry more
+-- ---- one more entry
 
--- What its IDs, its sender and the rest make of one.
+-- the values after the entry's number, IDs and sender are added
 module _ (number : ℕ) (h : Heading) (own peer : Known) (old noted one new : Live) (numbers : BTreeSet ℕ) (begun early unsettled : Bool)
     (over earlier : Option ℕ)
     (adds : (n : ℕ) → set.contains nat_cmp numbers n ≡ cond (is_at (nat_cmp number) n) true (set.contains nat_cmp old.numbers n))

@@ -1,5 +1,5 @@
--- Where no ID comes again, the courses of a list without quiet marks are its dialogues: no ID is ever free, so a message joins the
--- same ones in both.
+-- If IDs are not reused, the dialogues of a segment are those of the list of its messages: no ID is ever free, so a
+-- message joins the same dialogues in both.
 use Rattle.std.proofs.Common.{◌≡◌, ℕ, ◌+◌, Bool, true, false, cond, List, [], ◌∷◌, ◌++◌, map, refl, sym, ap, ◌∙◌}
 use Rattle.std.specs.Prelude.{filter, not}
 use Rattle.std.specs.List.{flat_map}
@@ -13,7 +13,7 @@ use Rattle.tcap_dialogues.specs.declared.reuse.Reuse.TheVariants as reuses
 
 -- ---- lists
 
--- To leave those that pass and then to map, or first to map, is the same.
+-- `filter` and `map` commute.
 map_filter : {X Y : Type 0} (f : X → Y) (test : Y → Bool) (xs : List X) → map f (filter (λ x. test (f x)) xs) ≡ filter test (map f xs)
 map_filter f test [] = refl
 map_filter {X} {Y} f test (x ∷ xs) = by (test (f x)) (map_filter f test xs)
@@ -24,62 +24,62 @@ map_filter {X} {Y} f test (x ∷ xs) = by (test (f x)) (map_filter f test xs)
     by true rest = ap (λ ys. f x ∷ ys) rest
     by false rest = rest
 
--- What none passes leaves none,
+-- If no element passes, none is left.
 none_passes : {X : Type 0} (xs : List X) → filter (λ x. false) xs ≡ []
 none_passes [] = refl
 none_passes (x ∷ xs) = none_passes xs
 
--- and what all pass leaves all.
+-- If all elements pass, all are left.
 all_pass : {X : Type 0} (xs : List X) → filter (λ x. true) xs ≡ xs
 all_pass [] = refl
 all_pass (x ∷ xs) = ap (λ ys. x ∷ ys) (all_pass xs)
 
--- ---- a message more
+-- ---- one more message
 
--- of a course its numbers and IDs alone
+-- the numbers and IDs of a course
 abbrev forget : Course → Dialogue
 forget d = record { numbers = d.numbers; ids = d.ids }
 
--- these courses, where none is done
+-- live courses, with none done
 abbrev only : List Course → Courses
 only live = record { done = []; live = live }
 
 module _ (n : ℕ) (h : Heading) (live : List Course) where
-  -- the courses with the entry
+  -- the courses after the entry
   abbrev after : List Course
   after = (comes reuses.Once n h (only live)).live
 
-  -- None of them is done,
+  -- None of them is done.
   none_done : comes reuses.Once n h (only live) ≡ only after
   none_done = ap (λ ds. let s : Courses = record { done = ds; live = after } in s) (none_passes live)
 
-  -- The courses that have one of its IDs are the dialogues that have one,
+  -- The courses with one of the entry's IDs are the dialogues with one.
   joins_same : map forget (filter (λ d. has_one (ids_in h) (forget d)) live) ≡ filter (has_one (ids_in h)) (map forget live)
   joins_same = map_filter forget (has_one (ids_in h)) live
 
-  -- and so are those that have none.
+  -- So are those with none.
   stays_same : map forget (filter (λ d. not (has_one (ids_in h) (forget d))) live)
       ≡ filter (λ d. not (has_one (ids_in h) d)) (map forget live)
   stays_same = map_filter forget (λ d. not (has_one (ids_in h) d)) live
 
-  -- the dialogue that courses are with the message
+  -- the dialogue of these courses and the message
   abbrev of_one : List Course → Dialogue
   of_one ds = record { numbers = flat_map (λ d. d.numbers) ds ++ n ∷ []; ids = flat_map (λ d. d.ids) ds ++ ids_in h }
 
-  -- It has the numbers and IDs of theirs.
+  -- It has their numbers and IDs.
   one_same : (ds : List Course) → joined (map forget ds) n (ids_in h) ≡ of_one ds
   one_same ds = rw (flat_map-map (λ (d : Dialogue). d.numbers) forget ds, flat_map-map (λ (d : Dialogue). d.ids) forget ds) refl
 
-  -- the dialogues with the message, where these courses are not free
+  -- the dialogues after the message, with these courses left
   abbrev of_left : List Course → List Dialogue
   of_left left =
       map forget (filter (λ d. not (has_one (ids_in h) (forget d))) left) ++ of_one (filter (λ d. has_one (ids_in h) (forget d)) left) ∷ []
 
-  -- As no course is free, these are those of all of them,
+  -- No course is free, so all are left.
   after_left : map forget after ≡ of_left live
   after_left = map-append forget _ _ ∙ ap of_left (all_pass live)
 
-  -- and the message joins the same ones.
+  -- The message joins the same ones.
   after_same : map forget after ≡ with_message n (ids_in h) (map forget live)
   after_same =
       after_left
@@ -89,11 +89,11 @@ module _ (n : ℕ) (h : Heading) (live : List Course) where
 
 -- ---- the list
 
--- the dialogues behind these courses
+-- the dialogues after these courses
 abbrev behind : List Heading → ℕ → Courses → List Dialogue
 behind hs n s = let more = courses_behind reuses.Once s n hs in map forget (more.done ++ more.live)
 
--- They are those behind the dialogues of the courses,
+-- They are those after the dialogues of the courses.
 behind_same : (items : List Item) (hs : List Heading) (n : ℕ) (live : List Course) → has_quiet items ≡ false
     → map bare hs ≡ headings_of items → behind hs n (only live) ≡ dialogues_behind (map forget live) n items
 behind_same [] [] n live none same = refl
@@ -108,7 +108,7 @@ behind_same (Sent side m ∷ items) (h ∷ hs) n live none same =
     (after_same n h live ∙ ap (λ x. with_message n (ids_in x) (map forget live)) first)
 behind_same (Item.Quiet ∷ items) hs n live none same = absurd (true≢false none)
 
--- so those of the list are its dialogues.
+-- The dialogues of the segment are those of the list.
 pub is_the_cut : (items : List Item) (headings : List Heading) → has_quiet items ≡ false → map bare headings ≡ headings_of items
     → map (λ d. record { numbers = d.numbers; ids = d.ids }) (courses_of reuses.Once headings) ≡ dialogues_of items
 is_the_cut items headings none same = behind_same items headings 0 [] none same

@@ -1,4 +1,4 @@
--- The live dialogue that has an ID of a heading, of one end, if the heading carries one.
+-- The live dialogue that has an ID of a heading.
 use Rattle.std.proofs.Common.{◌≡◌, ℕ, Bool, true, false, List, [], ◌∷◌, Option, Some, None, is_some, refl, sym, subst, ◌∙◌}
 use Rattle.std.specs.Prelude.{Contains}
 use Rattle.std.specs.List.{flat_map}
@@ -13,7 +13,7 @@ use Rattle.tcap_dialogues.specs.declared.known.Known.{Known}
 use Rattle.tcap_dialogues.proofs.CutLists.{finds, found}
 use Rattle.tcap_dialogues.proofs.HeldLists.{or_none}
 
--- One of these IDs is one of those, and so is one of more.
+-- Two lists share an ID if one of them shares it with a part of the other.
 pub have_more : (ids xs ys : List IdOf) → ((id : IdOf) → is_among xs id ≡ true → is_among ys id ≡ true) → have_one ids xs ≡ true
     → have_one ids ys ≡ true
 have_more ids xs ys more is = let (id, has, so) = found (is_among xs) ids is in finds (is_among ys) ids id has (more id so)
@@ -22,20 +22,20 @@ have_more ids xs ys more is = let (id, has, so) = found (is_among xs) ids is in 
 abbrev pub IsNobodys : List Course → List IdOf → Known → Type 0
 IsNobodys live ids known = ((d : Course) → Contains live d → have_one ids d.ids ≡ false) × (known.begun ≡ false)
 
--- The dialogue of that name has.
+-- The dialogue with this name has one of these IDs,
 pub record IsOwner (live : List Course) (names : Course → ℕ) (ids : List IdOf) (name : ℕ) (known : Known) (d : Course) : Type 0 where
   pub listed : Contains live d
   pub has : have_one ids d.ids ≡ true
   pub named : names d ≡ name
   pub begun : known.begun ≡ have_one ids d.begun
-  -- No other does.
+  -- and no other has.
   pub only : (e : Course) → Contains live e → have_one ids e.ids ≡ true → e ≡ d
 
 abbrev pub Owns : List Course → (Course → ℕ) → List IdOf → Known → Option ℕ → Type 0
 Owns live names ids known None = IsNobodys live ids known
 Owns live names ids known (Some name) = (d : Course) × IsOwner live names ids name known d
 
--- the IDs of the dialogues that are done, and those of them that are firm
+-- the IDs of dialogues that are done, and which of them are firm
 abbrev pub done_ids : Courses → List IdOf
 done_ids s = flat_map (λ d. d.ids) s.done
 
@@ -68,7 +68,7 @@ module _ (s : Courses) (names : Course → ℕ) (sent : IdOf → Bool) (apart : 
         },
       )
 
-  -- So it is of what is known of the ID of an end.
+  -- So it is with what is known of the ID of an end.
   pub known_ids : (ids : Ids) → ((id : IdOf) → IsKnown s names sent id (known_at ids id)) → (end : Side) (octets : Option (List ℕ))
       → IsOf s names (ids_at end octets) (known_of ids end octets)
   known_ids ids are end None = record { owns = (λ d has. refl, refl); came = refl; firm_is = refl }
@@ -80,7 +80,7 @@ module _ (s : Courses) (names : Course → ℕ) (sent : IdOf → Bool) (apart : 
   known_is ids are end octets known is = subst (IsOf s names (ids_at end octets)) (sym is) (known_ids ids are end octets)
 
 module _ (s : Courses) (names : Course → ℕ) (ids : List IdOf) (known : Known) (of : IsOf s names ids known) where
-  -- the dialogue of that name, or none
+  -- the dialogue with this name, or none
   pub owner_of : (name : ℕ) → known.dialogue ≡ Some name → (d : Course) × IsOwner s.live names ids name known d
   owner_of name is = subst (Owns s.live names ids known) is of.owns
 
@@ -88,13 +88,13 @@ module _ (s : Courses) (names : Course → ℕ) (ids : List IdOf) (known : Known
   nobody_of is = subst (Owns s.live names ids known) is of.owns
 
 module _ (live : List Course) (names : Course → ℕ) (ids : List IdOf) (known : Known) (apart : AreApart live) where
-  -- Where no dialogue has one of these IDs none began one;
+  -- If no dialogue has one of these IDs, none began from one.
   pub nobody_begun : IsNobodys live ids known → (d : Course) → Contains live d → have_one ids d.begun ≡ false
   nobody_begun nobody d has =
       false_from_ne_true _
       (λ is. true≢false (sym (have_more ids d.begun d.ids (λ id. apart.begun_in d id has) is) ∙ nobody.0 d has))
 
-  -- where one has, no other did.
+  -- If a dialogue has one, no other began from one.
   pub begun_only : (name : ℕ) (d : Course) → IsOwner live names ids name known d → (e : Course) → Contains live e
       → have_one ids e.begun ≡ true → e ≡ d
   begun_only name d owner e has is = owner.only e has (have_more ids e.begun e.ids (λ id. apart.begun_in e id has) is)

@@ -1,4 +1,4 @@
--- What happens to an end, happens to what is left of it in a part, or nothing does.
+-- An act of an end is one of its part, or changes nothing of it.
 use Rattle.std.proofs.Common.{◌≡◌, ℕ, ℤ, Bool, true, false, List, [], ◌∷◌, ◌++◌, length, Some, Ok, refl, sym, ap, subst, ◌∙◌, append_assoc}
 use Rattle.std.specs.Prelude.{slice_get}
 use Rattle.std.specs.List.{AllByRecursion}
@@ -23,7 +23,7 @@ use Rattle.tcap_dialogues.proofs.InsideLaws.{Matches, Thins, inside, named_in, n
 use Rattle.tcap_dialogues.proofs.SendLaws.{Fits, send_thins}
 use Rattle.tcap_dialogues.proofs.ReceiveLaws.{close_thins, expire_thins, quiet_thins, receive_thins, reply_same}
 
--- The Abort of a provider goes to the ID from which the message came.
+-- A provider's Abort goes to the ID from which the message came.
 abort_to : (m abort : Message) → abort_for m ≡ Some abort → (id : List ℕ) × (otid_in m ≡ Some id) × (dtid_in abort ≡ Some id)
 abort_to (Unidirectional dialogue components) abort is = cc
 abort_to (Begin otid dialogue components) abort is = let same : provider_abort otid 4 ≡ abort = cc in (otid, refl, rw (← same) refl)
@@ -31,23 +31,23 @@ abort_to (Continue otid dtid dialogue components) abort is = let same : provider
 abort_to (EndMessage dtid dialogue components) abort is = cc
 abort_to (Abort dtid reason) abort is = cc
 
--- So does what a provider answers.
+-- So does a provider's answer.
 reply_goes : (e : End) (m abort : Message) → reply_to e m ≡ Some abort → (id : List ℕ) × (otid_in m ≡ Some id) × (dtid_in abort ≡ Some id)
 reply_goes e m abort is =
     let (found, answers, step) = then_some (abort_for m) (λ x. where_so (may_refuse e m x) (Some x)) abort is in
     let same = some_is ((where_some (may_refuse e m found) (Some found) abort step).1) in
     abort_to m abort (answers ∙ ap Some same)
 
--- what is left in the part
+-- the part of a view
 abbrev pub part : (ℕ → Bool) → (List ℕ → Bool) → (List ℕ → Bool) → List Item → Seen → Seen
 part keeps own peer all s =
     record { at = inside own peer s.at; coming = kept_of keeps (place_of keeps all) s.coming; sent = part_of keeps 0 s.sent }
 
--- A message on its way to an end stands in the list.
+-- A message in transit to an end is in the list.
 abbrev pub IsListed : Side → List Item → OnItsWay → Type 0
 IsListed side all m = slice_get all m.number ≡ Some (Sent (other side) m.message)
 
--- It happens to what is left, and the IDs of each half agree behind it.
+-- The act is one of the part, and the IDs of each half agree after it.
 pub record PartActs (table : Table) (side : Side) (keeps : ℕ → Bool) (own peer : List ℕ → Bool) (all : List Item) (s t : Seen) : Type 0 where
   pub acts : Acts table side (part keeps own peer all s) (part keeps own peer all t)
   pub matches : Matches own peer t.at
@@ -56,15 +56,15 @@ module _ (table : Table) (side : Side) (keeps : ℕ → Bool) (own peer : List �
     (fit : (i : ℕ) (m : Message) → slice_get all i ≡ Some (Sent side m) → Fits own peer (keeps i) m)
     (came : (i : ℕ) (m : Message) → slice_get all i ≡ Some (Sent (other side) m) → Fits peer own (keeps i) m)
     (s : Seen) (sound : IsEnd s.at) (matches : Matches own peer s.at) where
-  -- It happens to what is left, where this is what it is then.
+  -- the act leads from this view to that one
   abbrev Happens : Seen → Type 0
   Happens t = PartActs table side keeps own peer all s t
 
-  -- what is left of the two
+  -- the act of the part
   abbrev Passes : Seen → Type 0
   Passes t = Acts table side (part keeps own peer all s) (part keeps own peer all t)
 
-  -- A message is sent,
+  -- a sending
   part_says : (m : Message) (made : End) (rest : List Item) → send table s.at m ≡ Ok made
       → (s.sent ++ Sent side m ∷ []) ++ rest ≡ all → Happens (record s { at = made; sent = s.sent ++ Sent side m ∷ [] })
   part_says m made rest step is = record { acts = by (keeps (length s.sent)) refl thins; matches = thins.matches }
@@ -78,7 +78,7 @@ module _ (table : Table) (side : Side) (keeps : ℕ → Bool) (own peer : List �
       by true so thins = Says m (inside own peer made) (thins.kept so) (same_seen refl refl (part_kept keeps side m s.sent so))
       by false so thins = Stays (same_seen (thins.apart so) refl (part_left keeps side m s.sent so))
 
-  -- or received,
+  -- a delivery
   part_hears : (head : OnItsWay) (more : List OnItsWay) (made : End) → s.coming ≡ head ∷ more → IsListed side all head
       → receive table s.at head.message ≡ Ok made → Happens (record s { at = made; coming = more })
   part_hears head more made was listed step = record { acts = by (keeps head.number) refl thins; matches = thins.matches }
@@ -92,7 +92,7 @@ module _ (table : Table) (side : Side) (keeps : ℕ → Bool) (own peer : List �
           (kept_of keeps (place_of keeps all) more) (inside own peer made) (rw (was, so) refl) (thins.kept so) refl
       by false so thins = Stays (same_seen (thins.apart so) (rw (was, so) refl) refl)
 
-  -- or answered,
+  -- a provider's reply
   part_refuses : (head : OnItsWay) (more : List OnItsWay) (abort : Message) (rest : List Item) → s.coming ≡ head ∷ more → IsListed side all head
       → reply_to s.at head.message ≡ Some abort → (s.sent ++ Sent side abort ∷ []) ++ rest ≡ all
       → Happens (record s { coming = more; sent = s.sent ++ Sent side abort ∷ [] })
@@ -112,7 +112,7 @@ module _ (table : Table) (side : Side) (keeps : ℕ → Bool) (own peer : List �
           (same_seen refl refl (part_kept keeps side abort s.sent (together ∙ so)))
       by false so = Stays (same_seen refl (rw (was, so) refl) (part_left keeps side abort s.sent (together ∙ so)))
 
-  -- or lost,
+  -- a loss
   part_misses : (head : OnItsWay) (more : List OnItsWay) → s.coming ≡ head ∷ more → Happens (record s { coming = more })
   part_misses head more was = record { acts = by (keeps head.number) refl; matches = matches }
     where
@@ -121,7 +121,7 @@ module _ (table : Table) (side : Side) (keeps : ℕ → Bool) (own peer : List �
           (kept_of keeps (place_of keeps all) more) (rw (was, so) refl) refl
       by false so = Stays (same_seen refl (rw (was, so) refl) refl)
 
-  -- or the other end says one;
+  -- a message of the other end
   part_told : (m : Message) (rest : List Item) → (s.sent ++ Sent (other side) m ∷ []) ++ rest ≡ all
       → Happens (record s { coming = s.coming ++ newest s.sent m ∷ []; sent = s.sent ++ Sent (other side) m ∷ [] })
   part_told m rest is = record { acts = by (keeps (length s.sent)) refl; matches = matches }
@@ -137,7 +137,7 @@ module _ (table : Table) (side : Side) (keeps : ℕ → Bool) (own peer : List �
           (part_kept keeps (other side) m s.sent so))
       by false so = Stays (same_seen refl (kept_none keeps (place_of keeps all) s.coming (newest s.sent m) so) (part_left keeps (other side) m s.sent so))
 
-  -- an invocation ends unseen,
+  -- an expiry
   part_drops : (name : HalfName) (id : ℤ) (made : End) → expire table s.at name id ≡ Ok made → Happens (record s { at = made })
   part_drops name id made step = record { acts = by (named_in own peer name) refl thins; matches = thins.matches }
     where
@@ -149,7 +149,7 @@ module _ (table : Table) (side : Side) (keeps : ℕ → Bool) (own peer : List �
       by true so thins = Drops name id (inside own peer made) (thins.kept so) refl
       by false so thins = Stays (same_seen (thins.apart so) refl refl)
 
-  -- or a half closes.
+  -- a closing
   part_shuts : (name : HalfName) (made : End) → close table s.at name ≡ Ok made → Happens (record s { at = made })
   part_shuts name made step = record { acts = by (named_in own peer name) refl thins; matches = thins.matches }
     where
@@ -161,7 +161,7 @@ module _ (table : Table) (side : Side) (keeps : ℕ → Bool) (own peer : List �
       by true so thins = Shuts name (inside own peer made) (thins.kept so) refl
       by false so thins = Stays (same_seen (thins.apart so) refl refl)
 
-  -- What happens to the end happens to what is left of it, or nothing does.
+  -- Each act of an end is one of its part, or changes nothing of it.
   pub part_acts : (t : Seen) (rest : List Item) → AllByRecursion (IsListed side all) s.coming → t.sent ++ rest ≡ all → Acts table side s t → Happens t
   part_acts t rest listed is (Says m made step t_is) = rw t_is (part_says m made rest step (rw t_is at is))
   part_acts t rest listed is (Hears head more made was step t_is) = rw t_is (part_hears head more made was ((rw was at listed).0) step)

@@ -1,4 +1,4 @@
--- What an end may have sent that keeps the rules, it may have sent of a part that shares no ID with the rest.
+-- A lawful end may have sent its part of each part of a list that shares no ID with the rest.
 use Rattle.std.proofs.Common.{◌≡◌, ℕ, Bool, false, List, [], ◌∷◌, ◌++◌, Some, refl, sym, ap, subst, ◌∙◌, append-nil, append_assoc}
 use Rattle.std.specs.Prelude.{slice_get}
 use Rattle.std.specs.List.{AllByRecursion}
@@ -24,7 +24,7 @@ use Rattle.tcap_dialogues.proofs.SendLaws.{Fits}
 use Rattle.tcap_dialogues.proofs.FitLaws.{all_came, all_fit, in_part}
 use Rattle.tcap_dialogues.proofs.PartActs.{IsListed, part, part_acts}
 
--- It kept the rules before the last step, and in it.
+-- An end that keeps the rules kept them before the last step, and in it.
 pub kept_before : (side : Side) (before : List Event) (event : Event) → KeepsRules side (before ++ event ∷ [])
     → KeepsRules side before × (is_told_by side event ≡ false)
 kept_before side [] event keeps = (refl, (or_parts (is_told_by side event) false keeps).0)
@@ -33,7 +33,7 @@ kept_before side (first ∷ before) event keeps =
     let rest = kept_before side before event both.1 in
     (or_from _ _ both.0 rest.0, rest.1)
 
--- Nothing happened in the empty world.
+-- The view of the empty world is empty.
 pub seen_empty : (side : Side) → seen side empty ≡ blank
 seen_empty sides.A = refl
 seen_empty sides.B = refl
@@ -41,27 +41,27 @@ seen_empty sides.B = refl
 module _ (table : Table) (side : Side) (keeps : ℕ → Bool) (own peer : List ℕ → Bool) (all : List Item)
     (fit : (i : ℕ) (m : Message) → slice_get all i ≡ Some (Sent side m) → Fits own peer (keeps i) m)
     (came : (i : ℕ) (m : Message) → slice_get all i ≡ Some (Sent (other side) m) → Fits peer own (keeps i) m) where
-  -- what is left of a world in the part
+  -- the part of a world
   abbrev left : World → Seen
   left w = part keeps own peer all (seen side w)
 
-  -- Where a run sent a front of the list, a run of the part leads to what is left.
+  -- A run of the part leads to the part of this world.
   record Follows (w : World) : Type 0 where
     run : Leads table side blank (left w)
     matches : Matches own peer (end_at side w)
 
-  -- That is so where the end kept the rules, and what was sent is a front of the list.
+  -- This holds if the end kept the rules and the items sent are a front of the list.
   abbrev Holds : List Event → World → Type 0
   Holds before w = KeepsRules side before → (rest : List Item) → w.sent ++ rest ≡ all → Follows w
 
-  -- It is so of nothing,
+  -- It holds before the first step.
   none : Holds [] empty
   none kept rest is = record {
     run = subst (λ (t : Seen). Leads table side blank (part keeps own peer all t)) (sym (seen_empty side)) leads_nowhere;
     matches = subst (λ (t : Seen). Matches own peer t.at) (sym (seen_empty side)) (nothing_matches own peer);
   }
 
-  -- What is on its way stands in the list.
+  -- Messages in transit are in the list.
   listed : (before : List Event) (w : World) (rest : List Item) → Runs table before w → w.sent ++ rest ≡ all
       → AllByRecursion (IsListed side all) (seen side w).coming
   listed before w rest ran is = all_weaker (WasSent w (other side)) _ (channel_from (other side) w) here (were_sent table before w ran (other side))
@@ -69,7 +69,7 @@ module _ (table : Table) (side : Side) (keeps : ℕ → Bool) (own peer : List �
       here : (m : OnItsWay) → WasSent w (other side) m → slice_get all m.number ≡ Some (Sent (other side) m.message)
       here m was = rw (← is) (get_on w.sent rest m.number (Sent (other side) m.message) was.listed)
 
-  -- and each step keeps it.
+  -- Each step keeps it.
   step : (before : List Event) (event : Event) (w next : World) → Runs table before w → after table event w ≡ Some next → Holds before w
       → Holds (before ++ event ∷ []) next
   step before event w next ran is old kept rest sent =
@@ -81,20 +81,20 @@ module _ (table : Table) (side : Side) (keeps : ℕ → Bool) (own peer : List �
       rest (listed before w (items ++ rest) ran sent_before) sent (step_acts table side event w next is untold) in
       record { run = leads_then was.run (acts_lead table side _ _ now.acts); matches = now.matches }
 
-  -- So the part is lawful.
+  -- The part is lawful.
   pub lawful_part : IsLawfulFor side all table → IsLawfulFor side (part_of keeps 0 all) table
   lawful_part (events, (w, ran, sent), kept) =
       let last = runs_keep table Holds none step events w ran kept [] (append-nil w.sent ∙ sent) in
       rw (← sent) (leads_lawful table side (left w) last.run)
 
--- So it is where the part shares no ID with the rest.
+-- It is lawful if it shares no ID with the rest.
 pub part_keeps : (side : Side) (items : List Item) (table : Table) (keeps : ℕ → Bool) → IsClosed keeps items
     → IsLawfulFor side items table → IsLawfulFor side (part_of keeps 0 items) table
 part_keeps side items table keeps closed lawful =
     lawful_part table side keeps (in_part keeps items closed side) (in_part keeps items closed (other side)) items
     (all_fit keeps items closed side) (all_came keeps items closed side) lawful
 
--- The same of both ends.
+-- The same for both ends.
 pub part_lawful : (items : List Item) (table : Table) (keeps : ℕ → Bool) (moves : ℕ) → IsClosed keeps items
     → IsLawful items table moves → (fewer : ℕ) × IsLawful (part_of keeps 0 items) table fewer
 part_lawful items table keeps moves closed (events, run, kept, length_is) =

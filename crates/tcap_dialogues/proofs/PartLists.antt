@@ -1,4 +1,4 @@
--- A part of a list of items, and of what is on its way: numbers, and one item more.
+-- A part of a list of items, and of the messages in transit: numbers, and one more item.
 use Rattle.std.proofs.Common.{arith, ◌≡◌, ℕ, zero, suc, ◌+◌, Bool, true, false, cond, List, [], ◌∷◌, ◌++◌, length, take, Some, refl, ap, ◌∙◌}
 use Rattle.std.specs.Prelude.{◌&&◌, ◌||◌, slice_get}
 use Rattle.std.proofs.Math.Seq.{take-append_seam}
@@ -9,17 +9,17 @@ use Rattle.tcap_dialogues.specs.Part.{carries, part_of}
 
 -- ---- numbers
 
--- from the first number on
+-- from the first number
 pub from_zero : (n : ℕ) → 0 + n ≡ n
 from_zero n = omega arith
 
--- and from one later
+-- from the next number
 pub next_number : (n : ℕ) (item : Item) (items : List Item) → (n + 1) + length items ≡ n + length (item ∷ items)
 next_number n item items = omega arith
 
 -- ---- a part of a list
 
--- What is left of a list of one message more,
+-- the part with one more message
 part_more : (keeps : ℕ → Bool) (side : Side) (m : Message) (n : ℕ) (items : List Item)
     → part_of keeps n (items ++ Sent side m ∷ [])
     ≡ cond (keeps (n + length items)) (part_of keeps n items ++ Sent side m ∷ []) (part_of keeps n items)
@@ -50,19 +50,19 @@ part_more keeps side m n (Sent sender message ∷ items) = by (keeps n) (keeps (
     by false true is = is
     by false false is = is
 
--- one that is kept,
+-- one more message in the part
 pub part_kept : (keeps : ℕ → Bool) (side : Side) (m : Message) (items : List Item) → keeps (length items) ≡ true
     → part_of keeps 0 (items ++ Sent side m ∷ []) ≡ part_of keeps 0 items ++ Sent side m ∷ []
 part_kept keeps side m items so = part_more keeps side m 0 items
     ∙ ap (λ b. cond b (part_of keeps 0 items ++ Sent side m ∷ []) (part_of keeps 0 items)) (ap keeps (from_zero (length items)) ∙ so)
 
--- or one that is not,
+-- one more message outside the part
 pub part_left : (keeps : ℕ → Bool) (side : Side) (m : Message) (items : List Item) → keeps (length items) ≡ false
     → part_of keeps 0 (items ++ Sent side m ∷ []) ≡ part_of keeps 0 items
 part_left keeps side m items so = part_more keeps side m 0 items
     ∙ ap (λ b. cond b (part_of keeps 0 items ++ Sent side m ∷ []) (part_of keeps 0 items)) (ap keeps (from_zero (length items)) ∙ so)
 
--- and of a mark more.
+-- one more quiet mark
 pub part_quiet : (keeps : ℕ → Bool) (n : ℕ) (items : List Item) → part_of keeps n (items ++ Item.Quiet ∷ []) ≡ part_of keeps n items ++ Item.Quiet ∷ []
 part_quiet keeps n [] = refl
 part_quiet keeps n (Item.Quiet ∷ items) = ap (λ more. Item.Quiet ∷ more) (part_quiet keeps (n + 1) items)
@@ -74,15 +74,15 @@ part_quiet keeps n (Sent sender message ∷ items) = by (keeps n) (part_quiet ke
     by true is = ap (λ more. Sent sender message ∷ more) is
     by false is = is
 
--- ---- what is on its way
+-- ---- messages in transit
 
--- Of what is on its way, what passes, with other numbers.
+-- the messages in the part, with their new numbers
 abbrev pub kept_of : (ℕ → Bool) → (ℕ → ℕ) → List OnItsWay → List OnItsWay
 kept_of keeps place [] = []
 kept_of keeps place (m ∷ more) =
     cond (keeps m.number) (record { number = place m.number; message = m.message } ∷ kept_of keeps place more) (kept_of keeps place more)
 
--- One message more is one more that passes,
+-- one more message in the part
 pub kept_more : (keeps : ℕ → Bool) (place : ℕ → ℕ) (coming : List OnItsWay) (m : OnItsWay) → keeps m.number ≡ true
     → kept_of keeps place (coming ++ m ∷ []) ≡ kept_of keeps place coming ++ record { number = place m.number; message = m.message } ∷ []
 kept_more keeps place [] m so = rw so refl
@@ -96,7 +96,7 @@ kept_more keeps place (first ∷ coming) m so = by (keeps first.number) (kept_mo
     by true is = ap (λ more. record { number = place first.number; message = first.message } ∷ more) is
     by false is = is
 
--- or none.
+-- one more message outside the part
 pub kept_none : (keeps : ℕ → Bool) (place : ℕ → ℕ) (coming : List OnItsWay) (m : OnItsWay) → keeps m.number ≡ false
     → kept_of keeps place (coming ++ m ∷ []) ≡ kept_of keeps place coming
 kept_none keeps place [] m so = rw so refl
@@ -106,28 +106,28 @@ kept_none keeps place (first ∷ coming) m so =
 
 -- ---- places
 
--- the number of an item among those that are left
+-- the number of an item in the part
 abbrev pub place_of : (ℕ → Bool) → List Item → ℕ → ℕ
 place_of keeps all n = length (part_of keeps 0 (take n all))
 
--- That of the next one is how many are left of those before.
+-- The next number is the length of the part so far.
 pub place_next : (keeps : ℕ → Bool) (all sent rest : List Item) → sent ++ rest ≡ all → place_of keeps all (length sent) ≡ length (part_of keeps 0 sent)
 place_next keeps all sent rest is = rw (← is, take-append_seam sent rest) refl
 
--- An item stands where it stood, with more behind it,
+-- An item keeps its place if items are appended.
 pub get_on : (items rest : List Item) (n : ℕ) (found : Item) → slice_get items n ≡ Some found → slice_get (items ++ rest) n ≡ Some found
 get_on [] rest n found is = cc
 get_on (first ∷ items) rest zero found is = is
 get_on (first ∷ items) rest (suc n) found is = get_on items rest n found is
 
--- and the next one behind those before.
+-- The next item is after those before.
 pub get_next : (items rest : List Item) (item : Item) → slice_get ((items ++ item ∷ []) ++ rest) (length items) ≡ Some item
 get_next [] rest item = refl
 get_next (first ∷ items) rest item = get_next items rest item
 
 -- ---- IDs
 
--- Whether one of the messages that are kept carries that ID of that end; the first item has number n.
+-- whether a message in the part has this ID of this end; the first item has number n
 abbrev pub is_carried : Side → List ℕ → (ℕ → Bool) → ℕ → List Item → Bool
 is_carried end id keeps n [] = false
 is_carried end id keeps n (Sent side message ∷ items) = (keeps n && carries end id side message) || is_carried end id keeps (n + 1) items
@@ -137,7 +137,7 @@ is_carried end id keeps n (Item.Quiet ∷ items) = is_carried end id keeps (n + 
 further : (n i : ℕ) → (n + 1) + i ≡ n + suc i
 further n i = omega arith
 
--- One is.
+-- This message has the ID.
 pub carried_in : (end : Side) (id : List ℕ) (keeps : ℕ → Bool) (n : ℕ) (items : List Item) (i : ℕ) (side : Side) (m : Message)
     → slice_get items i ≡ Some (Sent side m) → keeps (n + i) ≡ true → carries end id side m ≡ true → is_carried end id keeps n items ≡ true
 carried_in end id keeps n [] i side m is so has = cc
@@ -157,7 +157,7 @@ carried_in end id keeps n (Sent sender message ∷ items) (suc i) side m is so h
     or_right true b is = refl
     or_right false b is = is
 
--- a message that is kept and carries the ID
+-- a message in the part that has the ID
 pub record Carrier (end : Side) (id : List ℕ) (keeps : ℕ → Bool) (n : ℕ) (items : List Item) : Type 0 where
   pub i : ℕ
   pub side : Side
@@ -166,13 +166,13 @@ pub record Carrier (end : Side) (id : List ℕ) (keeps : ℕ → Bool) (n : ℕ)
   pub kept : keeps (n + i) ≡ true
   pub has : carries end id side message ≡ true
 
--- It is one of a list with an item before it too.
+-- It is also in a list with one more item before.
 carrier_later : (end : Side) (id : List ℕ) (keeps : ℕ → Bool) (n : ℕ) (item : Item) (items : List Item) → Carrier end id keeps (n + 1) items
     → Carrier end id keeps n (item ∷ items)
 carrier_later end id keeps n item items c =
     record { i = suc c.i; side = c.side; message = c.message; listed = c.listed; kept = rw (← further n c.i) c.kept; has = c.has }
 
--- Where one is, this is it.
+-- If a message has the ID, this is one.
 pub carried_by : (end : Side) (id : List ℕ) (keeps : ℕ → Bool) (n : ℕ) (items : List Item) → is_carried end id keeps n items ≡ true
     → Carrier end id keeps n items
 carried_by end id keeps n [] is = cc

@@ -1,4 +1,4 @@
--- What an end receives, answers as a provider, or does unseen, it does without the halves outside a part.
+-- Deliveries, provider's replies and hidden steps of an end, without the halves outside a part.
 use Rattle.std.proofs.Common.{◌≡◌, ℕ, ℤ, Bool, true, false, cond, List, Option, Some, None, Result, Ok, is_none, refl, ap, ◌∙◌}
 use Rattle.std.specs.Prelude.{◌&&◌, not, ok_or}
 use Rattle.tcap_parts.specs.declared.component.Component.{Component}
@@ -31,7 +31,7 @@ use Rattle.tcap_dialogues.proofs.SendLaws.{Fits, agrees_as, agrees_of, none_some
 module _ (own peer : List ℕ → Bool) (table : Table) (e : End) (k : Bool) (sound : IsEnd e) (matches : Matches own peer e) where
   -- ---- receiving
 
-  -- A half begins,
+  -- a Begin
   begin_thins : (next : End) (otid : List ℕ) (dialogue : Option Dialogue) (components : List Component) → peer otid ≡ k
       → receive_begin table e otid dialogue components ≡ Ok next
       → Thins own peer k (λ x. receive_begin table x otid dialogue components) e next
@@ -47,7 +47,7 @@ module _ (own peer : List ℕ → Bool) (table : Table) (e : End) (k : Bool) (so
       comes : Receives start (receive_components table start components)
       comes = all_receives table components start
 
-  -- its Begin is answered, or it goes on,
+  -- a Continue that reaches a half
   over_thins : (next : End) (otid dtid : List ℕ) (dialogue : Option Dialogue) (components : List Component) (f : KeptHalf)
       → peer otid ≡ k → own dtid ≡ k → Has e f → f.half.own ≡ Some dtid → (p : Phase)
       → receive_over table e otid dialogue components f p ≡ Ok next
@@ -70,7 +70,7 @@ module _ (own peer : List ℕ → Bool) (table : Table) (e : End) (k : Bool) (so
   over_thins next otid dtid dialogue components f there here had of_own phases.Received is = cc
   over_thins next otid dtid dialogue components f there here had of_own phases.Closed is = cc
 
-  -- by the half that has the destination ID,
+  -- a Continue
   continue_thins : (next : End) (otid dtid : List ℕ) (dialogue : Option Dialogue) (components : List Component) → peer otid ≡ k → own dtid ≡ k
       → receive_continue table e otid dtid dialogue components ≡ Ok next
       → Thins own peer k (λ x. receive_continue table x otid dtid dialogue components) e next
@@ -85,7 +85,7 @@ module _ (own peer : List ℕ → Bool) (table : Table) (e : End) (k : Bool) (so
         apart = over.apart;
       }
 
-  -- or it ends.
+  -- an End or an Abort
   end_thins : (next : End) (dtid : List ℕ) → own dtid ≡ k
       → (let r : Result End EndFault = Ok (receive_end e (with_own e dtid)) in r) ≡ Ok next
       → Thins own peer k (λ x. Ok (receive_end x (with_own x dtid))) e next
@@ -111,7 +111,7 @@ module _ (own peer : List ℕ → Bool) (table : Table) (e : End) (k : Bool) (so
       by None found is = thins_none own peer e next matches is (λ inside_it. rw (same inside_it ∙ found) refl)
       by (Some f) found is = at f found (is_closed f.half.phase) refl is
 
-  -- A message is received.
+  -- any message
   pub receive_thins : (next : End) (m : Message) → Fits peer own k m → receive table e m ≡ Ok next
       → Thins own peer k (λ x. receive table x m) e next
   receive_thins next m fits is = by m fits is
@@ -124,9 +124,9 @@ module _ (own peer : List ℕ → Bool) (table : Table) (e : End) (k : Bool) (so
       by (EndMessage dtid dialogue components) fits is = end_thins next dtid (fits.destination dtid refl) is
       by (Abort dtid reason) fits is = end_thins next dtid (fits.destination dtid refl) is
 
-  -- ---- unseen
+  -- ---- expiries and closings
 
-  -- An invocation ends,
+  -- an expiry
   pub expire_thins : (next : End) (name : HalfName) (id : ℤ) → named_in own peer name ≡ k → expire table e name id ≡ Ok next
       → Thins own peer k (λ x. expire table x name id) e next
   expire_thins next name id here is =
@@ -140,7 +140,7 @@ module _ (own peer : List ℕ → Bool) (table : Table) (e : End) (k : Bool) (so
       (λ inside_it. found_so_on _ _ f (named_same own peer e name sound matches (here ∙ inside_it) ∙ found)
       (needs_so faults.CannotExpire open_one.0 (needs_so faults.CannotExpire may.0 refl)))
 
-  -- or a half closes.
+  -- a closing
   pub close_thins : (next : End) (name : HalfName) → named_in own peer name ≡ k → close table e name ≡ Ok next
       → Thins own peer k (λ x. close table x name) e next
   close_thins next name here is =
@@ -156,7 +156,7 @@ module _ (own peer : List ℕ → Bool) (table : Table) (e : End) (k : Bool) (so
 module _ (own peer : List ℕ → Bool) (e : End) (sound : IsEnd e) (matches : Matches own peer e) where
   -- ---- a provider
 
-  -- What the provider answers is the same.
+  -- The provider's answer is the same.
   pub reply_same : (m : Message) → Fits peer own true m → reply_to (inside own peer e) m ≡ reply_to e m
   reply_same (Unidirectional dialogue components) fits = refl
   reply_same (Begin otid dialogue components) fits =
@@ -170,12 +170,12 @@ module _ (own peer : List ℕ → Bool) (e : End) (sound : IsEnd e) (matches : M
 
 -- ---- quiet marks
 
--- Both are so.
+-- A conjunction is true only if both parts are.
 both_so : (a b : Bool) → (a && b) ≡ true → (a ≡ true) × (b ≡ true)
 both_so true b is = (refl, is)
 both_so false b is = cc
 
--- Where an end is quiet, what is left of it is.
+-- If an end is quiet, so is its part.
 pub quiet_thins : (own peer : List ℕ → Bool) (e : End) → quiet e ≡ Ok nothing → quiet (inside own peer e) ≡ Ok nothing
 quiet_thins own peer e is =
     let all = both_so (all_closed e.begun) (all_closed e.accepted) (needs_ok _ faults.StillOpen _ nothing is).0 in

@@ -1,4 +1,4 @@
--- A live dialogue is done: its IDs are free, and it is handed over.
+-- A live dialogue is done: its IDs are freed, and it is handed over.
 use Rattle.std.proofs.Common.{◌≡◌, ◌⊎◌, inl, inr, ℕ, Bool, true, false, cond, List, [], ◌∷◌, ◌++◌, Option, Some, None, refl, sym, ap, subst, ◌∙◌}
 use Rattle.std.specs.Prelude.{◌||◌, not, Contains}
 use Rattle.std.specs.List.{flat_map, list_any}
@@ -20,7 +20,7 @@ use Rattle.tcap_dialogues.proofs.HeldLists.{any_flat, any_none, any_only, or_non
 use Rattle.tcap_dialogues.proofs.LiveLaws.{either}
 
 module _ (s : Courses) (names : Course → ℕ) (sent : IdOf → Bool) (number : Option ℕ) (apart : AreApart s.live) where
-  -- those of that name, the others, and all then
+  -- the dialogues with this name, the others, and all after
   abbrev gone : List Course
   gone = those names number s.live
 
@@ -33,18 +33,18 @@ module _ (s : Courses) (names : Course → ℕ) (sent : IdOf → Bool) (number :
   abbrev Known_now : IdOf → Known → Type 0
   Known_now = IsKnown now names sent
 
-  -- one of those is live
+  -- a dialogue with this name is live
   listed_gone : (d : Course) → Contains gone d → Contains s.live d
   listed_gone d has = (kept_in (is_named names number) s.live d has).0
 
-  -- A part of the IDs of those that are done then.
+  -- a list of IDs of all dialogues that are done after
   then_is : (part : Course → List IdOf) (id : IdOf)
       → is_among (flat_map part now.done) id ≡ (is_among (flat_map part s.done) id || list_any (λ d. is_among (part d) id) gone)
   then_is part id =
       any_flat (is_same id) part (s.done ++ gone) ∙ list_any-append (λ d. is_among (part d) id) s.done gone
       ∙ ap (λ b. b || list_any (λ d. is_among (part d) id) gone) (sym (any_flat (is_same id) part s.done))
 
-  -- None of the others has an ID of those.
+  -- The others share no ID with it.
   other_has_none : (id : IdOf) → list_any (λ d. is_among d.ids id) gone ≡ true → (e : Course) → Contains left e → is_among e.ids id ≡ false
   other_has_none id some e has = false_from_ne_true _ bad
     where
@@ -56,7 +56,7 @@ module _ (s : Courses) (names : Course → ℕ) (sent : IdOf → Bool) (number :
           let same : d ≡ e = apart.one_id d e id listed hers so its in
           true≢false (sym not_named ∙ ap (λ x. not (is_named names number x)) (sym same) ∙ ap not named)
 
-  -- A firm ID of a live one is one of its IDs,
+  -- A firm ID of a live dialogue is one of its IDs.
   firm_has : (d : Course) (id : IdOf) → Contains s.live d → is_among (firm_in d) id ≡ true → is_among d.ids id ≡ true
   firm_has d id listed is = by d.early is
     where
@@ -64,7 +64,7 @@ module _ (s : Courses) (names : Course → ℕ) (sent : IdOf → Bool) (number :
       by true so = apart.used_in d id listed so
       by false so = so
 
-  -- and one of its IDs is firm where it was used, or the dialogue began after that word.
+  -- An ID is firm if it was used, or if the dialogue began after the under-way directive.
   firm_of : (d : Course) (id : IdOf) (early used : Bool) → is_among d.ids id ≡ true → early ≡ d.early → used ≡ is_among d.used id
       → is_among (firm_in d) id ≡ (used || not early)
   firm_of d id early used its same is = by d.early ∙ sym (ap (λ b. b || not early) is ∙ ap (λ b. is_among d.used id || not b) same)
@@ -77,10 +77,10 @@ module _ (s : Courses) (names : Course → ℕ) (sent : IdOf → Bool) (number :
           or_true true = refl
           or_true false = refl
 
-  -- What is known of an ID where those are done.
+  -- what is known of an ID after
   module _ (first : ℕ) (early : Bool) (early_is : (d : Course) → Contains gone d → early ≡ d.early) (old : Known) (id : IdOf)
       (known : IsKnown s names sent id old) where
-    -- Its dialogue used it by what is known.
+    -- What is known is whether its dialogue used it.
     used_is : (d : Course) → Contains s.live d → is_among d.ids id ≡ true → old.used ≡ is_among d.used id
     used_is d listed its = by old.dialogue known.owned
       where
@@ -140,9 +140,9 @@ module _ (s : Courses) (names : Course → ℕ) (sent : IdOf → Bool) (number :
           sent_is = known.sent_is;
         }
 
-  -- ---- what was taken out
+  -- ---- the dialogue taken out
 
-  -- It is of one of them, and there is no other.
+  -- It is the only one with this name.
   taken_one : (lives : Rattle.std.specs.BTreeMap.BTreeMap ℕ Live) (l : Live) → AreLives s.live names lives → AreTaken gone names (Some l)
       → (d : Course) × Contains gone d × ((e : Course) → Contains gone e → e ≡ d) × AreKept (d ∷ []) l
   taken_one lives l are (kept, named, some) =
@@ -163,7 +163,7 @@ module _ (s : Courses) (names : Course → ℕ) (sent : IdOf → Bool) (number :
       alone d e has (inr bad) = absurd (none_in e bad)
 
   module _ (old : Cut) (held : IsHeld s names sent old) where
-    -- One is handed over,
+    -- It is handed over.
     pub one_released : (first : ℕ) (out new : Cut) (l : Live) (g : Gathered) (before : List Gathered) → IsOut number s.live names old out (Some l)
         → new.live ≡ out.live → new.overs ≡ out.overs
         → ((id : IdOf) → known_at new.ids id ≡ cond (has_id l.a l.b id) (free_since first l.early (known_at out.ids id)) (known_at out.ids id))
@@ -184,7 +184,7 @@ module _ (s : Courses) (names : Course → ℕ) (sent : IdOf → Bool) (number :
           (g ∷ [], refl, one_gathered gone d g has only (stands d kept)),
         )
 
-    -- or there is none.
+    -- There is none.
     pub none_released : (out : Cut) (before : List Gathered) → IsOut number s.live names old out None
         → IsHeld now names sent out × HandsOver gone before before
     none_released out before is = (

@@ -1,4 +1,4 @@
--- What an end sends, it sends without the halves outside a part, where the message belongs to the part.
+-- Sendings of an end without the halves outside a part, if the message is in the part.
 use Rattle.std.proofs.Common.{◌≡◌, ℕ, Bool, true, List, [], Option, Some, None, Result, Ok, Err, is_none, refl, sym, ap, ◌∙◌}
 use Rattle.std.specs.Prelude.{not, ok_or}
 use Rattle.tcap_parts.specs.declared.component.Component.{Component}
@@ -23,12 +23,12 @@ use Rattle.tcap_end.proofs.ComponentLaws.{all_sends}
 use Rattle.tcap_end.proofs.FoundLaws.{own_has, peer_has}
 use Rattle.tcap_dialogues.proofs.InsideLaws.{Agrees, Matches, Thins, found_so_on, inside, needs_so, own_is, own_place, own_same, peer_is, peer_place, peer_same, then_so_on, thins_none, thins_put}
 
--- The IDs of a message are all inside, or all outside: the originating ID, and the destination ID.
+-- The IDs of a message are all inside, or all outside.
 pub record Fits (of_origin of_destination : List ℕ → Bool) (k : Bool) (m : Message) : Type 0 where
   pub origin : (id : List ℕ) → otid_in m ≡ Some id → of_origin id ≡ k
   pub destination : (id : List ℕ) → dtid_in m ≡ Some id → of_destination id ≡ k
 
--- What is not there is no ID.
+-- None is not an ID.
 pub none_some : {P : Type 0} {o : Option (List ℕ)} (id : List ℕ) → o ≡ None → o ≡ Some id → P
 none_some id none some = cc
 
@@ -36,7 +36,7 @@ none_some id none some = cc
 pub agrees_as : (own peer : List ℕ → Bool) (h g : Half) → g.own ≡ h.own → g.peer ≡ h.peer → Agrees own peer h → Agrees own peer g
 agrees_as own peer h g same_own same_peer agrees o p is_o is_p = agrees o p (sym same_own ∙ is_o) (sym same_peer ∙ is_p)
 
--- One with these IDs does, where they are inside or outside together.
+-- A half with these IDs agrees if both are inside, or both outside.
 pub agrees_of : (own peer : List ℕ → Bool) (k : Bool) (g : Half) (o p : List ℕ) → g.own ≡ Some o → g.peer ≡ Some p → own o ≡ k → peer p ≡ k
     → Agrees own peer g
 agrees_of own peer k g o p is_o is_p at_o at_p x y is_x is_y =
@@ -45,7 +45,7 @@ agrees_of own peer k g o p is_o is_p at_o at_p x y is_x is_y =
     ap own (sym same_x) ∙ at_o ∙ sym at_p ∙ ap peer same_y
 
 module _ (own peer : List ℕ → Bool) (table : Table) (e : End) (k : Bool) (sound : IsEnd e) (matches : Matches own peer e) where
-  -- A half begins,
+  -- a Begin
   begin_thins : (next : End) (otid : List ℕ) (dialogue : Option Dialogue) (components : List Component) → own otid ≡ k
       → send_begin table e otid dialogue components ≡ Ok next
       → Thins own peer k (λ x. send_begin table x otid dialogue components) e next
@@ -61,7 +61,7 @@ module _ (own peer : List ℕ → Bool) (table : Table) (e : End) (k : Bool) (so
       start : Half
       start = fresh phases.Sent (Some otid) None (first_standing dialogue)
 
-  -- its Begin is answered,
+  -- the first Continue
   first_thins : (next : End) (otid dtid : List ℕ) (dialogue : Option Dialogue) (components : List Component) → own otid ≡ k → peer dtid ≡ k
       → send_first_continue table e otid dtid dialogue components ≡ Ok next
       → Thins own peer k (λ x. send_first_continue table x otid dtid dialogue components) e next
@@ -81,7 +81,7 @@ module _ (own peer : List ℕ → Bool) (table : Table) (e : End) (k : Bool) (so
       (needs_so faults.WrongPhase waits.0 (needs_so faults.WrongDialogue may.0
       (then_so_on (λ half. Ok (put (inside own peer e) f.slot f.key half)) g made refl))))
 
-  -- it goes on,
+  -- a later Continue
   next_thins : (next : End) (otid dtid : List ℕ) (dialogue : Option Dialogue) (components : List Component) (f : KeptHalf) → own otid ≡ k
       → with_own e otid ≡ Some f → send_next_continue table e dtid dialogue components f ≡ Ok next
       → Thins own peer k (λ x. send_next_continue table x dtid dialogue components f) e next
@@ -98,7 +98,7 @@ module _ (own peer : List ℕ → Bool) (table : Table) (e : End) (k : Bool) (so
       (λ inside_it. needs_so faults.WrongPhase active.0 (needs_so faults.NoTransaction peers.0 (needs_so faults.WrongDialogue may.0
       (then_so_on (λ half. Ok (put (inside own peer e) f.slot f.key half)) g made refl))))
 
-  -- by the half whose own ID is the originating ID, where there is one,
+  -- a Continue
   continue_thins : (next : End) (otid dtid : List ℕ) (dialogue : Option Dialogue) (components : List Component) → own otid ≡ k → peer dtid ≡ k
       → send_continue table e otid dtid dialogue components (with_own e otid) ≡ Ok next
       → Thins own peer k (λ x. send_continue table x otid dtid dialogue components (with_own x otid)) e next
@@ -124,7 +124,7 @@ module _ (own peer : List ℕ → Bool) (table : Table) (e : End) (k : Bool) (so
             apart = thins.apart;
           }
 
-  -- it ends,
+  -- an End
   end_thins : (next : End) (dtid : List ℕ) (dialogue : Option Dialogue) (components : List Component) → peer dtid ≡ k
       → send_end table e dtid dialogue components ≡ Ok next
       → Thins own peer k (λ x. send_end table x dtid dialogue components) e next
@@ -143,7 +143,7 @@ module _ (own peer : List ℕ → Bool) (table : Table) (e : End) (k : Bool) (so
       (needs_so faults.WrongPhase open_one.0 (needs_so faults.WrongDialogue may.0
       (then_so_on (λ half. Ok (put (inside own peer e) f.slot f.key (closed_half half))) g made refl))))
 
-  -- or is aborted.
+  -- an Abort
   abort_thins : (next : End) (dtid : List ℕ) (reason : Option AbortReason) → peer dtid ≡ k → send_abort e dtid reason ≡ Ok next
       → Thins own peer k (λ x. send_abort x dtid reason) e next
   abort_thins next dtid reason there is =
@@ -159,7 +159,7 @@ module _ (own peer : List ℕ → Bool) (table : Table) (e : End) (k : Bool) (so
       (λ inside_it. needs_so _ user.0 (found_so_on _ _ f (peer_same own peer e dtid sound matches (there ∙ inside_it) ∙ found)
       (needs_so faults.WrongPhase open_one.0 (needs_so faults.WrongDialogue may.0 refl))))
 
-  -- A Unidirectional goes over no half.
+  -- a Unidirectional
   uni_thins : (next : End) (dialogue : Option Dialogue) (components : List Component) → send_uni table e dialogue components ≡ Ok next
       → Thins own peer k (λ x. send_uni table x dialogue components) e next
   uni_thins next dialogue components is =
@@ -171,7 +171,7 @@ module _ (own peer : List ℕ → Bool) (table : Table) (e : End) (k : Bool) (so
       by (Ok done) made may is = thins_none own peer e next matches is (λ inside_it. needs_so _ may (rw made refl))
       by (Err reason) made may is = cc
 
-  -- A message is sent.
+  -- any message
   pub send_thins : (next : End) (m : Message) → Fits own peer k m → send table e m ≡ Ok next → Thins own peer k (λ x. send table x m) e next
   send_thins next m fits is = by m fits is
     where

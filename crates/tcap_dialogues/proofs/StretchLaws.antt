@@ -1,4 +1,4 @@
--- What an end may have sent behind a quiet mark, it may have sent alone.
+-- An end may have sent the items after a quiet mark alone.
 use Rattle.std.proofs.Common.{arith, ◌≡◌, ◌≤◌, ◌<◌, ◌⊎◌, inl, inr, ℕ, ◌+◌, ◌-◌, Bool, true, List, [], ◌∷◌, ◌++◌, length, drop, Some, refl, sym, ap, subst, ◌∙◌, append-nil, append_assoc, length-append, length-drop}
 use Rattle.std.specs.Prelude.{slice_get}
 use Rattle.std.proofs.Math.Seq.{drop-append_seam, drop-append-add}
@@ -21,24 +21,24 @@ abbrev each : ℕ → Bool
 each n = true
 
 module _ (k : ℕ) where
-  -- a number behind the mark
+  -- a number after the mark
   abbrev behind : ℕ → ℕ
   behind n = n - k
 
-  -- what is left behind the mark, with numbers from 0
+  -- the view after the mark, with numbers from 0
   abbrev rest_of : Seen → Seen
   rest_of s = record { at = s.at; coming = kept_of each behind s.coming; sent = drop k s.sent }
 
-  -- One item more behind the mark,
+  -- one more item after the mark
   sent_more : (sent : List Item) (item : Item) → k ≤ length sent → drop k (sent ++ item ∷ []) ≡ drop k sent ++ item ∷ []
   sent_more sent item is = drop-append-le k sent (item ∷ []) is
 
-  -- and the number of the next.
+  -- the number of the next item
   next_is : (sent : List Item) → length sent - k ≡ length (drop k sent)
   next_is sent = sym (length-drop k sent)
 
   module _ (table : Table) (side : Side) (s : Seen) (within : k ≤ length s.sent) where
-    -- What happens behind the mark happens to what is left.
+    -- An act after the mark is one of the view after it.
     rest_acts : (t : Seen) → Acts table side s t → Acts table side (rest_of s) (rest_of t)
     rest_acts t (Says m made step is) = rw is (Says m made step (same_seen refl refl (sent_more s.sent (Sent side m) within)))
     rest_acts t (Hears head more made was step is) = rw is
@@ -58,7 +58,7 @@ module _ (k : ℕ) where
         (Marked (rw none refl) quiet_is (same_seen refl refl (sent_more s.sent Item.Quiet within)))
     rest_acts t (Stays is) = rw is (Stays refl)
 
--- A message does not stand where the mark does,
+-- A message is not at the place of the mark.
 not_mark : {P : Type 0} (front sent items rest : List Item) (side : Side) (m : Message) → (sent ++ Sent side m ∷ []) ++ rest ≡ front ++ Item.Quiet ∷ items
     → length sent ≤ length front → length front < length (sent ++ Sent side m ∷ []) → P
 not_mark front sent items rest side m is before past =
@@ -70,15 +70,15 @@ not_mark front sent items rest side m is before past =
     let here : slice_get ((sent ++ Sent side m ∷ []) ++ rest) (length sent) ≡ Some Item.Quiet = rw (is, at) mark in
     let both : Some (Sent side m) ≡ Some Item.Quiet = sym message ∙ here in cc
 
--- nor is it reached where nothing was sent,
+-- The mark is not reached if nothing is sent.
 not_past : {P : Type 0} (front sent : List Item) → length sent ≤ length front → length front < length sent → P
 not_past front sent before past = absurd (omega arith)
 
--- Nothing is behind all.
+-- Nothing comes after all items.
 drop_all : (items : List Item) → drop (length items) items ≡ []
 drop_all items = rw (append-nil items) at (drop-append_seam items [])
 
--- so the step that reaches the mark is the mark itself.
+-- The act that reaches the mark is the mark itself.
 reaches : (table : Table) (side : Side) (front items rest : List Item) (s t : Seen) → t.sent ++ rest ≡ front ++ Item.Quiet ∷ items
     → length s.sent ≤ length front → length front < length t.sent → Acts table side s t → rest_of (length front + 1) t ≡ blank
 reaches table side front items rest s t is before past (Says m made step t_is) =
@@ -102,20 +102,20 @@ reaches table side front items rest s t is before past (Marked none quiet_is t_i
 reaches table side front items rest s t is before past (Stays t_is) = not_past front s.sent before (rw t_is at past)
 
 module _ (table : Table) (side : Side) (front items : List Item) where
-  -- the place behind the mark
+  -- the place after the mark
   abbrev start : ℕ
   start = length front + 1
 
-  -- Where a run sent a front of the list, and the mark, a run leads to what is left behind it.
+  -- If a run sent a front of the list with the mark, a run leads to the view after the mark.
   abbrev Holds : List Event → World → Type 0
   Holds before w = KeepsRules side before → (rest : List Item) → w.sent ++ rest ≡ front ++ Item.Quiet ∷ items → length front < length w.sent
       → Leads table side blank (rest_of start (seen side w))
 
-  -- It is so of nothing,
+  -- It holds before the first step.
   none : Holds [] empty
   none kept rest is past = let bad : length front < 0 = past in absurd (omega arith)
 
-  -- and each step keeps it.
+  -- Each step keeps it.
   step : (before : List Event) (event : Event) (w next : World) → Runs table before w → after table event w ≡ Some next → Holds before w
       → Holds (before ++ event ∷ []) next
   step before event w next ran is old kept rest sent past =
@@ -138,7 +138,7 @@ module _ (table : Table) (side : Side) (front items : List Item) where
           let new = reaches table side front items rest (seen side w) (seen side next) sent not_yet past acts in
           subst (λ (t : Seen). Leads table side blank t) (sym new) leads_nowhere
 
-  -- So it is lawful.
+  -- The items after the mark are lawful.
   pub stretch_keeps : IsLawfulFor side (front ++ Item.Quiet ∷ items) table → IsLawfulFor side items table
   stretch_keeps (events, (w, ran, sent), kept) =
       let all : length w.sent ≡ length (front ++ Item.Quiet ∷ items) = ap length sent in

@@ -1,4 +1,4 @@
--- The next entry comes: the dialogues that are handed over, and what is kept then.
+-- The next entry: the dialogues that are handed over, and what a cut keeps after it.
 use Rattle.std.proofs.Common.{◌≡◌, ◌⊎◌, inl, inr, ℕ, ◌+◌, ◌<◌, Bool, true, false, List, [], ◌∷◌, ◌++◌, length, Option, Some, None, refl, sym, ap, subst, ◌∙◌}
 use Rattle.std.specs.Prelude.{◌&&◌, ◌||◌, cond, not, Contains, filter}
 use Rattle.std.specs.List.{flat_map, list_any}
@@ -20,7 +20,7 @@ use Rattle.tcap_dialogues.proofs.GatheredLaws.{more_gathered, same_gathered}
 use Rattle.tcap_dialogues.proofs.HeldLists.{AreSame, any_flat, any_same}
 use Rattle.tcap_dialogues.proofs.LiveLaws.{either}
 
--- What is kept is kept of the same ones in another order, and by the same IDs.
+-- A cut keeps the same dialogues in another order, and by the same IDs.
 pub held_same : (s t : Courses) (names : Course → ℕ) (sent sent_too : IdOf → Bool) (kept : Cut) → AreSame s.done t.done → AreSame s.live t.live
     → ((id : IdOf) → sent id ≡ sent_too id) → IsHeld s names sent kept → IsHeld t names sent_too kept
 held_same s t names sent sent_too kept done same agree held = record {
@@ -50,7 +50,7 @@ held_same s t names sent sent_too kept done same agree held = record {
     by id None used begun (nobody, unused, unbegun) = (λ d has. nobody d (same.back d has), unused, unbegun)
     by id (Some m) used begun (d, has, its, named, used_is, begun_is) = (d, same.there d has, its, named, used_is, begun_is)
 
--- More before two lists with the same elements.
+-- The same elements after one list.
 same_behind : {X : Type 0} (before xs ys : List X) → AreSame xs ys → AreSame (before ++ xs) (before ++ ys)
 same_behind {X} before xs ys same = record {
   there = λ x has. by xs ys same.there x (Contains-append_cases before xs x has);
@@ -63,7 +63,7 @@ same_behind {X} before xs ys same = record {
 
 module _ (live : List Course) (names : Course → ℕ) (past given : Option ℕ) (free : Course → Bool)
     (is : (d : Course) → Contains live d → free d ≡ (is_named names past d || is_named names given d)) (apart : AreApart live) where
-  -- those that are handed over, first those of the one name, and then those of the other; and those that are left
+  -- the dialogues handed over, first those past and then the one given up; and those left
   abbrev pub first : List Course
   first = those names past live
 
@@ -73,7 +73,7 @@ module _ (live : List Course) (names : Course → ℕ) (past given : Option ℕ)
   abbrev pub left : List Course
   left = others names given (others names past live)
 
-  -- They are those whose IDs are free,
+  -- They are those whose IDs are free.
   pub free_ones : AreSame (first ++ second) (filter free live)
   free_ones = record {
     there = λ d has. there d (Contains-append_cases first second d has);
@@ -96,7 +96,7 @@ module _ (live : List Course) (names : Course → ℕ) (past given : Option ℕ)
           (left_in (is_named names given) (others names past live) d
           (left_in (λ e. not (is_named names past e)) live d listed (ap not so)) (sym (ap (λ b. b || is_named names given d) so) ∙ hit))
 
-  -- and the others are left.
+  -- The others are left.
   pub left_ones : AreSame left (filter (λ d. not (free d)) live)
   left_ones = record {
     there = λ d has.
@@ -127,7 +127,7 @@ module _ (live : List Course) (names : Course → ℕ) (past given : Option ℕ)
   pub others_of_apart : AreApart (others names past live)
   others_of_apart = left_apart live (others names past live) (λ d has. (kept_in (λ e. not (is_named names past e)) live d has).0) apart
 
-  -- Those of the one name share no entry with those of the other.
+  -- Both are handed over, and share no entry.
   pub both_hand_over : (before mid after : List Gathered) → HandsOver first before mid → HandsOver second mid after
       → HandsOver (filter free live) before after
   both_hand_over before mid after (gs, mid_is, are) (hs, after_is, more) = (
@@ -144,7 +144,7 @@ module _ (live : List Course) (names : Course → ℕ) (past given : Option ℕ)
           let same : d ≡ e = apart.one_number d e n listed there its too in
           true≢false (sym not_past ∙ ap (λ x. not (is_named names past x)) (sym same) ∙ ap not named)
 
-  -- All that are done then.
+  -- all dialogues that are done after
   pub done_ones : (done : List Course) → AreSame ((done ++ first) ++ second) (done ++ filter free live)
   done_ones done =
       subst (λ ds. AreSame ds (done ++ filter free live)) (sym (append_assoc done first second))
@@ -152,7 +152,7 @@ module _ (live : List Course) (names : Course → ℕ) (past given : Option ℕ)
 
 -- ---- with the entry
 
--- What is left of a list and passes is what passes of it and is left.
+-- a test of the elements left
 pub any_left : {X : Type 0} (p q : X → Bool) (xs : List X)
     → list_any p (filter (λ x. not (q x)) xs) ≡ list_any (λ x. p x && not (q x)) xs
 any_left p q [] = refl
@@ -178,7 +178,7 @@ module _ (reuse : Reuse) (headings : List Heading) (h : Heading) where
   abbrev n : ℕ
   n = length headings
 
-  -- those that are done then, those that are left, and from which IDs an entry was sent
+  -- the dialogues done and left after, and the IDs from which an entry was sent
   abbrev pub freed_now : Courses
   freed_now = record { done = s.done ++ filter (is_free reuse n s h) s.live; live = filter (λ d. not (is_free reuse n s h d)) s.live }
 
@@ -203,7 +203,7 @@ module _ (reuse : Reuse) (headings : List Heading) (h : Heading) where
       ∙ list_any-append (is_same id) (flat_map own_ids headings) (flat_map own_ids (h ∷ []))
       ∙ ap (λ ids. sent id || is_among ids id) (append-nil (own_ids h)))
 
-  -- What is kept then is kept of the segment with it.
+  -- The cut keeps the segment with the entry.
   cut_then : (kept : Cut) → IsCutOf reuse (n + 1) (joined_by n h freed_now.done freed_now.live) (λ id. sent id || is_among (own_ids h) id) kept
       → IsCut reuse (headings ++ h ∷ []) kept
   cut_then kept is =
@@ -219,13 +219,13 @@ module _ (reuse : Reuse) (headings : List Heading) (h : Heading) where
             (record { there = λ d has. has; back = λ d has. has }) (record { there = λ d has. has; back = λ d has. has }) sent_then is.held;
       }))
 
-  -- whether it is the first of one more
+  -- whether the entry begins a new dialogue
   pub begins_then : (not (is_alone h) && not (list_any (λ d. have_one (ids_in h) d.ids) freed_now.live)) ≡ begins_one reuse n s h
   begins_then = ap (λ b. not (is_alone h) && not b) (any_left (λ d. have_one (ids_in h) d.ids) (is_free reuse n s h) s.live)
 
-  -- ---- by the code's names
+  -- ---- names in the code
 
-  -- What is live lingers by what the code keeps.
+  -- The live dialogues linger by what the cut keeps.
   pub lingers_old : (old : Cut) → IsCut reuse headings old → (d : Course) → Contains s.live d → Lingers old.reuse old.count d.over
   lingers_old old cut d has =
       subst (λ r. Lingers r old.count d.over) (sym cut.reuse_is)

@@ -23,7 +23,7 @@ thin test (e ∷ es) = cond (test e.0) (e ∷ thin test es) (thin test es)
 
 -- ---- insertions
 
--- What holds of each key holds of those that are left.
+-- A property of all keys holds for those left.
 keys_thin : (P : List ℕ → Type 0) (test : List ℕ → Bool) (es : List (List ℕ × Half)) → AllByRecursion P (keys_of es)
     → AllByRecursion P (keys_of (thin test es))
 keys_thin P test [] all = tt
@@ -34,14 +34,14 @@ keys_thin P test (e ∷ es) all = by (test e.0) (keys_thin P test es all.1)
     by true rest = (all.0, rest)
     by false rest = rest
 
--- What is below each key is inserted in front.
+-- A key below all others is inserted first.
 insert_below : (es : List (List ℕ × Half)) (k : List ℕ) (v : Half) → AllByRecursion (λ y. octets_cmp k y ≡ Less) (keys_of es)
     → insert_entry octets_cmp es k v ≡ (k, v) ∷ es
 insert_below [] k v all = refl
 insert_below (e ∷ es) k v all =
     ap (λ r. match_ordering r ((k, v) ∷ e ∷ es) ((e.0, v) ∷ es) (e ∷ insert_entry octets_cmp es k v)) all.0
 
--- An insertion at a key that passes is one among those that are left,
+-- A key that passes is inserted among those left.
 pub thin_in : (test : List ℕ → Bool) (es : List (List ℕ × Half)) (k : List ℕ) (v : Half) → Rises octets_cmp es → test k ≡ true
     → thin test (insert_entry octets_cmp es k v) ≡ insert_entry octets_cmp (thin test es) k v
 unfolding IsStrictlySortedBy
@@ -61,7 +61,7 @@ thin_in test (e ∷ es) k v rises passes = by (octets_cmp k e.0) refl (test e.0)
     by Greater is true so rest = rw (so, is) (ap (λ more. e ∷ more) rest)
     by Greater is false so rest = rw so rest
 
--- and one at a key that fails is none.
+-- A key that fails is not.
 pub thin_out : (test : List ℕ → Bool) (es : List (List ℕ × Half)) (k : List ℕ) (v : Half) → test k ≡ false
     → thin test (insert_entry octets_cmp es k v) ≡ thin test es
 thin_out test [] k v fails = rw fails refl
@@ -73,9 +73,9 @@ thin_out test (e ∷ es) k v fails = by (octets_cmp k e.0) refl (thin_out test e
     by Equal is rest = let out : test e.0 ≡ false = sym (ap test (exact_bytes k e.0 is)) ∙ fails in rw out refl
     by Greater is rest = ap (λ more. cond (test e.0) (e ∷ more) more) rest
 
--- ---- what is found
+-- ---- halves that are found
 
--- What holds of each half that is kept holds of each.
+-- A property of each half kept holds for all.
 pub all_kept : (P : List ℕ × Half → Type 0) (es : List (List ℕ × Half)) → Rises octets_cmp es
     → ((key : List ℕ) (half : Half) → half_at es key ≡ Some half → P (key, half)) → AllByRecursion P es
 unfolding IsStrictlySortedBy
@@ -85,7 +85,7 @@ all_kept P (e ∷ es) rises all = (
   all_kept P es rises.1 (λ key half at. all key half (found_later octets_total e es key half rises at)),
 )
 
--- Where the keys of all halves that pass are left, the first that passes is.
+-- If the keys of all halves that pass are left, the first that passes is.
 pub first_thin : (passes : Half → Bool) (test : List ℕ → Bool) (slot : Slot) (es : List (List ℕ × Half))
     → AllByRecursion (λ e. passes e.1 ≡ true → test e.0 ≡ true) es
     → first_half passes slot (thin test es) ≡ first_half passes slot es
@@ -103,7 +103,7 @@ first_thin passes test slot (e ∷ es) all = by (passes e.1) refl (test e.0) ref
     by false is true so rest = rw is rest
     by false is false so rest = rest
 
--- Where all are closed, those that are left are.
+-- If all halves are closed, those left are.
 pub closed_thin : (test : List ℕ → Bool) (es : List (List ℕ × Half)) → all_closed es ≡ true → all_closed (thin test es) ≡ true
 closed_thin test [] all = refl
 closed_thin test (e ∷ es) all = by (is_closed e.1.phase) (test e.0) refl all (closed_thin test es)

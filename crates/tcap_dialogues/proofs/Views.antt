@@ -1,4 +1,5 @@
--- What one end is, what is on its way to it and what was sent; what may happen to that; and runs in which nothing else happens.
+-- The view of one end: its state, the messages in transit to it, and the items sent; what may happen to it; and runs in
+-- which nothing else happens.
 use Rattle.std.proofs.Common.{◌≡◌, ℤ, List, [], ◌∷◌, ◌++◌, length, Some, Ok, refl, ◌∙◌}
 use Rattle.std.proofs.lemmas.Bool.{eq-eqb, or_from, or_parts}
 use Rattle.tcap_msg.specs.declared.message.Message.{Message}
@@ -14,81 +15,81 @@ use Rattle.tcap_model.specs.World.{Item, OnItsWay, Sent, World, channel_from, en
 use Rattle.tcap_model.specs.Run.{Event, Sends, Receives, Replies, Loses, Expires, Closes, Quiet, Tells, IsLawfulFor, KeepsRules, played, reply_to, tells}
 use Rattle.tcap_model.proofs.RunLaws.{played_on}
 
--- an end, what is on its way to it, and what was sent
+-- an end, the messages in transit to it, and the items sent
 pub record Seen : Type 0 where
   pub at : End
   pub coming : List OnItsWay
   pub sent : List Item
 
--- those of a world
+-- the view of a world
 abbrev pub seen : Side → World → Seen
 seen side w = record { at = end_at side w; coming = channel_from (other side) w; sent = w.sent }
 
--- where nothing happened yet
+-- the empty view
 abbrev pub blank : Seen
 blank = record { at = nothing; coming = []; sent = [] }
 
--- Two views with the same parts are one.
+-- Views with equal parts are equal.
 pub same_seen : {e f : End} {c d : List OnItsWay} {l k : List Item} → e ≡ f → c ≡ d → l ≡ k
     → (let s : Seen = record { at = e; coming = c; sent = l } in s) ≡ record { at = f; coming = d; sent = k }
 same_seen ends coming sent = rw (ends, coming, sent) refl
 
--- the world in which nothing else is
+-- the world with nothing else
 abbrev pub alone : Side → Seen → World
 alone sides.A s = record { a = s.at; b = nothing; from_a = []; from_b = s.coming; sent = s.sent }
 alone sides.B s = record { a = nothing; b = s.at; from_a = s.coming; from_b = []; sent = s.sent }
 
--- a message that joins what is on its way
+-- a message that joins those in transit
 abbrev pub newest : List Item → Message → OnItsWay
 newest sent m = record { number = length sent; message = m }
 
--- What may happen to it, and what it is then.
+-- An act leads from one view to another.
 pub data Acts (table : Table) (side : Side) (s t : Seen) : Type 0 where
-  -- the end sends a message,
+  -- the end sends a message
   Says : (m : Message) (made : End) → send table s.at m ≡ Ok made
       → t ≡ record s { at = made; sent = s.sent ++ Sent side m ∷ [] } → Acts table side s t
-  -- or receives one,
+  -- the end receives a message
   Hears : (head : OnItsWay) (more : List OnItsWay) (made : End) → s.coming ≡ head ∷ more → receive table s.at head.message ≡ Ok made
       → t ≡ record s { at = made; coming = more } → Acts table side s t
-  -- or its provider answers one,
+  -- its provider answers a message
   Refuses : (head : OnItsWay) (more : List OnItsWay) (abort : Message) → s.coming ≡ head ∷ more
       → reply_to s.at head.message ≡ Some abort → t ≡ record s { coming = more; sent = s.sent ++ Sent side abort ∷ [] }
       → Acts table side s t
-  -- or one is lost,
+  -- a message to it is lost
   Misses : (head : OnItsWay) (more : List OnItsWay) → s.coming ≡ head ∷ more → t ≡ record s { coming = more } → Acts table side s t
-  -- or an invocation ends unseen,
+  -- an invocation expires
   Drops : (name : HalfName) (id : ℤ) (made : End) → expire table s.at name id ≡ Ok made → t ≡ record s { at = made }
       → Acts table side s t
-  -- or a half closes,
+  -- a half closes
   Shuts : (name : HalfName) (made : End) → close table s.at name ≡ Ok made → t ≡ record s { at = made } → Acts table side s t
-  -- or the other end says a message,
+  -- the other end sends a message
   Told : (m : Message) → t ≡ record s { coming = s.coming ++ newest s.sent m ∷ []; sent = s.sent ++ Sent (other side) m ∷ [] }
       → Acts table side s t
-  -- or all is quiet,
+  -- a quiet mark
   Marked : s.coming ≡ [] → quiet s.at ≡ Ok nothing
       → t ≡ record { at = nothing; coming = []; sent = s.sent ++ Item.Quiet ∷ [] } → Acts table side s t
-  -- or nothing of this happens.
+  -- nothing of this happens
   Stays : t ≡ s → Acts table side s t
 
 -- ---- runs in which nothing else happens
 
--- Such a run leads from one to the other, and the end keeps the rules in it.
+-- A run, in which the end keeps the rules, leads from one view to the other.
 pub record Leads (table : Table) (side : Side) (s t : Seen) : Type 0 where
   pub events : List Event
   pub plays : played table events (alone side s) ≡ Some (alone side t)
   pub keep : KeepsRules side events
 
--- A run of no steps leads nowhere.
+-- No steps lead nowhere.
 pub leads_nowhere : {table : Table} {side : Side} {s : Seen} → Leads table side s s
 leads_nowhere = record { events = []; plays = refl; keep = refl }
 
--- Rules are kept in two runs, one behind the other.
+-- Rules are kept in two runs in turn.
 keep_both : (side : Side) (xs ys : List Event) → KeepsRules side xs → KeepsRules side ys → KeepsRules side (xs ++ ys)
 keep_both side [] ys here there = there
 keep_both side (x ∷ xs) ys here there =
     let (now, later) = or_parts _ (tells side xs) here in or_from _ _ now (keep_both side xs ys later there)
 
--- One such run goes on where another ends.
+-- Two runs in turn are one.
 pub leads_then : {table : Table} {side : Side} {s t u : Seen} → Leads table side s t → Leads table side t u → Leads table side s u
 leads_then {table} {side} {s} {t} {u} a b = record {
   events = a.events ++ b.events;
@@ -96,13 +97,13 @@ leads_then {table} {side} {s} {t} {u} a b = record {
   keep = keep_both side a.events b.events a.keep b.keep;
 }
 
--- What such a run sends an end may have sent that keeps the rules.
+-- An end may have sent, by the rules, what such a run sends.
 pub leads_lawful : (table : Table) (side : Side) (t : Seen) → Leads table side blank t → IsLawfulFor side t.sent table
 leads_lawful table sides.A t run = (run.events, (alone sides.A t, run.plays, refl), run.keep)
 leads_lawful table sides.B t run = (run.events, (alone sides.B t, run.plays, refl), run.keep)
 
 module _ (table : Table) where
-  -- The end sends a message, and it is lost,
+  -- a sending, and the loss of the message
   says : (side : Side) (s : Seen) (m : Message) (made : End) → send table s.at m ≡ Ok made
       → Leads table side s (record s { at = made; sent = s.sent ++ Sent side m ∷ [] })
   says sides.A s m made step = record {
@@ -116,7 +117,7 @@ module _ (table : Table) where
     keep = refl;
   }
 
-  -- it receives one,
+  -- a delivery
   hears : (side : Side) (s : Seen) (head : OnItsWay) (more : List OnItsWay) (made : End) → s.coming ≡ head ∷ more
       → receive table s.at head.message ≡ Ok made → Leads table side s (record s { at = made; coming = more })
   hears sides.A s head more made was step = record {
@@ -130,7 +131,7 @@ module _ (table : Table) where
     keep = refl;
   }
 
-  -- its provider answers one, and the answer is lost,
+  -- a provider's reply, and the loss of the Abort
   refuses : (side : Side) (s : Seen) (head : OnItsWay) (more : List OnItsWay) (abort : Message) → s.coming ≡ head ∷ more
       → reply_to s.at head.message ≡ Some abort → Leads table side s (record s { coming = more; sent = s.sent ++ Sent side abort ∷ [] })
   refuses sides.A s head more abort was step = record {
@@ -144,7 +145,7 @@ module _ (table : Table) where
     keep = refl;
   }
 
-  -- one is lost,
+  -- a loss
   misses : (side : Side) (s : Seen) (head : OnItsWay) (more : List OnItsWay) → s.coming ≡ head ∷ more
       → Leads table side s (record s { coming = more })
   misses sides.A s head more was = record {
@@ -158,7 +159,7 @@ module _ (table : Table) where
     keep = refl;
   }
 
-  -- an invocation ends, or a half closes,
+  -- an expiry, or a closing
   drops : (side : Side) (s : Seen) (name : HalfName) (id : ℤ) (made : End) → expire table s.at name id ≡ Ok made
       → Leads table side s (record s { at = made })
   drops sides.A s name id made step = record { events = Expires sides.A name id ∷ []; plays = rw step refl; keep = refl }
@@ -169,19 +170,19 @@ module _ (table : Table) where
   shuts sides.A s name made step = record { events = Closes sides.A name ∷ []; plays = rw step refl; keep = refl }
   shuts sides.B s name made step = record { events = Closes sides.B name ∷ []; plays = rw step refl; keep = refl }
 
-  -- the other end tells a message,
+  -- a message of the other end
   told : (side : Side) (s : Seen) (m : Message)
       → Leads table side s (record s { coming = s.coming ++ newest s.sent m ∷ []; sent = s.sent ++ Sent (other side) m ∷ [] })
   told sides.A s m = record { events = Tells sides.B m ∷ []; plays = refl; keep = refl }
   told sides.B s m = record { events = Tells sides.A m ∷ []; plays = refl; keep = refl }
 
-  -- or all is quiet.
+  -- a quiet mark
   marked : (side : Side) (s : Seen) → s.coming ≡ [] → quiet s.at ≡ Ok nothing
       → Leads table side s (record { at = nothing; coming = []; sent = s.sent ++ Item.Quiet ∷ [] })
   marked sides.A s none is = record { events = Quiet ∷ []; plays = rw (none, is) refl; keep = refl }
   marked sides.B s none is = record { events = Quiet ∷ []; plays = rw (none, is) refl; keep = refl }
 
-  -- What may happen, happens in such a run.
+  -- Each act is such a run.
   pub acts_lead : (side : Side) (s t : Seen) → Acts table side s t → Leads table side s t
   acts_lead side s t (Says m made step is) = rw is (says side s m made step)
   acts_lead side s t (Hears head more made was step is) = rw is (hears side s head more made was step)

@@ -1,4 +1,4 @@
--- All that is handed over of a stretch stands for its dialogues.
+-- All that is handed over represents the dialogues of the segment.
 use Rattle.std.proofs.Common.{List, [], ◌∷◌, ◌++◌, length, sym, subst}
 use Rattle.std.specs.Prelude.{filter}
 use Rattle.tcap_dialogues.specs.Course.{Heading, courses_of, courses_so_far, is_free}
@@ -11,7 +11,7 @@ use Rattle.tcap_dialogues.proofs.GatheredLaws.{more_gathered}
 
 module _ (reuse : Reuse) (headings : List Heading) (before given : List Gathered)
     (are : AreGathered (courses_so_far reuse headings).done before) where
-  -- What is handed over as the next entry comes, with what was before, stands for those that are done then,
+  -- With what is handed over at the next entry, it represents those that are done then.
   pub next_gathered : (h : Heading)
       → AreGathered (filter (is_free reuse (length headings) (courses_so_far reuse headings) h) (courses_so_far reuse headings).live) given
       → AreGathered (courses_so_far reuse (headings ++ h ∷ [])).done (before ++ given)
@@ -22,7 +22,7 @@ module _ (reuse : Reuse) (headings : List Heading) (before given : List Gathered
       (kept_in (is_free reuse (length headings) (courses_so_far reuse headings) h) (courses_so_far reuse headings).live e hers).0 its too)
       are more)
 
-  -- and with what is handed over at the end for all of the stretch.
+  -- With what is handed over at the end, it represents all.
   pub all_gathered : AreGathered (courses_so_far reuse headings).live given → AreGathered (courses_of reuse headings) (before ++ given)
   all_gathered more =
       more_gathered _ _ before given

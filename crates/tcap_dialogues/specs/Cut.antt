@@ -1,5 +1,6 @@
--- The dialogues of a list of messages (Q.774 3.3): two are of one dialogue where they share a transaction ID of one end, directly or
--- over others. Behind a quiet mark IDs are free again, which is not looked at here: a record is cut at its marks first.
+-- Which dialogues a list of messages has (Q.774 3.3): two messages are in one dialogue if they share a transaction ID
+-- of one end, directly or through other messages. Quiet marks, after which IDs are free again, are not considered: a
+-- record is first divided at its marks.
 use Rattle.std.specs.Prelude.{ℕ, ◌+◌, Bool, List, [], ◌∷◌, ◌++◌, filter, map, ◌==◌, ◌&&◌, not}
 use Rattle.std.specs.List.{flat_map, list_any}
 use Rattle.std.specs.Option.{option_to_list}
@@ -15,45 +16,45 @@ pub record IdOf : Type 0 where
   pub end : Side
   pub octets : List ℕ
 
--- the IDs that a message of the sender carries: its originating ID is one of the sender's, its destination ID one of the other end's
+-- the IDs in a message: its originating ID belongs to its sender, its destination ID to the other end
 abbrev pub ids_of : Side → Message → List IdOf
 ids_of sender m =
     map (λ id. record { end = sender; octets = id }) (option_to_list (otid_in m))
     ++ map (λ id. record { end = other sender; octets = id }) (option_to_list (dtid_in m))
 
--- whether two IDs are one, and whether an ID is one of these
+-- whether two IDs are equal; and whether an ID is in a list
 abbrev pub is_same : IdOf → IdOf → Bool
 is_same a b = is_side a.end b.end && bytes_eq a.octets b.octets
 
 abbrev pub is_among : List IdOf → IdOf → Bool
 is_among ids id = list_any (is_same id) ids
 
--- a dialogue: the numbers of its messages, and the IDs that they carry
+-- a dialogue: the numbers of its messages, and their IDs
 pub record Dialogue : Type 0 where
   pub numbers : List ℕ
   pub ids : List IdOf
 
--- whether it has one of these IDs
+-- whether the dialogue has one of these IDs
 abbrev pub has_one : List IdOf → Dialogue → Bool
 has_one ids d = list_any (is_among d.ids) ids
 
--- whether the message of that number is one of its messages
+-- whether the message with this number is in the dialogue
 abbrev pub is_of : Dialogue → ℕ → Bool
 is_of d n = list_any (λ i. i == n) d.numbers
 
--- these dialogues in one, with a message more, of that number and with these IDs
+-- these dialogues joined into one, with a message with this number and these IDs
 abbrev pub joined : List Dialogue → ℕ → List IdOf → Dialogue
 joined dialogues n ids = record {
   numbers = flat_map (λ d. d.numbers) dialogues ++ n ∷ [];
   ids = flat_map (λ d. d.ids) dialogues ++ ids;
 }
 
--- A message joins the dialogues that have one of its IDs; where none has, it is the first of one more.
+-- A message joins the dialogues that have one of its IDs, or begins a new one if there are none.
 abbrev pub with_message : ℕ → List IdOf → List Dialogue → List Dialogue
 with_message n ids dialogues =
     filter (λ d. not (has_one ids d)) dialogues ++ joined (filter (has_one ids) dialogues) n ids ∷ []
 
--- the dialogues of these items, the first of which has number n, behind those of the items before
+-- the dialogues of these items and of those before; the first of these items has number n
 abbrev pub dialogues_behind : List Dialogue → ℕ → List Item → List Dialogue
 dialogues_behind before n [] = before
 dialogues_behind before n (Sent side m ∷ items) = dialogues_behind (with_message n (ids_of side m) before) (n + 1) items

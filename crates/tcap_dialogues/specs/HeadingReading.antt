@@ -1,6 +1,6 @@
--- What can be read of an element that may be no message (Q.773 4.2.1): by its tag the kind of the message that it would be, and the
--- transaction IDs which such a message has, where their elements are whole and of 1 to 4 octets, whatever stands behind them. Else
--- nothing is read.
+-- What can be read of an element that need not be a message (Q.773 4.2.1). Its tag gives the kind of message. The
+-- transaction IDs of such a message are read if their elements are whole and have 1 to 4 octets, no matter what comes
+-- after them. Otherwise nothing is read.
 use Rattle.std.specs.Prelude.{ℕ, false, List, Option, Some, None, Result, Ok, Err}
 use Rattle.std.specs.Option.{option_map}
 use Rattle.tcap_ber.specs.declared.fault.Fault.{Fault}
@@ -15,7 +15,7 @@ use Rattle.tcap_record.specs.declared.entry.End.{End as Side}
 use Rattle.tcap_dialogues.specs.Course.{Heading}
 use Rattle.tcap_dialogues.specs.declared.heading.HeadingView.{HeadingView}
 
--- of a sender and a kind, with these IDs
+-- the heading with this sender, kind and IDs
 abbrev pub heading_with : Side → Kind → Option (List ℕ) → Option (List ℕ) → Heading
 heading_with sender kind otid dtid = record {
   sender = sender;
@@ -26,7 +26,7 @@ heading_with sender kind otid dtid = record {
   known = false;
 }
 
--- the IDs of a Begin; of a Continue; of an End or an Abort
+-- the heading of a Begin, of a Continue, and of an End or an Abort, from its content
 unfoldable pub begin_heading_at : Side → Span → Result Heading Fault
 begin_heading_at sender s = do
   otid ← otid_at s
@@ -43,6 +43,7 @@ last_heading_at sender kind s = do
   dtid ← dtid_at s
   Ok (heading_with sender kind None (Some dtid.0))
 
+-- the heading of an element, by its tag
 abbrev pub heading_of_element : Side → Element → Result Heading Fault
 heading_of_element sender =
     tagged_at 0x61 (λ e. Ok (heading_with sender kinds.Unidirectional None None))
@@ -52,11 +53,11 @@ heading_of_element sender =
     (tagged_at 0x67 (λ e. last_heading_at sender kinds.Abort e.content)
     (refused_at UnexpectedTag)))))
 
--- that of the element at the front of a window
+-- the heading of the element at the front of a window
 unfoldable pub heading_in : Side → Span → Result (Heading × Span) Fault
 heading_in sender s = one_of_at (heading_of_element sender) s
 
--- what is read, or nothing but the sender
+-- the heading that was read, or only the sender
 abbrev pub or_nothing : Side → Result (Heading × Span) Fault → Heading
 or_nothing sender (Ok found) = found.0
 or_nothing sender (Err f) = record {
@@ -68,10 +69,11 @@ or_nothing sender (Err f) = record {
   known = false;
 }
 
+-- the heading of the element at the front of these octets
 abbrev pub heading_at : Side → List ℕ → Heading
 heading_at sender octets = or_nothing sender (heading_in sender (whole octets))
 
--- what a view lends
+-- the heading of a view
 abbrev pub heading_read : HeadingView → Heading
 heading_read v = record {
   sender = v.sender;

@@ -1,4 +1,4 @@
--- An entry joins the live dialogues that have one of its IDs: what becomes of what is kept.
+-- What a `Cut` keeps after an entry joins the live dialogues that have one of its IDs.
 use Rattle.std.specs.Prelude.{◌≡◌, ◌⊎◌, ℕ, Bool, true, cond, List, length, map, nat_lt, not, ◌==◌, ◌||◌, Option, Some, None, false}
 use Rattle.std.specs.BTreeMap as tree
 use Rattle.std.specs.BTreeSet as set
@@ -17,20 +17,23 @@ use Rattle.tcap_dialogues.specs.declared.known.Ids.{Ids}
 use Rattle.tcap_dialogues.specs.declared.known.Known.{Known}
 use Rattle.tcap_dialogues.specs.declared.live.Live.{Live}
 
--- an ID of an end, if there is one
+-- the ID of an end, if there is one
 abbrev pub ids_at : Side → Option (List ℕ) → List IdOf
 ids_at end id = map (λ octets. record { end = end; octets = octets }) (option_to_list id)
 
--- ---- an entry more
+-- ---- one more entry
 
+-- A live dialogue has these IDs in addition.
 pub record HasId (ids : List IdOf) (old new : Live) : Type 0 where
   pub ids_are : (id : IdOf) → has_id new.a new.b id ≡ has_id old.a old.b id || is_among ids id
   pub rest : new ≡ record old { a = new.a; b = new.b }
 
+-- This end has sent an entry of a live dialogue, in addition.
 pub record HasSender (sender : Side) (old new : Live) : Type 0 where
   pub senders : (side : Side) → has_sent new side ≡ has_sent old side || is_side side sender
   pub rest : new ≡ record old { a_sent = new.a_sent; b_sent = new.b_sent }
 
+-- A live dialogue has this entry in addition.
 pub record HasEntry (number : ℕ) (h : Heading) (own peer : Known) (old new : Live) : Type 0 where
   pub name : new.name ≡ old.name
   pub numbers : (n : ℕ) → set.contains nat_cmp new.numbers n ≡ set.contains nat_cmp old.numbers n || (number == n)
@@ -42,7 +45,7 @@ pub record HasEntry (number : ℕ) (h : Heading) (own peer : Known) (old new : L
   pub earlier_is : new.earlier ≡ higher old.earlier (higher (earlier_of own) (earlier_of peer))
   pub unsettled : new.unsettled ≡ old.unsettled || (is_unsettled own || is_unsettled peer)
 
--- what is known of the IDs of an entry, which are those of that dialogue
+-- what is known of the IDs of an entry after it joins this dialogue
 abbrev pub own_known : Heading → ℕ → Known → Known
 own_known h name own = record {
   dialogue = Some name;
@@ -53,22 +56,23 @@ own_known h name own = record {
   sent = true;
 }
 
+-- The IDs of the entry are known as those of this dialogue, and the knowledge of others stays.
 abbrev pub AreNoted : Heading → ℕ → Known → Known → Ids → Ids → Type 0
 AreNoted h name own peer old new =
     (id : IdOf) → known_at new id
     ≡ cond (is_among (peer_ids h) id) (changed (changes.JoinTo name) peer)
     (cond (is_among (own_ids h) id) (own_known h name own) (known_at old id))
 
--- ---- the dialogues that it joins
+-- ---- the dialogues that the entry joins
 
--- One was taken out, or there was none.
+-- The dialogue with this name was taken out, or there was none.
 pub record TakesOne (number : Option ℕ) (live : List Course) (name : Course → ℕ) (old new : Cut) (taken : Live) : Type 0 where
   pub lives : AreLives (others name number live) name new.live
   pub overs : AreOvers (others name number live) name new.overs
   pub one : IsOne old.count (those name number live) name taken
   pub rest : new ≡ record old { live = new.live; overs = new.overs }
 
--- They are in one, whose name is that of one of them, or the number of the next entry.
+-- The dialogues are joined into one, whose name is that of one of them or the number of the next entry.
 pub record IsJoined (n : ℕ) (ds : List Course) (old new : Cut) (l : Live) : Type 0 where
   pub kept : AreKept ds l
   pub entry : (l.name ≡ n) ⊎ (list_any (λ d. has_entry d l.name) ds ≡ true)
@@ -76,11 +80,12 @@ pub record IsJoined (n : ℕ) (ds : List Course) (old new : Cut) (l : Live) : Ty
       ≡ cond (list_any (λ d. is_among d.ids id) ds) (changed (changes.JoinTo l.name) (known_at old.ids id)) (known_at old.ids id)
   pub rest : new ≡ record old { ids = new.ids }
 
--- It is there by its name, and by the number with which it is over.
+-- The dialogue is put back under its name, and under the number with which it is over.
 abbrev pub is_over_at : Option ℕ → ℕ → Bool
 is_over_at None number = false
 is_over_at (Some over) number = over == number
 
+-- This live dialogue is in the cut, and the others stay.
 pub record IsPut (l : Live) (old new : Cut) : Type 0 where
   pub lives : (number : ℕ) → tree.get nat_cmp new.live number ≡ cond (l.name == number) (Some l) (tree.get nat_cmp old.live number)
   pub overs : (number : ℕ) → tree.get nat_cmp new.overs number

@@ -1,4 +1,4 @@
--- A part of a list of messages that shares no transaction ID with the rest of it (Q.774 3.3).
+-- Whether a part of a list of messages shares no transaction ID with the rest (Q.774 3.3).
 use Rattle.std.specs.Prelude.{◌≡◌, ℕ, ◌+◌, Bool, true, List, [], ◌∷◌, slice_get, Some, cond}
 use Rattle.tcap_msg.specs.declared.message.Message.{Message}
 use Rattle.tcap_msg.specs.Parts.{dtid_in, otid_in}
@@ -6,8 +6,8 @@ use Rattle.tcap_record.specs.declared.entry.End.{End as Side}
 use Rattle.tcap_end.specs.End.{is_id}
 use Rattle.tcap_model.specs.World.{Item, Sent, is_side}
 
--- Whether a message of the sender carries that ID of that end: the originating ID is one of its sender's, the destination ID one of
--- its receiver's.
+-- Whether a message has this ID of this end: its originating ID belongs to its sender, its destination ID to its
+-- receiver.
 abbrev pub carries : Side → List ℕ → Side → Message → Bool
 carries end id sender message = cond (is_side end sender) (is_id id (otid_in message)) (is_id id (dtid_in message))
 
@@ -17,14 +17,14 @@ ShareId sender message other_sender other_message =
     (end : Side) × (id : List ℕ) × (carries end id sender message ≡ true)
     × (carries end id other_sender other_message ≡ true)
 
--- Of these items, those messages whose numbers pass, and the marks; the first of them has number n.
+-- those messages of these items whose numbers are in the part, and all quiet marks; the first item has number n
 abbrev pub part_of : (ℕ → Bool) → ℕ → List Item → List Item
 part_of keeps n [] = []
 part_of keeps n (Sent side message ∷ items) =
     cond (keeps n) (Sent side message ∷ part_of keeps (n + 1) items) (part_of keeps (n + 1) items)
 part_of keeps n (Item.Quiet ∷ items) = Item.Quiet ∷ part_of keeps (n + 1) items
 
--- The part shares no ID with the rest: of two messages that share one both are kept, or neither.
+-- The part shares no ID with the rest: of two messages that share an ID, both are in the part, or neither.
 pub record IsClosed (keeps : ℕ → Bool) (items : List Item) : Type 0 where
   pub same : (i j : ℕ) (s t : Side) (m n : Message) → slice_get items i ≡ Some (Sent s m)
       → slice_get items j ≡ Some (Sent t n) → ShareId s m t n → keeps i ≡ keeps j

@@ -1,4 +1,4 @@
-//! A stretch between quiet marks, cut into its dialogues as its entries come.
+//! Divides a segment between quiet marks into its dialogues as its entries arrive.
 
 ghost use Rattle.std.specs.BTreeSet as set;
 ghost use Rattle.std.specs.Prelude.{◌≡◌, ◌||◌, ℕ, Bool, List, [], ◌∷◌, ◌++◌, length, filter, IfOk, OnOk};
@@ -20,23 +20,24 @@ use std::collections::{BTreeMap, BTreeSet};
 use tcap_msg::TransactionId;
 use tcap_record::End;
 
-/// The dialogues of a segment between quiet marks, as its entries come. What is kept is what is live and, for each ID of a dialogue that
-/// is done, the number of the first entry of the last such dialogue and two bits: whether its owner sent from it, and whether it is firm.
+/// The dialogues of a segment between quiet marks, as its entries arrive. A cut keeps the live dialogues and some facts
+/// about each ID of a dialogue that is done. These are the number of the first entry of the last such dialogue, whether
+/// the ID's owner sent a message from it, and whether the ID is firm.
 #[derive(Debug, Drop)]
 pub struct Cut {
     pub(crate) alloc: Global,
     pub(crate) reuse: Reuse,
-    /// How many entries came.
+    /// The number of entries so far.
     pub(crate) count: u64,
-    /// The live dialogues, by their names.
+    /// The live dialogues, by name.
     pub(crate) live: BTreeMap<u64, Live>,
-    /// The names of those that are over, by the number of the first entry with which they are.
+    /// The names of those that are over, by the number of the first entry with which each is over.
     pub(crate) overs: BTreeMap<u64, u64>,
     pub(crate) ids: Ids,
 }
 
 impl Cut {
-    /// That of a stretch of which nothing came yet.
+    /// Creates a cut before the first entry of a segment.
     pub fn new(alloc: Global, reuse: Reuse) -> Cut
         ensures { IsCut reuse [] result }
     {
@@ -50,7 +51,7 @@ impl Cut {
         }
     }
 
-    /// Takes a live dialogue out, if there is one of that name.
+    /// Takes the live dialogue with this name out, if there is one.
     pub(crate) fn take_out(&mut self, name: Option<u64>) -> Option<Live>
         ensures { (live : List Course) (names : Course → ℕ) → AreApart live → AreLives live names self.old.live
             → AreOvers live names self.old.overs → IsOut name live names self.old self.new result }
@@ -62,7 +63,7 @@ impl Cut {
         Some(live)
     }
 
-    /// The dialogue of that name is done, if there is one: its IDs are free.
+    /// Hands over the dialogue with this name, if there is one, and frees its IDs. Fails if memory runs out.
     fn release(&mut self, name: Option<u64>, done: &mut Vec<Gathered>) -> Result<(), AllocError>
         ensures { (s : Courses) (names : Course → ℕ) (sent : IdOf → Bool) → AreApart s.live
             → IsHeld s names sent self.old → OnOk result (IsHeld (freed names name s) names sent self.new
@@ -81,11 +82,12 @@ impl Cut {
         Ok(())
     }
 
-    /// Takes the next entry, of which that is known, and hands over the dialogues whose IDs are free now, two at most. Returns whether
-    /// the entry is the first of one more dialogue that has IDs.
+    /// Takes the heading of the next entry, and hands over the dialogues whose IDs are free now, at most two. Returns
+    /// whether the entry begins a new dialogue that has IDs.
     ///
     /// # Errors
-    /// AllocError if memory runs out, or after 2^64 - 1 entries. The cut is of no use after an error.
+    ///
+    /// `AllocError` if memory runs out, or after 2^64 - 1 entries. The cut must not be used after an error.
     pub fn take(
         &mut self,
         heading: HeadingView,
@@ -108,7 +110,8 @@ impl Cut {
     /// Adds each transaction ID of an end from which an entry of the segment was sent.
     ///
     /// # Errors
-    /// AllocError if memory runs out; some IDs may have been added by then.
+    ///
+    /// `AllocError` if memory runs out; some IDs may have been added by then.
     pub fn sent_from(&self, end: End, ids: &mut BTreeSet<TransactionId>) -> Result<(), AllocError>
         ensures { (reuse : Reuse) (headings : List Heading) → IsCut reuse headings self.now
             → OnOk result ((octets : List ℕ) → set.contains octets_cmp ids.new octets
@@ -117,7 +120,11 @@ impl Cut {
         self.ids.sent_from(end, ids)
     }
 
-    /// The stretch ends: hands over all that are live.
+    /// Ends the segment, and hands over all live dialogues.
+    ///
+    /// # Errors
+    ///
+    /// `AllocError` if memory runs out.
     pub fn finish(self, done: &mut Vec<Gathered>) -> Result<(), AllocError>
         ensures { (reuse : Reuse) (headings : List Heading) → IsCut reuse headings self
             → OnOk result (HandsOver (courses_so_far reuse headings).live done.old.items done.new.items) }

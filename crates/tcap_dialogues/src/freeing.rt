@@ -1,4 +1,4 @@
-//! Which IDs are free as an entry comes.
+//! Finds which IDs are free when an entry arrives.
 
 ghost use Rattle.std.specs.Prelude.{◌≡◌, ◌&&◌, ◌||◌, ℕ, Bool, List, true, Contains, not, is_some};
 ghost use Rattle.std.specs.List.{list_any};
@@ -15,21 +15,21 @@ use tcap_msg::Kind;
 use tcap_record::End;
 
 impl HeadingView<'_> {
-    /// Whether it is that of a Begin.
+    /// Returns whether the entry is a Begin.
     pub(crate) fn is_begin(self) -> bool
         ensures { result ≡ is_begin self.entry.kind }
     {
         matches!(self.kind, Some(Kind::Begin))
     }
 
-    /// Returns whether it has an ID.
+    /// Returns whether the entry has an ID.
     pub(crate) fn has_ids(self) -> bool
         ensures { result ≡ not (is_alone (heading_read self.entry)) }
     {
         self.otid.is_some() | self.dtid.is_some()
     }
 
-    /// Whether it is that of a Continue.
+    /// Returns whether the entry is a Continue.
     fn is_continue(self) -> bool
         ensures { result ≡ is_continue self.entry.kind }
     {
@@ -38,7 +38,7 @@ impl HeadingView<'_> {
 }
 
 impl Cut {
-    /// The dialogue that has been over for so long that its IDs are free.
+    /// Returns the name of the dialogue that has been over for so long that its IDs are free, if there is one.
     pub(crate) fn past(&self) -> Option<u64>
         ensures { (live : List Course) (names : Course → ℕ) → AreApart live → AreLives live names self.now.live
             → AreOvers live names self.now.overs
@@ -52,7 +52,7 @@ impl Cut {
         Some(*self.overs.get(&number)?)
     }
 
-    /// Whether a live dialogue is over.
+    /// Returns whether the live dialogue with this name is over.
     fn is_over(&self, name: u64) -> bool
         ensures { (live : List Course) (names : Course → ℕ) → AreLives live names self.now.live → (d : Course) → Contains live d
             → names d ≡ name → result ≡ is_some d.over }
@@ -63,7 +63,7 @@ impl Cut {
         }
     }
 
-    /// Whether an end sent an entry of a live dialogue.
+    /// Returns whether an end sent an entry of the live dialogue with this name.
     fn has_sent(&self, name: u64, end: End) -> bool
         ensures { (live : List Course) (names : Course → ℕ) → AreLives live names self.now.live → (d : Course) → Contains live d
             → names d ≡ name → result ≡ list_any (is_side «end») d.senders }
@@ -74,7 +74,7 @@ impl Cut {
         }
     }
 
-    /// Returns whether a live dialogue has a Begin.
+    /// Returns whether the live dialogue with this name has a Begin.
     fn has_begin(&self, name: u64) -> bool
         ensures { (live : List Course) (names : Course → ℕ) → AreLives live names self.now.live → (d : Course) → Contains live d
             → names d ≡ name → result ≡ has_begin d }
@@ -85,8 +85,8 @@ impl Cut {
         }
     }
 
-    /// Returns whether a Continue from an ID of that dialogue is of another one: of one that its peer began and that it accepts, or of
-    /// one whose Begin the segment lacks.
+    /// Returns whether a Continue from an ID of this dialogue belongs to another one. The other one is a dialogue that
+    /// the peer began and the Continue accepts, or one whose Begin is not in the segment.
     fn continues_another(&self, heading: HeadingView, name: u64) -> bool
         ensures { (s : Courses) (names : Course → ℕ) (sent : IdOf → Bool) (d : Course) → AreApart s.live
             → IsHeld s names sent self.now → Contains s.live d → names d ≡ name
@@ -102,7 +102,7 @@ impl Cut {
         }
     }
 
-    /// Returns whether an entry uses its own ID, which is one of that dialogue, for another dialogue.
+    /// Returns whether an entry uses its own ID, which belongs to this dialogue, for another dialogue.
     fn uses_anew(&self, heading: HeadingView, name: u64) -> bool
         ensures { (s : Courses) (names : Course → ℕ) (sent : IdOf → Bool) (d : Course) → AreApart s.live
             → IsHeld s names sent self.now → Contains s.live d → names d ≡ name
@@ -118,7 +118,8 @@ impl Cut {
         }
     }
 
-    /// Returns the dialogue, over, of which its sender uses an ID for another dialogue.
+    /// Returns the name of the dialogue that is over and whose ID the sender uses for another dialogue, if there is
+    /// one.
     pub(crate) fn given_up(&self, heading: HeadingView) -> Option<u64>
         ensures { (s : Courses) (names : Course → ℕ) (sent : IdOf → Bool) → AreApart s.live
             → IsHeld s names sent self.now → (d : Course) → Contains s.live d

@@ -1,4 +1,4 @@
-//! What is read of an entry to find its dialogue.
+//! Reads the heading of an entry, by which its dialogue is found.
 
 ghost use Rattle.std.specs.Prelude.{◌≡◌, ℕ, List};
 ghost use Rattle.tcap_ber.specs.Reading.{Gives, element, span};
@@ -13,25 +13,26 @@ use tcap_msg::tags::{ABORT, BEGIN, CONTINUE, DTID, END, OTID, UNIDIRECTIONAL};
 use tcap_msg::{Kind, MessageParts, TransactionIdView};
 use tcap_record::End;
 
-/// What is known of an entry to find its dialogue, lent: its sender, its kind and its transaction IDs as far as they can be read
-/// (Q.773 4.2.1), and two facts about the trace before it, which a caller sets.
+/// The facts about an entry by which its dialogue is found. These are its sender, its kind and its transaction IDs, as
+/// far as they can be read (Q.773 4.2.1), and two facts about the trace before it, which the caller sets. It borrows
+/// the octets.
 #[derive(Clone, Copy, Debug)]
 pub struct HeadingView<'a> {
-    /// The end that sent it.
+    /// The end that sent the entry.
     pub sender: End,
-    /// The kind of the message, or of the one that it would be; `None` where that can't be read.
+    /// The kind of message, by the tag; `None` if it cannot be read.
     pub kind: Option<Kind>,
-    /// The originating transaction ID, which a Begin and a Continue have.
+    /// The originating transaction ID of a Begin or a Continue.
     pub otid: Option<TransactionIdView<'a>>,
-    /// The destination transaction ID, which a Continue, an End and an Abort have.
+    /// The destination transaction ID of a Continue, an End or an Abort.
     pub dtid: Option<TransactionIdView<'a>>,
-    /// Whether the entry comes after the bench's word that dialogues may have been under way.
+    /// Whether the entry comes after the under-way directive, by which dialogues may have begun before the trace.
     pub under_way: bool,
-    /// Whether the owner of the destination ID sent from that ID in an earlier segment.
+    /// Whether the owner of the destination ID sent a message from this ID in an earlier segment.
     pub known: bool,
 }
 
-/// Returns the heading of a message, of whose trace nothing is known.
+/// Returns the heading of a message, with nothing known of the trace.
 pub fn heading_of_message<M: MessageParts>(sender: End, message: &M) -> HeadingView<'_>
     ensures { heading_read result ≡ heading_of sender (M.meaning message.now) }
 {
@@ -45,7 +46,7 @@ pub fn heading_of_message<M: MessageParts>(sender: End, message: &M) -> HeadingV
     }
 }
 
-/// The originating transaction ID at the front of a window.
+/// Reads the originating transaction ID at the front of a window, and returns it with the rest of the window.
 #[tactic(auto, unfolding(tcap_msg::specs::Reading::otid_at))]
 fn otid(window: Window) -> Result<(TransactionIdView, Window), Fault>
     ensures { Gives (λ x. (x.0.octets.now, span x.1)) result (otid_at (span window.entry)) }
@@ -54,7 +55,7 @@ fn otid(window: Window) -> Result<(TransactionIdView, Window), Fault>
     Ok((TransactionIdView::read(found)?, rest))
 }
 
-/// The destination transaction ID at the front of a window.
+/// Reads the destination transaction ID at the front of a window, and returns it with the rest of the window.
 #[tactic(auto, unfolding(tcap_msg::specs::Reading::dtid_at))]
 fn dtid(window: Window) -> Result<(TransactionIdView, Window), Fault>
     ensures { Gives (λ x. (x.0.octets.now, span x.1)) result (dtid_at (span window.entry)) }
@@ -63,7 +64,7 @@ fn dtid(window: Window) -> Result<(TransactionIdView, Window), Fault>
     Ok((TransactionIdView::read(found)?, rest))
 }
 
-/// The heading of a Begin, of which this is the content.
+/// Reads the heading of a Begin from its content.
 #[tactic(auto, unfolding(crate::specs::HeadingReading::begin_heading_at))]
 fn begin_heading(sender: End, content: Window) -> Result<HeadingView, Fault>
     ensures { Gives heading_read result (begin_heading_at sender (span content.entry)) }
@@ -79,7 +80,7 @@ fn begin_heading(sender: End, content: Window) -> Result<HeadingView, Fault>
     })
 }
 
-/// That of a Continue.
+/// Reads the heading of a Continue from its content.
 #[tactic(auto, unfolding(crate::specs::HeadingReading::continue_heading_at))]
 fn continue_heading(sender: End, content: Window) -> Result<HeadingView, Fault>
     ensures { Gives heading_read result (continue_heading_at sender (span content.entry)) }
@@ -96,7 +97,7 @@ fn continue_heading(sender: End, content: Window) -> Result<HeadingView, Fault>
     })
 }
 
-/// That of an End or an Abort.
+/// Reads the heading of an End or an Abort from its content.
 #[tactic(auto, unfolding(crate::specs::HeadingReading::last_heading_at))]
 fn last_heading(sender: End, kind: Kind, content: Window) -> Result<HeadingView, Fault>
     ensures { Gives heading_read result (last_heading_at sender kind (span content.entry)) }
@@ -112,7 +113,7 @@ fn last_heading(sender: End, kind: Kind, content: Window) -> Result<HeadingView,
     })
 }
 
-/// That of an element, by its tag.
+/// Reads the heading of an element, whose tag gives the kind.
 fn heading_of_element(sender: End, found: Tlv) -> Result<HeadingView, Fault>
     ensures { Gives heading_read result (heading_of_element sender (element found.entry)) }
 {
@@ -138,7 +139,7 @@ fn heading_of_element(sender: End, found: Tlv) -> Result<HeadingView, Fault>
     }
 }
 
-/// That of the element at the front of a window, and the window behind it.
+/// Reads the heading of the element at the front of a window, and returns it with the rest of the window.
 #[tactic(auto, unfolding(crate::specs::HeadingReading::heading_in))]
 fn heading_in(sender: End, window: Window) -> Result<(HeadingView, Window), Fault>
     ensures { Gives (λ x. (heading_read x.0, span x.1)) result (heading_in sender (span window.entry)) }
@@ -147,10 +148,11 @@ fn heading_in(sender: End, window: Window) -> Result<(HeadingView, Window), Faul
     Ok((heading_of_element(sender, found)?, rest))
 }
 
-/// What can be read of the element at the front of `octets`, which may be no message (Q.773 4.2.1): by its tag the kind of the
-/// message that it would be, and the transaction IDs that such a message has, where their elements are whole and of 1 to 4
-/// octets, whatever stands behind them. Where they are not, or the tag is no message's, nothing but the sender. Of octets that
-/// spell a message it is what [`heading_of_message`] says. Nothing is known of the trace.
+/// Reads the heading of the element at the front of `octets`, which need not be a message (Q.773 4.2.1).
+///
+/// The tag gives the kind of message. The transaction IDs of such a message are read if their elements are whole and
+/// have 1 to 4 octets, no matter what comes after them. Otherwise, or if no message has the tag, only the sender is
+/// known. If the octets spell a message, the result is that of [`heading_of_message`]. Nothing is known of the trace.
 pub fn read_heading(sender: End, octets: &[u8]) -> HeadingView<'_>
     ensures exact { heading_read result ≡ heading_at sender octets.now }
     ensures message { (m : Meant) → Spells m octets.now → heading_read result ≡ heading_of sender m }

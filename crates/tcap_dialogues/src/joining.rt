@@ -1,4 +1,4 @@
-//! An entry joins the live dialogues that have one of its IDs.
+//! Joins an entry to the live dialogues that have one of its IDs.
 
 ghost use Rattle.std.specs.List.{list_any};
 ghost use Rattle.std.specs.Prelude.{◌≡◌, ◌+◌, ◌<◌, ◌&&◌, ◌||◌, ℕ, Bool, List, ◌++◌, true, cond, not, Contains, Some, IfOk, OnOk};
@@ -18,7 +18,7 @@ use tcap_msg::TransactionIdView;
 use tcap_record::End;
 
 impl Ids {
-    /// This is known of an ID, if there is one.
+    /// Sets what is known of an ID, if there is one. Fails if memory runs out.
     fn set_some(
         &mut self,
         end: End,
@@ -34,7 +34,8 @@ impl Ids {
         }
     }
 
-    /// The IDs of an entry are those of that dialogue; of the own one and of the peer's that was known before.
+    /// Notes that the IDs of an entry belong to this dialogue; `own` and `peer` are what was known of them before.
+    /// Fails if memory runs out.
     fn note(
         &mut self,
         heading: HeadingView,
@@ -61,7 +62,7 @@ impl Ids {
 }
 
 impl Cut {
-    /// Takes the dialogue of that name out; an empty one, whose name is the number of the next entry, where there is none.
+    /// Takes the dialogue with this name out, or creates an empty one, whose name is the number of the next entry.
     fn take_or_new(&mut self, name: Option<u64>) -> Live
         ensures { (live : List Course) (names : Course → ℕ) → AreApart live → AreLives live names self.old.live
             → AreOvers live names self.old.overs → TakesOne name live names self.old self.new result }
@@ -72,7 +73,7 @@ impl Cut {
         }
     }
 
-    /// Puts a dialogue in.
+    /// Puts a dialogue back. Fails if memory runs out.
     fn put(&mut self, live: Live) -> Result<(), AllocError>
         ensures { OnOk result (IsPut live self.old self.new) }
     {
@@ -83,7 +84,7 @@ impl Cut {
         Ok(())
     }
 
-    /// The second dialogue goes into the first.
+    /// Joins the second dialogue to the first. Fails if memory runs out.
     fn absorbed(&mut self, mut one: Live, other: Live) -> Result<Live, AllocError>
         ensures { (ds es : List Course) (names : Course → ℕ) → IsOne self.old.count ds names one → IsOne self.old.count es names other
             → ((d : Course) (id : IdOf) → Contains (ds ++ es) d → is_among d.ids id ≡ true
@@ -96,7 +97,7 @@ impl Cut {
         Ok(one)
     }
 
-    /// Two dialogues in one: the smaller one goes into the larger one.
+    /// Joins two dialogues: the smaller one to the larger one. Fails if memory runs out.
     fn joined(&mut self, one: Live, other: Live) -> Result<Live, AllocError>
         ensures { (ds es : List Course) (names : Course → ℕ) → IsOne self.old.count ds names one → IsOne self.old.count es names other
             → ((d : Course) (id : IdOf) → Contains (ds ++ es) d → is_among d.ids id ≡ true
@@ -110,7 +111,8 @@ impl Cut {
         }
     }
 
-    /// The entry joins those that have one of its IDs, or is the first of one more. Returns whether it is the first of one that has IDs.
+    /// Joins an entry to the live dialogues that have one of its IDs, or begins a new one. Returns whether it begins a
+    /// new one that has IDs. Fails if memory runs out, or after 2^64 - 1 entries.
     pub(crate) fn join(&mut self, heading: HeadingView) -> Result<bool, AllocError>
         ensures { (s : Courses) (names : Course → ℕ) (sent : IdOf → Bool) → AreApart s.live → IsHeld s names sent self.old
             → let h = heading_read heading.entry in let new = joined_by self.old.count h s.done s.live in AreApart new.live

@@ -16,51 +16,51 @@ use std::collections::{BTreeMap, BTreeSet};
 use tcap_msg::{TransactionId, TransactionIdView};
 use tcap_record::End;
 
-/// What is known of a transaction ID.
+/// The facts known about a transaction ID.
 #[derive(Clone, Copy, Debug)]
 pub(crate) struct Known {
-    /// The name of the live dialogue that has it.
+    /// The name of the live dialogue that has the ID.
     pub(crate) dialogue: Option<u64>,
-    /// Whether it is an originating ID of one of that dialogue's entries.
+    /// Whether the ID is the originating ID of an entry of this dialogue.
     pub(crate) used: bool,
-    /// Whether one of that dialogue's Begins is from it.
+    /// Whether a Begin of this dialogue is from the ID.
     pub(crate) begun: bool,
-    /// If dialogues that are done had it, the number of the first entry of the last one: the highest such number.
+    /// If dialogues that are done had the ID, the number of the first entry of the last one: the highest such number.
     pub(crate) last: Option<u64>,
-    /// Whether its owner sent from it in one of those dialogues, or one of them began after the bench's word that dialogues may have
-    /// been under way.
+    /// Whether the owner sent a message from the ID in one of those dialogues, or one of them began after the under-way
+    /// directive.
     pub(crate) firm: bool,
-    /// Whether its owner sent from it in the segment.
+    /// Whether the owner sent a message from the ID in the segment.
     pub(crate) sent: bool,
 }
 
-/// What is known of a transaction ID that no live dialogue has.
+/// The facts known about a transaction ID that no live dialogue has.
 #[derive(Clone, Copy, Debug)]
 pub(crate) struct Gone {
-    /// The number of the first entry of the last dialogue that had it: the highest such number.
+    /// The number of the first entry of the last dialogue that had the ID: the highest such number.
     pub(crate) last: u64,
-    /// Whether its owner sent from it, or a dialogue that had it began after the bench's word that dialogues may have been under way.
+    /// Whether the owner sent a message from the ID, or a dialogue that had it began after the under-way directive.
     pub(crate) firm: bool,
-    /// Whether its owner sent from it in the segment.
+    /// Whether the owner sent a message from the ID in the segment.
     pub(crate) sent: bool,
 }
 
-/// What becomes of the IDs of a dialogue.
+/// A change of the IDs of a dialogue.
 #[derive(Clone, Copy)]
 pub(crate) enum Change {
-    /// They are free: the dialogue is done.
+    /// The dialogue is done, and its IDs are free.
     Free {
-        /// The number of its first entry.
+        /// The number of the first entry of the dialogue.
         first: u64,
-        /// Whether it began before the bench's word that dialogues may have been under way.
+        /// Whether the dialogue began before the under-way directive.
         early: bool,
     },
-    /// They are of the live dialogue of that name.
+    /// The IDs belong to the live dialogue with this name.
     JoinTo(u64),
 }
 
 impl Known {
-    /// Nothing.
+    /// Nothing is known of the ID.
     pub(crate) const NOTHING: Known = Known {
         dialogue: None,
         used: false,
@@ -70,7 +70,7 @@ impl Known {
         sent: false,
     };
 
-    /// Returns the number of the last dialogue that had the ID, if no live one has it.
+    /// Returns the number of the last dialogue that had the ID, unless a live dialogue has it.
     pub(crate) fn earlier(self) -> Option<u64>
         ensures { result ≡ earlier_of self }
     {
@@ -81,14 +81,14 @@ impl Known {
         }
     }
 
-    /// Returns whether an earlier dialogue had the ID, no live one has it, and it is not firm.
+    /// Returns whether an earlier dialogue had the ID, no live dialogue has it, and it is not firm.
     pub(crate) fn is_unsettled(self) -> bool
         ensures { result ≡ is_unsettled self }
     {
         self.earlier().is_some() & !self.firm
     }
 
-    /// Returns what is known of the ID once its dialogue is done.
+    /// Returns what is known of the ID after its dialogue is done.
     fn gone(self, first: u64, early: bool) -> Gone
         ensures { result ≡ gone_since first early self }
     {
@@ -103,17 +103,17 @@ impl Known {
     }
 }
 
-/// What is known of each transaction ID of an end that was used.
+/// The facts known about each transaction ID of an end.
 #[derive(Debug, Drop)]
 pub(crate) struct EndIds {
-    /// Of those that live dialogues have.
+    /// The IDs that live dialogues have.
     live: BTreeMap<TransactionId, Known>,
-    /// Of those of dialogues that are done.
+    /// The IDs of dialogues that are done.
     done: BTreeMap<TransactionId, Gone>,
 }
 
 impl EndIds {
-    /// Of none.
+    /// Creates an empty map.
     fn new(alloc: Global) -> EndIds
         ensures { (octets : List ℕ) → known_in result octets ≡ nothing }
     {
@@ -138,7 +138,7 @@ impl EndIds {
         }
     }
 
-    /// What is known of an ID.
+    /// Returns what is known of an ID.
     fn get(&self, id: TransactionIdView) -> Known
         ensures { result ≡ known_in self.now id.entry.octets.now }
     {
@@ -148,7 +148,7 @@ impl EndIds {
         }
     }
 
-    /// This is known of it now.
+    /// Sets what is known of an ID. Fails if memory runs out.
     fn set(&mut self, id: TransactionIdView, known: Known) -> Result<(), AllocError>
         ensures { OnOk result ((octets : List ℕ) → known_in self.new octets
             ≡ cond (bytes_eq octets id.entry.octets.now) known (known_in self.old octets)) }
@@ -157,7 +157,7 @@ impl EndIds {
         Ok(())
     }
 
-    /// It is free: its dialogue is done.
+    /// Frees an ID, whose dialogue is done. Fails if memory runs out.
     fn free(&mut self, id: TransactionIdView, first: u64, early: bool) -> Result<(), AllocError>
         ensures { OnOk result ((octets : List ℕ) → known_in self.new octets
             ≡ cond (bytes_eq octets id.entry.octets.now) (free_since first early (known_in self.old id.entry.octets.now))
@@ -172,7 +172,7 @@ impl EndIds {
         Ok(())
     }
 
-    /// Adds an ID, if its owner sent from it.
+    /// Adds an ID to a set, if its owner sent a message from it. Fails if memory runs out.
     fn add_sent(
         &self,
         id: &TransactionId,
@@ -187,7 +187,7 @@ impl EndIds {
         Ok(())
     }
 
-    /// Adds each ID that its owner sent from.
+    /// Adds each ID from which its owner sent a message. Fails if memory runs out.
     fn sent_from(&self, ids: &mut BTreeSet<TransactionId>) -> Result<(), AllocError>
         ensures { OnOk result ((octets : List ℕ) → set.contains octets_cmp ids.new octets
             ≡ set.contains octets_cmp ids.old octets || (known_in self.now octets).sent) }
@@ -202,7 +202,7 @@ impl EndIds {
     }
 }
 
-/// What is known of each transaction ID that was used.
+/// The facts known about each transaction ID of both ends.
 #[derive(Debug, Drop)]
 pub(crate) struct Ids {
     a: EndIds,
@@ -210,7 +210,7 @@ pub(crate) struct Ids {
 }
 
 impl Ids {
-    /// Of none.
+    /// Creates an empty map.
     pub(crate) fn new(alloc: Global) -> Ids
         ensures { (id : IdOf) → known_at result id ≡ nothing }
     {
@@ -220,7 +220,7 @@ impl Ids {
         }
     }
 
-    /// What is known of an ID of an end.
+    /// Returns what is known of an ID of an end.
     pub(crate) fn get(&self, end: End, id: TransactionIdView) -> Known
         ensures { result ≡ known_at self.now (record { end = «end»; octets = id.entry.octets.now }) }
     {
@@ -230,7 +230,7 @@ impl Ids {
         }
     }
 
-    /// The same where there is an ID.
+    /// Returns what is known of an ID of an end, or nothing if there is no ID.
     pub(crate) fn get_some(&self, end: End, id: Option<TransactionIdView>) -> Known
         ensures { result ≡ known_of self.now «end» (id_of id.entry) }
     {
@@ -240,7 +240,7 @@ impl Ids {
         }
     }
 
-    /// This is known of it now.
+    /// Sets what is known of an ID of an end. Fails if memory runs out.
     pub(crate) fn set(
         &mut self,
         end: End,
@@ -256,7 +256,7 @@ impl Ids {
         }
     }
 
-    /// It changes.
+    /// Changes what is known of an ID of an end. Fails if memory runs out.
     fn change(&mut self, end: End, id: TransactionIdView, change: Change) -> Result<(), AllocError>
         ensures { let it : IdOf = record { end = «end»; octets = id.entry.octets.now } in OnOk result ((other : IdOf) → known_at self.new other
             ≡ cond (is_same other it) (changed change (known_at self.old it)) (known_at self.old other)) }
@@ -274,7 +274,7 @@ impl Ids {
         }
     }
 
-    /// Adds each ID of an end that its owner sent from.
+    /// Adds each ID of an end from which its owner sent a message. Fails if memory runs out.
     pub(crate) fn sent_from(
         &self,
         end: End,
@@ -289,7 +289,7 @@ impl Ids {
         }
     }
 
-    /// All these of an end change.
+    /// Changes what is known of these IDs of an end. Fails if memory runs out.
     pub(crate) fn change_all(
         &mut self,
         end: End,
@@ -305,7 +305,7 @@ impl Ids {
         Ok(())
     }
 
-    /// All these of A and of B change.
+    /// Changes what is known of these IDs of A and of B. Fails if memory runs out.
     pub(crate) fn change_both(
         &mut self,
         a: &BTreeSet<TransactionId>,

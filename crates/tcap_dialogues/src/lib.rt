@@ -1,4 +1,5 @@
-//! The dialogues of a record of two ends (Q.774 3.3): what holds of one dialogue where it holds of the record.
+//! Finds the dialogues of a record of two ends (Q.774 3.3), with laws that carry over what holds for the record to each
+//! dialogue.
 #![tactic(auto)]
 
 mod cut;

@@ -1,4 +1,4 @@
-//! A dialogue of which more entries may come.
+//! A live dialogue, to which more entries may come.
 
 ghost use Rattle.std.specs.Prelude.{◌≡◌, List, [], ◌∷◌, ◌++◌, length, nat_lt, IfOk, OnOk};
 ghost use Rattle.tcap_msg.specs.Meaning.{id_of};
@@ -16,34 +16,34 @@ use std::collections::BTreeSet;
 use tcap_msg::{Kind, TransactionId, TransactionIdView};
 use tcap_record::End;
 
-/// A dialogue of which more entries may come.
+/// A dialogue to which more entries may come.
 #[derive(Debug, Drop)]
 pub(crate) struct Live {
     /// Its name: the number of one of its entries.
     pub(crate) name: u64,
     /// The numbers of its entries.
     pub(crate) numbers: BTreeSet<u64>,
-    /// The IDs of A that they carry.
+    /// The IDs of A in its entries.
     pub(crate) a: BTreeSet<TransactionId>,
-    /// Those of B.
+    /// The IDs of B in its entries.
     pub(crate) b: BTreeSet<TransactionId>,
-    /// Whether A sent one of them.
+    /// Whether A sent one of its entries.
     pub(crate) a_sent: bool,
-    /// Whether B did.
+    /// Whether B sent one of its entries.
     pub(crate) b_sent: bool,
-    /// Whether one of them is a Begin from an ID.
+    /// Whether one of its entries is a Begin from an ID.
     pub(crate) begun: bool,
-    /// The number of the first one with which it is over.
+    /// The number of the first entry with which it is over.
     pub(crate) over: Option<u64>,
-    /// Whether one of them comes before the bench's word that dialogues may have been under way, or there is no such word.
+    /// Whether one of its entries comes before the under-way directive, or there is no such directive.
     pub(crate) early: bool,
     /// The number of the first entry of the last dialogue that is done and had one of its IDs.
     pub(crate) earlier: Option<u64>,
-    /// Whether the owner of such an ID had not sent from it, in a dialogue that began before that word.
+    /// Whether the owner of such an ID had not sent a message from it in a dialogue that began before the directive.
     pub(crate) unsettled: bool,
 }
 
-/// The lower one of two numbers, where they are.
+/// Returns the lower of two numbers, if there are any.
 fn lower(one: Option<u64>, other: Option<u64>) -> Option<u64>
     ensures { result ≡ lower one other }
 {
@@ -54,7 +54,7 @@ fn lower(one: Option<u64>, other: Option<u64>) -> Option<u64>
     }
 }
 
-/// The higher one of two numbers, where they are.
+/// Returns the higher of two numbers, if there are any.
 fn higher(one: Option<u64>, other: Option<u64>) -> Option<u64>
     ensures { result ≡ higher one other }
 {
@@ -66,8 +66,8 @@ fn higher(one: Option<u64>, other: Option<u64>) -> Option<u64>
 }
 
 impl HeadingView<'_> {
-    /// The number of the entry, if a dialogue is over with it: it ends its transaction, or carries no ID, so that nothing can
-    /// join it.
+    /// Returns the number of the entry if a dialogue is over with it: it ends its transaction, or has no ID, so that no
+    /// entry can join it.
     fn is_over(self, number: u64) -> Option<u64>
         ensures { result ≡ over_by number (heading_read self.entry) }
     {
@@ -87,7 +87,7 @@ impl HeadingView<'_> {
 }
 
 impl Live {
-    /// One without entries.
+    /// Creates a dialogue without entries.
     pub(crate) fn new(alloc: Global, name: u64) -> Live
         ensures { AreKept [] result × (result.name ≡ name) }
     {
@@ -106,7 +106,7 @@ impl Live {
         }
     }
 
-    /// Whether an end sent one of its entries.
+    /// Returns whether an end sent one of its entries.
     pub(crate) fn has_sent(&self, end: End) -> bool
         ensures { result ≡ has_sent self.now «end» }
     {
@@ -116,7 +116,7 @@ impl Live {
         }
     }
 
-    /// The entries and IDs of another one more.
+    /// Adds the entries and IDs of another dialogue. Fails if memory runs out.
     pub(crate) fn absorb(&mut self, other: Live) -> Result<(), AllocError>
         ensures { (ds es : List Course) → AreKept ds self.old → AreKept es other
             → OnOk result (AreKept (ds ++ es) self.new × (self.new.name ≡ self.old.name)) }
@@ -134,7 +134,7 @@ impl Live {
         Ok(())
     }
 
-    /// An ID more of an end, where there is one.
+    /// Adds an ID of an end, if there is one. Fails if memory runs out.
     fn add_id(&mut self, end: End, id: Option<TransactionIdView>) -> Result<(), AllocError>
         ensures { OnOk result (HasId (ids_at «end» (id_of id.entry)) self.old self.new) }
     {
@@ -148,7 +148,7 @@ impl Live {
         Ok(())
     }
 
-    /// Its sender sent one.
+    /// Notes that this end sent an entry.
     fn note_sender(&mut self, sender: End)
         ensures { HasSender sender self.old self.new }
     {
@@ -158,7 +158,7 @@ impl Live {
         }
     }
 
-    /// Adds an entry of that number, with what is known of the IDs that it is from and to.
+    /// Adds an entry with this number; `own` and `peer` are what is known of its IDs. Fails if memory runs out.
     pub(crate) fn add(
         &mut self,
         number: u64,
@@ -187,7 +187,7 @@ impl Live {
         }
     }
 
-    /// The dialogue whose entries are all here.
+    /// Converts this to a complete dialogue. Fails if memory runs out.
     pub(crate) fn gathered(self, alloc: Global) -> Result<Gathered, AllocError>
         ensures { (d : Course) → AreKept (d ∷ []) self → IfOk result (IsGathered d) }
     {

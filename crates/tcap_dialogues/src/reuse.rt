@@ -1,10 +1,11 @@
-//! How transaction IDs may come again.
+//! Whether transaction IDs may be reused.
 
-/// How transaction IDs may come again within a stretch between quiet marks.
+/// The reuse of transaction IDs in a segment between quiet marks.
 #[derive(Clone, Copy, Debug, PartialEq, Eq)]
 pub enum Reuse {
-    /// Not at all: what shares an ID is of one dialogue.
+    /// IDs are not reused: entries that share an ID are in one dialogue.
     Once,
-    /// Where their dialogue is over and their sender uses one of them anew; or once more entries than this have come since.
+    /// IDs are free after their dialogue is over: if their owner uses one of them for another dialogue, or if more
+    /// entries than this have come since.
     Again(u64),
 }

@@ -1,4 +1,4 @@
--- What is said of both ends, and what was written of it.
+-- The contracts of `run_blame`: the findings on both ends, and their lines.
 use Rattle.std.proofs.Common.{◌≡◌, ◌&&◌, ℕ, Bool, true, false, List, [], ◌∷◌, ◌++◌, length, cond, refl, sym, ap, ap₂, subst, ◌∙◌, ◌⊎◌, inl, inr}
 use Rattle.std.specs.Prelude.{◌||◌, IfOk, Option, Some, None, Result, Ok, Err}
 use Rattle.std.specs.Io.KnownBytes.{Appends}
@@ -34,7 +34,7 @@ use Rattle.tcap_judge.proofs.VerdictLaws.{between, verdict_is}
 
 -- ---- the ends
 
--- entries are one list of items
+-- An entry is one item.
 same_item : (entry : Entry) (x y : Item) → IsItem entry x → IsItem entry y → x ≡ y
 same_item entry (Sent side message) (Sent other told) is are = cc
 same_item entry (Sent side message) Item.Quiet is are = let bad : Some side ≡ None = sym is.0 ∙ are.0 in cc
@@ -50,7 +50,7 @@ same_items (entry ∷ entries) (x ∷ xs) [] is are = absurd are
 same_items (entry ∷ entries) (x ∷ xs) (y ∷ ys) is are =
     ap₂ (λ (z : Item) (zs : List Item). z ∷ zs) (same_item entry x y is.0 are.0) (same_items entries xs ys is.1 are.1)
 
--- all that is known of lists that each of two ends may have sent is that both may have
+-- what is needed of `blame_is_whole`
 abbrev pub BothMayHaveSent : Type 0
 BothMayHaveSent = (table : Table) (items : List Item) → IsLawfulFor sides.A items table → IsLawfulFor sides.B items table
     → (moves : ℕ) × IsLawful items table moves
@@ -61,7 +61,7 @@ both_lawful whole table entries (xs, are, by_a) (ys, same, by_b) =
     let is = same_items entries ys xs same are in
     (xs, are, whole table xs by_a (subst (λ (items : List Item). IsLawfulFor sides.B items table) is by_b))
 
--- However many are unheard, the items may be sent.
+-- Items that may be sent with some unheard messages may be sent.
 pub without_unheard : (judged : Option Side) (items : List Item) (table : Table) (unheard : ℕ)
     → MayBeSentUnheard judged items table unheard → MayBeSent judged items table
 without_unheard None items table unheard sent = sent
@@ -85,7 +85,7 @@ are_found whole table entries (findings.NotBlamed all) b by_a by_b both = cc
 abbrev both_ends : Finding → Finding → Ends
 both_ends a b = record { a = a; b = b }
 
--- what is said of both
+-- the findings on both ends hold
 pub ends_found : BothMayHaveSent → (table : Table) (entries : List Entry) (a b : Finding) → a ≡ finding table entries sides.A
     → b ≡ finding table entries sides.B → IsFound sides.A table entries a → IsFound sides.B table entries b
     → (both_ends a b ≡ ends_of table entries) × AreFound table entries (both_ends a b)
@@ -98,7 +98,7 @@ ends_found whole table entries a b a_is b_is by_a by_b = (
   },
 )
 
--- ---- the verdict on both ends, joined with those on each
+-- ---- the verdict on both ends, joined with the findings on each
 
 shown_by_ends : (table : Table) (entries : List Entry) (count : ℕ) (ends : Ends) (outcome : Outcome)
     → IsShown None table entries outcome → AreFound table entries ends
@@ -122,12 +122,12 @@ are_blamed table entries outcome ends count said count_is said_is outcome_is sho
 
 -- ---- the record
 
--- all that is known of what is blamed is that it is at fault
+-- what is needed of `blamed_is_at_fault`
 abbrev pub BlamesRightly : Type 0
 BlamesRightly = (table : Table) (side : Side) (entries : List Entry) (r : Refutation) → blamed table side entries ≡ Some r
     → IsAtFaultOf table side entries r
 
--- what is said of a record that was read
+-- the verdict on a record that was read
 pub gives_blame : BlamesRightly → (table : Table) (d : Device) (entries : List Entry) (end : Result (Unit {0}) FeedFault)
     (outcome : Outcome) (ends : Option Ends) → ReadsRecord d entries end
     → outcome ≡ joint_record_verdict None table entries end → IsShown None table entries outcome
@@ -146,7 +146,7 @@ gives_blame rightly table d entries end outcome ends reads says shown ends_are f
   found = found;
 })
 
--- What is said of both ends where the record has no fault, and where it has.
+-- the findings if the record has no fault
 pub ends_said : (table : Table) (entries : List Entry) (said : Option Ends) (ends : Ends) → said ≡ Some ends
     → ends ≡ ends_of table entries → said ≡ record_ends table entries (Ok tt)
 ends_said table entries said ends is are = is ∙ ap Some are
@@ -166,7 +166,7 @@ shown_fault table entries outcome number place is = subst (IsShown None table en
 
 -- ---- the run
 
--- what was written of what the readers gave
+-- the writer took the lines of what the readers returned
 pub prints_blame : (entries table : Device) (outcome : Outcome) (ends : Option Ends) (taken taken' : Option (List ℕ))
     (result : Result Status WriteFailed) → IsBlamed entries table outcome ends
     → IfOk result (λ status. (text : List ℕ) × SaysLines outcome ends text status × Appends taken taken' text)
@@ -181,7 +181,7 @@ prints_blame entries table outcome ends taken taken' (Ok status) judged said = r
 }
 prints_blame entries table outcome ends taken taken' (Err failed) judged said = tt
 
--- Where a run is fine, so is the verdict.
+-- A run with status Fine has an outcome with this status.
 fine_choice : (blames : Bool) (status : Status) → cond blames statuses.Refuted status ≡ statuses.Fine → status ≡ statuses.Fine
 fine_choice true status fine = let bad : statuses.Refuted ≡ statuses.Fine = fine in cc
 fine_choice false status fine = fine
@@ -206,7 +206,7 @@ fine_lines : (outcome : Outcome) (ends : Option Ends) (text : List ℕ) (status 
 fine_lines outcome ends text status (inl said) fine = (fine_by outcome ends (sym said.1 ∙ fine), said.0)
 fine_lines outcome ends text status (inr said) fine = let bad : statuses.Fault ≡ statuses.Fine = sym said.1 ∙ fine in cc
 
--- A fine joint verdict counts the entries.
+-- A lawful joint verdict has the number of entries.
 joint_fine : (table : Table) (entries : List Entry) → IsFineOf None (length entries) (joint_verdict None table entries)
 joint_fine table entries = by (is_lawful (finding table entries sides.A) && is_lawful (finding table entries sides.B))
   where
@@ -252,7 +252,7 @@ by_table (Err said) entries table taken taken' outcome ends reads gives fine lin
 by_table (Ok operations) entries table taken taken' outcome ends reads gives fine line =
     by_record entries table operations taken taken' outcome ends reads gives fine line
 
--- where a run is fine, the record is lawful
+-- after status Fine, the record is lawful
 pub lawful_blame : (entries table : Device) (taken taken' : Option (List ℕ)) (result : Result Status WriteFailed)
     → IfOk result (PrintsBlame entries table taken taken') → result ≡ Ok statuses.Fine → FindsLawfulEnds entries table taken taken'
 lawful_blame entries table taken taken' (Err failed) prints fine = cc

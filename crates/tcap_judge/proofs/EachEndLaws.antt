@@ -1,4 +1,4 @@
--- Where a certificate gives a run of both ends: what is said of each.
+-- The findings on each end if a certificate gives a run of both.
 use Rattle.std.proofs.Common.{◌≡◌, ◌<◌, ℕ, ◌+◌, Bool, true, false, List, [], ◌∷◌, map, length, cond, arith, refl, sym, ap, ap₂, subst, ◌∙◌}
 use Rattle.std.specs.Prelude.{Option, Some, None, Result, Ok, Err}
 use Rattle.tcap_record.specs.declared.entry.Entry.{Entry}
@@ -30,7 +30,7 @@ use Rattle.tcap_judge.specs.Verdict.{verdict_by}
 
 -- ---- nothing is blamed
 
--- all that is known of what is blamed is that no certificate gives a run for that end
+-- what is needed of `blamed_is_never_given`
 abbrev pub IsNeverGiven : Type 0
 IsNeverGiven = (table : Table) (side : Side) (c : Certificate) (entries : List Entry) (r : Refutation) (events : List Event)
     → blamed table side entries ≡ Some r → replayed_by (Some side) table c entries ≡ Ok events → ⊥
@@ -43,7 +43,7 @@ none_blamed never side table c entries own given = by (blamed table side entries
     by None is = refl
     by (Some r) is = absurd (never table side c entries r own is given)
 
--- ---- what is lost
+-- ---- losses
 
 lost_one : (side sender : Side) (n : ℕ) (numbers : List ℕ) (sent : Option Side) → sent ≡ Some sender
     → length (cond (is_side side sender) (n ∷ numbers) numbers) ≡ lost_by side Lost sent + length numbers
@@ -84,7 +84,7 @@ lost_are side n (Gap g ∷ fates) (entry ∷ entries) (item ∷ items) are =
 lost_are side n (By r ∷ fates) (entry ∷ entries) (item ∷ items) are =
     lost_are side (n + 1) fates entries items are.1 ∙ none_more (lost_of side fates entries)
 
--- ---- both
+-- ---- both ends
 
 pub found_alike : IsNeverGiven → (side : Side) (table : Table) (c : Certificate) (entries : List Entry)
     → (events : List Event) × (replayed_by None table c entries ≡ Ok events) → c ≡ proposed_for side entries

@@ -1,4 +1,4 @@
--- Of a record that is refuted no two ends are each lawful by itself.
+-- If a record is refuted, its ends are not both lawful alone.
 use Rattle.std.proofs.Common.{◌≡◌, ◌&&◌, Bool, true, false, cond, List, length, map, refl, sym, ap, ◌∙◌}
 use Rattle.std.specs.Prelude.{Option, Some, None, Result, Ok, Err}
 use Rattle.tcap_record.specs.declared.entry.End.{End as Side}

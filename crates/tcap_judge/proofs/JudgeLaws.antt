@@ -1,4 +1,4 @@
--- What was taken of a record, as its octets come, and its entries, which a checker took.
+-- The octets taken of a record while they arrive, and the entries that the checker took.
 use Rattle.std.proofs.Common.{◌≡◌, ℕ, ◌+◌, ◌≤◌, List, [], ◌∷◌, ◌++◌, length, take, drop, subst, arith, length-append, length-take-le}
 use Rattle.std.specs.Prelude.{None, Option, Result, Ok, Err}
 use Rattle.tcap_record.specs.declared.entry.End.{End as Side}
@@ -16,7 +16,7 @@ use Rattle.tcap_certificate.specs.Certificate.{Certificate}
 use Rattle.tcap_check.specs.Checking.{Checking}
 use Rattle.tcap_judge.specs.Judging.{EndsWith, Leads, LeadsFed, IsCheckerOf, Takes, TakenSoFar}
 
--- more octets were taken
+-- more octets are taken
 pub leads_fed : (h : Held) (old : Result Checking CheckFault) (piece rest : List ℕ) (n m : ℕ) (mid new : Held)
     (checker : Result Checking CheckFault) → rest ≡ drop n piece
     → ((octets : List ℕ) (entries : List Entry) → Fed octets entries mid → Fed (octets ++ take m rest) entries new)
@@ -31,7 +31,7 @@ leads_fed h old piece rest n m mid new checker is step leads judged table c told
       },
     )
 
--- more octets were taken, and then no more
+-- more octets are taken, and then there is a fault
 pub fed_short : (h : Held) (old : Result Checking CheckFault) (piece rest : List ℕ) (n m : ℕ) (mid new : Held)
     (checker : Result Checking CheckFault) → rest ≡ drop n piece
     → ((octets : List ℕ) (entries : List Entry) → Fed octets entries mid → Fed (octets ++ take m rest) entries new)
@@ -41,7 +41,7 @@ fed_short h old piece rest n m mid new checker is step leads judged table c told
     let then = step (told ++ take n piece) was.0 was.1.fed in
     (was.0, subst (λ (x : List ℕ). Fed x was.0 new) (taken_on told piece rest n m is) then)
 
--- all octets of the piece were taken
+-- all octets of a piece are taken
 pub leads_whole : (h : Held) (old : Result Checking CheckFault) (piece rest : List ℕ) (n m : ℕ) (mid new : Held)
     (checker : Result Checking CheckFault) → rest ≡ drop n piece → m ≡ length rest → n ≤ length piece
     → ((octets : List ℕ) (entries : List Entry) → Fed octets entries mid → Fed (octets ++ take m rest) entries new)
@@ -51,7 +51,7 @@ leads_whole h old piece rest n m mid new checker is all most step leads judged t
     let whole = taken_all told piece rest n m is all most in
     (was.0, subst (λ (x : List ℕ). TakenSoFar judged table c x was.0 new checker) whole was.1)
 
--- how many octets were taken in all
+-- the total number of octets taken
 pub grown_place : (old new : Held) (rest : List ℕ) (m : ℕ) → m ≤ length rest → new ≡ grown old (take m rest) None
     → new.place + length new.octets ≡ old.place + length old.octets + m
 grown_place old new rest m most is =
@@ -60,7 +60,7 @@ grown_place old new rest m most is =
 pub dropped_place : (old new : Held) → new ≡ dropped old → new.place + length new.octets ≡ old.place + length old.octets
 dropped_place old new is = rw is (omega arith)
 
--- an entry was taken and dropped
+-- an entry is taken and dropped
 pub leads_taken : (h : Held) (old : Result Checking CheckFault) (octets : List ℕ) (mid new : Held)
     (checker next : Result Checking CheckFault) (entry : Entry)
     → ((fed : List ℕ) (entries : List Entry) → Fed fed entries mid → Fed fed (entries ++ entry ∷ []) new)
@@ -71,7 +71,7 @@ leads_taken h old octets mid new checker next entry step takes leads judged tabl
       record { fed = step (told ++ octets) was.0 was.1.fed; stands = takes judged table c was.0 was.1.stands },
     )
 
--- where the record ended
+-- the end of the record
 pub ends_with : (judged : Option Side) (table : Table) (c : Certificate) (entries : List Entry) (held : Held)
     (checker : Result Checking CheckFault) (end : Result (Unit {0}) FeedFault) → held.count ≡ length entries
     → IsCheckerOf judged table c checker entries → EndsWith judged table c entries held checker end

@@ -1,4 +1,4 @@
--- Where a record is said to be lawful, it is.
+-- If the outcome is lawful, the record is.
 use Rattle.std.proofs.Common.{◌≡◌, ℕ, ◌+◌, ◌-◌, List, [], ◌∷◌, ◌++◌, length, refl, sym, ap, subst, ◌∙◌, inl, inr, append-nil}
 use Rattle.std.specs.Prelude.{IfOk, Option, Some, None, Result, Ok, Err}
 use Rattle.std.specs.Io.KnownBytes.{Appends, Consumes}
@@ -38,9 +38,9 @@ use Rattle.tcap_judge.specs.Device.{Device}
 use Rattle.tcap_judge.specs.LawfulEnd.{FindsLawfulBy}
 use Rattle.tcap_judge.specs.LawfulRecord.{SpellsRecord, TellsAll, TellsItems}
 
--- ---- what the octets spell
+-- ---- items that octets spell
 
--- entries that stand there, and are items, spell them
+-- octets framed as entries that are items spell these items
 pub spells_items : (place : ℕ) (entries : List Entry) (items : List Item) (octets : List ℕ)
     → FramedFrom place entries octets [] → AreItems entries items → SpellsRecord items octets
 spells_items place [] [] octets framed are = framed
@@ -61,9 +61,9 @@ spells_items place (entry ∷ entries) (Item.Quiet ∷ items) octets (others, in
 spells_items place (entry ∷ entries) (Item.Quiet ∷ items) octets (others, inr mark, more) are =
     (others, mark.joined, spells_items (place + (length octets - length others)) entries items others more are.1)
 
--- ---- what was said
+-- ---- outcomes
 
--- Where a run is fine that says this, it is said of so many entries.
+-- If the outcome has status Fine, it is lawful with this count.
 abbrev pub IsFineOf : Option Side → ℕ → Outcome → Type 0
 IsFineOf judged count outcome =
     outcome_status outcome ≡ statuses.Fine → (unheard : ℕ) × (outcome ≡ said_lawful judged count unheard)
@@ -78,7 +78,7 @@ replay_is : (judged : Option Side) (count : ℕ) (replay : Result (List Event) C
 replay_is judged count (Ok events) fine = lawful_is judged count events fine
 replay_is judged count (Err fault) fine = let bad : statuses.NotShown ≡ statuses.Fine = fine in cc
 
--- a fault is not fine, and no entry is at fault by it
+-- a fault has another status than Fine
 pub no_fault : (outcome said : Outcome) (status : Status) → outcome ≡ said → outcome_status said ≡ statuses.Fault
     → outcome_status outcome ≡ status → status ≡ statuses.Fault
 no_fault outcome said status is fault ended = sym ended ∙ ap outcome_status is ∙ fault
@@ -93,7 +93,7 @@ text_fault too_long faults.TooLong = refl
 text_fault too_long (faults.Read place) = refl
 text_fault too_long faults.Memory = refl
 
--- where there is no table
+-- a faulty table gives a fault
 pub table_fault : (d : Device) (said : Outcome) → ReadsTable d (Err said) → outcome_status said ≡ statuses.Fault
 table_fault d said reads = elim reads.is [
   | inl memory ↦ let is : said ≡ out_of_memory = cc in ap outcome_status is
@@ -107,7 +107,7 @@ table_fault d said reads = elim reads.is [
     by (Err fault) given =
         let same : said ≡ said_of_text 30 fault = cc in ap outcome_status same ∙ text_fault 30 fault
 
--- where there is no certificate
+-- a faulty certificate gives a fault
 certificate_fault : (d : Device) (said : Outcome) → ReadsCertificate d (Err said) → outcome_status said ≡ statuses.Fault
 certificate_fault d said reads = elim reads.is [
   | inl memory ↦ let is : said ≡ out_of_memory = cc in ap outcome_status is
@@ -121,7 +121,7 @@ certificate_fault d said reads = elim reads.is [
 
 -- ---- the record
 
--- what a replay of both ends gives is a run
+-- a replay that gives events shows the entries lawful
 pub shown_by_replay : (judged : Option Side) (table : Table) (c : Certificate) (entries : List Entry) (outcome : Outcome)
     → outcome ≡ replay_says judged (length entries) (replayed_by judged table c entries) → IsShown judged table entries outcome
 shown_by_replay judged table c entries outcome says = by judged (replayed_by judged table c entries) refl says
@@ -149,7 +149,7 @@ reasoned_by_replay judged table c entries outcome says = by judged (replayed_by 
     by (Some side) (Ok events) is said = subst (IsReasoned (Some side) table c entries) (sym said) tt
     by judged (Err fault) is said = subst (IsReasoned judged table c entries) (sym said) (refusal_says judged table c entries fault is)
 
--- what is described is given
+-- a described run is given
 pub described_by_replay : (judged : Option Side) (table : Table) (c : Certificate) (entries : List Entry) (end : Result (Unit {0}) FeedFault)
     (outcome : Outcome) → outcome ≡ replay_says judged (length entries) (replayed_by judged table c entries) → judged ≡ None
     → SaysOfDescribed table c entries end outcome
@@ -158,20 +158,20 @@ described_by_replay judged table c entries end outcome says both items events en
     says ∙ ap (λ (x : Option Side). replay_says x (length entries) (replayed_by x table c entries)) both
     ∙ ap (replay_says None (length entries)) given.1 ∙ ap Lawful (as_many entries items are)
 
--- what a report says is what is said of it
+-- a report shows the entries lawful
 pub shown_report : (judged : Option Side) (table : Table) (entries : List Entry) (count : ℕ) (report : Report)
     → (items : List Item) × AreItems entries items × SaysLawful judged items table report
     → IsShown judged table entries (said_lawful judged count report.unheard)
 shown_report None table entries count report (items, are, lawful) = (items, are, (report.moves, lawful))
 shown_report (Some side) table entries count report found = found
 
--- what is said to be lawful is so
+-- a lawful outcome holds
 pub shown_lawful : (judged : Option Side) (table : Table) (entries : List Entry) (outcome : Outcome) (count unheard : ℕ)
     → outcome ≡ said_lawful judged count unheard → IsShown judged table entries outcome → AreLawfulUnheard judged table entries unheard
 shown_lawful None table entries outcome count unheard is shown = subst (IsShown None table entries) is shown
 shown_lawful (Some side) table entries outcome count unheard is shown = subst (IsShown (Some side) table entries) is shown
 
--- What is known where this is said of a record by this table, and the run is fine.
+-- what follows for the octets of a record if its outcome has status Fine
 pub record IsFoundBy (judged : Option Side) (table : Table) (d : Device) (outcome : Outcome) : Type 0 where
   pub octets : List ℕ
   pub items : List Item
@@ -181,7 +181,7 @@ pub record IsFoundBy (judged : Option Side) (table : Table) (d : Device) (outcom
   pub lawful : MayBeSentUnheard judged items table unheard
   pub is : outcome ≡ said_lawful judged (length items) unheard
 
--- entries that are all that was told, and are lawful
+-- by entries that are the whole record, and lawful
 pub found_of : (judged : Option Side) (table : Table) (d : Device) (outcome : Outcome) (unheard : ℕ) (entries : List Entry)
     (end : Unit {0}) → ReadsRecord d entries (Ok end) → AreLawfulUnheard judged table entries unheard
     → outcome ≡ said_lawful judged (length entries) unheard → IsFoundBy judged table d outcome
@@ -197,7 +197,7 @@ found_of judged table d outcome unheard entries end reads (items, are, sent) is 
       is = is ∙ ap (λ (n : ℕ). said_lawful judged n unheard) (as_many entries items are);
     }
 
--- by what is said of entries that are all that was told
+-- by the outcome of entries that are the whole record
 pub found_said : (judged : Option Side) (table : Table) (d : Device) (outcome said : Outcome) (entries : List Entry)
     (end : Unit {0}) → ReadsRecord d entries (Ok end) → IsFineOf judged (length entries) said → outcome ≡ said
     → IsShown judged table entries outcome → outcome_status outcome ≡ statuses.Fine → IsFoundBy judged table d outcome
@@ -228,7 +228,7 @@ by_certificate judged table (Ok c) certificate d outcome reads judges fine = fou
 by_certificate judged table (Err said) certificate d outcome reads judges fine =
     absurd (fine_fault outcome said judges.0 (certificate_fault certificate said reads) fine)
 
--- ---- all three
+-- ---- record, table and certificate
 
 -- the text of the table that was read
 pub table_text : (d : Device) (operations : Table) → ReadsTable d (Ok operations)
@@ -250,7 +250,7 @@ table_text d operations reads = elim reads.is [
     by (Ok octets) reads (Err fault, is, given) = cc
     by (Err fault) reads given = cc
 
--- what both readers told
+-- both readers returned the items and the table
 told_items : (entries table : Device) (operations : Table) (items : List Item) (octets : List ℕ)
     → ReadsTable table (Ok operations) → TellsAll entries octets → SpellsRecord items octets
     → TellsItems entries table operations items
@@ -265,7 +265,7 @@ told_items entries table operations items octets reads tells spells =
       spells = spells;
     }
 
--- what was found, with the text of the table and the line
+-- the record is lawful, and the line reports it
 pub finds : (judged : Option Side) (entries table : Device) (operations : Table) (taken taken' : Option (List ℕ))
     (outcome : Outcome) → ReadsTable table (Ok operations) → IsFoundBy judged operations entries outcome
     → Appends taken taken' (outcome_line outcome) → FindsLawfulBy judged entries table taken taken'
@@ -296,21 +296,21 @@ by_table judged (Ok operations) entries table certificate taken taken' outcome r
     finds judged entries table operations taken taken' outcome reads
     (by_certificate judged operations judges.0 certificate entries outcome judges.1 judges.2 fine) line
 
--- ---- what was written
+-- ---- lines
 
--- where a run is fine, so is what it says
+-- status Fine is that of the outcome
 fine_line : (outcome : Outcome) (line : List ℕ) (status : Status) → Says outcome line status → status ≡ statuses.Fine
     → (outcome_status outcome ≡ statuses.Fine) × (line ≡ outcome_line outcome)
 fine_line outcome line status (inl said) fine = (sym said.1 ∙ fine, said.0)
 fine_line outcome line status (inr said) fine =
     let bad : statuses.Fault ≡ statuses.Fine = sym said.1 ∙ fine in cc
 
--- nothing behind the line
+-- no text after the line
 plain : (outcome : Outcome) (line : List ℕ) (status : Status) → SaysWith outcome [] line status → Says outcome line status
 plain outcome line status (inl said) = inl (said.0 ∙ append-nil (outcome_line outcome), said.1)
 plain outcome line status (inr memory) = inr memory
 
--- what was written of the outcome that the readers gave
+-- the writer took the line of the outcome
 pub checks_of : (judged : Option Side) (entries table certificate : Device) (outcome : Outcome)
     (taken taken' : Option (List ℕ)) (result : Result Status WriteFailed)
     → Judges judged entries table certificate outcome
@@ -325,7 +325,7 @@ checks_of judged entries table certificate outcome taken taken' (Ok status) judg
 }
 checks_of judged entries table certificate outcome taken taken' (Err failed) judges said = tt
 
--- where a run is fine, the record is lawful
+-- after status Fine, the record is lawful
 pub fine_run : (judged : Option Side) (entries table certificate : Device) (taken taken' : Option (List ℕ))
     (result : Result Status WriteFailed) → IfOk result (Checks judged entries table certificate taken taken')
     → result ≡ Ok statuses.Fine → FindsLawfulBy judged entries table taken taken'

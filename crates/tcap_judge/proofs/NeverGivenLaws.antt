@@ -17,7 +17,7 @@ use Rattle.tcap_faults.specs.AtFault.{IsAtFaultOf}
 use Rattle.tcap_faults.specs.Fault.{blamed}
 use Rattle.tcap_faults.proofs.BlamedLaws.{blamed_at_fault}
 
--- Octets that are no message are no item.
+-- An entry that is no message is no item.
 bad_is_none : (entry : Entry) (fault : Fault) → entry.body ≡ Bad fault → (item : Item) → item_of entry ≡ Ok item → ⊥
 bad_is_none entry fault is item are = by entry.side (rw is at are)
   where
@@ -36,7 +36,7 @@ none_bad (e ∷ entries) (item ∷ items) (suc number) entry fault are there is 
     let rest : map item_of entries ≡ oks items = cc in
     none_bad entries items number entry fault rest there is
 
--- What is at fault of an end stands in no run in which it keeps the rules.
+-- No run in which the end keeps the rules has its entry at fault.
 not_in_a_run : (table : Table) (side : Side) (entries : List Entry) (items : List Item) (r : Refutation) (events : List Event)
     (w : World) → map item_of entries ≡ oks items → Runs table events w → w.sent ≡ items → KeepsRules side events
     → IsAtFaultOf table side entries r → ⊥

@@ -1,5 +1,4 @@
--- Octets and the items that they spell: they are read as these and as no others, and what a prompt certificate says of
--- what was read it says of these items.
+-- Octets that items spell are read as exactly these items, and prompt certificates carry over to them.
 use Rattle.std.proofs.Common.{◌≡◌, ◌≢◌, ℕ, ◌+◌, ◌-◌, ◌<◌, ◌≤◌, ◌⊎◌, List, [], ◌∷◌, ◌++◌, length, Some, Result, Ok, Err, refl, sym, ap, subst, ◌∙◌, inl, inr, arith, None}
 use Rattle.std.proofs.lemmas.List.{length-append, append-nil}
 use Rattle.std.specs.List.{AllByRecursion}
@@ -43,16 +42,16 @@ use Rattle.tcap_judge.specs.LawfulRecord.{SpellsRecord}
 use Rattle.tcap_judge.specs.OctetsRead.{IsOfOctets}
 use Rattle.tcap_judge.proofs.LawfulLaws.{spells_items}
 
--- ---- what one message begins
+-- ---- the front of a record
 
--- an end has its own octet
+-- each end has its own octet
 same_side : (side other : Side) → octet_of side ≡ octet_of other → side ≡ other
 same_side sides.A sides.A is = refl
 same_side sides.A sides.B is = absurd (omega (arith, is))
 same_side sides.B sides.A is = absurd (omega (arith, is))
 same_side sides.B sides.B is = refl
 
--- and it is no quiet mark's
+-- an end's octet is not a quiet mark's
 side_is_loud : (side : Side) → octet_of side ≡ quiet_octet → ⊥
 side_is_loud sides.A is = omega (arith, is)
 side_is_loud sides.B is = omega (arith, is)
@@ -68,7 +67,7 @@ message_is_raw message element spells = (spells.tag, spells.content, spells.is_e
 whole_is : (n m : ℕ) → (let a : Result Outer Fault = Ok (Whole n) in a) ≡ Ok (Whole m) → n ≡ m
 whole_is n m e = cc
 
--- of octets one element is the front
+-- the first element of octets is unique
 same_element : (element others more behind : List ℕ) → IsRaw element → IsRaw more → element ++ others ≡ more ++ behind
     → (element ≡ more) × (others ≡ behind)
 same_element element others more behind raw is_raw joined =
@@ -87,7 +86,7 @@ same_element element others more behind raw is_raw joined =
         let others = parted front first rest last (omega (arith, len)) cc in
         (ap (λ (z : ℕ). z ∷ front) same ∙ ap (λ (z : List ℕ). y ∷ z) others.0, others.1)
 
--- What two messages at the front of the same octets have in common: all.
+-- Two messages at the front of the same octets are equal, with the octets after them.
 pub record IsSameFront (side other : Side) (element others more behind : List ℕ) : Type 0 where
   pub side_is : side ≡ other
   pub element_is : element ≡ more
@@ -127,16 +126,16 @@ one_list (Sent side message ∷ items) (Sent other heard ∷ others) octets (ele
     ap (λ (s : Side). Sent s message) same.side_is ∙ ap (Sent other) sent in
     ap (λ (x : Item). x ∷ items) first ∙ ap (λ (x : List Item). Sent other heard ∷ x) more_items
 
--- ---- entries that stand in octets that items spell
+-- ---- entries in octets that items spell
 
--- an element that spells a message is that message
+-- an element that spells a message is read as this message
 body_is : (body : Body) (place : ℕ) (element : List ℕ) (message : Message) → IsBody body place element
     → Spells message element → body ≡ Good message
 body_is (Good heard) place element message is spells = ap Good (one_message element heard message is spells)
 body_is (Bad wrong) place element message is spells = absurd (is.0 message spells)
 body_is QuietMark place element message is spells = absurd is
 
--- The entries are the first of the items, and the others spell the rest.
+-- The entries are the first items, and the rest of the octets spell the other items.
 pub record AreFirst (entries : List Entry) (items : List Item) (rest : List ℕ) : Type 0 where
   pub done : List Item
   pub others : List Item
@@ -183,9 +182,9 @@ are_first place (entry ∷ entries) (Item.Quiet ∷ items) octets rest (behind, 
     (are_first (place + (length octets - length behind)) entries items behind rest more
     (subst (SpellsRecord items) (sym same) left))
 
--- ---- nothing is wrong with octets that items spell
+-- ---- octets that items spell have no fault
 
--- What begins octets that items spell: a quiet mark, or an end's octet and an element; and there is an item.
+-- Octets that items spell begin with a quiet mark, or with an end's octet and an element.
 pub record BeginsItem (items : List Item) (first : ℕ) (more : List ℕ) : Type 0 where
   pub some : 0 < length items
   pub begins : (first ≡ quiet_octet)
@@ -206,7 +205,7 @@ end_is_loud : (octet : ℕ) → IsEndOctet octet → octet ≡ quiet_octet → �
 end_is_loud octet (inl is) quiet = omega (arith, is, quiet)
 end_is_loud octet (inr is) quiet = omega (arith, is, quiet)
 
--- an element is no fault of a walk
+-- an element has no fault in a walk
 no_walk_fault : (element others more : List ℕ) (reason : Reason) (place : ℕ) → IsRaw element → more ≡ element ++ others
     → IsWalkFault more reason place → ⊥
 no_walk_fault element others more reason place raw joined wrong =
@@ -255,7 +254,7 @@ no_end count total items rest feed.BadHexLine place memory reader spells few end
 
 -- ---- reading
 
--- nothing is spelled by no item
+-- no octets spell no items
 none_left : (items : List Item) (octets : List ℕ) → octets ≡ [] → SpellsRecord items octets → items ≡ []
 none_left items octets nothing spells = one_list items [] octets spells nothing
 

@@ -1,4 +1,4 @@
--- An entry that is named as no message spells none.
+-- An entry of kind F1 spells no message.
 use Rattle.std.proofs.Common.{◌≡◌, false, true, ℕ, zero, suc, ◌-◌, ◌+◌, List, [], ◌∷◌, map, length, slice_get, Some, None, Option, Ok, Err, refl, sym, ap, ◌∙◌, inl, inr}
 use Rattle.std.proofs.lemmas.Bool.{and_parts}
 use Rattle.tcap_ber.specs.declared.fault.Fault.{Fault}
@@ -23,7 +23,7 @@ use Rattle.tcap_faults.specs.Fault.{is_fault, is_of_further_kind, is_of_kind_to}
 use Rattle.tcap_faults.proofs.BlamedLaws.{bad_has_none}
 use Rattle.tcap_judge.specs.Verdict.{IsAtFaultBy, SpellsNothing}
 
--- ---- of both ends: who sent it
+-- ---- both ends: its sender
 
 bad_body : (side : Option Side) (body : Body) (fault : Fault) → item_by side body ≡ Err (BadMessage fault) → body ≡ Bad fault
 bad_body side (Bad f) fault is = let same : f ≡ fault = cc in ap Bad same
@@ -50,7 +50,7 @@ sender_at fault entry (e ∷ entries) place octets rest zero (others, inr mark, 
 sender_at fault entry (e ∷ entries) place octets rest (suc n) (others, is_entry, more) there body_is =
     sender_at fault entry entries (place + (length octets - length others)) others rest n more there body_is
 
--- ---- of one end: no message has that kind
+-- ---- one end: no message has kind F1
 
 none_further : (table : Table) (side : Side) (items : List Item) (m : Message) (id : Option (List ℕ))
     → is_of_further_kind table side items m id kinds.BadMessage ≡ false
@@ -68,7 +68,7 @@ no_message table side items m kind is fault =
     let no : is_of_further_kind table side items m (dtid_in m) kinds.BadMessage ≡ true = (and_parts _ _ so).1 in
     let bad : false ≡ true = sym (none_further table side items m (dtid_in m)) ∙ no in cc
 
--- ---- both
+-- ---- both cases
 
 of_end : (side : Side) (entries : List Entry) (octets rest : List ℕ) (number : ℕ) → Framed entries octets rest
     → IsBadEntryOf side entries number → SpellsNothing entries number octets

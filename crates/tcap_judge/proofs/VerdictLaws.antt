@@ -1,4 +1,4 @@
--- What a verdict says of the record.
+-- The contracts of `run_judge`.
 use Rattle.std.proofs.Common.{◌≡◌, ℕ, Bool, true, false, List, [], ◌++◌, length, map, refl, sym, ap, subst, ◌∙◌, inl, inr, append-nil, append_assoc}
 use Rattle.std.specs.Prelude.{IfOk, Option, Some, None, Result, Ok, Err}
 use Rattle.std.specs.Io.KnownBytes.{Appends}
@@ -29,9 +29,9 @@ use Rattle.tcap_judge.specs.Verdict.{FindsFault, FindsLawfulThen, GivesVerdict, 
 use Rattle.tcap_judge.proofs.LawfulLaws.{IsFineOf, IsFoundBy, fine_fault, finds, found_said, lawful_is, no_fault, table_fault, table_text}
 use Rattle.tcap_judge.proofs.SpellsNothingLaws.{spells_nothing}
 
--- ---- what was said, by how the run ended
+-- ---- the status of a run
 
--- Where no fault is said, what is said ends so, and stands before what is behind it.
+-- If the status is not a fault, it is that of the outcome, and the text begins with its line.
 said_so : (outcome : Outcome) (behind text : List ℕ) (status : Status) → SaysWith outcome behind text status
     → (status ≡ statuses.Fault → ⊥)
     → (outcome_status outcome ≡ status) × (text ≡ outcome_line outcome ++ behind)
@@ -62,7 +62,7 @@ by_refutation None count None (Ok events) r said = cc
 by_refutation (Some side) count None (Ok events) r said = cc
 by_refutation judged count None (Err fault) r said = cc
 
--- what stands behind LAWFUL
+-- the text after LAWFUL
 is_line : (judged : Option Side) (with_certificate : Bool) (entries : List Entry) (count unheard : ℕ) (behind : List ℕ)
     → behind ≡ certificate_line judged with_certificate entries (said_lawful judged count unheard)
     → IsCertificateLine with_certificate behind
@@ -71,7 +71,7 @@ is_line (Some side) true entries count unheard behind is = (proposed_by (Some si
 is_line None false entries count unheard behind is = is
 is_line (Some side) false entries count unheard behind is = is
 
--- What is known where a record is lawful by this table, and this stands behind the line that says so.
+-- what follows if a record is lawful, and this text comes after its line
 abbrev pub IsLawfulThen : Option Side → Table → Bool → Device → Outcome → List ℕ → Type 0
 IsLawfulThen judged table with_certificate d outcome behind =
     IsFoundBy judged table d outcome × IsCertificateLine with_certificate behind
@@ -102,7 +102,7 @@ lawful_record judged table with_certificate d outcome behind (inr says) fine =
     lawful_by_end judged table with_certificate d outcome behind says.entries says.end says.reads says.says says.behind_is
     says.shown fine
 
--- What is known where an entry of a record is named by this table.
+-- what follows if an entry of a record is at fault
 pub record IsNamedBy (judged : Option Side) (table : Table) (d : Device) (r : Refutation) : Type 0 where
   pub entries : List Entry
   pub end : Unit {0}
@@ -129,9 +129,9 @@ refuted_record judged table with_certificate d r behind (inl memory) =
 refuted_record judged table with_certificate d r behind (inr says) =
     (named_by_end judged table d r says.entries says.end says.reads says.says, says.behind_is)
 
--- ---- both
+-- ---- both readers
 
--- the octets before and behind what was written in between
+-- two appended texts in turn
 pub between : (old new : Option (List ℕ)) (front back : List ℕ) → Appends old new (front ++ back)
     → (there : Option (List ℕ)) × Appends old there front × Appends there new back
 between None new front back all = (None, tt, tt)
@@ -150,7 +150,7 @@ lawful_table judged (Ok operations) with_certificate entries table taken taken' 
     let (there, before, rest) = between taken taken' (outcome_line outcome) behind line in
     (there, behind, finds judged entries table operations taken there outcome reads found before, rest, certificate)
 
--- all that is known of an entry that is named is that it is at fault
+-- what is needed of the laws on faults: an entry found at fault is at fault
 abbrev pub NamesRightly : Option Side → Type 0
 NamesRightly judged = (table : Table) (entries : List Entry) (r : Refutation) → named_by judged table entries ≡ Some r
     → IsAtFaultBy judged table entries r
@@ -192,7 +192,7 @@ refuted_table judged rightly (Ok operations) with_certificate entries table take
 
 -- ---- the run
 
--- what was written of the outcome that the readers gave
+-- the writer took the text of the outcome
 pub prints_of : (judged : Option Side) (with_certificate : Bool) (entries table : Device) (outcome : Outcome)
     (behind given : List ℕ) (taken taken' : Option (List ℕ)) (result : Result Status WriteFailed) → given ≡ behind
     → IsJudged judged with_certificate entries table outcome behind
@@ -208,7 +208,7 @@ prints_of judged with_certificate entries table outcome behind given taken taken
 }
 prints_of judged with_certificate entries table outcome behind given taken taken' (Err failed) is gives said = tt
 
--- where a run is fine, the record is lawful
+-- after status Fine, the record is lawful
 pub lawful_run : (judged : Option Side) (with_certificate : Bool) (entries table : Device) (taken taken' : Option (List ℕ))
     (result : Result Status WriteFailed)
     → IfOk result (PrintsVerdict judged with_certificate entries table taken taken') → result ≡ Ok statuses.Fine
@@ -221,7 +221,7 @@ lawful_run judged with_certificate entries table taken taken' (Ok status) prints
     lawful_table judged prints.given.0 with_certificate entries table taken taken' prints.outcome prints.behind
     prints.given.1 prints.given.2 (ended ∙ is_fine) (subst (Appends taken taken') is prints.takes)
 
--- where a run is refuted, the entry that is named is at fault
+-- after status Refuted, the entry is at fault
 pub refuted_run : (judged : Option Side) → NamesRightly judged → (with_certificate : Bool) (entries table : Device)
     (taken taken' : Option (List ℕ)) (result : Result Status WriteFailed)
     → IfOk result (PrintsVerdict judged with_certificate entries table taken taken') → result ≡ Ok statuses.Refuted

@@ -1,4 +1,4 @@
--- What a run says of who is at fault: the verdict on the record, and then of each end whether an entry is blamed on it, and
+-- What `run_blame` prints: the verdict on the record, and then for each end whether an entry is blamed on it, or
 -- whether it may have sent its part.
 use Rattle.std.specs.Prelude.{◌≡◌, ℕ, ◌⊎◌, ◌+◌, Bool, true, false, List, [], ◌∷◌, ◌++◌, length, map, nat_lt, cond, ◌&&◌, ◌||◌, Option, Some, None, Result, Ok, Err, codes}
 use Rattle.std.specs.Fmt.{decimal}
@@ -33,55 +33,61 @@ use Rattle.tcap_judge.specs.Device.{Device, IsUntouched}
 use Rattle.tcap_judge.specs.LawfulRecord.{FindsLawful}
 use Rattle.tcap_judge.specs.Verdict.{SpellsNothing, record_verdict, verdict, verdict_for}
 
--- ---- what is said of an end
+-- ---- the finding on an end
 
--- how many entries stand before the first that is no item, or how many there are
+-- the number of entries before the first that is no item, or of all entries if there is none
 abbrev pub items_before : List (Result Item Reason) → ℕ
 items_before [] = 0
 items_before (Ok item ∷ more) = 1 + items_before more
 items_before (Err reason ∷ more) = 0
 
--- by the verdict on it: what is blamed, or that it may have sent its part, or that nothing is blamed before so many entries
+-- The finding on an end, by the verdict on this end. The end is blamed for an entry, or may have sent its part, or is
+-- not blamed for any of this many entries.
 abbrev pub finding_by : ℕ → Outcome → Finding
 finding_by count (Refuted r) = findings.Blamed r
 finding_by count (LawfulFor all unheard) = findings.Lawful all unheard
 finding_by count outcome = findings.NotBlamed count
 
+-- the finding on an end of a record
 abbrev pub finding : Table → List Entry → Side → Finding
 finding table entries side = finding_by (items_before (map item_of entries)) (verdict_for side table entries)
 
+-- whether an entry is blamed on the end
 abbrev pub is_blamed : Finding → Bool
 is_blamed (findings.Blamed r) = true
 is_blamed said = false
 
+-- whether the end may have sent its part
 abbrev pub is_lawful : Finding → Bool
 is_lawful (findings.Lawful count unheard) = true
 is_lawful said = false
 
--- what is said of both
+-- the findings on both ends
 abbrev pub ends_of : Table → List Entry → Ends
 ends_of table entries = record { a = finding table entries sides.A; b = finding table entries sides.B }
 
--- ---- the verdict on the record, by those on its ends
+-- ---- the verdict on the record, given the findings on its ends
 
--- That so many entries are lawful, if each end by itself may have sent its part: two lawful ends may have sent them then
--- (`blame_is_whole` of tcap_model). Else that verdict.
+-- Lawful with this count if each end alone may have sent its part, since two lawful ends may then have sent the record
+-- (`blame_is_whole` of tcap_model). Else the given verdict.
 abbrev pub verdict_by_ends : ℕ → Ends → Outcome → Outcome
 verdict_by_ends count ends outcome = cond (is_lawful ends.a && is_lawful ends.b) (Lawful count) outcome
 
--- the verdict on both ends, by that on both together and those on each; or the verdict on one end alone
+-- the verdict on both ends, given the verdict on both together and the findings on each; or the verdict on one end
+-- alone
 abbrev pub joint_verdict : Option Side → Table → List Entry → Outcome
 joint_verdict None table entries = verdict_by_ends (length entries) (ends_of table entries) (verdict table entries)
 joint_verdict (Some side) table entries = verdict_for side table entries
 
--- the verdict on entries and the end after them: the fault of the end, else that verdict
+-- the verdict on these entries, or the fault of the record that ends them
 abbrev pub joint_record_verdict : Option Side → Table → List Entry → Result (Unit {0}) FeedFault → Outcome
 joint_record_verdict judged table entries (Ok end) = joint_verdict judged table entries
 joint_record_verdict judged table entries (Err fault) = record_verdict judged table entries (Err fault)
 
 -- ---- lines
 
--- an entry is blamed on it, or it may have sent its part of so many, or of so many none is blamed
+-- the line of a finding: `BLAMED` with the entry and its kind, `LAWFUL` with the number of entries and of unheard
+-- messages, or `NOT BLAMED` with the number of entries
 abbrev pub finding_line : Side → Finding → List ℕ
 finding_line side (findings.Blamed r) =
     codes "BLAMED " ++ letter side ++ codes " " ++ decimal r.entry ++ codes " F" ++ decimal (kind_number r.kind) ++ line_end
@@ -90,38 +96,41 @@ finding_line side (findings.Lawful count unheard) =
 finding_line side (findings.NotBlamed count) =
     codes "NOT BLAMED " ++ letter side ++ codes " " ++ decimal count ++ line_end
 
--- whether what is said of A stands behind what is said of B: B is blamed, and A is not, or for a later entry
+-- whether the line of A comes after the line of B: B is blamed, and A is not, or for a later entry
 abbrev pub stands_behind : Finding → Finding → Bool
 stands_behind (findings.Blamed a) (findings.Blamed b) = nat_lt b.entry a.entry
 stands_behind said (findings.Blamed b) = true
 stands_behind said other = false
 
--- what is blamed stands first, the lower entry before the other, and else A before B
+-- the lines of both ends: blamed ends first, in the order of their entries, else A before B
 abbrev pub ends_lines : Ends → List ℕ
 ends_lines ends = cond (stands_behind ends.a ends.b) (finding_line sides.B ends.b ++ finding_line sides.A ends.a)
     (finding_line sides.A ends.a ++ finding_line sides.B ends.b)
 
--- ---- a run
+-- ---- a whole run
 
--- nothing is said of the ends where the record has a fault
+-- the findings on both ends, or none if the record has a fault
 abbrev pub record_ends : Table → List Entry → Result (Unit {0}) FeedFault → Option Ends
 record_ends table entries (Ok end) = Some (ends_of table entries)
 record_ends table entries (Err fault) = None
 
--- If an end is called lawful, it may have sent its part, by a run in which so many messages of its peer are unheard. If
--- both are, two lawful ends may have sent the record.
+-- If the finding is lawful, the end may have sent its part, by a run with this many unheard messages of its peer. If
+-- both findings are lawful, two lawful ends may have sent the record.
 abbrev pub IsFound : Side → Table → List Entry → Finding → Type 0
 IsFound side table entries (findings.Lawful count unheard) = AreLawfulUnheard (Some side) table entries unheard
 IsFound side table entries said = Unit {0}
 
+-- Both findings hold. If both are lawful, two lawful ends may have sent the record.
 pub record AreFound (table : Table) (entries : List Entry) (ends : Ends) : Type 0 where
   pub a : IsFound sides.A table entries ends.a
   pub b : IsFound sides.B table entries ends.b
   pub both : is_lawful ends.a && is_lawful ends.b ≡ true → AreLawful None table entries
 
--- What the reader returned is entries and the end after them. The outcome is the verdict on both ends, and holds; and
--- the findings are those on each end. An entry that is blamed on an end is at fault: it is no message, or no run in which
--- this end keeps the rules has it there, whatever its peer sends and whatever follows. If its kind is F1, it spells no
+-- The reader returned these entries, and this end after them. The outcome is the verdict on both ends, and it holds.
+-- The findings are those on each end.
+--
+-- An entry that is blamed on an end is at fault: it is no message, or no run in which this end keeps the rules has the
+-- entry there. This holds no matter what its peer sends or what follows. If the kind of the entry is F1, it spells no
 -- message.
 pub record SaysBlame (table : Table) (d : Device) (outcome : Outcome) (ends : Option Ends) : Type 0 where
   pub entries : List Entry
@@ -136,44 +145,45 @@ pub record SaysBlame (table : Table) (d : Device) (outcome : Outcome) (ends : Op
       → SpellsNothing entries r.entry reads.told
   pub found : (said : Ends) → ends ≡ Some said → AreFound table entries said
 
--- That is so, or memory ran out.
+-- `SaysBlame` holds, or memory ran out.
 abbrev pub GivesBlame : Table → Device → Outcome → Option Ends → Type 0
 GivesBlame table d outcome ends = ((outcome ≡ out_of_memory) × (ends ≡ None)) ⊎ SaysBlame table d outcome ends
 
--- Where there is no table, nothing of the record is read.
+-- If the table has a fault, the outcome is this fault, and nothing of the record is read.
 abbrev pub GivesBlameWith : Result Table Outcome → Device → Outcome → Option Ends → Type 0
 GivesBlameWith (Ok table) entries outcome ends = GivesBlame table entries outcome ends
 GivesBlameWith (Err said) entries outcome ends = (outcome ≡ said) × (ends ≡ None) × IsUntouched entries
 
--- what the two readers told gives this outcome, and that is said of the ends
+-- The outcome and the findings are those of what the two readers returned.
 abbrev pub IsBlamed : Device → Device → Outcome → Option Ends → Type 0
 IsBlamed entries table outcome ends =
     (given : Result Table Outcome) × ReadsTable table given × GivesBlameWith given entries outcome ends
 
--- what stands behind the line of the outcome
+-- the lines after the line of the outcome
 abbrev pub lines_behind : Option Ends → List ℕ
 lines_behind None = []
 lines_behind (Some ends) = ends_lines ends
 
--- how a run ends that says this of a record, where nobody is blamed: where an entry is refuted, none is found to be at fault
+-- the status of a run in which no entry is blamed on an end: a refuted entry then counts as not shown
 abbrev pub unblamed_status : Outcome → Status
 unblamed_status (Refuted r) = statuses.NotShown
 unblamed_status outcome = outcome_status outcome
 
--- That of an entry at fault only if one is blamed on an end, and else that of the outcome of which nobody is blamed.
+-- the status of a run: that of a refuted entry if one is blamed on an end, else `unblamed_status`
 abbrev pub blame_status : Option Ends → Outcome → Status
 blame_status None outcome = outcome_status outcome
 blame_status (Some ends) outcome =
     cond (is_blamed ends.a || is_blamed ends.b) statuses.Refuted (unblamed_status outcome)
 
--- The text is the line of the outcome and what stands behind it, or says that memory ran out.
+-- The text is the line of the outcome and the lines after it, with their status. Or the text reports that memory ran
+-- out.
 abbrev pub SaysLines : Outcome → Option Ends → List ℕ → Status → Type 0
 SaysLines outcome ends text status =
     ((text ≡ outcome_line outcome ++ lines_behind ends) × (status ≡ blame_status ends outcome))
     ⊎ ((text ≡ memory_line) × (status ≡ statuses.Fault))
 
--- What the two readers told gives an outcome and what is said of both ends, and what the writer took is their lines;
--- or that memory ran out.
+-- The two readers returned a record and a table with this outcome and these findings, and the writer took their lines.
+-- Or memory ran out.
 pub record PrintsBlame (entries table : Device) (taken taken' : Option (List ℕ)) (status : Status) : Type 0 where
   pub outcome : Outcome
   pub ends : Option Ends
@@ -182,9 +192,9 @@ pub record PrintsBlame (entries table : Device) (taken taken' : Option (List ℕ
   pub says : SaysLines outcome ends text status
   pub takes : Appends taken taken' text
 
--- ---- what the lines say
+-- ---- what the lines mean
 
--- The writer took the line that says that the record is lawful, as it is, and after it the lines of both ends.
+-- The record is lawful, and the writer took the line that reports this, then the lines of both ends.
 abbrev pub FindsLawfulEnds : Device → Device → Option (List ℕ) → Option (List ℕ) → Type 0
 FindsLawfulEnds entries table taken taken' = (there : Option (List ℕ)) × (ends : Ends)
     × FindsLawful entries table taken there × Appends there taken' (ends_lines ends)

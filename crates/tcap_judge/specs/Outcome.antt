@@ -1,4 +1,4 @@
--- What a run says of a record, and its line.
+-- The line and the status of each outcome.
 use Rattle.std.specs.Prelude.{◌≡◌, ◌⊎◌, ℕ, List, [], ◌++◌, Option, Some, None, codes}
 use Rattle.std.specs.Fmt.{decimal}
 use Rattle.tcap_ber.specs.Fault.{number_of}
@@ -17,7 +17,7 @@ use Rattle.tcap_judge.specs.LawfulRecord.{lawful_line}
 use Rattle.tcap_lines.specs.declared.status.Status.{Status}
 use Rattle.tcap_lines.specs.declared.status.Status.TheVariants as statuses
 
--- the number of the fault that a reason holds, where it holds one
+-- the number of the inner fault of a reason, if it has one
 abbrev pub inner_number : Reason → Option ℕ
 inner_number reasons.CertificateShape = None
 inner_number reasons.FateCount = None
@@ -31,24 +31,25 @@ inner_number (reasons.BadMessage fault) = Some (number_of fault.reason)
 inner_number reasons.NoItem = None
 inner_number reasons.Memory = None
 
--- the number of the inner fault behind a slash
+-- a slash and the number of the inner fault
 abbrev pub inner_text : Option ℕ → List ℕ
 inner_text None = []
 inner_text (Some number) = codes "/" ++ decimal number
 
--- the number of a reason, and that of the fault in it, where there is one
+-- the number of a reason, with that of its inner fault
 abbrev pub reason_text : Reason → List ℕ
 reason_text reason = decimal (reason_number reason) ++ inner_text (inner_number reason)
 
--- the line where a certificate does not show that a record is lawful: the entry's number, and the reason
+-- the line if a certificate does not show a record lawful: the entry's number, and the reason
 abbrev pub not_shown_line : CheckFault → List ℕ
 not_shown_line fault = codes "NOT SHOWN " ++ decimal fault.entry ++ codes " " ++ reason_text fault.reason ++ line_end
 
--- the line where an entry is at fault: its number, and the number of its kind
+-- the line if an entry is at fault: its number, and its kind
 abbrev pub refuted_line : Refutation → List ℕ
 refuted_line r = codes "REFUTED " ++ decimal r.entry ++ codes " F" ++ decimal (kind_number r.kind) ++ line_end
 
--- the line where nothing shows either: where the proposed certificate fails, and the reason
+-- the line if an entry is neither refuted nor shown lawful: the entry at which the proposed certificate fails, and the
+-- reason
 abbrev pub undecided_line : CheckFault → List ℕ
 undecided_line fault = codes "UNDECIDED " ++ decimal fault.entry ++ codes " " ++ reason_text fault.reason ++ line_end
 
@@ -62,7 +63,7 @@ outcome_line (Refuted r) = refuted_line r
 outcome_line (Undecided fault) = undecided_line fault
 outcome_line (Faulty number place) = fault_line number place
 
--- how a run ends that says this
+-- the status of a run with this outcome
 abbrev pub outcome_status : Outcome → Status
 outcome_status (Lawful count) = statuses.Fine
 outcome_status (LawfulFor count unheard) = statuses.Fine
@@ -71,13 +72,15 @@ outcome_status (Refuted r) = statuses.Refuted
 outcome_status (Undecided fault) = statuses.NotShown
 outcome_status (Faulty number place) = statuses.Fault
 
--- The line and the status are those of the outcome; or the line says that memory ran out, and that is a fault.
+-- The line and the status are those of the outcome. Or the line reports that memory ran out, with the status of a
+-- fault.
 abbrev pub Says : Outcome → List ℕ → Status → Type 0
 Says outcome line status =
     ((line ≡ outcome_line outcome) × (status ≡ outcome_status outcome))
     ⊎ ((line ≡ memory_line) × (status ≡ statuses.Fault))
 
--- The same with a text behind the line, which is left out where memory ran out.
+-- The text and the status are those of the outcome, with more text after its line. Or the text reports only that memory
+-- ran out.
 abbrev pub SaysWith : Outcome → List ℕ → List ℕ → Status → Type 0
 SaysWith outcome behind text status =
     ((text ≡ outcome_line outcome ++ behind) × (status ≡ outcome_status outcome))

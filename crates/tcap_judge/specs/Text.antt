@@ -1,4 +1,4 @@
--- What was read of a whole text, up to a limit.
+-- What `read_text` returns: a whole text, up to a limit.
 use Rattle.std.specs.Prelude.{◌≡◌, ℕ, ◌+◌, ◌<◌, ◌≤◌, List, length, Option, Result, Ok, Err}
 use Rattle.std.specs.Io.KnownBytes.{Consumes, IsAtEnd}
 use Rattle.std.specs.Global.{Vec}
@@ -6,12 +6,12 @@ use Rattle.tcap_ber.specs.Device.{one_more}
 use Rattle.tcap_judge.specs.declared.text_reading.TextFault.{TextFault}
 use Rattle.tcap_judge.specs.declared.text_reading.TextFault.TheVariants as faults
 
--- the greatest length of a piece, as one read tells it
+-- the greatest number of octets that one read returns
 abbrev pub piece_limit : ℕ
 piece_limit = 8192
 
--- How it ended behind the octets that were told: they are the text, and the reader is at its end; or they are more than
--- the limit, by no more than a piece; or the reader failed behind them; or memory ran out.
+-- How the reading ended after these octets. Either they are the text, and the reader is at its end. Or they exceed the
+-- limit, by at most a piece; or the reader failed after them; or memory ran out.
 abbrev pub TextEnds : ℕ → Option (List ℕ) → ℕ → ℕ → Result (List ℕ) TextFault → List ℕ → Type 0
 TextEnds limit untold failures failures' (Ok octets) told =
     (octets ≡ told) × (length told ≤ limit) × IsAtEnd untold × (failures' ≡ failures)
@@ -21,14 +21,14 @@ TextEnds limit untold failures failures' (Err (faults.Read place)) told =
     (place ≡ length told) × (place ≤ limit) × (failures' ≡ one_more failures)
 TextEnds limit untold failures failures' (Err faults.Memory) told = failures' ≡ failures
 
--- What the reader told, and how the reading of a text ended there.
+-- The reader returned some octets, and the reading ended after them with this result.
 pub record ReadsText (limit : ℕ) (untold untold' : Option (List ℕ)) (failures failures' : ℕ)
     (result : Result (List ℕ) TextFault) : Type 0 where
   pub told : List ℕ
   pub tells : Consumes untold untold' told
   pub ends : TextEnds limit untold' failures failures' result told
 
--- the octets of a text that was read
+-- the octets of a text, or the fault
 abbrev pub octets_of : Result (Vec ℕ) TextFault → Result (List ℕ) TextFault
 octets_of (Ok text) = Ok text.items
 octets_of (Err fault) = Err fault

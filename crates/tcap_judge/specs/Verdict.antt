@@ -1,5 +1,5 @@
--- What a run says of a record without a certificate, for both ends or for one alone: refuted, lawful by the certificate
--- that is proposed, or neither.
+-- What `run_judge` prints: the verdict on a record, for both ends or for one alone. The record is refuted, lawful by
+-- the proposed certificate, or undecided.
 use Rattle.std.specs.Prelude.{◌≡◌, ℕ, ◌⊎◌, Bool, true, false, List, [], ◌++◌, length, map, slice_get, Option, Some, None, Result, Ok, Err}
 use Rattle.std.specs.Io.KnownBytes.{Appends}
 use Rattle.serde_json.specs.Written.{compact_text}
@@ -33,22 +33,23 @@ use Rattle.tcap_judge.specs.Device.{Device, IsUntouched}
 use Rattle.tcap_judge.specs.LawfulEnd.{FindsLawfulBy}
 use Rattle.tcap_judge.specs.LawfulRecord.{TellsAll}
 
--- the entry that is named: the first that no end sends which keeps the rules, or the first that is blamed on that end
+-- the entry at fault: the first that `refuted` finds for both ends, or that `blamed` finds for one end
 abbrev pub named_by : Option Side → Table → List Entry → Option Refutation
 named_by None table entries = refuted table (map item_of entries)
 named_by (Some side) table entries = blamed table side entries
 
--- the certificate that is proposed
+-- the proposed certificate
 abbrev pub proposed_by : Option Side → List Entry → Certificate
 proposed_by None entries = proposed entries
 proposed_by (Some side) entries = proposed_for side entries
 
--- refuted, or lawful by the certificate that is proposed, or neither
+-- refuted if there is an entry at fault, else lawful if the certificate gives a run, else undecided
 abbrev pub verdict_by : Option Side → ℕ → Option Refutation → Result (List Event) CheckFault → Outcome
 verdict_by judged count (Some r) replay = Refuted r
 verdict_by judged count None (Ok events) = lawful_by judged count events
 verdict_by judged count None (Err fault) = Undecided fault
 
+-- the verdict on these entries, for both ends or for one alone
 abbrev pub verdict_of : Option Side → Table → List Entry → Outcome
 verdict_of judged table entries =
     verdict_by judged (length entries) (named_by judged table entries)
@@ -58,50 +59,50 @@ verdict_of judged table entries =
 abbrev pub verdict : Table → List Entry → Outcome
 verdict table entries = verdict_of None table entries
 
--- the verdict on that end alone
+-- the verdict on this end alone
 abbrev pub verdict_for : Side → Table → List Entry → Outcome
 verdict_for side table entries = verdict_of (Some side) table entries
 
--- what is said of entries and the end behind them: the fault of the end, else the verdict
+-- the verdict on these entries, or the fault of the record that ends them
 abbrev pub record_verdict : Option Side → Table → List Entry → Result (Unit {0}) FeedFault → Outcome
 record_verdict judged table entries (Ok end) = verdict_of judged table entries
 record_verdict judged table entries (Err fault) = Faulty (feed_number_of fault.reason) fault.place
 
--- a certificate on a line of its own
+-- a certificate on its own line
 abbrev pub line_of_certificate : Certificate → List ℕ
 line_of_certificate c = compact_text (certificate_data c) ++ line_end
 
--- a certificate's line where it is asked for
+-- the certificate's line if it is requested
 abbrev pub line_asked : Bool → Certificate → List ℕ
 line_asked true c = line_of_certificate c
 line_asked false c = []
 
--- what stands behind the line of an outcome: the line of the certificate that shows it, where it is asked for
+-- the text after the line of an outcome: if it is lawful, the proposed certificate, if requested
 abbrev pub certificate_line : Option Side → Bool → List Entry → Outcome → List ℕ
 certificate_line judged with_certificate entries (Lawful count) = line_asked with_certificate (proposed_by judged entries)
 certificate_line judged with_certificate entries (LawfulFor count unheard) =
     line_asked with_certificate (proposed_by judged entries)
 certificate_line judged with_certificate entries outcome = []
 
--- What is said is the verdict on entries, and is so; and behind it stands the certificate where it is asked for.
+-- The outcome is the verdict on these entries, and it holds; the certificate follows if requested.
 abbrev pub IsVerdict : Option Side → Table → Bool → List Entry → Outcome → List ℕ → Type 0
 IsVerdict judged table with_certificate entries outcome behind =
     (outcome ≡ verdict_of judged table entries)
     × (behind ≡ certificate_line judged with_certificate entries outcome) × IsShown judged table entries outcome
 
--- what is said where nothing is named: lawful by the certificate that is proposed, or not shown by it
+-- the verdict if no entry is found at fault: lawful by the proposed certificate, or undecided
 abbrev pub verdict_by_search : Option Side → Table → List Entry → Outcome
 verdict_by_search judged table entries =
     verdict_by judged (length entries) None (replayed_by judged table (proposed_by judged entries) entries)
 
--- That is said, and is so; and behind it stands the certificate where it is asked for.
+-- The outcome is `verdict_by_search`, and it holds; the certificate follows if requested.
 abbrev pub IsVerdictBySearch : Option Side → Table → Bool → List Entry → Outcome → List ℕ → Type 0
 IsVerdictBySearch judged table with_certificate entries outcome behind =
     (outcome ≡ verdict_by_search judged table entries)
     × (behind ≡ certificate_line judged with_certificate entries outcome) × IsShown judged table entries outcome
 
--- What the reader told is entries and the end behind them, and what is said is the verdict on them, and is so, and the
--- certificate where it is asked for.
+-- The reader returned these entries, and this end after them. The outcome is the verdict on them, and it holds; the
+-- certificate follows if requested.
 pub record SaysVerdict (judged : Option Side) (table : Table) (with_certificate : Bool) (d : Device) (outcome : Outcome)
     (behind : List ℕ) : Type 0 where
   pub entries : List Entry
@@ -111,26 +112,26 @@ pub record SaysVerdict (judged : Option Side) (table : Table) (with_certificate 
   pub behind_is : behind ≡ certificate_line judged with_certificate entries outcome
   pub shown : IsShown judged table entries outcome
 
--- That is so, or memory ran out.
+-- `SaysVerdict` holds, or memory ran out.
 abbrev pub GivesVerdict : Option Side → Table → Bool → Device → Outcome → List ℕ → Type 0
 GivesVerdict judged table with_certificate d outcome behind =
     ((outcome ≡ out_of_memory) × (behind ≡ [])) ⊎ SaysVerdict judged table with_certificate d outcome behind
 
--- Where there is no table, nothing of the record is read.
+-- If the table has a fault, the outcome is this fault, and nothing of the record is read.
 abbrev pub GivesVerdictWith : Option Side → Result Table Outcome → Bool → Device → Outcome → List ℕ → Type 0
 GivesVerdictWith judged (Ok table) with_certificate entries outcome behind =
     GivesVerdict judged table with_certificate entries outcome behind
 GivesVerdictWith judged (Err said) with_certificate entries outcome behind =
     (outcome ≡ said) × (behind ≡ []) × IsUntouched entries
 
--- what the two readers told gives this outcome, and this behind its line
+-- The outcome, and the text after its line, are those of what the two readers returned.
 abbrev pub IsJudged : Option Side → Bool → Device → Device → Outcome → List ℕ → Type 0
 IsJudged judged with_certificate entries table outcome behind =
     (given : Result Table Outcome) × ReadsTable table given
     × GivesVerdictWith judged given with_certificate entries outcome behind
 
--- What the two readers told gives an outcome, and what the writer took is its line, and the certificate's line behind it
--- where it is asked for; or that memory ran out.
+-- The two readers returned a record and a table with this outcome, and the writer took its line, then the certificate's
+-- line if requested. Or memory ran out.
 pub record PrintsVerdict (judged : Option Side) (with_certificate : Bool) (entries table : Device)
     (taken taken' : Option (List ℕ)) (status : Status) : Type 0 where
   pub outcome : Outcome
@@ -140,26 +141,27 @@ pub record PrintsVerdict (judged : Option Side) (with_certificate : Bool) (entri
   pub says : SaysWith outcome behind text status
   pub takes : Appends taken taken' text
 
--- ---- what the lines say
+-- ---- what the lines mean
 
--- a certificate's line, where it is asked for, and else nothing
+-- The line is that of a certificate if requested, else it is empty.
 abbrev pub IsCertificateLine : Bool → List ℕ → Type 0
 IsCertificateLine true line = (c : Certificate) × (line ≡ line_of_certificate c)
 IsCertificateLine false line = line ≡ []
 
--- The writer took the line that says that the record is lawful, as it is, or for that end alone, and then a certificate's
--- line, where it is asked for.
+-- The record is lawful, for both ends or for this end alone, and the writer took the line that reports this, then a
+-- certificate's line if requested.
 abbrev pub FindsLawfulThen : Option Side → Bool → Device → Device → Option (List ℕ) → Option (List ℕ) → Type 0
 FindsLawfulThen judged with_certificate entries table taken taken' =
     (there : Option (List ℕ)) × (behind : List ℕ) × FindsLawfulBy judged entries table taken there
     × Appends there taken' behind × IsCertificateLine with_certificate behind
 
--- an entry is at fault: no end sends it which keeps the rules, or that end does not
+-- The entry is at fault: it is no message, or no run has it there in which its sender keeps the rules (for both ends),
+-- or in which this end keeps them (for one end alone).
 abbrev pub IsAtFaultBy : Option Side → Table → List Entry → Refutation → Type 0
 IsAtFaultBy None table entries r = IsAtFault table (map item_of entries) r
 IsAtFaultBy (Some side) table entries r = IsAtFaultOf table side entries r
 
--- At the offset of the entry of that number, the octets have, after the octet of its end, an element that spells no
+-- At the place of the entry with this number, after the octet of its end, the octets have an element that spells no
 -- message.
 pub record SpellsNothing (read : List Entry) (number : ℕ) (octets : List ℕ) : Type 0 where
   pub entry : Entry
@@ -168,9 +170,9 @@ pub record SpellsNothing (read : List Entry) (number : ℕ) (octets : List ℕ) 
   pub side_is : entry.side ≡ Some side
   pub none : HasNoMessage side entry.place octets
 
--- One reader told the octets of a record and the other the text of an operation table, both up to their ends; of the
--- entries that the octets are, one is at fault, and if its kind is F1, it spells no message; and what the writer took is
--- the line that names it.
+-- The two readers returned the octets of a record and the text of an operation table, both up to their ends. One of the
+-- entries of the octets is at fault, and if its kind is F1, it spells no message. The writer took the line with this
+-- entry and kind.
 pub record FindsFault (judged : Option Side) (entries table : Device) (taken taken' : Option (List ℕ)) : Type 0 where
   pub octets : List ℕ
   pub text : List ℕ

@@ -1,4 +1,4 @@
-//! Judging a record, and saying of each end whether an entry is blamed on it, or whether it may have sent its part.
+//! Judges a record, and finds for each end whether an entry is blamed on it, or whether it may have sent its part.
 
 ghost use Rattle.std.specs.Prelude.{◌≡◌, ◌++◌, ◌≤◌, ℕ, List, Some, None, length, map, IfOk, OnOk, OnErr};
 ghost use Rattle.std.specs.Io.KnownBytes.{Appends};
@@ -34,17 +34,17 @@ use tcap_record::{End, Record, read_record};
 use tcap_refute::{Refutation, refute};
 use tcap_search::{Proposals, search_each};
 
-/// What is said of a record, and of its ends.
+/// A verdict on a record, with the findings on its ends.
 #[derive(Clone, Copy, Debug)]
 pub struct Blame {
-    /// Of the record.
+    /// The verdict on the record.
     pub outcome: Outcome,
-    /// Of its ends. None where the table or the record has a fault, or memory ran out.
+    /// The findings on both ends. `None` if the table or the record has a fault, or memory ran out.
     pub ends: Option<Ends>,
 }
 
 impl Blame {
-    /// That is said, and nothing of the ends.
+    /// Returns this verdict without findings.
     fn alone(outcome: Outcome) -> Blame
         ensures outcome { result.outcome ≡ outcome }
         ensures ends { result.ends ≡ None }
@@ -56,7 +56,7 @@ impl Blame {
     }
 }
 
-/// What is blamed on each end.
+/// Finds the entry that is blamed on each end. Fails if memory runs out.
 fn named_of_both(alloc: Global, read: &Record, table: &Table) -> Result<BlamedEnds, AllocError>
     ensures { IfOk result (λ r. (r.a ≡ blamed table.now sides.A read.now.entries.items)
         × (r.b ≡ blamed table.now sides.B read.now.entries.items)) }
@@ -64,7 +64,7 @@ fn named_of_both(alloc: Global, read: &Record, table: &Table) -> Result<BlamedEn
     blame_both(alloc, read, table).map_err(|_| AllocError)
 }
 
-/// What is said of an end of a record, by what is blamed on it.
+/// Returns the finding on an end, given the entry that is blamed on it. Fails if memory runs out.
 fn find_end(
     alloc: Global,
     read: &Record,
@@ -84,7 +84,11 @@ fn find_end(
     Ok(Finding::new(items_before(&read.entries), judged.outcome))
 }
 
-/// What is said of both ends of a record, of at most 100,000 entries. `AllocError` where memory ran out.
+/// Returns the findings on both ends of a record of at most 100,000 entries.
+///
+/// # Errors
+///
+/// `AllocError` if memory runs out.
 pub fn find_both(alloc: Global, read: &Record, table: &Table) -> Result<Ends, AllocError>
     requires few { length read.now.entries.items ≤ 100000 }
     ensures { IfOk result (λ ends. (ends ≡ ends_of table.now read.now.entries.items)
@@ -98,7 +102,8 @@ pub fn find_both(alloc: Global, read: &Record, table: &Table) -> Result<Ends, Al
     })
 }
 
-/// What is said of an end of a record of which the certificate for both ends gives a run.
+/// Returns the finding on an end if the certificate for both ends gives a run. `alone` is the certificate proposed for
+/// this end, if it differs. Fails if memory runs out.
 fn find_lawful_end(
     alloc: Global,
     read: &Record,
@@ -119,7 +124,8 @@ fn find_lawful_end(
     }
 }
 
-/// What is said of an end of a record of which it gives none.
+/// Returns the finding on an end if the certificate for both ends gives no run. `alone` is the certificate proposed for
+/// this end, if it differs. Fails if memory runs out.
 fn find_other_end(
     alloc: Global,
     read: &Record,
@@ -140,7 +146,7 @@ fn find_other_end(
     }
 }
 
-/// What is said of both ends of a record of which the certificate for both gives a run.
+/// Returns the findings on both ends if the certificate for both gives a run. Fails if memory runs out.
 fn find_lawful_ends(
     alloc: Global,
     read: &Record,
@@ -163,7 +169,7 @@ fn find_lawful_ends(
     })
 }
 
-/// What is said of both ends of a record of which it gives none.
+/// Returns the findings on both ends if the certificate for both gives no run. Fails if memory runs out.
 fn find_other_ends(
     alloc: Global,
     read: &Record,
@@ -184,7 +190,7 @@ fn find_other_ends(
     })
 }
 
-/// Joins the verdict on both ends together with the findings on each: the record is lawful, if each end by itself is.
+/// Joins the verdict on both ends together with the findings on each: the record is lawful if each end alone is.
 fn joined(read: &Record, table: &Table, outcome: Outcome, ends: Ends) -> Blame
     requires verdict { outcome ≡ verdict table.now read.now.entries.items }
     requires shown { IsShown None table.now read.now.entries.items outcome }
@@ -198,7 +204,8 @@ fn joined(read: &Record, table: &Table, outcome: Outcome, ends: Ends) -> Blame
     }
 }
 
-/// What is said of a record that is not refuted, and of its ends: one search proposes for all three.
+/// Judges a record that is not refuted. One search proposes the certificates for both ends together and for each alone.
+/// Fails if memory runs out.
 fn blame_by_search(alloc: Global, read: &Record, table: &Table) -> Result<Blame, AllocError>
     requires few { length read.now.entries.items ≤ 100000 }
     requires sound { refuted table.now (map item_of read.now.entries.items) ≡ None }
@@ -220,8 +227,11 @@ fn blame_by_search(alloc: Global, read: &Record, table: &Table) -> Result<Blame,
     }
 }
 
-/// What is said of a record and of its ends.
-/// `AllocError` where memory ran out.
+/// Judges a record of at most 100,000 entries, and each of its ends.
+///
+/// # Errors
+///
+/// `AllocError` if memory runs out.
 pub fn blame_record(alloc: Global, read: &Record, table: &Table) -> Result<Blame, AllocError>
     requires few { length read.now.entries.items ≤ 100000 }
     ensures { IfOk result (λ said. AreBlamed table.now read.now.entries.items said.outcome said.ends) }
@@ -236,7 +246,7 @@ pub fn blame_record(alloc: Global, read: &Record, table: &Table) -> Result<Blame
     }
 }
 
-/// What is said of the record that `reader` tells.
+/// Judges the record that `reader` returns, and each of its ends.
 fn blame_told<R: Read>(alloc: Global, reader: &mut R, table: &Table) -> Blame
     ensures { GivesBlame table.now (device R.untold R.failures reader.old reader.new) result.outcome result.ends }
 {
@@ -250,8 +260,8 @@ fn blame_told<R: Read>(alloc: Global, reader: &mut R, table: &Table) -> Blame
     }
 }
 
-/// What is said of the record that `entries` tells, by the operation table that `table` tells, and of each of its ends.
-/// `run_blame` writes the lines of it. Nothing of the record is read before the table is there.
+/// Judges the record that `entries` returns, and each of its ends, by the operation table that `table` returns.
+/// `run_blame` writes the lines of this result. If the table has a fault, nothing of the record is read.
 pub fn blame_outcome<R: Read, T: Read>(alloc: Global, entries: &mut R, table: &mut T) -> Blame
     ensures { IsBlamed (device R.untold R.failures entries.old entries.new)
         (device T.untold T.failures table.old table.new) result.outcome result.ends }
@@ -262,7 +272,7 @@ pub fn blame_outcome<R: Read, T: Read>(alloc: Global, entries: &mut R, table: &m
     }
 }
 
-/// Appends the line of the outcome, and what is said of the ends.
+/// Appends the line of the outcome, and the lines of the findings. Fails if memory runs out.
 fn push_said(text: &mut String, said: &Blame) -> Result<(), AllocError>
     ensures { OnOk result (string_bytes text.new
         ≡ string_bytes text.old ++ outcome_line said.now.outcome ++ lines_behind said.now.ends) }
@@ -274,8 +284,8 @@ fn push_said(text: &mut String, said: &Blame) -> Result<(), AllocError>
     }
 }
 
-/// Writes what is said, or that memory ran out where there is none for it, and answers how the run ends. All is there
-/// before its first octet is written.
+/// Writes the lines of a verdict with findings, or the line that memory ran out, and returns the status. The text is
+/// complete before its first octet is written. Fails if the writer fails.
 fn write_said<W: Write>(alloc: Global, said: &Blame, writer: &mut W) -> Result<Status, WriteFailed>
     ensures text { IfOk result (λ status. (text : List ℕ)
         × SaysLines said.now.outcome said.now.ends text status
@@ -296,19 +306,27 @@ fn write_said<W: Write>(alloc: Global, said: &Blame, writer: &mut W) -> Result<S
     }
 }
 
-/// Judges the record that `entries` returns by the operation table that `table` returns, and writes the line of `judge`,
-/// or `LAWFUL COUNT` if each end by itself is lawful: two lawful ends may have sent the record then. If the record and
-/// the table have no fault, it then writes a line for each end: `BLAMED END ENTRY KIND`, its lowest entry, or quiet
-/// mark, that no run has in which this end keeps the rules, whatever its peer sends, as far as fifteen kinds show
-/// (Q.771, Q.773, Q.774), with the lowest kind; or `LAWFUL END COUNT unheard COUNT`, as `run_judge` finds it of that end; or
-/// `NOT BLAMED END COUNT`, with the number of entries before the first that is no message, or of all. What is blamed
-/// comes first, the lower entry before the other; else A comes before B. The status is that of REFUTED if an entry is
-/// blamed on an end, that of UNDECIDED if an entry is refuted and blamed on nobody, else that of the first line. All
-/// that grows has grown before the first octet is written.
+/// Judges the record that `entries` returns by the operation table that `table` returns, and each of its ends; writes
+/// the lines and returns the status.
+///
+/// The first line is that of `run_judge`, or `LAWFUL COUNT` if each end alone is lawful, since two lawful ends may then
+/// have sent the record. If the record and the table have no fault, a line for each end follows:
+///
+/// - `BLAMED END ENTRY KIND`: the lowest entry for which the end is blamed, with its lowest kind. No run in which this
+///   end keeps the rules has this entry, or quiet mark, no matter what its peer sends. Fifteen kinds show this (Q.771,
+///   Q.773, Q.774).
+/// - `LAWFUL END COUNT unheard COUNT`: what `run_judge` finds for this end alone.
+/// - `NOT BLAMED END COUNT`: the number of entries before the first that is no message, or of all entries.
+///
+/// Blamed ends come first, in the order of their entries; else A comes before B. No memory is allocated after the first
+/// octet is written.
+///
+/// The status is that of REFUTED if an entry is blamed on an end. If an entry is refuted but not blamed on an end, it
+/// is that of UNDECIDED. Otherwise it is that of the first line.
 ///
 /// # Errors
 ///
-/// `WriteFailed` if the writer failed.
+/// `WriteFailed` if the writer fails.
 pub fn run_blame<R: Read, T: Read, W: Write>(
     alloc: Global,
     entries: &mut R,

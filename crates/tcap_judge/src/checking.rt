@@ -1,4 +1,4 @@
-//! Replaying a certificate over a record.
+//! Replays a certificate over a record.
 
 ghost use Rattle.std.specs.Prelude.{◌≡◌, ◌≢◌, ◌⊎◌, ◌++◌, ◌∷◌, ◌+◌, ◌≤◌, [], ℕ, List, Bool, true, false, length, take, Result, Some, None, Ok, Err, IfOk, IfSome, OnOk, OnErr};
 ghost use Rattle.std.specs.Io.KnownBytes.{Appends};
@@ -25,7 +25,7 @@ use tcap_end::Table;
 use tcap_lines::{Status, WriteFailed};
 use tcap_record::{End, EntryView, FeedFault, FeedReason, Frames, PIECE_LEN};
 
-/// Takes the next entry; fails where memory ran out. A refusal is kept.
+/// Gives the next entry to the checker, which keeps a refusal. Fails if memory runs out.
 fn take_entry(checker: &mut Result<Checker, CheckFault>, entry: &EntryView) -> Result<(), FeedFault>
     ensures takes { OnOk result (Takes checker.old (entry_read entry.now) checker.new) }
     ensures memory { (f : FeedFault) → result ≡ Err f → f ≡ feed_fault FeedReason.Memory 0 }
@@ -39,7 +39,7 @@ fn take_entry(checker: &mut Result<Checker, CheckFault>, entry: &EntryView) -> R
     }
 }
 
-/// Takes the entry at the front, where a whole one stands there, and answers whether one did; fails where memory ran
+/// Gives the first whole entry of the frames to the checker, and returns whether there was one. Fails if memory runs
 /// out.
 fn take_front(frames: &Frames, checker: &mut Result<Checker, CheckFault>) -> Result<bool, FeedFault>
     ensures taken { result ≡ Ok true → (entry : Entry) × IsFront entry frames.now × (frames.now.fault ≡ None)
@@ -55,7 +55,7 @@ fn take_front(frames: &Frames, checker: &mut Result<Checker, CheckFault>) -> Res
     Ok(true)
 }
 
-/// Takes all octets of a piece, up to a fault, and the entries that are whole then.
+/// Takes all octets of a piece, up to a fault, and gives the whole entries to the checker.
 fn take_piece(
     frames: &mut Frames,
     checker: &mut Result<Checker, CheckFault>,
@@ -82,7 +82,7 @@ fn take_piece(
     }
 }
 
-/// Takes the record that `reader` tells up to its end, or to the first fault.
+/// Takes the record that `reader` returns, up to its end or the first fault.
 fn take_all<R: Read>(
     frames: &mut Frames,
     checker: &mut Result<Checker, CheckFault>,
@@ -109,7 +109,7 @@ fn take_all<R: Read>(
     }
 }
 
-/// What a run shows of so many entries.
+/// Returns the lawful outcome for this many entries, from the report of a run.
 pub(crate) fn lawful_of(judged: Option<End>, count: usize, report: Report) -> Outcome
     ensures { result ≡ said_lawful judged count report.unheard }
 {
@@ -119,7 +119,7 @@ pub(crate) fn lawful_of(judged: Option<End>, count: usize, report: Report) -> Ou
     }
 }
 
-/// What is said of so many entries, which are all of a record.
+/// Returns the outcome after all entries of a record, of which there are `count`.
 fn finish(judged: Option<End>, checker: Result<Checker, CheckFault>, count: usize) -> Outcome
     ensures { Finishes judged checker.entry count result }
 {
@@ -133,7 +133,8 @@ fn finish(judged: Option<End>, checker: Result<Checker, CheckFault>, count: usiz
     }
 }
 
-/// A checker that took nothing, or why the certificate's numbers are out of their ranges; `None` where memory ran out.
+/// Creates a checker before the first entry, or returns why the certificate is out of range. Returns `None` if memory
+/// runs out.
 fn start<'a>(
     alloc: Global,
     table: &'a Table,
@@ -148,7 +149,7 @@ fn start<'a>(
     }
 }
 
-/// What is said of the record that `reader` tells.
+/// Replays the certificate over the record that `reader` returns.
 fn judge_record<R: Read>(
     alloc: Global,
     reader: &mut R,
@@ -168,8 +169,9 @@ fn judge_record<R: Read>(
     }
 }
 
-/// What is said of the record that `entries` tells, by the operation table that `table` tells and the certificate that
-/// `certificate` tells: of one end alone, or, if none is given, of both. `run_check` writes the line of it. Nothing of the record is read before the other two are there.
+/// Replays the certificate that `certificate` returns over the record that `entries` returns, by the operation table
+/// that `table` returns. It judges one end alone, or both if `judged` is `None`. `run_check` writes the line of this
+/// result. If the table or the certificate has a fault, nothing of the record is read.
 pub fn check_outcome<R: Read, T: Read, C: Read>(
     alloc: Global,
     entries: &mut R,
@@ -192,16 +194,21 @@ pub fn check_outcome<R: Read, T: Read, C: Read>(
     judge_record(alloc, entries, &table, &certificate, judged)
 }
 
-/// Replays the certificate that `certificate` returns over the record that `entries` returns, by the operation table that
-/// `table` returns, and writes one line: that the record is lawful, or why the certificate does not show it, or what is
-/// wrong with one of the three, the table first, then the certificate, then the record. If an end is given, that end alone
-/// is judged: whether it may have sent its part of the record, whatever its peer sent, and how many of the peer's messages
-/// it does not hear in the run. Each text has at most 67,108,864 octets. One entry of the record is held at a time, and
-/// none is read before the table and the certificate are there.
+/// Replays the certificate that `certificate` returns over the record that `entries` returns, by the operation table
+/// that `table` returns; writes one line and returns the status.
+///
+/// The line reports that the record is lawful, or why the certificate does not show this, or a fault. A fault of the
+/// table comes before one of the certificate, and that before one of the record.
+///
+/// If `judged` is an end, this end is judged alone: the line reports whether it may have sent its part of the record,
+/// no matter what its peer sends. It then also has the number of the peer's messages that are unheard in the run.
+///
+/// The texts of the table and of the certificate have at most 67,108,864 octets each. One entry of the record is held
+/// at a time, and none is read before the table and the certificate.
 ///
 /// # Errors
 ///
-/// `WriteFailed` if the writer failed.
+/// `WriteFailed` if the writer fails.
 pub fn run_check<R: Read, T: Read, C: Read, W: Write>(
     alloc: Global,
     entries: &mut R,

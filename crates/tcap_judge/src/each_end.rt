@@ -1,4 +1,4 @@
-//! What is said of each end of a record, by the certificate that is proposed for it.
+//! Finds whether an end may have sent its part, by the certificate proposed for it.
 
 ghost use Rattle.std.specs.Prelude.{◌≡◌, ◌≤◌, List, length, map, None, Ok, IfOk};
 ghost use Rattle.tcap_model.specs.Entries.{item_of};
@@ -19,7 +19,7 @@ use tcap_end::Table;
 use tcap_record::{Body, End, Entry, Record};
 use tcap_refute::Refutation;
 
-/// 1 where the entry is of that end and lost, else 0.
+/// Returns 1 if the entry is from this end and lost, else 0.
 fn lost_by(end: End, fate: Fate, side: Option<End>) -> u64
     ensures { result ≡ lost_by end fate side }
 {
@@ -29,7 +29,7 @@ fn lost_by(end: End, fate: Fate, side: Option<End>) -> u64
     }
 }
 
-/// How many messages of that end those fates lose.
+/// Returns how many messages of this end these fates lose.
 fn count_lost(end: End, fates: &[Fate], entries: &[Entry]) -> u64
     requires few { length entries.now ≤ 100000 }
     ensures { result ≡ lost_of end fates.now entries.now }
@@ -48,8 +48,8 @@ fn count_lost(end: End, fates: &[Fate], entries: &[Entry]) -> u64
     count
 }
 
-/// What is said of an end, where that certificate gives a run of both ends and is the one that is proposed for the end alone,
-/// too: nothing is blamed on it, it may have sent its part, and it did not hear what the certificate loses.
+/// Returns the finding on an end if its proposed certificate is that for both ends and gives a run of both. Nothing is
+/// blamed on the end then, it may have sent its part, and the peer's messages that the certificate loses are unheard.
 pub(crate) fn find_alike(
     read: &Record,
     table: &Table,
@@ -68,7 +68,7 @@ pub(crate) fn find_alike(
     Finding::Lawful(entries.len(), unheard)
 }
 
-/// How many entries stand before the first that is no item, or how many there are.
+/// Returns the number of entries before the first that is no item, or of all entries if there is none.
 pub(crate) fn items_before(entries: &[Entry]) -> usize
     ensures { result ≡ items_before (map item_of entries.now) }
 {
@@ -82,7 +82,8 @@ pub(crate) fn items_before(entries: &[Entry]) -> usize
     count
 }
 
-/// What is said of an end on which nothing is blamed, by the certificate that is proposed for it.
+/// Returns the finding on an end on which nothing is blamed, by the certificate proposed for it. Fails if memory runs
+/// out.
 fn find_by(
     alloc: Global,
     read: &Record,
@@ -103,7 +104,8 @@ fn find_by(
     }
 }
 
-/// What is said of an end: what is blamed on it, or else what the certificate shows that is proposed for it.
+/// Returns the finding on an end: the entry blamed on it, or else the result of the certificate proposed for it. Fails
+/// if memory runs out.
 pub(crate) fn find_with(
     alloc: Global,
     read: &Record,
@@ -123,8 +125,8 @@ pub(crate) fn find_with(
     }
 }
 
-/// What is said of an end where a certificate gives a run of both ends, by the certificate that is proposed for that end alone:
-/// nothing is blamed on it.
+/// Returns the finding on an end, by the certificate proposed for it, if another certificate gives a run of both ends.
+/// Nothing is blamed on the end then. Fails if memory runs out.
 pub(crate) fn find_lawful(
     alloc: Global,
     read: &Record,

@@ -1,4 +1,4 @@
-//! What is said of each end of a record, and the lines of it.
+//! The finding on each end of a record, and its line.
 
 ghost use Rattle.std.specs.Prelude.{◌≡◌, ◌&&◌, ◌++◌, Some, OnOk};
 ghost use Rattle.std.specs.String.{string_bytes};
@@ -10,28 +10,29 @@ use tcap_lines::Status;
 use tcap_record::End;
 use tcap_refute::Refutation;
 
-/// What is said of an end.
+/// The finding on an end.
 #[derive(Clone, Copy, Debug, PartialEq, Eq)]
 pub enum Finding {
-    /// An entry is blamed on it.
+    /// An entry is blamed on the end.
     Blamed(Refutation),
-    /// It may have sent its part of so many entries, of which so many of its peer's are taken as unheard.
+    /// The end may have sent its part of this many entries, with this many of its peer's messages unheard.
     Lawful(usize, u64),
-    /// Of so many entries none is blamed on it.
+    /// No entry among this many is blamed on the end.
     NotBlamed(usize),
 }
 
-/// What is said of both ends.
+/// The findings on both ends.
 #[derive(Clone, Copy, Debug, PartialEq, Eq)]
 pub struct Ends {
-    /// Of A.
+    /// The finding on A.
     pub a: Finding,
-    /// Of B.
+    /// The finding on B.
     pub b: Finding,
 }
 
 impl Finding {
-    /// By the verdict on the end alone, and by how many entries stand before the first that is no item.
+    /// Creates a finding from the verdict on the end alone, and from the number of entries before the first that is no
+    /// item.
     pub(crate) fn new(count: usize, verdict: Outcome) -> Finding
         ensures { result ≡ finding_by count verdict }
     {
@@ -42,14 +43,14 @@ impl Finding {
         }
     }
 
-    /// Whether an entry is blamed.
+    /// Returns whether an entry is blamed on the end.
     fn is_blamed(self) -> bool
         ensures { result ≡ is_blamed self }
     {
         matches!(self, Finding::Blamed(_))
     }
 
-    /// Whether the end may have sent its part.
+    /// Returns whether the end may have sent its part.
     fn is_lawful(self) -> bool
         ensures { result ≡ is_lawful self }
     {
@@ -57,7 +58,11 @@ impl Finding {
     }
 }
 
-/// Appends the line of what is said of an end. `AllocError` where memory ran out.
+/// Appends the line of a finding.
+///
+/// # Errors
+///
+/// `AllocError` if memory runs out.
 pub fn push_finding(text: &mut String, end: End, finding: Finding) -> Result<(), AllocError>
     ensures { OnOk result (string_bytes text.new ≡ string_bytes text.old ++ finding_line end finding) }
 {
@@ -75,7 +80,7 @@ pub fn push_finding(text: &mut String, end: End, finding: Finding) -> Result<(),
     }
 }
 
-/// Whether what is said of A stands behind what is said of B: B is blamed, and A is not, or for a later entry.
+/// Returns whether the line of A comes after the line of B: B is blamed, and A is not, or for a later entry.
 pub fn stands_behind(a: Finding, b: Finding) -> bool
     ensures { result ≡ stands_behind a b }
 {
@@ -86,7 +91,7 @@ pub fn stands_behind(a: Finding, b: Finding) -> bool
     }
 }
 
-/// How a run ends that says this of a record, where nobody is blamed.
+/// Returns the status of an outcome if no entry is blamed on an end.
 fn unblamed_status(outcome: Outcome) -> Status
     ensures { result ≡ unblamed_status outcome }
 {
@@ -97,7 +102,8 @@ fn unblamed_status(outcome: Outcome) -> Status
 }
 
 impl Ends {
-    /// Appends what is said of both: what is blamed first, the lower entry before the other, and else A before B.
+    /// Appends the lines of both ends: blamed ends first, in the order of their entries, else A before B. Fails if
+    /// memory runs out.
     pub(crate) fn push(self, text: &mut String) -> Result<(), AllocError>
         ensures { OnOk result (string_bytes text.new ≡ string_bytes text.old ++ ends_lines self) }
     {
@@ -110,15 +116,14 @@ impl Ends {
         }
     }
 
-    /// Returns whether each end by itself may have sent its part. Then two lawful ends may have sent the record.
+    /// Returns whether each end alone may have sent its part. Then two lawful ends may have sent the record.
     pub fn are_lawful(self) -> bool
         ensures { result ≡ (is_lawful self.a && is_lawful self.b) }
     {
         self.a.is_lawful() && self.b.is_lawful()
     }
 
-    /// Returns the verdict on a record of so many entries: that it is lawful, if each end by itself is; else that verdict
-    /// on both.
+    /// Returns the verdict on a record of `count` entries: lawful if each end alone is lawful, else `outcome`.
     pub(crate) fn joint_verdict(self, count: usize, outcome: Outcome) -> Outcome
         ensures { result ≡ verdict_by_ends count self outcome }
     {
@@ -129,7 +134,7 @@ impl Ends {
         }
     }
 
-    /// How a run ends that says this behind that outcome.
+    /// Returns the status of a run with this outcome and these findings.
     fn status(self, outcome: Outcome) -> Status
         ensures { result ≡ blame_status (Some self) outcome }
     {
@@ -141,8 +146,8 @@ impl Ends {
     }
 }
 
-/// Returns the status of a run with this outcome and these findings: that of an entry at fault only if one is blamed on
-/// an end. An entry that is refuted and blamed on nobody has that of UNDECIDED; else the outcome decides.
+/// Returns the status of a run with this outcome and these findings. It is that of REFUTED if an entry is blamed on an
+/// end. If an entry is refuted but not blamed on an end, it is that of UNDECIDED. Otherwise it is that of the outcome.
 pub fn blame_status(ends: Option<Ends>, outcome: Outcome) -> Status
     ensures { result ≡ blame_status ends outcome }
 {

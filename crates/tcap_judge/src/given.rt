@@ -1,4 +1,4 @@
-//! What is given beside a record: an operation table and a certificate, which readers tell.
+//! Reads the operation table and the certificate for a record.
 
 ghost use Rattle.std.specs.Prelude.{◌≡◌};
 ghost use Rattle.tcap_judge.specs.Checked.{ReadsCertificate, ReadsTable, said_of_text};
@@ -13,16 +13,16 @@ use tcap_certificate_text::from_json;
 use tcap_end::{Table, TableReason};
 use tcap_record::FeedReason;
 
-/// The greatest length of the text of a table, and of that of a certificate, in octets.
+/// The greatest length of the text of a table or a certificate, in octets.
 const TEXT_LIMIT: usize = 67_108_864;
 
-/// The number of the fault of a table's text that is too long.
+/// The number of the fault of a table whose text is too long.
 const NOT_JSON: u8 = 30;
 
-/// The number of the fault of a text that is no certificate.
+/// The number of the fault of a text that is not a certificate.
 const CERTIFICATE_SHAPE: u8 = 60;
 
-/// What is said where there is no text; that number where it is too long.
+/// Returns the outcome if a text could not be read; its number is `too_long` if the text is too long.
 fn without_text(too_long: u8, fault: TextFault) -> Outcome
     ensures { result ≡ said_of_text too_long fault }
 {
@@ -33,8 +33,12 @@ fn without_text(too_long: u8, fault: TextFault) -> Outcome
     }
 }
 
-/// The operation table that a reader tells, of at most 67,108,864 octets of text; else what is said in its place: a fault
-/// of the table (30 to 34), the reader's failure (23), or that memory ran out (99).
+/// Reads an operation table from a text of at most 67,108,864 octets.
+///
+/// # Errors
+///
+/// The outcome to report instead: a fault of the table (30 to 34), the reader's failure (23), or that memory ran out
+/// (99).
 pub fn read_table<R: Read>(alloc: Global, reader: &mut R) -> Result<Table, Outcome>
     ensures { ReadsTable (device R.untold R.failures reader.old reader.new) result }
 {
@@ -48,8 +52,12 @@ pub fn read_table<R: Read>(alloc: Global, reader: &mut R) -> Result<Table, Outco
     }
 }
 
-/// The certificate that a reader tells, of at most 67,108,864 octets of text; else what is said in its place: that it is
-/// none (60), the reader's failure (23), or that memory ran out (99).
+/// Reads a certificate from a text of at most 67,108,864 octets.
+///
+/// # Errors
+///
+/// The outcome to report instead: that the text is not a certificate (60), the reader's failure (23), or that memory
+/// ran out (99).
 pub fn read_certificate<R: Read>(alloc: Global, reader: &mut R) -> Result<Certificate, Outcome>
     ensures { ReadsCertificate (device R.untold R.failures reader.old reader.new) result }
 {

@@ -1,4 +1,4 @@
-//! Judging a record without a certificate: both ends, or one alone.
+//! Judges a record without a certificate: both ends, or one alone.
 
 ghost use Rattle.std.specs.Prelude.{◌≡◌, ℕ, List, false, None, Some, Ok, IfOk, OnOk, OnErr};
 ghost use Rattle.std.specs.String.{string_bytes};
@@ -16,7 +16,7 @@ use tcap_lines::{Status, WriteFailed};
 use tcap_record::{End, read_record};
 use tcap_refute::laws;
 
-/// What is said of the record that `reader` tells.
+/// Judges the record that `reader` returns.
 fn judge_told<R: Read>(
     alloc: Global,
     reader: &mut R,
@@ -35,8 +35,8 @@ fn judge_told<R: Read>(
     }
 }
 
-/// What is said of a record and a table, each of which a reader tells. Nothing of the record is read before the table is
-/// there.
+/// Judges the record that `entries` returns by the operation table that `table` returns. If the table has a fault,
+/// nothing of the record is read.
 fn judge<R: Read, T: Read>(
     alloc: Global,
     entries: &mut R,
@@ -53,8 +53,9 @@ fn judge<R: Read, T: Read>(
     }
 }
 
-/// What is said of the record that `entries` tells, by the operation table that `table` tells: of one end alone, or, if none
-/// is given, of both. `run_judge` writes the line of it. Nothing of the record is read before the table is there.
+/// Judges the record that `entries` returns by the operation table that `table` returns: one end alone, or both if
+/// `judged` is `None`. `run_judge` writes the line of this result. If the table has a fault, nothing of the record is
+/// read.
 pub fn judge_outcome<R: Read, T: Read>(
     alloc: Global,
     entries: &mut R,
@@ -67,17 +68,26 @@ pub fn judge_outcome<R: Read, T: Read>(
     judge(alloc, entries, table, judged, false).outcome
 }
 
-/// Judges the record that `entries` returns by the operation table that `table` returns, and writes one line: the first
-/// entry that no end sends which keeps the rules; or that the record is lawful, if the certificate that is proposed shows
-/// it; or why that fails; or what is wrong with the table, and else with the record, of which nothing is read before the
-/// table is there. If an end is given, that end alone is judged: the line names the first entry, or quiet mark, that no run
-/// has in which this end keeps the rules, whatever its peer sends; or it says that the end may have sent its part of the
-/// record, and how many of the peer's messages it does not hear. After LAWFUL it writes the certificate on a line of its
-/// own, if `with_certificate`. All that grows has grown before the first octet is written.
+/// Judges the record that `entries` returns by the operation table that `table` returns; writes one line and returns
+/// the status.
+///
+/// The line reports one of these:
+///
+/// - the first entry found at fault: it is no message, or no run in which its sender keeps the rules has it there;
+/// - that the record is lawful by the proposed certificate;
+/// - why the proposed certificate gives no run;
+/// - a fault of the table, or else of the record. If the table has a fault, nothing of the record is read.
+///
+/// If `judged` is an end, this end is judged alone. An entry, or quiet mark, is then at fault if no run in which this
+/// end keeps the rules has it, no matter what its peer sends. If the end may have sent its part of the record, the line
+/// also has the number of the peer's messages that are unheard.
+///
+/// After LAWFUL, the certificate follows on its own line if `with_certificate` is true. No memory is allocated after
+/// the first octet is written.
 ///
 /// # Errors
 ///
-/// `WriteFailed` if the writer failed.
+/// `WriteFailed` if the writer fails.
 pub fn run_judge<R: Read, T: Read, W: Write>(
     alloc: Global,
     entries: &mut R,

@@ -1,4 +1,4 @@
-//! What `tcapjudge` says of a record: its runs over readers and writers, and what they say as values.
+//! The runs of `tcapjudge` that judge a record, over readers and writers, and their outcomes as values.
 #![tactic(auto)]
 
 mod blaming;

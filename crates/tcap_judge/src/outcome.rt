@@ -1,4 +1,4 @@
-//! What a run says of a record, and its line.
+//! The outcome of a run, and its line.
 
 ghost use Rattle.std.specs.Prelude.{◌≡◌, ◌++◌, ℕ, List, IfOk, OnOk, OnErr};
 ghost use Rattle.std.specs.Io.KnownBytes.{Appends};
@@ -14,28 +14,28 @@ use tcap_lines::{MEMORY_LINE, Status, WriteFailed, write_line};
 use tcap_record::push_fault;
 use tcap_refute::Refutation;
 
-/// What is said of a record.
+/// The outcome of judging a record.
 #[derive(Clone, Copy, Debug, PartialEq, Eq)]
 pub enum Outcome {
-    /// The record, of so many entries, is lawful.
+    /// The record, with this many entries, is lawful.
     Lawful(usize),
-    /// One end alone may have sent its part of so many entries, of which so many of its peer's are taken as unheard.
+    /// The judged end alone may have sent its part of this many entries, with this many of its peer's messages unheard.
     LawfulFor(usize, u64),
-    /// The certificate does not show that it is.
+    /// The certificate does not show the record lawful.
     NotShown(CheckFault),
-    /// No two ends send an entry; of one end that is judged alone, it is blamed on this end.
+    /// The sender of this entry broke the rules. If one end is judged alone, the entry is blamed on this end.
     Refuted(Refutation),
-    /// No entry is refuted, and the certificate that is proposed does not show that it is lawful.
+    /// No entry is refuted, and the proposed certificate does not show the record lawful.
     Undecided(CheckFault),
-    /// What was given has a fault: the number of its reason, and its place.
+    /// The input has a fault: the number of its reason, and its place.
     Faulty(u8, u64),
 }
 
-/// Memory ran out.
+/// The outcome if memory ran out.
 pub const OUT_OF_MEMORY: Outcome = Outcome::Faulty(99, 0);
 
 impl Outcome {
-    /// How a run ends that says this.
+    /// Returns the status of a run with this outcome.
     pub fn status(self) -> Status
         ensures { result ≡ outcome_status self }
     {
@@ -48,7 +48,8 @@ impl Outcome {
     }
 }
 
-/// The number of the fault that a reason holds, where it holds one: that of the end's refusal, or of the message's fault.
+/// Returns the number of the inner fault of a reason, if it has one: that of the end's refusal, or of the message's
+/// fault.
 pub fn inner_number(reason: Reason) -> Option<u8>
     ensures { result ≡ inner_number reason }
 {
@@ -59,7 +60,8 @@ pub fn inner_number(reason: Reason) -> Option<u8>
     }
 }
 
-/// Appends the number of a reason, and behind `/` that of the fault in it, where there is one.
+/// Appends the number of a reason and, after `/`, the number of its inner fault, if it has one. Fails if memory runs
+/// out.
 fn push_reason(text: &mut String, reason: Reason) -> Result<(), AllocError>
     ensures { OnOk result (string_bytes text.new ≡ string_bytes text.old ++ reason_text reason) }
 {
@@ -70,7 +72,7 @@ fn push_reason(text: &mut String, reason: Reason) -> Result<(), AllocError>
     }
 }
 
-/// Appends the line where a certificate does not show that a record is lawful.
+/// Appends the line if a certificate does not show a record lawful. Fails if memory runs out.
 fn push_not_shown(text: &mut String, fault: CheckFault) -> Result<(), AllocError>
     ensures { OnOk result (string_bytes text.new ≡ string_bytes text.old ++ not_shown_line fault) }
 {
@@ -80,7 +82,7 @@ fn push_not_shown(text: &mut String, fault: CheckFault) -> Result<(), AllocError
     text.push_str("\n")
 }
 
-/// Appends the line where an entry is at fault.
+/// Appends the line if an entry is at fault. Fails if memory runs out.
 fn push_refuted(text: &mut String, refutation: Refutation) -> Result<(), AllocError>
     ensures { OnOk result (string_bytes text.new ≡ string_bytes text.old ++ refuted_line refutation) }
 {
@@ -89,7 +91,7 @@ fn push_refuted(text: &mut String, refutation: Refutation) -> Result<(), AllocEr
     writeln!(text, "REFUTED {entry} F{number}")
 }
 
-/// Appends the line where nothing shows either.
+/// Appends the line if a record is neither refuted nor shown lawful. Fails if memory runs out.
 fn push_undecided(text: &mut String, fault: CheckFault) -> Result<(), AllocError>
     ensures { OnOk result (string_bytes text.new ≡ string_bytes text.old ++ undecided_line fault) }
 {
@@ -99,7 +101,11 @@ fn push_undecided(text: &mut String, fault: CheckFault) -> Result<(), AllocError
     text.push_str("\n")
 }
 
-/// Appends the line of an outcome. `AllocError` where memory ran out.
+/// Appends the line of an outcome.
+///
+/// # Errors
+///
+/// `AllocError` if memory runs out.
 pub fn push_outcome(text: &mut String, outcome: Outcome) -> Result<(), AllocError>
     ensures { OnOk result (string_bytes text.new ≡ string_bytes text.old ++ outcome_line outcome) }
 {
@@ -113,7 +119,7 @@ pub fn push_outcome(text: &mut String, outcome: Outcome) -> Result<(), AllocErro
     }
 }
 
-/// Appends the line of an outcome, and what stands behind it.
+/// Appends the line of an outcome, and the text after it. Fails if memory runs out.
 fn push_with(text: &mut String, outcome: Outcome, behind: &str) -> Result<(), AllocError>
     ensures { OnOk result (string_bytes text.new ≡ string_bytes text.old ++ outcome_line outcome ++ behind.now) }
 {
@@ -121,8 +127,12 @@ fn push_with(text: &mut String, outcome: Outcome, behind: &str) -> Result<(), Al
     text.push_str(behind)
 }
 
-/// Writes the line of an outcome, and what stands behind it, or that memory ran out where there is none for them, and
-/// answers how the run ends. All is there before its first octet is written. `WriteFailed` where the writer failed.
+/// Writes the line of an outcome and the text after it, or the line that memory ran out, and returns the status. The
+/// text is complete before its first octet is written.
+///
+/// # Errors
+///
+/// `WriteFailed` if the writer fails.
 pub fn write_outcome<W: Write>(
     alloc: Global,
     outcome: Outcome,

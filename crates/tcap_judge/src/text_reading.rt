@@ -1,4 +1,4 @@
-//! Reading a whole text.
+//! Reads a whole text.
 
 ghost use Rattle.std.specs.Prelude.{◌≡◌};
 ghost use Rattle.tcap_judge.specs.declared.text_reading.TextFault.{TextFault};
@@ -8,12 +8,12 @@ use std::alloc::{AllocError, Global};
 use tcap_ber::{Failed, Read};
 use tcap_record::PIECE_LEN;
 
-/// Why a text was not read.
+/// The reason why a text was not read.
 #[derive(Clone, Copy, PartialEq, Eq)]
 pub(crate) enum TextFault {
-    /// It is longer than the limit.
+    /// The text is longer than the limit.
     TooLong,
-    /// The reader failed behind so many octets.
+    /// The reader failed after this many octets.
     Read(u64),
     /// Memory ran out.
     Memory,
@@ -27,7 +27,7 @@ impl From<AllocError> for TextFault {
     }
 }
 
-/// The octets that `reader` tells up to its end, where there are at most `limit`. No more is read once there are more.
+/// Reads all octets that `reader` returns, if there are at most `limit`. Stops reading as soon as there are more.
 pub(crate) fn read_text<R: Read>(
     alloc: Global,
     reader: &mut R,

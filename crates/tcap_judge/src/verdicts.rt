@@ -1,4 +1,4 @@
-//! The verdict on a record that is there: on both ends, or on one alone.
+//! The verdict on a record in memory: on both ends, or on one alone.
 
 ghost use Rattle.std.specs.Prelude.{◌≡◌, ◌≢◌, [], ◌≤◌, length, map, is_some, Some, Err, IfOk};
 ghost use Rattle.std.specs.String.{string_bytes};
@@ -22,17 +22,17 @@ use tcap_record::{End, Record};
 use tcap_refute::{Refutation, refute};
 use tcap_search::{search, search_for};
 
-/// What is said of a record, and what stands behind the line of it.
+/// A verdict on a record, with the text to print after its line.
 #[derive(Debug, Drop)]
 pub struct Said {
-    /// What is said.
+    /// The verdict.
     pub outcome: Outcome,
-    /// What stands behind its line: the certificate on a line of its own, or nothing.
+    /// The text after the verdict's line: the certificate on its own line, or nothing.
     pub behind: String,
 }
 
 impl Said {
-    /// That is said, and nothing stands behind it.
+    /// Returns this verdict with no text after it.
     pub(crate) fn alone(alloc: Global, outcome: Outcome) -> Said
         ensures outcome { result.outcome ≡ outcome }
         ensures behind { string_bytes result.behind ≡ [] }
@@ -44,9 +44,13 @@ impl Said {
     }
 }
 
-/// The entry that is named: where both ends are judged, the lowest that has one of the seven kinds of `refute`; where one is, the lowest
-/// that has one of the fifteen kinds of `blame` for that end (Q.771, Q.773, Q.774); with its lowest kind. `None` where none has one,
-/// up to the first that is no message. `AllocError` where memory ran out.
+/// Finds the lowest entry at fault, with its lowest kind (Q.771, Q.773, Q.774). For both ends, the seven kinds of
+/// `refute` count; for one end, the fifteen kinds of `blame`. Returns `None` if there is no such entry up to the first
+/// that is no message.
+///
+/// # Errors
+///
+/// `AllocError` if memory runs out.
 pub fn named(
     alloc: Global,
     read: &Record,
@@ -62,7 +66,11 @@ pub fn named(
     found.map_err(|_| AllocError)
 }
 
-/// The certificate that is proposed for a record, of at most 100,000 entries. `AllocError` where memory ran out.
+/// Proposes a certificate for a record of at most 100,000 entries.
+///
+/// # Errors
+///
+/// `AllocError` if memory runs out.
 pub fn propose(alloc: Global, read: &Record, judged: Option<End>) -> Result<Certificate, AllocError>
     requires few { length read.now.entries.items ≤ 100000 }
     ensures { IfOk result (λ c. c ≡ proposed_by judged read.now.entries.items) }
@@ -74,8 +82,12 @@ pub fn propose(alloc: Global, read: &Record, judged: Option<End>) -> Result<Cert
     found.map_err(|_| AllocError)
 }
 
-/// What a certificate shows of a record: that it is lawful, of one end alone, or, where none is named, of both; else the
-/// first reason why it does not, at an entry, or `Memory`.
+/// Replays a certificate over a record, for one end alone, or for both if `judged` is `None`. Returns the lawful
+/// outcome.
+///
+/// # Errors
+///
+/// The first reason why the certificate gives no run, with its entry, or `Memory` if memory runs out.
 pub fn replay(
     alloc: Global,
     read: &Record,
@@ -92,7 +104,7 @@ pub fn replay(
     Ok(lawful_of(judged, read.entries.len(), report))
 }
 
-/// The certificate on a line of its own.
+/// Returns the certificate on its own line. Fails if memory runs out.
 fn line_of(alloc: Global, certificate: &Certificate) -> Result<String, AllocError>
     ensures { IfOk result (λ line. string_bytes line ≡ line_of_certificate certificate.now) }
 {
@@ -101,7 +113,7 @@ fn line_of(alloc: Global, certificate: &Certificate) -> Result<String, AllocErro
     Ok(line)
 }
 
-/// That is said, and behind it stands the certificate that shows it, where it is asked for.
+/// Returns this verdict, followed by the certificate that shows it if requested. Fails if memory runs out.
 fn shown(
     alloc: Global,
     outcome: Outcome,
@@ -120,7 +132,7 @@ fn shown(
     })
 }
 
-/// What is said of a record where no entry is named: what the certificate that is proposed shows.
+/// Judges a record without an entry at fault, by the proposed certificate. Fails if memory runs out.
 pub(crate) fn judge_by_search(
     alloc: Global,
     read: &Record,
@@ -140,7 +152,8 @@ pub(crate) fn judge_by_search(
     }
 }
 
-/// Whether no two ends exchange these entries. Then an end is mostly blamed, so that is asked before a certificate is searched for.
+/// Returns whether `refute` refutes the record. If it does, one end is usually to blame, so this is checked before a
+/// certificate is searched for. Fails if memory runs out.
 fn is_refuted(alloc: Global, read: &Record, table: &Table) -> Result<bool, AllocError>
     ensures { IfOk result (λ so. so ≡ is_some (refuted table.now (map item_of read.now.entries.items))) }
 {
@@ -150,8 +163,8 @@ fn is_refuted(alloc: Global, read: &Record, table: &Table) -> Result<bool, Alloc
     }
 }
 
-/// What is said of one end alone. Where the certificate that is proposed gives a run, nothing is blamed on the end, so it is
-/// asked what is blamed only where it gives none.
+/// Judges one end alone. If the proposed certificate gives a run, nothing is blamed on the end, so blame is searched
+/// for only if it gives none. Fails if memory runs out.
 fn judge_end(
     alloc: Global,
     read: &Record,
@@ -174,8 +187,12 @@ fn judge_end(
     Ok(said)
 }
 
-/// What is said of a record, of at most 100,000 entries, of one end alone, or, where none is named, of both: that an entry is
-/// refuted, or what the certificate that is proposed shows. `AllocError` where memory ran out.
+/// Judges a record of at most 100,000 entries: one end alone, or both if `judged` is `None`. The verdict is an entry at
+/// fault, or the result of the proposed certificate.
+///
+/// # Errors
+///
+/// `AllocError` if memory runs out.
 pub fn judge_record(
     alloc: Global,
     read: &Record,

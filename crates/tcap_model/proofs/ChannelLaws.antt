@@ -1,4 +1,4 @@
--- Channels: the order of what was taken from one and of what is on it, and that it was sent.
+-- Channels keep order, lose nothing unrecorded, and carry only messages that were sent.
 use Rattle.std.proofs.Common.{arith, ◌≡◌, ◌⊎◌, inl, inr, ℕ, zero, suc, ◌+◌, ◌<◌, Bool, true, false, cond, List, [], ◌∷◌, ◌++◌, length, Some, refl, sym, ap, ◌∙◌, append_assoc}
 use Rattle.std.specs.Prelude.{drop, slice_get}
 use Rattle.std.proofs.Math.Seq.{drop-append_seam}
@@ -24,11 +24,11 @@ use Rattle.tcap_model.proofs.SinceLaws.{drop_more, no_quiet}
 
 -- ---- the sent list
 
--- It is as it was, or has one message more,
+-- the sent list stays, or gets one message
 abbrev IsSentOn : World → World → Type 0
 IsSentOn w next = (next.sent ≡ w.sent) ⊎ ((sender : Side) × (m : Message) × (next.sent ≡ w.sent ++ Sent sender m ∷ []))
 
--- one of the other end.
+-- the sent list stays, or gets a message of the other end
 abbrev IsNotSent : Side → World → World → Type 0
 IsNotSent side w next =
     (next.sent ≡ w.sent) ⊎ ((sender : Side) × (m : Message) × (next.sent ≡ w.sent ++ Sent sender m ∷ []) × (is_side side sender ≡ false))
@@ -40,7 +40,7 @@ sent_on side w next (inr (sender, m, more, apart)) = inr (sender, m, more)
 further : (n : ℕ) (items : List Item) → (n + 1) + length items ≡ n + length (Item.Quiet ∷ items)
 further n items = omega arith
 
--- One message more has the next number,
+-- `numbers_sent` after one more message
 numbers_more : (side sender : Side) (m : Message) (n : ℕ) (items : List Item)
     → numbers_sent side n (items ++ Sent sender m ∷ [])
     ≡ numbers_sent side n items ++ cond (is_side side sender) ((n + length items) ∷ []) []
@@ -67,32 +67,32 @@ numbers_more side sender m n (Sent other_one message ∷ items) = by (is_side si
     by true is = ap (λ more. n ∷ more) is
     by false is = is
 
--- and a mark none.
+-- `numbers_sent` after a quiet mark
 numbers_quiet : (side : Side) (n : ℕ) (items : List Item) → numbers_sent side n (items ++ Item.Quiet ∷ []) ≡ numbers_sent side n items
 numbers_quiet side n [] = refl
 numbers_quiet side n (Item.Quiet ∷ items) = numbers_quiet side (n + 1) items
 numbers_quiet side n (Sent sender message ∷ items) =
     ap (λ more. cond (is_side side sender) (n ∷ more) more) (numbers_quiet side (n + 1) items)
 
--- Nothing more of this end.
+-- `numbers_sent` does not change if this end sends nothing.
 numbers_same : (side : Side) (w next : World) → IsNotSent side w next → numbers_sent side 0 next.sent ≡ numbers_sent side 0 w.sent
 numbers_same side w next (inl same) = rw same refl
 numbers_same side w next (inr (sender, m, more, apart)) =
     rw (more, numbers_more side sender m 0 w.sent, apart) (append-nil (numbers_sent side 0 w.sent))
 
--- An item stands where it stood, with one more behind it,
+-- An item keeps its place if an item is appended.
 get_more : (items : List Item) (item found : Item) (n : ℕ) → slice_get items n ≡ Some found
     → slice_get (items ++ item ∷ []) n ≡ Some found
 get_more [] item found n is = cc
 get_more (first ∷ items) item found zero is = is
 get_more (first ∷ items) item found (suc n) is = get_more items item found n is
 
--- and the new one behind them.
+-- An appended item is at the end.
 pub get_new : (items : List Item) (item : Item) → slice_get (items ++ item ∷ []) (length items) ≡ Some item
 get_new [] item = refl
 get_new (first ∷ items) item = get_new items item
 
--- What was sent since still was.
+-- Messages in transit remain sent since the last mark, if no mark is added.
 still_sent : (side : Side) (w next : World) (messages : List OnItsWay) → IsSentOn w next → AllByRecursion (WasSent w side) messages
     → AllByRecursion (WasSent next side) messages
 still_sent side w next messages on = all_weaker (WasSent w side) (WasSent next side) messages (by on)
@@ -106,11 +106,11 @@ still_sent side w next messages on = all_weaker (WasSent w side) (WasSent next s
           (no_quiet sender n (drop m.number w.sent) was.since);
     }
 
--- the newest message on its way
+-- the newest message in transit
 abbrev newest : World → Message → OnItsWay
 newest w m = record { number = length w.sent; message = m }
 
--- It was sent.
+-- The newest message is in the sent list.
 newest_was_sent : (side : Side) (w next : World) (m : Message) → next.sent ≡ w.sent ++ Sent side m ∷ [] → WasSent next side (newest w m)
 newest_was_sent side w next m more = record {
   listed = rw more (get_new w.sent (Sent side m));
@@ -119,7 +119,8 @@ newest_was_sent side w next m more = record {
 
 -- ---- what a step does to a channel
 
--- What it takes from it stood at its front, what it adds is the newest message, and the rest was sent since still.
+-- What a step does to a channel: it takes messages from the front, or appends the newest message. The rest stay sent
+-- since the last mark.
 record Passes (event : Event) (side : Side) (w next : World) : Type 0 where
   gone : List OnItsWay
   left : List OnItsWay
@@ -132,7 +133,7 @@ record Passes (event : Event) (side : Side) (w next : World) : Type 0 where
   kept : AllByRecursion (WasSent w side) (gone ++ left) → AllByRecursion (WasSent next side) left
 
 module _ {event : Event} {side : Side} {w next : World} where
-  -- It stays as it is,
+  -- The channel stays.
   stays : takes_from side event ≡ [] → channel_from side next ≡ channel_from side w → IsNotSent side w next → Passes event side w next
   stays none same on = record {
     gone = [];
@@ -145,7 +146,7 @@ module _ {event : Event} {side : Side} {w next : World} where
     kept = still_sent side w next (channel_from side w) (sent_on side w next on);
   }
 
-  -- or loses its head,
+  -- The channel loses its head.
   loses_head : (head : OnItsWay) (more : List OnItsWay) → takes_from side event ≡ head.number ∷ [] → channel_from side w ≡ head ∷ more
       → channel_from side next ≡ more → IsNotSent side w next → Passes event side w next
   loses_head head more took was now on = record {
@@ -159,7 +160,7 @@ module _ {event : Event} {side : Side} {w next : World} where
     kept = λ all. still_sent side w next more (sent_on side w next on) all.1;
   }
 
-  -- or a message joins it.
+  -- The channel gets a message.
   gets : (m : Message) → takes_from side event ≡ [] → channel_from side next ≡ channel_from side w ++ newest w m ∷ []
       → next.sent ≡ w.sent ++ Sent side m ∷ [] → Passes event side w next
   gets m none now sent = record {
@@ -175,7 +176,7 @@ module _ {event : Event} {side : Side} {w next : World} where
 
 -- ---- each kind of step
 
--- An end's channel gets the message that it sends.
+-- The sender's channel gets the message.
 sends_passes : (side sender : Side) (m : Message) (made : End) (w : World)
     → Passes (Sends sender m) side w (joined sender m (with_end sender made w))
 sends_passes A A m made w = gets m refl refl refl
@@ -183,11 +184,11 @@ sends_passes A B m made w = stays refl refl (inr (B, m, refl, refl))
 sends_passes B A m made w = stays refl refl (inr (A, m, refl, refl))
 sends_passes B B m made w = gets m refl refl refl
 
--- what is taken of a channel, by its head's number
+-- the number taken is the head's
 head_number : (head : OnItsWay) (number : ℕ) → head.number ≡ number → number ∷ [] ≡ head.number ∷ []
 head_number head number is = rw is refl
 
--- A message is taken where it is received,
+-- A received message leaves its channel.
 receives_passes : (side receiver : Side) (number : ℕ) (w : World) (made : End) (head : OnItsWay) (more : List OnItsWay)
     → channel_from (other receiver) w ≡ head ∷ more → head.number ≡ number
     → Passes (Receives receiver number) side w (with_end receiver made (with_channel (other receiver) more w))
@@ -196,7 +197,7 @@ receives_passes A B number w made head more was is = loses_head head more (head_
 receives_passes B A number w made head more was is = loses_head head more (head_number head number is) was refl (inl refl)
 receives_passes B B number w made head more was is = stays refl refl (inl refl)
 
--- where it is lost,
+-- A lost message leaves its channel.
 loses_passes : (side sender : Side) (number : ℕ) (w : World) (head : OnItsWay) (more : List OnItsWay)
     → channel_from sender w ≡ head ∷ more → head.number ≡ number
     → Passes (Loses sender number) side w (with_channel sender more w)
@@ -205,7 +206,7 @@ loses_passes A B number w head more was is = stays refl refl (inl refl)
 loses_passes B A number w head more was is = stays refl refl (inl refl)
 loses_passes B B number w head more was is = loses_head head more (head_number head number is) was refl (inl refl)
 
--- and where it is answered; then the other channel gets the answer.
+-- An answered message leaves its channel, and the other channel gets the Abort.
 replies_passes : (side replier : Side) (number : ℕ) (w : World) (abort : Message) (head : OnItsWay) (more : List OnItsWay)
     → channel_from (other replier) w ≡ head ∷ more → head.number ≡ number
     → Passes (Replies replier number) side w (joined replier abort (with_channel (other replier) more w))
@@ -214,7 +215,7 @@ replies_passes A B number w abort head more was is = loses_head head more (head_
 replies_passes B A number w abort head more was is = loses_head head more (head_number head number is) was refl (inr (A, abort, refl, refl))
 replies_passes B B number w abort head more was is = gets abort refl refl refl
 
--- What happens to an end unseen is no matter of channels.
+-- A hidden step at an end changes no channel.
 hidden_passes : (side place : Side) (event : Event) (w : World) (made : End) → takes_from side event ≡ []
     → Passes event side w (with_end place made w)
 hidden_passes A A event w made none = stays none refl (inl refl)
@@ -222,7 +223,7 @@ hidden_passes A B event w made none = stays none refl (inl refl)
 hidden_passes B A event w made none = stays none refl (inl refl)
 hidden_passes B B event w made none = stays none refl (inl refl)
 
--- A channel is empty before a quiet mark and behind it.
+-- A quiet mark leaves the empty channels empty.
 quiet_passes : (side : Side) (w next : World) → IsQuiet w next → Passes Quiet side w next
 quiet_passes side w next is = record {
   gone = [];
@@ -239,14 +240,14 @@ quiet_passes side w next is = record {
     empty_at A = (is.from_a, rw is.next_is refl)
     empty_at B = (is.from_b, rw is.next_is refl)
 
--- An end's channel gets the message that it tells.
+-- A message sent by `Tells` joins its sender's channel.
 tells_passes : (side sender : Side) (m : Message) (w : World) → Passes (Tells sender m) side w (joined sender m w)
 tells_passes A A m w = gets m refl refl refl
 tells_passes A B m w = stays refl refl (inr (B, m, refl, refl))
 tells_passes B A m w = stays refl refl (inr (A, m, refl, refl))
 tells_passes B B m w = gets m refl refl refl
 
--- What each step does to each channel.
+-- Every step does one of these to each channel.
 passes : (table : Table) (event : Event) (w next : World) → after table event w ≡ Some next → (side : Side) → Passes event side w next
 passes table (Sends sender m) w next is side =
     let s = sending table sender m w next is in rw (s.next_is) (sends_passes side sender m s.made w)
@@ -265,13 +266,13 @@ passes table (Closes place name) w next is side =
 passes table (Tells sender m) w next is side = rw ((telling table sender m w next is).next_is) (tells_passes side sender m w)
 passes table Quiet w next is side = quiet_passes side w next (quiet table w next is)
 
--- ---- what was taken from a channel, and what is on it
+-- ---- messages taken from a channel, and those on it
 
--- the one, and then the other
+-- the numbers of the messages taken from a channel, then of those on it
 abbrev passed : Side → List Event → World → List ℕ
 passed side events w = numbers_taken side events ++ numbers_of (channel_from side w)
 
--- What is taken by a step stands last.
+-- The last step takes the last number.
 taken_more : (side : Side) (before : List Event) (event : Event)
     → numbers_taken side (before ++ event ∷ []) ≡ numbers_taken side before ++ takes_from side event
 taken_more side [] event = append-nil (takes_from side event)
@@ -279,25 +280,25 @@ taken_more side (first ∷ before) event =
     ap (λ others. takes_from side first ++ others) (taken_more side before event)
     ∙ sym (append_assoc (takes_from side first) (numbers_taken side before) (takes_from side event))
 
--- So it stands between what was taken before and what is on the channel then.
+-- `passed` after one more step
 passed_more : (side : Side) (before : List Event) (event : Event) (next : World)
     → passed side (before ++ event ∷ []) next ≡ numbers_taken side before ++ (takes_from side event ++ numbers_of (channel_from side next))
 passed_more side before event next =
     ap (λ front. front ++ numbers_of (channel_from side next)) (taken_more side before event)
     ∙ append_assoc (numbers_taken side before) (takes_from side event) (numbers_of (channel_from side next))
 
--- What goes and what is left behind it are what there was.
+-- append is associative, over numbers
 numbers_regroup : (gone left new : List OnItsWay)
     → numbers_of gone ++ numbers_of (left ++ new) ≡ numbers_of (gone ++ left) ++ numbers_of new
 numbers_regroup [] left new = map-append (λ m. m.number) left new
 numbers_regroup (first ∷ gone) left new = ap (λ more. first.number ∷ more) (numbers_regroup gone left new)
 
 module _ {event : Event} {side : Side} {w next : World} (it : Passes event side w next) where
-  -- What is taken, and then what is on the channel, is what was on it, and what is new.
+  -- The number taken and the channel after a step are the channel before it and what is new.
   now_there : takes_from side event ++ numbers_of (channel_from side next) ≡ numbers_of (channel_from side w) ++ numbers_of it.new
   now_there = rw (it.taken_is, it.now, it.was) (numbers_regroup it.gone it.left it.new)
 
-  -- What is new was sent.
+  -- What is new on a channel is the newest in `numbers_sent`.
   now_sent : numbers_sent side 0 next.sent ≡ numbers_sent side 0 w.sent ++ numbers_of it.new
   now_sent = by it.new_is
     where
@@ -309,11 +310,11 @@ module _ {event : Event} {side : Side} {w next : World} (it : Passes event side 
           rw (more, one, numbers_more side side m 0 w.sent, itself side)
           (ap (λ k. numbers_sent side 0 w.sent ++ k ∷ []) (let none : 0 + length w.sent ≡ length w.sent = omega arith in none))
 
--- both channels
+-- `passed` is `numbers_sent`, for both channels
 abbrev AreWhole : List Event → World → Type 0
 AreWhole events w = (side : Side) → passed side events w ≡ numbers_sent side 0 w.sent
 
--- A step keeps them whole,
+-- A step keeps this.
 whole_kept : (before : List Event) (event : Event) (w next : World) → ((side : Side) → Passes event side w next) → AreWhole before w
     → AreWhole (before ++ event ∷ []) next
 whole_kept before event w next step whole side =
@@ -327,7 +328,7 @@ nothing_whole : AreWhole [] empty
 nothing_whole A = refl
 nothing_whole B = refl
 
--- and so they are behind each run.
+-- It holds after each run.
 pub are_whole : (table : Table) (events : List Event) (w : World) → Runs table events w → (side : Side)
     → passed side events w ≡ numbers_sent side 0 w.sent
 are_whole table = runs_keep table AreWhole nothing_whole
@@ -335,7 +336,7 @@ are_whole table = runs_keep table AreWhole nothing_whole
 
 -- ---- the order of a channel
 
--- Numbers of what is sent are above one that was given before.
+-- Numbers given later are above an earlier one.
 all_above : (side : Side) (k n : ℕ) (items : List Item) → k < n → AllByRecursion (λ x. nat_cmp k x ≡ Less) (numbers_sent side n items)
 all_above side k n [] below = tt
 all_above side k n (Item.Quiet ∷ items) below = all_above side k (n + 1) items (omega arith)
@@ -359,18 +360,18 @@ sent_in_order side n (Sent sender m ∷ items) =
     by true above rises = (above, rises)
     by false above rises = rises
 
--- So they rise behind each run.
+-- The numbers rise after each run.
 pub in_order : (table : Table) (events : List Event) (w : World) → Runs table events w → (side : Side)
     → IsStrictlySortedBy nat_cmp (passed side events w)
 in_order table events w is side = rw (are_whole table events w is side) (sent_in_order side 0 w.sent)
 
--- ---- what is on a channel was sent
+-- ---- messages on a channel were sent
 
--- each message on a channel
+-- each message on each channel was sent since the last mark
 abbrev AllSent : World → Type 0
 AllSent w = (side : Side) → AllByRecursion (WasSent w side) (channel_from side w)
 
--- A step keeps it,
+-- A step keeps this.
 sent_kept : (event : Event) (w next : World) → ((side : Side) → Passes event side w next) → AllSent w → AllSent next
 sent_kept event w next step all side =
     rw it.now (all_both (WasSent next side) it.left it.new (it.kept (rw it.was at (all side))) (by it.new_is))
@@ -384,12 +385,12 @@ sent_kept event w next step all side =
     by (inl none) = rw (none.0) tt
     by (inr (m, one, more)) = rw one (newest_was_sent side w next m more, tt)
 
--- In the beginning there is none,
+-- It holds in the empty world.
 none_sent : AllSent empty
 none_sent A = tt
 none_sent B = tt
 
--- and it holds behind each run.
+-- It holds after each run.
 pub were_sent : (table : Table) (events : List Event) (w : World) → Runs table events w → (side : Side)
     → AllByRecursion (WasSent w side) (channel_from side w)
 were_sent table = runs_keep table (λ events w. AllSent w) none_sent

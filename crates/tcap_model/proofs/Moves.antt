@@ -1,4 +1,4 @@
--- What a step of one end makes of its halves.
+-- What a step of one end does to its halves.
 use Rattle.std.proofs.Common.{◌≡◌, ◌⊎◌, ℤ, ℕ, true, List, Option, Some, None}
 use Rattle.std.specs.Prelude.{Contains}
 use Rattle.std.specs.List.{AllByRecursion}
@@ -14,26 +14,26 @@ use Rattle.tcap_end.specs.Sound.{Has}
 use Rattle.tcap_model.specs.Since.{originating}
 use Rattle.tcap_model.specs.Since.{IsAnswer, asks}
 
--- a half that is not there yet
+-- a half before its first step
 abbrev pub blank : Half
 blank = fresh phases.Sent None None standings.Without
 
--- What was received, if anything was, came from that transaction ID.
+-- The received message, if any, has this originating ID.
 abbrev pub IsFrom : Option Message → Option (List ℕ) → Type 0
 IsFrom None peer = ⊥
 IsFrom (Some m) peer = originating m ≡ peer
 
--- It was a Begin that asks for a dialogue.
+-- The received message is a Begin with a dialogue request.
 abbrev pub IsAsked : Option Message → Type 0
 IsAsked None = ⊥
 IsAsked (Some m) = asks m ≡ true
 
--- It had that component.
+-- The received message has this component.
 abbrev pub HasCome : Option Message → Component → Type 0
 HasCome None component = ⊥
 HasCome (Some m) component = Contains (components_in m) component
 
--- What a half is, where it was h before, or is new, and where a message was received or not.
+-- How a step turns half h, old or blank, into g, with the message that it receives, if any.
 pub record Turns (came : Option Message) (h g : Half) : Type 1 where
   pub own : (id : List ℕ) → h.own ≡ Some id → g.own ≡ Some id
   pub peer : (id : List ℕ) → h.peer ≡ Some id → g.peer ≡ Some id
@@ -49,7 +49,7 @@ pub record Turns (came : Option Message) (h g : Half) : Type 1 where
       → ((answer : Answer) (component : Component) → IsAnswer answer id component → HasCome came component → IsFrom came g.peer → P answer)
       → AllByRecursion P (listed id g.grants)
 
--- What is there behind a step comes from what was there, or is new; and what was there is there still, as the step leaves it.
+-- Each half after a step comes from an old or a blank half, and each old half is still kept as the step leaves it.
 pub record Moves (came : Option Message) (e next : End) : Type 1 where
   pub back : (g : KeptHalf) → Has next g → (h : Half) × (Has e (record g { half = h }) ⊎ (h ≡ blank)) × Turns came h g.half
   pub forth : (f : KeptHalf) → Has e f → (g : Half) × Has next (record f { half = g }) × Turns came f.half g

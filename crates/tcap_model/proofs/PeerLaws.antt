@@ -1,4 +1,4 @@
--- What a half knows of its peer, the peer sent since.
+-- What a half knows of its peer, the peer sent since the last mark.
 use Rattle.std.proofs.Common.{◌≡◌, ◌⊎◌, true, inl, inr, ℕ, ℤ, List, [], Option, Some, None, IsSome, refl, sym, ◌∙◌}
 use Rattle.std.specs.List.{AllByRecursion}
 use Rattle.tcap_parts.specs.declared.component.Component.{Component}
@@ -21,7 +21,7 @@ use Rattle.tcap_model.proofs.ListLaws.{all_weaker}
 use Rattle.tcap_model.proofs.Moves.{HasCome, IsAsked, IsFrom, Turns, blank}
 use Rattle.tcap_model.proofs.WorldMoves.{Advances, CameSince, EndMoves, SentMore, worlds_keep}
 
--- All four, of one half.
+-- all four properties of one half
 pub record Knows (w : World) (side : Side) (f : KeptHalf) : Type 0 where
   pub peer : PeerWasSent w side f
   pub request : RequestWasSent w side f
@@ -30,20 +30,20 @@ pub record Knows (w : World) (side : Side) (f : KeptHalf) : Type 0 where
 
 -- ---- halves without a peer's ID
 
--- A half in which nothing came.
+-- a half that received nothing
 abbrev IsBare : Half → Type 0
 IsBare h = (h.phase ≡ phases.Received → ⊥) × (h.inn ≡ []) × (h.grants ≡ [])
 
--- A half that knows its peer's ID.
+-- a half that knows its peer ID
 abbrev HasPeer : Half → Type 0
 HasPeer h = (id : List ℕ) × (h.peer ≡ Some id)
 
--- What is there is a value.
+-- An option that is Some has a value.
 some_is : {A : Type 0} (o : Option A) → IsSome o → (x : A) × (o ≡ Some x)
 some_is None is = cc
 some_is (Some x) is = (x, refl)
 
--- A half knows its peer's ID, or nothing came in it.
+-- A half knows its peer ID, or received nothing.
 peer_or_bare : (h : Half) → IsHalf h → HasPeer h ⊎ IsBare h
 peer_or_bare h half = by h.phase refl half.phase
   where
@@ -55,18 +55,18 @@ peer_or_bare h half = by h.phase refl half.phase
 
 -- ---- one half
 
--- What came from the peer did so still, where the half keeps its peer's ID.
+-- A component that came from the peer still did, if the half keeps its peer ID.
 still_came : {event : Event} → (w next : World) (side : Side) (f g : KeptHalf) (component : Component) → SentMore event w next → f.half.peer ≡ g.half.peer
     → CameFromPeer w side f component → CameFromPeer next side g component
 still_came w next side f g component sent same (m, since, from, has) = (m, sent.keeps (other side) m since, from ∙ same, has)
 
--- What comes now comes from the peer.
+-- The components of the received message come from the peer.
 now_came : {event : Event} → (w next : World) (side : Side) (g : KeptHalf) (came : Option Message) (component : Component) → SentMore event w next
     → CameSince w side came → HasCome came component → IsFrom came g.half.peer → CameFromPeer next side g component
 now_came w next side g None component sent since has from = absurd has
 now_came w next side g (Some m) component sent since has from = (m, sent.keeps (other side) m since, from, has)
 
--- an invocation that the peer sent, and an answer
+-- the peer sent this invocation, or this answer
 abbrev IsInvoked : World → Side → ℤ → KeptHalf → Invocation → Type 0
 IsInvoked w side id f item =
     (linked : Option ℤ) × (parameter : Option (List ℕ)) × CameFromPeer w side f (Invoke id linked item.code parameter)
@@ -74,7 +74,7 @@ IsInvoked w side id f item =
 abbrev IsAnswered : World → Side → ℤ → KeptHalf → Answer → Type 0
 IsAnswered w side id f answer = (component : Component) × IsAnswer answer id component × CameFromPeer w side f component
 
--- A half that was there, or is new, and what a step makes of it.
+-- a half before and after a step
 module _ {event : Event} (w next : World) (side : Side) (g : KeptHalf) (h : Half) (came : Option Message) (since : CameSince w side came)
     (sent : SentMore event w next) (turns : Turns came h g.half) (known : HasPeer h ⊎ IsBare h) where
   abbrev was : KeptHalf
@@ -133,7 +133,7 @@ module _ {event : Event} (w next : World) (side : Side) (g : KeptHalf) (h : Half
 
 -- ---- worlds
 
--- A half that is new knows nothing.
+-- A new half knows nothing.
 knows_blank : (w : World) (side : Side) (g : KeptHalf) → Knows w side (record g { half = blank })
 knows_blank w side g = record {
   peer = λ id is. cc;
@@ -142,11 +142,11 @@ knows_blank w side g = record {
   answers = λ id. tt;
 }
 
--- each half of each end
+-- all halves of both ends have the four properties
 abbrev AllKnow : World → Type 0
 AllKnow w = (side : Side) (f : KeptHalf) → Has (end_at side w) f → Knows w side f
 
--- A step keeps it,
+-- A step keeps this.
 keeps_known : (event : Event) (w next : World) → ((side : Side) → IsEnd (end_at side w)) → Advances event w next → AllKnow w → AllKnow next
 keeps_known event w next sound advances held side g had = by (moves.moves.back g had)
   where
@@ -162,12 +162,12 @@ keeps_known event w next sound advances held side g had = by (moves.moves.back g
         from h (peer_or_bare h ((sound side).halves f there)) turns (held side f there)
     by (h, inr new, turns) = from h (rw new (inr (λ received. cc, refl, refl))) turns (rw new (knows_blank w side g))
 
--- so it holds behind each run.
+-- It holds after each run.
 all_know : (table : Table) (events : List Event) (w : World) → Runs table events w → AllKnow w
 all_know table = worlds_keep table (λ events w. AllKnow w) (λ events w none side f had. absurd (none.halves side f had))
     (λ before. keeps_known)
 
--- What a half knows of its peer, in each run.
+-- The four properties hold in each run.
 pub knows : (table : Table) (events : List Event) (w : World) (side : Side) (f : KeptHalf) → Runs table events w → Has (end_at side w) f
     → Knows w side f
 knows table events w side f runs had = all_know table events w runs side f had

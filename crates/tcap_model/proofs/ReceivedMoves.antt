@@ -1,4 +1,4 @@
--- What receiving a message makes of the halves of an end.
+-- What receiving a message does to the halves of an end.
 use Rattle.std.proofs.Common.{◌≡◌, Bool, true, false, cond, ℤ, ℕ, List, [], ◌∷◌, ◌++◌, ◌⊎◌, inl, inr, Option, Some, None, Result, Ok, is_none, refl, sym, subst, ◌∙◌}
 use Rattle.std.specs.Prelude.{Contains, ok_or}
 use Rattle.std.specs.List.{AllByRecursion}
@@ -40,7 +40,7 @@ use Rattle.tcap_model.proofs.TurnLaws.{id_is, moves_nowhere, new_moves, put_move
 
 -- ---- lists by invoke ID
 
--- What is kept of an ID behind one item more: what was, and the item where it has that ID.
+-- A property of all items of an ID still holds after an item is added, if the item has it or another ID.
 all_added : {A : Type 0} (P : A → Type 0) (q id : ℤ) (item : A) (items : List (ℤ × List A))
     → AllByRecursion P (listed q items) → (q ≡ id → P item) → AllByRecursion P (listed q (with_newest id item items))
 all_added {A = A} P q id item items all new = of_list (listed id items) refl
@@ -60,7 +60,7 @@ all_added {A = A} P q id item items all new = of_list (listed id items) refl
 
 -- ---- components
 
--- What was received of a half comes from what was, or from components that have come.
+-- Items received in g come from h or from the components of the message.
 pub record Gains (came : Option Message) (h g : Half) : Type 1 where
   pub inn : (id : ℤ) (P : Invocation → Type 0) → AllByRecursion P (listed id h.inn)
       → ((item : Invocation) (linked : Option ℤ) (parameter : Option (List ℕ)) → HasCome came (Invoke id linked item.code parameter)
@@ -70,18 +70,18 @@ pub record Gains (came : Option Message) (h g : Half) : Type 1 where
       → ((answer : Answer) (component : Component) → IsAnswer answer id component → HasCome came component → P answer)
       → AllByRecursion P (listed id g.grants)
 
--- Nothing came: own invocations alone may have changed,
+-- Only own invocations changed.
 gains_none : (came : Option Message) (h g : Half) → g.inn ≡ h.inn → g.grants ≡ h.grants → Gains came h g
 gains_none came h g inn grants = record { inn = λ id P all new. rw inn all; grants = λ id P all new. rw grants all }
 
--- or some did, and then more.
+-- Two such steps in a row are one.
 gains_then : (came : Option Message) (h g k : Half) → Gains came h g → Gains came g k → Gains came h k
 gains_then came h g k first second = record {
   inn = λ id P all new. second.inn id P (first.inn id P all new) new;
   grants = λ id P all new. second.grants id P (first.grants id P all new) new;
 }
 
--- An invocation is received.
+-- An Invoke is received.
 gains_invoke : (came : Option Message) (h : Half) (id : ℤ) (linked : Option ℤ) (code : Code) (parameter : Option (List ℕ))
     (problems : List ℕ) → HasCome came (Invoke id linked code parameter)
     → Gains came h (record h { inn = with_newest id (record { code = code; problems = problems }) h.inn })
@@ -93,7 +93,7 @@ gains_invoke came h id linked code parameter problems has = record {
     item : Invocation
     item = record { code = code; problems = problems }
 
--- An answer is.
+-- An answer is received.
 gains_grant : (came : Option Message) (h : Half) (id : ℤ) (is_result : Bool) (problems : List ℕ) (component : Component)
     → ((problems : List ℕ) → IsAnswer (record { is_result = is_result; problems = problems }) id component) → HasCome came component
     → Gains came h (with_grant h id is_result problems)
@@ -105,12 +105,12 @@ gains_grant came h id is_result problems component is has = record {
     answer : Answer
     answer = record { is_result = is_result; problems = problems }
 
--- By a test it is one of two halves.
+-- Either of two halves is the result.
 either_gains : (came : Option Message) (b : Bool) (h x y : Half) → Gains came h x → Gains came h y → Gains came h (cond b x y)
 either_gains came true h x y first second = first
 either_gains came false h x y first second = second
 
--- An answer is received, which may change own invocations too.
+-- An answer is received, and own invocations may change.
 gains_answer : (came : Option Message) (h : Half) (is_result last : Bool) (id : ℤ) (o : Option (Code × ℕ)) (component : Component)
     → ((problems : List ℕ) → IsAnswer (record { is_result = is_result; problems = problems }) id component) → HasCome came component
     → Gains came h (receive_answer h is_result last id o)
@@ -140,7 +140,7 @@ component_gains table came h (Reject (Some id) (problems.Invoke n)) has = gains_
 component_gains table came h (Reject (Some id) (problems.ReturnResult n)) has = gains_none came h _ refl refl
 component_gains table came h (Reject (Some id) (problems.ReturnError n)) has = gains_none came h _ refl refl
 
--- Components are received.
+-- A list of components is received.
 all_gains : (table : Table) (came : Option Message) (components : List Component) (h : Half) → AllByRecursion (HasCome came) components
     → Gains came h (receive_components table h components)
 all_gains table came [] h all = gains_none came h _ refl refl
@@ -148,22 +148,22 @@ all_gains table came (component ∷ more) h all =
     let first = component_gains table came h component all.0 in
     gains_then came h _ _ first (all_gains table came more (receive_component table h component) all.1)
 
--- Each component of a message has come with it.
+-- Each component of a message came with the message.
 all_come : (m : Message) → AllByRecursion (HasCome (Some m)) (components_in m)
 all_come m = recursion_from_All (Contains (components_in m)) (components_in m) (All-contains_itself (components_in m))
 
--- those of a message over a half
+-- The components of a message are received.
 message_gains : (table : Table) (m : Message) (h : Half) → Gains (Some m) h (receive_components table h (components_in m))
 message_gains table m h = all_gains table (Some m) (components_in m) h (all_come m)
 
 -- ---- halves
 
--- A standing that is asked for has a request.
+-- A dialogue is in Asked only if there is a request.
 is_asked : (b : Bool) → cond b standings.Asked standings.Without ≡ standings.Asked → b ≡ true
 is_asked true is = refl
 is_asked false is = cc
 
--- A half begins by a Begin.
+-- A Begin makes a new half.
 begins : (table : Table) (otid : List ℕ) (dialogue : Option Dialogue) (components : Option (List Component))
     → Turns (Some (Begin otid dialogue components)) blank
     (receive_components table (fresh phases.Received None (Some otid) (first_standing dialogue)) (items_of components))
@@ -212,7 +212,7 @@ answers table otid dtid dialogue components h at half = record {
     gains : Gains (Some (Continue otid dtid dialogue components)) start (receive_components table start (items_of components))
     gains = message_gains table (Continue otid dtid dialogue components) start
 
--- A Continue from a half's peer goes on with it.
+-- A Continue reaches an active half.
 goes_on : (table : Table) (otid dtid : List ℕ) (dialogue : Option Dialogue) (components : Option (List Component)) (h : Half)
     → h.phase ≡ phases.Active → h.peer ≡ Some otid
     → Turns (Some (Continue otid dtid dialogue components)) h (receive_components table h (items_of components))
@@ -237,12 +237,12 @@ goes_on table otid dtid dialogue components h at peer = record {
 
 -- ---- messages
 
--- The end moves to that one, where the step was Ok with it.
+-- The step's result is the next end.
 moves_this : (came : Option Message) (e x next : End) → Moves came e x → (let r : Result End EndFault = Ok x in r) ≡ Ok next
     → Moves came e next
 moves_this came e x next moves is = let same = ok_same {F = EndFault} x next is in rw (← same) moves
 
--- A Begin makes a half, where no half has its peer.
+-- A Begin makes a half if no half has its peer ID.
 begin_moves : (table : Table) (e next : End) (otid : List ℕ) (dialogue : Option Dialogue) (components : Option (List Component)) → IsEnd e
     → receive table e (Begin otid dialogue components) ≡ Ok next → Moves (Some (Begin otid dialogue components)) e next
 begin_moves table e next otid dialogue components sound is =
@@ -254,7 +254,7 @@ begin_moves table e next otid dialogue components sound is =
     apart : with_peer e otid ≡ None → (g : KeptHalf) → Has e g → g.slot ≡ Accepted → g.key ≡ otid → ⊥
     apart none g in_g slots keys = none_peer e otid g none in_g (rw (slots, keys) at (sound.kept g in_g))
 
--- A Continue makes another of a half,
+-- A Continue changes this half.
 half_moves : (table : Table) (e next : End) (otid dtid : List ℕ) (dialogue : Option Dialogue) (components : Option (List Component))
     (f : KeptHalf) → IsEnd e → Has e f → receive_over table e otid dialogue (items_of components) f f.half.phase ≡ Ok next
     → Moves (Some (Continue otid dtid dialogue components)) e next
@@ -276,7 +276,7 @@ half_moves table e next otid dtid dialogue components f sound had is = by f.half
     by phases.Received at is = cc
     by phases.Closed at is = cc
 
--- which is found.
+-- A Continue changes the half that it reaches.
 continue_moves : (table : Table) (e next : End) (otid dtid : List ℕ) (dialogue : Option Dialogue) (components : Option (List Component))
     → IsEnd e → receive_continue table e otid dtid dialogue (items_of components) ≡ Ok next
     → Moves (Some (Continue otid dtid dialogue components)) e next
@@ -294,7 +294,7 @@ end_moves came e (Some f) had = by (is_closed f.half.phase)
     by true = moves_nowhere came e
     by false = put_moves came e f (closed_half f.half) (had f refl) (turns_closed came f.half f.half refl refl)
 
--- What receiving a message makes of the halves.
+-- Receiving a message moves an end.
 pub received_moves : (table : Table) (e next : End) (m : Message) → IsEnd e → receive table e m ≡ Ok next → Moves (Some m) e next
 received_moves table e next m sound is = by m is
   where

@@ -1,4 +1,4 @@
--- What holds along runs, and what each step is.
+-- Induction along runs, and inversion of each step.
 use Rattle.std.proofs.Common.{rules, ◌≡◌, ◌≤◌, arith, length, ℤ, ℕ, Bool, true, false, List, [], ◌∷◌, ◌++◌, map, Option, Some, None, Result, Ok, Err, option_map, refl, sym, ap, ◌∙◌, append_assoc}
 use Rattle.std.specs.Prelude.{◌&&◌}
 use Rattle.std.specs.Result.{result_ok}
@@ -23,7 +23,7 @@ use Rattle.tcap_record.specs.Ends.{other}
 use Rattle.tcap_model.specs.World.{Item, OnItsWay, Sent, World, channel_from, empty, end_at, is_side, with_channel, with_end}
 use Rattle.tcap_model.specs.Run.{Adds, Event, Sends, Receives, Replies, Loses, Expires, Closes, Quiet, Tells, Runs, abort_for, after, after_quiet, head_taken, joined, may_refuse, played, reply_to, then_so, where_so}
 
--- ---- tests, and steps that are there
+-- ---- options and conditions
 
 pub where_some : {A : Type 0} (b : Bool) (o : Option A) (x : A) → where_so b o ≡ Some x → (b ≡ true) × (o ≡ Some x)
 where_some true o x is = (refl, is)
@@ -41,14 +41,14 @@ then_some (Some x) step y is = (x, refl, is)
 pub some_is : {A : Type 0} {x y : A} → (let o : Option A = Some x in o) ≡ Some y → x ≡ y
 some_is e = cc
 
--- Events that are the same as options are the same.
+-- `map Some` is injective on events.
 pub same_events : (xs ys : List Event) → map Some xs ≡ map Some ys → xs ≡ ys
 same_events [] [] same = refl
 same_events [] (y ∷ ys) same = cc
 same_events (x ∷ xs) [] same = cc
 same_events (x ∷ xs) (y ∷ ys) same = let rest = same_events xs ys cc in cc
 
--- The end took the step.
+-- A step that succeeds has an end as its result.
 took : {A F : Type 0} (f : A → World) (step : Result A F) (next : World) → option_map f (result_ok step) ≡ Some next
     → (x : A) × (step ≡ Ok x) × (f x ≡ next)
 took f (Ok x) next is = (x, refl, cc)
@@ -56,7 +56,7 @@ took f (Err reason) next is = cc
 
 -- ---- runs
 
--- One more step of a run.
+-- A run goes on by one step.
 one_more : (table : Table) (before : List Event) (event : Event) (from w next : World) → played table before from ≡ Some w
     → after table event w ≡ Some next → played table (before ++ event ∷ []) from ≡ Some next
 one_more table [] event from w next is step = let same : from ≡ w = cc in rw (same, step) refl
@@ -70,7 +70,7 @@ one_more table (first ∷ before) event from w next is step =
     by None on is = cc
     by (Some x) on is = on x is step
 
--- What a step keeps holds behind the rest of a run.
+-- A property that each step keeps holds after the rest of a run.
 keeps_on : (table : Table) (Holds : List Event → World → Type 0)
     → ((before : List Event) (event : Event) (w next : World) → Runs table before w → after table event w ≡ Some next → Holds before w
     → Holds (before ++ event ∷ []) next)
@@ -88,20 +88,20 @@ keeps_on table Holds step (event ∷ events) before v w ran holds is =
     by (Some next) at on is = rw (append_assoc before (event ∷ []) events) at
         (on next (one_more table before event empty v next ran at) (step before event v next ran at holds) is)
 
--- What holds of nothing, and is kept by each step, holds behind each run.
+-- A property of the empty world that each step keeps holds after each run.
 pub runs_keep : (table : Table) (Holds : List Event → World → Type 0) → Holds [] empty
     → ((before : List Event) (event : Event) (w next : World) → Runs table before w → after table event w ≡ Some next → Holds before w
     → Holds (before ++ event ∷ []) next)
     → (events : List Event) (w : World) → Runs table events w → Holds events w
 runs_keep table Holds none step events w is = keeps_on table Holds step events [] empty w refl none is
 
--- The end behind a step of an end, and the world.
+-- A sending: the end after it, and the world.
 pub record IsSending (table : Table) (side : Side) (m : Message) (w next : World) : Type 0 where
   pub made : End
   pub step : send table (end_at side w) m ≡ Ok made
   pub next_is : next ≡ joined side m (with_end side made w)
 
--- The head of the channel, the end that received it, and the world.
+-- A delivery: the head of the channel, the end after it, and the world.
 pub record IsDelivery (table : Table) (side : Side) (number : ℕ) (w next : World) : Type 0 where
   pub head : OnItsWay
   pub more : List OnItsWay
@@ -111,7 +111,7 @@ pub record IsDelivery (table : Table) (side : Side) (number : ℕ) (w next : Wor
   pub step : receive table (end_at side w) head.message ≡ Ok made
   pub next_is : next ≡ with_end side made (with_channel (other side) more w)
 
--- The head of the channel, the provider's Abort, and the world.
+-- A provider's reply: the head of the channel, the Abort, and the world.
 pub record IsReply (side : Side) (number : ℕ) (w next : World) : Type 0 where
   pub head : OnItsWay
   pub more : List OnItsWay
@@ -121,7 +121,7 @@ pub record IsReply (side : Side) (number : ℕ) (w next : World) : Type 0 where
   pub step : reply_to (end_at side w) head.message ≡ Some abort
   pub next_is : next ≡ joined side abort (with_channel (other side) more w)
 
--- The head of the channel, and the world without it.
+-- A loss: the head of the channel, and the world without it.
 pub record IsLoss (side : Side) (number : ℕ) (w next : World) : Type 0 where
   pub head : OnItsWay
   pub more : List OnItsWay
@@ -129,23 +129,23 @@ pub record IsLoss (side : Side) (number : ℕ) (w next : World) : Type 0 where
   pub number_is : head.number ≡ number
   pub next_is : next ≡ with_channel side more w
 
--- The end behind what happened to it unseen, and the world.
+-- An expiry or a closing: the end after it, and the world.
 pub record IsHidden (side : Side) (step : End → Result End EndFault) (w next : World) : Type 0 where
   pub made : End
   pub step_is : step (end_at side w) ≡ Ok made
   pub next_is : next ≡ with_end side made w
 
--- The message joined, and nothing else.
+-- A message sent by `Tells`: the world after it.
 pub record IsTold (side : Side) (m : Message) (w next : World) : Type 0 where
   pub next_is : next ≡ joined side m w
 
--- Nothing was on its way, and nothing is left.
+-- A quiet mark: the empty channels before it, and the world after it.
 pub record IsQuiet (w next : World) : Type 0 where
   pub from_a : w.from_a ≡ []
   pub from_b : w.from_b ≡ []
   pub next_is : next ≡ record { a = nothing; b = nothing; from_a = []; from_b = []; sent = w.sent ++ Item.Quiet ∷ [] }
 
--- What was taken was the head of the channel.
+-- The message taken is the head of the channel.
 record WasTaken (number : ℕ) (step : Message → List OnItsWay → Option World) (messages : List OnItsWay) (next : World) : Type 0 where
   head : OnItsWay
   more : List OnItsWay
@@ -153,7 +153,7 @@ record WasTaken (number : ℕ) (step : Message → List OnItsWay → Option Worl
   number_is : head.number ≡ number
   step_is : step head.message more ≡ Some next
 
--- The head that was taken, and the step over it.
+-- `head_taken` succeeds only at the head.
 takes_head : (number : ℕ) (step : Message → List OnItsWay → Option World) (messages : List OnItsWay) (next : World)
     → head_taken number step messages ≡ Some next → WasTaken number step messages next
 takes_head number step [] next is = cc
@@ -161,14 +161,14 @@ takes_head number step (head ∷ more) next is =
     let both = where_some _ _ next is in
     record { head = head; more = more; channel = refl; number_is = eqb-true head.number number both.0; step_is = both.1 }
 
--- What each step is: a message is sent,
+-- A sending is one by `IsSending`.
 pub sending : (table : Table) (side : Side) (m : Message) (w next : World) → after table (Sends side m) w ≡ Some next
     → IsSending table side m w next
 sending table side m w next is =
     let step = took (λ e. joined side m (with_end side e w)) (send table (end_at side w) m) next is in
     record { made = step.0; step = step.1; next_is = sym step.2 }
 
--- one is received,
+-- A delivery is one by `IsDelivery`.
 pub delivery : (table : Table) (side : Side) (number : ℕ) (w next : World) → after table (Receives side number) w ≡ Some next
     → IsDelivery table side number w next
 delivery table side number w next is =
@@ -185,7 +185,7 @@ delivery table side number w next is =
       next_is = sym step.2;
     }
 
--- one is answered by the provider,
+-- A provider's reply is one by `IsReply`.
 pub reply : (table : Table) (side : Side) (number : ℕ) (w next : World) → after table (Replies side number) w ≡ Some next
     → IsReply side number w next
 reply table side number w next is =
@@ -202,7 +202,7 @@ reply table side number w next is =
       next_is = sym step.2;
     }
 
--- one is lost,
+-- A loss is one by `IsLoss`.
 pub loss : (table : Table) (side : Side) (number : ℕ) (w next : World) → after table (Loses side number) w ≡ Some next
     → IsLoss side number w next
 loss table side number w next is =
@@ -210,26 +210,26 @@ loss table side number w next is =
     let same : with_channel side head.more w ≡ next = let step = head.step_is in cc in
     record { head = head.head; more = head.more; channel = head.channel; number_is = head.number_is; next_is = sym same }
 
--- an invocation ends unseen,
+-- An expiry is one by `IsHidden`.
 pub expiry : (table : Table) (side : Side) (name : HalfName) (id : ℤ) (w next : World) → after table (Expires side name id) w ≡ Some next
     → IsHidden side (λ e. expire table e name id) w next
 expiry table side name id w next is =
     let step = took (λ e. with_end side e w) (expire table (end_at side w) name id) next is in
     record { made = step.0; step_is = step.1; next_is = sym step.2 }
 
--- a half closes unseen,
+-- A closing is one by `IsHidden`.
 pub closing : (table : Table) (side : Side) (name : HalfName) (w next : World) → after table (Closes side name) w ≡ Some next
     → IsHidden side (λ e. close table e name) w next
 closing table side name w next is =
     let step = took (λ e. with_end side e w) (close table (end_at side w) name) next is in
     record { made = step.0; step_is = step.1; next_is = sym step.2 }
 
--- an end tells a message,
+-- A message sent by `Tells` is one by `IsTold`.
 pub telling : (table : Table) (side : Side) (m : Message) (w next : World) → after table (Tells side m) w ≡ Some next
     → IsTold side m w next
 telling table side m w next is = record { next_is = let same : joined side m w ≡ next = cc in sym same }
 
--- Both ends are nothing then.
+-- Both ends are empty at a quiet mark.
 both_quiet : (a b : Bool) (x : World) (sent : List Item)
     → then_so (result_ok (needs a faults.StillOpen >> Ok nothing))
     (λ p.
@@ -240,7 +240,7 @@ both_quiet true true x sent is = cc
 both_quiet true false x sent is = cc
 both_quiet false b x sent is = cc
 
--- or all is quiet.
+-- A quiet mark is one by `IsQuiet`.
 pub quiet : (table : Table) (w next : World) → after table Quiet w ≡ Some next → IsQuiet w next
 quiet table w next is = by w.from_a w.from_b is
   where
@@ -257,7 +257,7 @@ quiet table w next is = by w.from_a w.from_b is
 
 -- ---- the sent list
 
--- A reply is the provider's Abort.
+-- A reply is the Abort for the message.
 reply_is : (e : End) (m abort : Message) → reply_to e m ≡ Some abort → abort_for m ≡ Some abort
 reply_is e m abort is = by (abort_for m) is
   where
@@ -266,13 +266,13 @@ reply_is e m abort is = by (abort_for m) is
     by None is = cc
     by (Some found) is = ap Some ((cond_some _ _ abort is).1)
 
--- It joins the sent list.
+-- The Abort joins the sent list.
 sent_behind : (side : Side) (abort : Message) (more : List OnItsWay) (w : World)
     → (joined side abort (with_channel (other side) more w)).sent ≡ w.sent ++ Sent side abort ∷ []
 sent_behind sides.A abort more w = refl
 sent_behind sides.B abort more w = refl
 
--- What a step adds to it.
+-- What a step adds to the sent list.
 pub grows : (table : Table) (event : Event) (w next : World) → after table event w ≡ Some next
     → (items : List Item) × Adds w event items × (next.sent ≡ w.sent ++ items)
 grows table (Replies side number) w next is =
@@ -289,7 +289,7 @@ grows table (Closes side name) w next is = search rules
 grows table Quiet w next is = search rules
 grows table (Tells side m) w next is = search rules
 
--- That is one item at most.
+-- A step adds at most one item.
 one_at_most : (w : World) (event : Event) (items : List Item) → Adds w event items → length items ≤ 1
 one_at_most w (Sends side m) items adds = rw adds (omega arith)
 one_at_most w (Receives side number) items adds = rw adds (omega arith)
@@ -312,34 +312,34 @@ steps_for_items table = runs_keep table (λ events w. length w.sent ≤ length e
         let one_step : length (event ∷ []) ≡ 1 = refl in
         rw (adds.2, length-append w.sent adds.0, length-append before (event ∷ []), one_step) (omega arith)
 
--- ---- what holds of both ends
+-- ---- soundness of both ends
 
--- both ends are as every end is
+-- both ends are sound
 abbrev BothSound : World → Type 0
 BothSound w = (side : Side) → IsEnd (end_at side w)
 
--- An end that is so may be put in,
+-- It still holds with a new end that is sound.
 with_sound : (side : Side) (made : End) (w : World) → IsEnd made → BothSound w → BothSound (with_end side made w)
 with_sound sides.A made w new old sides.A = new
 with_sound sides.A made w new old sides.B = old sides.B
 with_sound sides.B made w new old sides.A = old sides.A
 with_sound sides.B made w new old sides.B = new
 
--- a channel is no matter of ends,
+-- It does not depend on the channels.
 channel_sound : (side : Side) (messages : List OnItsWay) (w : World) → BothSound w → BothSound (with_channel side messages w)
 channel_sound sides.A messages w old sides.A = old sides.A
 channel_sound sides.A messages w old sides.B = old sides.B
 channel_sound sides.B messages w old sides.A = old sides.A
 channel_sound sides.B messages w old sides.B = old sides.B
 
--- nor is a message that joins one,
+-- It still holds after a message joins a channel.
 joined_sound : (side : Side) (m : Message) (w : World) → BothSound w → BothSound (joined side m w)
 joined_sound sides.A m w old sides.A = old sides.A
 joined_sound sides.A m w old sides.B = old sides.B
 joined_sound sides.B m w old sides.A = old sides.A
 joined_sound sides.B m w old sides.B = old sides.B
 
--- and behind a quiet mark nothing is left.
+-- It holds after a quiet mark.
 quiet_sound : (items : List Item) → BothSound (record { a = nothing; b = nothing; from_a = []; from_b = []; sent = items })
 quiet_sound items sides.A = nothing_sound
 quiet_sound items sides.B = nothing_sound
@@ -382,7 +382,7 @@ sound table events w is =
     none sides.A = nothing_sound
     none sides.B = nothing_sound
 
--- ---- runs, one behind the other
+-- ---- runs in a row
 
 pub played_on : (table : Table) (first rest : List Event) (w mid : World) → played table first w ≡ Some mid → played table (first ++ rest) w ≡ played table rest mid
 played_on table [] rest w mid is = let same : w ≡ mid = cc in ap (played table rest) same
@@ -393,7 +393,7 @@ played_on table (event ∷ first) rest w mid is = by (after table event w) (λ x
     by None on is = cc
     by (Some x) on is = on x is
 
--- A test of ends that passes.
+-- `is_side` decides equality.
 pub same_side : (side sender : Side) → is_side side sender ≡ true → side ≡ sender
 same_side sides.A sides.A is = refl
 same_side sides.A sides.B is = cc

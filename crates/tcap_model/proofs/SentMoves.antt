@@ -1,4 +1,4 @@
--- What sending a message, and what happens unseen, makes of the halves of an end.
+-- What sending a message, an expiry or a closing does to the halves of an end.
 use Rattle.std.proofs.Common.{◌≡◌, ◌≢◌, inl, ℤ, ℕ, Bool, true, false, cond, List, [], ◌∷◌, Option, Some, None, Result, Ok, Err, is_none, is_some, not, refl, sym, subst, ◌∙◌}
 use Rattle.std.specs.Prelude.{ok_or}
 use Rattle.std.specs.Ordering.{int_cmp}
@@ -37,9 +37,9 @@ use Rattle.tcap_model.specs.Since.{ended_by}
 use Rattle.tcap_model.proofs.Moves.{Moves, Turns, blank}
 use Rattle.tcap_model.proofs.TurnLaws.{Lists, id_is, lists_self, lists_then, moves_nowhere, new_moves, put_moves, put_there, taken_loses, turns_closed, turns_kept}
 
--- ---- halves that are found
+-- ---- halves that a search finds
 
--- They pass.
+-- The half found satisfies the condition.
 first_passes : (passes : Half → Bool) (slot : Slot) (es : List (List ℕ × Half)) (f : KeptHalf) → first_half passes slot es ≡ Some f
     → passes f.half ≡ true
 first_passes passes slot [] f is = cc
@@ -53,7 +53,7 @@ first_passes passes slot ((key, half) ∷ es) f is = by (passes half) refl is (f
     by true so is rest = let same : first ≡ f = cc in subst (λ (g : KeptHalf). passes g.half ≡ true) same so
     by false so is rest = rest is
 
--- So do those of an end.
+-- So does the half found in an end.
 found_passes : (passes : Half → Bool) (e : End) (f : KeptHalf) → half_where passes e ≡ Some f → passes f.half ≡ true
 found_passes passes e f is = by (first_half passes Begun e.begun) refl
   where
@@ -61,7 +61,7 @@ found_passes passes e f is = by (first_half passes Begun e.begun) refl
     by None none = first_passes passes Accepted e.accepted f (rw none at is)
     by (Some g) some = first_passes passes Begun e.begun f (let same = rw some at is in some ∙ same)
 
--- They have the ID by which they are found.
+-- The half found by an ID has this ID.
 own_is : (e : End) (id : List ℕ) (f : KeptHalf) → with_own e id ≡ Some f → f.half.own ≡ Some id
 own_is e id f is = id_is id f.half.own (found_passes (λ h. is_id id h.own) e f is)
 
@@ -70,21 +70,21 @@ peer_is e id f is = id_is id f.half.peer (found_passes (λ h. is_id id h.peer) e
 
 -- ---- components
 
--- An invocation that was received is answered or rejected.
+-- Answering or rejecting an invocation takes it from the list.
 takes_inn : (h : Half) (id : ℤ) (fits : Invocation → Bool) → Rises int_cmp h.inn
     → Lists h (record h { inn = without_oldest_of id fits h.inn })
 takes_inn h id fits rises = record { inn = taken_loses id fits h.inn rises; grants = λ id P all. all }
 
--- An answer that was received is rejected.
+-- Rejecting an answer takes it from the list.
 takes_grants : (h : Half) (id : ℤ) (fits : Answer → Bool) → Rises int_cmp h.grants
     → Lists h (record h { grants = without_oldest_of id fits h.grants })
 takes_grants h id fits rises = record { inn = λ id P all. all; grants = taken_loses id fits h.grants rises }
 
--- It is such a half where the step was Ok.
+-- The step's result is this half.
 lists_this : (h x g : Half) → Lists h x → (let r : Result Half EndFault = Ok x in r) ≡ Ok g → Lists h g
 lists_this h x g lists is = let same = ok_same {F = EndFault} x g is in rw (← same) lists
 
--- An invocation or an answer that was received may be rejected.
+-- A Reject is sent.
 reject_lists : (h g : Half) (id : Option ℤ) (problem : Problem) → Rises int_cmp h.inn → Rises int_cmp h.grants
     → send_reject h id problem ≡ Ok g → Lists h g
 reject_lists h g None problem inn grants is = cc
@@ -96,7 +96,7 @@ reject_lists h g (Some id) (problems.ReturnResult n) inn grants is =
 reject_lists h g (Some id) (problems.ReturnError n) inn grants is =
     lists_this h _ g (takes_grants h id (allows_for false n) grants) (needs_ok _ _ _ g is).1
 
--- An operation is invoked;
+-- An Invoke is sent.
 invoke_lists : (table : Table) (h g : Half) (id : ℤ) (linked : Option ℤ) (code : Code)
     → send_invoke table h id linked code ≡ Ok g → Lists h g
 invoke_lists table h g id linked code is =
@@ -105,7 +105,7 @@ invoke_lists table h g id linked code is =
     let may = needs_ok (may_link table h linked code) faults.BadLink _ g free.1 in
     lists_this h _ g (record { inn = λ id P all. all; grants = λ id P all. all }) may.1
 
--- one is answered.
+-- An answer is sent.
 answer_lists : (table : Table) (h g : Half) (is_result last : Bool) (id : ℤ) (named : Option Code) → Rises int_cmp h.inn
     → send_answer table h is_result last id named ≡ Ok g → Lists h g
 answer_lists table h g is_result last id named inn is =
@@ -132,7 +132,7 @@ component_lists table h g (Reject id problem) inn grants is = reject_lists h g i
 one_follows : (table : Table) (h g : Half) (c : Component) → send_component table h c ≡ Ok g → Follows h g
 one_follows table h g c is = (all_sends table (c ∷ []) h g (rw is refl)).follows
 
--- Components are sent.
+-- A list of components is sent.
 all_lists : (table : Table) (components : List Component) (h g : Half) → IsListed h.inn → IsListed h.grants
     → send_components table h components ≡ Ok g → Lists h g
 all_lists table [] h g inn grants is = lists_this h h g (lists_self h) is
@@ -144,7 +144,7 @@ all_lists table (component ∷ more) h g inn grants is =
 
 -- ---- a half of an end becomes another
 
--- It was had, and is put back as it becomes.
+-- A half that the end has is replaced.
 record Changes (e next : End) : Type 1 where
   was : KeptHalf
   now : Half
@@ -152,19 +152,19 @@ record Changes (e next : End) : Type 1 where
   turns : Turns None was.half now
   made : put e was.slot was.key now ≡ next
 
--- So the end moves,
+-- This moves the end.
 changes_moves : (e next : End) → Changes e next → Moves None e next
 changes_moves e next it = rw (← it.made) (put_moves None e it.was it.now it.had it.turns)
 
--- and has the half as it is now.
+-- The end has the new half.
 changes_has : (e next : End) (it : Changes e next) → Has next (record it.was { half = it.now })
 changes_has e next it = rw (← it.made) (put_there e it.was.slot it.was.key it.now)
 
--- It is the end that the step was Ok with.
+-- The step's result is the next end.
 is_this : (x next : End) → (let r : Result End EndFault = Ok x in r) ≡ Ok next → x ≡ next
 is_this x next is = ok_same {F = EndFault} x next is
 
--- Its components are sent.
+-- Sending components turns a half.
 components_turn : (table : Table) (components : List Component) (e : End) (f : KeptHalf) (g : Half) → IsEnd e → Has e f
     → send_components table f.half components ≡ Ok g → Turns None f.half g
 components_turn table components e f g sound had is =
@@ -173,9 +173,9 @@ components_turn table components e f g sound had is =
     let lists = all_lists table components f.half g half.inn half.grants is in
     turns_kept None f.half g follows.phase follows.own follows.peer follows.standing lists
 
--- ---- unseen
+-- ---- hidden steps
 
--- An own invocation ends,
+-- An expiry replaces a half.
 expires_in : (table : Table) (e next : End) (name : HalfName) (id : ℤ) → IsEnd e → expire table e name id ≡ Ok next → Changes e next
 expires_in table e next name id sound is =
     let (f, ok, step) = then_ok (ok_or (named e name) faults.CannotExpire) _ next is in
@@ -190,7 +190,7 @@ expires_in table e next name id sound is =
       made = is_this _ next may.1;
     }
 
--- or a half closes.
+-- A closing replaces a half.
 closes_in : (table : Table) (e next : End) (name : HalfName) → IsEnd e → close table e name ≡ Ok next → Changes e next
 closes_in table e next name sound is =
     let (f, ok, step) = then_ok (ok_or (named e name) faults.CannotClose) _ next is in
@@ -205,7 +205,7 @@ closes_in table e next name sound is =
 
 -- ---- a Begin
 
--- a half begins
+-- a new half with this own ID, which no half had
 record Begins (e next : End) (otid : List ℕ) : Type 1 where
   now : Half
   none : with_own e otid ≡ None
@@ -213,11 +213,11 @@ record Begins (e next : End) (otid : List ℕ) : Type 1 where
   turns : Turns None blank now
   made : put e Begun otid now ≡ next
 
--- The half is had, with that own ID.
+-- The end has the new half.
 begins_has : (e next : End) (otid : List ℕ) → Begins e next otid → (f : KeptHalf) × Has next f × (f.half.own ≡ Some otid)
 begins_has e next otid it = (record { slot = Begun; key = otid; half = it.now }, rw (← it.made) (put_there e Begun otid it.now), it.own)
 
--- An own ID that no half has is used.
+-- A Begin makes a new half.
 begins : (table : Table) (e next : End) (otid : List ℕ) (dialogue : Option Dialogue) (components : List Component)
     → send_begin table e otid dialogue components ≡ Ok next → Begins e next otid
 begins table e next otid dialogue components is =
@@ -252,11 +252,11 @@ begins table e next otid dialogue components is =
 
 -- ---- a Continue
 
--- A half with these IDs goes on.
+-- a half with these IDs is replaced
 abbrev GoesOn : End → End → List ℕ → List ℕ → Type 1
 GoesOn e next otid dtid = (it : Changes e next) × (it.now.own ≡ Some otid) × (it.now.peer ≡ Some dtid)
 
--- A half whose Begin was received is answered.
+-- The first Continue turns a half whose Begin was received.
 answer_turns : (f : KeptHalf) (otid : List ℕ) (g : Half) → IsHalf f.half → f.half.phase ≡ phases.Received
     → Follows (active_half Accepted otid f.half) g → Lists f.half g → Turns None f.half g
 answer_turns f otid g half at follows lists = record {
@@ -272,7 +272,7 @@ answer_turns f otid g half at follows lists = record {
     fits : FitsPhase phases.Received f.half
     fits = subst (λ (p : Phase). FitsPhase p f.half) at half.phase
 
--- A Begin is answered over the half with that peer,
+-- The first Continue replaces the half with this peer ID.
 answers : (table : Table) (e next : End) (otid dtid : List ℕ) (dialogue : Option Dialogue) (components : List Component) → IsEnd e
     → send_first_continue table e otid dtid dialogue components ≡ Ok next → GoesOn e next otid dtid
 answers table e next otid dtid dialogue components sound is =
@@ -297,7 +297,7 @@ answers table e next otid dtid dialogue components sound is =
       follows.peer ∙ peer_is e dtid f found,
     )
 
--- an active half goes on,
+-- A later Continue replaces the active half.
 active_goes_on : (table : Table) (e next : End) (otid dtid : List ℕ) (dialogue : Option Dialogue) (components : List Component)
     (f : KeptHalf) → with_own e otid ≡ Some f → IsEnd e
     → send_next_continue table e dtid dialogue components f ≡ Ok next → GoesOn e next otid dtid
@@ -319,7 +319,7 @@ active_goes_on table e next otid dtid dialogue components f found sound is =
       follows.peer ∙ id_is dtid f.half.peer peer.0,
     )
 
--- or the one or the other, by the half that has its own ID.
+-- Any Continue replaces a half with its IDs.
 goes_on : (table : Table) (e next : End) (otid dtid : List ℕ) (dialogue : Option Dialogue) (components : List Component)
     (o : Option KeptHalf) → with_own e otid ≡ o → IsEnd e
     → send_continue table e otid dtid dialogue components o ≡ Ok next → GoesOn e next otid dtid
@@ -329,11 +329,11 @@ goes_on table e next otid dtid dialogue components (Some f) found sound is =
 
 -- ---- an End, an Abort
 
--- The half with that peer's ID closes.
+-- the half with this peer ID closes
 abbrev Ends : End → End → List ℕ → Type 1
 Ends e next dtid = (it : Changes e next) × (it.now.peer ≡ Some dtid) × (it.now.phase ≡ phases.Closed)
 
--- It does by an End,
+-- An End closes it.
 ends_half : (table : Table) (e next : End) (dtid : List ℕ) (dialogue : Option Dialogue) (components : List Component) → IsEnd e
     → send_end table e dtid dialogue components ≡ Ok next → Ends e next dtid
 ends_half table e next dtid dialogue components sound is =
@@ -355,7 +355,7 @@ ends_half table e next dtid dialogue components sound is =
       refl,
     )
 
--- or by an Abort of the user, which has no cause.
+-- So does a user's Abort, which has no cause.
 aborts_half : (e next : End) (dtid : List ℕ) (reason : Option AbortReason) → IsEnd e
     → send_abort e dtid reason ≡ Ok next → Ends e next dtid × (is_none (reason_cause reason) ≡ true)
 aborts_half e next dtid reason sound is =
@@ -380,7 +380,7 @@ aborts_half e next dtid reason sound is =
 
 -- ---- the steps
 
--- What sending a message makes of the halves,
+-- Sending a message moves an end.
 pub sent_moves : (table : Table) (e next : End) (m : Message) → IsEnd e → send table e m ≡ Ok next → Moves None e next
 sent_moves table e next m sound is = by m is
   where
@@ -405,22 +405,22 @@ sent_moves table e next m sound is = by m is
         changes_moves e next (ends_half table e next dtid dialogue (items_of components) sound is).0
     by (Abort dtid reason) is = changes_moves e next (aborts_half e next dtid reason sound is).0.0
 
--- what the end of an invocation does,
+-- An expiry moves an end.
 pub expired_moves : (table : Table) (e next : End) (name : HalfName) (id : ℤ) → IsEnd e
     → expire table e name id ≡ Ok next → Moves None e next
 expired_moves table e next name id sound is = changes_moves e next (expires_in table e next name id sound is)
 
--- and what a closing does.
+-- A closing moves an end.
 pub closed_moves : (table : Table) (e next : End) (name : HalfName) → IsEnd e → close table e name ≡ Ok next → Moves None e next
 closed_moves table e next name sound is = changes_moves e next (closes_in table e next name sound is)
 
--- Behind a Begin the end has a half with that own ID,
+-- After a Begin, the end has a half with its originating ID.
 pub begin_uses : (table : Table) (e next : End) (otid : List ℕ) (dialogue : Option Dialogue) (components : Option (List Component))
     → IsEnd e → send table e (Begin otid dialogue components) ≡ Ok next → (f : KeptHalf) × Has next f × (f.half.own ≡ Some otid)
 begin_uses table e next otid dialogue components sound is =
     begins_has e next otid (begins table e next otid dialogue (items_of components) is)
 
--- and behind a Continue one that has that peer's too.
+-- After a Continue, the end has a half with both IDs.
 pub continue_uses : (table : Table) (e next : End) (otid dtid : List ℕ) (dialogue : Option Dialogue) (components : Option (List Component))
     → IsEnd e → send table e (Continue otid dtid dialogue components) ≡ Ok next
     → (f : KeptHalf) × Has next f × (f.half.own ≡ Some otid) × (f.half.peer ≡ Some dtid)
@@ -428,7 +428,7 @@ continue_uses table e next otid dtid dialogue components sound is =
     let it = goes_on table e next otid dtid dialogue (items_of components) (with_own e otid) refl sound is in
     (record it.0.was { half = it.0.now }, changes_has e next it.0, it.1, it.2)
 
--- What ends the dialogue with a peer closes the half with that peer's ID.
+-- After an End or a user's Abort, the half with the destination ID as its peer ID is closed.
 pub ending_closes : (table : Table) (e next : End) (m : Message) (id : List ℕ) → IsEnd e → send table e m ≡ Ok next
     → ended_by m ≡ Some id → (f : KeptHalf) × Has next f × (f.half.peer ≡ Some id) × (f.half.phase ≡ phases.Closed)
 ending_closes table e next m id sound is ends = by m is ends

@@ -1,4 +1,4 @@
--- What was sent since the last quiet mark stays so until the next.
+-- `SentSince` along a growing sent list.
 use Rattle.std.proofs.Common.{◌≡◌, ◌⊎◌, inl, inr, Bool, true, false, ℕ, zero, suc, List, [], ◌∷◌, ◌++◌, Some, refl, ap, subst, ◌∙◌, append_assoc}
 use Rattle.std.specs.Prelude.{cond, drop, slice_get}
 use Rattle.tcap_msg.specs.declared.message.Message.{Message}
@@ -7,7 +7,7 @@ use Rattle.tcap_model.specs.World.{Item, Sent}
 use Rattle.tcap_model.specs.World.{has_quiet, is_quiet}
 use Rattle.tcap_model.specs.Since.{SentSince}
 
--- A message more is no mark more,
+-- Another message adds no quiet mark.
 pub no_quiet : (other : Side) (n : Message) (items : List Item) → has_quiet items ≡ false → has_quiet (items ++ Sent other n ∷ []) ≡ false
 no_quiet other n [] is = refl
 no_quiet other n (item ∷ more) is = by (is_quiet item) (no_quiet other n more) is
@@ -17,7 +17,7 @@ no_quiet other n (item ∷ more) is = by (is_quiet item) (no_quiet other n more)
     by true on is = cc
     by false on is = on is
 
--- and none fewer.
+-- A list without marks has none before its last item.
 no_quiet_before : (item : Item) (items : List Item) → has_quiet (items ++ item ∷ []) ≡ false
     → (has_quiet items ≡ false) × (is_quiet item ≡ false)
 no_quiet_before item [] is = (refl, by (is_quiet item) is)
@@ -32,7 +32,7 @@ no_quiet_before item (first ∷ more) is = by (is_quiet first) (no_quiet_before 
     by true on is = cc
     by false on is = on is
 
--- A place in a list of one item more is the last, or was there before.
+-- A place in a list with one more item is the last, or was in the list before.
 place_back : (item at : Item) (items front behind : List Item) → items ++ item ∷ [] ≡ front ++ at ∷ behind
     → (item ≡ at) ⊎ ((before : List Item) × (items ≡ front ++ at ∷ before) × (behind ≡ before ++ item ∷ []))
 place_back item at [] [] behind is = inl cc
@@ -49,7 +49,7 @@ place_back item at (i ∷ items) (f ∷ front) behind is = by (place_back item a
     by (inl last) = inl last
     by (inr old) = inr (old.0, cc, old.2)
 
--- What stands at a place, with no mark behind it, was sent since.
+-- An item with no mark after its place was sent since the last mark.
 pub since_at : (side : Side) (m : Message) (items : List Item) (n : ℕ) → slice_get items n ≡ Some (Sent side m)
     → has_quiet (drop n items) ≡ false → SentSince side m items
 since_at side m [] n is none = cc
@@ -59,14 +59,14 @@ since_at side m (first ∷ items) zero is none =
 since_at side m (first ∷ items) (suc n) is none =
     let (front, behind, joined, no_more) = since_at side m items n is none in (first ∷ front, behind, ap (λ more. first ∷ more) joined, no_more)
 
--- What stands from a place on has one item more.
+-- `drop` of a list with one more item
 pub drop_more : (item found : Item) (items : List Item) (n : ℕ) → slice_get items n ≡ Some found
     → drop n (items ++ item ∷ []) ≡ drop n items ++ item ∷ []
 drop_more item found [] n is = cc
 drop_more item found (first ∷ items) zero is = refl
 drop_more item found (first ∷ items) (suc n) is = drop_more item found items n is
 
--- one item more
+-- A message sent since the last mark still is after one more message.
 pub since_more : (side other : Side) (m n : Message) (items : List Item) → SentSince side m items
     → SentSince side m (items ++ Sent other n ∷ [])
 since_more side other m n items is = (
@@ -76,7 +76,7 @@ since_more side other m n items is = (
   no_quiet other n is.1 is.3,
 )
 
--- What was sent behind one item more is that item, or was sent before.
+-- A message sent since the last mark is the newest, or was sent since the mark before.
 pub since_back : (side other : Side) (m n : Message) (items : List Item) → SentSince side m (items ++ Sent other n ∷ [])
     → ((side ≡ other) × (m ≡ n)) ⊎ SentSince side m items
 since_back side other m n items is = by (place_back (Sent other n) (Sent side m) items is.0 is.1 is.2)
@@ -87,7 +87,7 @@ since_back side other m n items is = by (place_back (Sent other n) (Sent side m)
     by (inl last) = inl (cc, cc)
     by (inr old) = inr (is.0, old.0, old.1, (no_quiet_before (Sent other n) old.0 (rw (old.2) at is.3)).0)
 
--- Behind a mark nothing was.
+-- Nothing was sent since a mark at the end.
 pub since_quiet : (side : Side) (m : Message) (items : List Item) → SentSince side m (items ++ Item.Quiet ∷ []) → ⊥
 since_quiet side m items is = by (place_back Item.Quiet (Sent side m) items is.0 is.1 is.2)
   where

@@ -1,4 +1,4 @@
--- What becomes of one half, and of an end in which it is put.
+-- How one half turns, and how an end with that half moves.
 use Rattle.std.proofs.Common.{◌≡◌, ◌≢◌, ◌⊎◌, inl, inr, ℤ, ℕ, Bool, true, false, cond, List, [], ◌∷◌, Option, Some, None, refl, sym, ap, subst, ◌∙◌}
 use Rattle.std.specs.List.{AllByRecursion}
 use Rattle.std.specs.Map.{keys_of, remove_entry}
@@ -24,18 +24,18 @@ use Rattle.tcap_model.proofs.Moves.{Moves, Turns, blank}
 
 -- ---- transaction IDs
 
--- A half that passes the test of an ID has it.
+-- `is_id` decides equality.
 pub id_is : (id : List ℕ) (o : Option (List ℕ)) → is_id id o ≡ true → o ≡ Some id
 id_is id None is = cc
 id_is id (Some other) is = ap Some (sym ((bytes_eq-Decides id other).0 is))
 
 -- ---- lists by invoke ID
 
--- What holds of each item that is kept of an ID holds of each that is left of it.
+-- a property of all items of an ID still holds for the items left
 abbrev pub Loses : {A : Type 0} → List (ℤ × List A) → List (ℤ × List A) → Type 1
 Loses {A} items left = (id : ℤ) (P : A → Type 0) → AllByRecursion P (listed id items) → AllByRecursion P (listed id left)
 
--- What is found where an entry was removed was there.
+-- An entry found after a removal was there before.
 removed_was : {A : Type 0} (id q : ℤ) (v : A) (items : List (ℤ × A)) → Rises int_cmp items
     → kept_at int_cmp (remove_entry (is_at (int_cmp id)) items) q ≡ Some v → kept_at int_cmp items q ≡ Some v
 removed_was id q v items rises found = by (is_at (int_cmp id) q) (sym left ∙ found)
@@ -51,7 +51,7 @@ removed_was id q v items rises found = by (is_at (int_cmp id) q) (sym left ∙ f
     by true is = cc
     by false is = is
 
--- What is kept of an ID changes, and what holds of each item of it still does.
+-- The list of one ID loses items.
 pub listed_loses : {A : Type 0} (id : ℤ) (list : List A) (items : List (ℤ × List A)) → Rises int_cmp items
     → ((P : A → Type 0) → AllByRecursion P (listed id items) → AllByRecursion P list) → Loses items (with_listed id list items)
 listed_loses {A} id [] items rises less q P all = by (kept_at int_cmp (remove_entry (is_at (int_cmp id)) items) q) refl
@@ -69,7 +69,7 @@ listed_loses {A} id (first ∷ more) items rises less q P all = by (kept_at int_
     by None is = tt
     by (Some v) is = there v (found_inserted int_cmp_total exact_signed q id (first ∷ more) v items is)
 
--- What holds of each item holds of each where the oldest that fits is taken.
+-- Taking the oldest that fits keeps a property of all items.
 oldest_less : {A : Type 0} (fits : A → Bool) (P : A → Type 0) (list : List A)
     → AllByRecursion P list → AllByRecursion P (without_oldest fits list)
 oldest_less fits P [] all = tt
@@ -79,31 +79,31 @@ oldest_less {A} fits P (item ∷ list) all = by (fits item) (oldest_less fits P 
     by true rest = all.1
     by false rest = (all.0, rest)
 
--- What is left where the oldest is taken.
+-- Taking the oldest that fits loses items.
 pub taken_loses : {A : Type 0} (id : ℤ) (fits : A → Bool) (items : List (ℤ × List A)) → Rises int_cmp items
     → Loses items (without_oldest_of id fits items)
 taken_loses id fits items rises =
     listed_loses id (without_oldest fits (listed id items)) items rises (λ P. oldest_less fits P (listed id items))
 
--- ---- what becomes of a half
+-- ---- halves
 
--- The items that its lists have of an ID are some of those that they had.
+-- both lists of received items lose items, or stay
 pub record Lists (h g : Half) : Type 1 where
   pub inn : Loses h.inn g.inn
   pub grants : Loses h.grants g.grants
 
--- They are as they were,
+-- They may stay.
 pub lists_self : (h : Half) → Lists h h
 lists_self h = record { inn = λ id P all. all; grants = λ id P all. all }
 
--- or change twice.
+-- Two such changes in a row are one.
 pub lists_then : (h g k : Half) → Lists h g → Lists g k → Lists h k
 lists_then h g k first second = record {
   inn = λ id P all. second.inn id P (first.inn id P all);
   grants = λ id P all. second.grants id P (first.grants id P all);
 }
 
--- It keeps its phase, its IDs and its dialogue.
+-- The half keeps phase, IDs and dialogue state.
 pub turns_kept : (came : Option Message) (h g : Half) → g.phase ≡ h.phase → g.own ≡ h.own → g.peer ≡ h.peer → g.standing ≡ h.standing
     → Lists h g → Turns came h g
 turns_kept came h g phase own peer standing lists = record {
@@ -116,11 +116,11 @@ turns_kept came h g phase own peer standing lists = record {
   grants = λ id P all new. lists.grants id P all;
 }
 
--- It stays as it is.
+-- The half stays.
 pub turns_self : (came : Option Message) (h : Half) → Turns came h h
 turns_self came h = turns_kept came h h refl refl refl refl (lists_self h)
 
--- It closes, and keeps its IDs.
+-- The half closes, and keeps its IDs.
 pub turns_closed : (came : Option Message) (h g : Half) → g.own ≡ h.own → g.peer ≡ h.peer → Turns came h (closed_half g)
 turns_closed came h g own peer = record {
   own = λ id is. own ∙ is;
@@ -132,14 +132,14 @@ turns_closed came h g own peer = record {
   grants = λ id P all new. tt;
 }
 
--- ---- what becomes of an end
+-- ---- ends
 
--- A half that is put is had.
+-- An end has a half that is put in it.
 pub put_there : (e : End) (slot : Slot) (key : List ℕ) (h : Half) → Has (put e slot key h) (record { slot = slot; key = key; half = h })
 put_there e Begun key h = found_new octets_total key h e.begun
 put_there e Accepted key h = found_new octets_total key h e.accepted
 
--- Two places are one, or are not.
+-- Two places are equal or differ.
 one_place : (f g : KeptHalf) → ((f.slot ≡ g.slot) × (f.key ≡ g.key)) ⊎ (f.slot ≡ g.slot → f.key ≢ g.key)
 one_place f g = by (slots_eq f.slot g.slot) (keys_eq octets_total exact_bytes f.key g.key)
   where
@@ -149,14 +149,14 @@ one_place f g = by (slots_eq f.slot g.slot) (keys_eq octets_total exact_bytes f.
     by (inl slots) (inr apart) = inr (λ _. apart)
     by (inr apart) keys = inr (λ slots. absurd (apart slots))
 
--- Nothing happens to an end.
+-- The end stays.
 pub moves_nowhere : (came : Option Message) (e : End) → Moves came e e
 moves_nowhere came e = record {
   back = λ g had. (g.half, inl had, turns_self came g.half);
   forth = λ f had. (f.half, had, turns_self came f.half);
 }
 
--- A half of it becomes another.
+-- One half of the end turns.
 pub put_moves : (came : Option Message) (e : End) (f : KeptHalf) (h : Half) → Has e f → Turns came f.half h
     → Moves came e (put e f.slot f.key h)
 put_moves came e f h had turns = record {
@@ -177,7 +177,7 @@ put_moves came e f h had turns = record {
         (h, rw (same.0, same.1) (put_there e f.slot f.key h), rw (← one) turns)
     forth g in_g (inr apart) = (g.half, put_other e f.slot f.key h g apart in_g, turns_self came g.half)
 
--- A half begins, where none is kept.
+-- A half is put where none was.
 pub new_moves : (came : Option Message) (e : End) (slot : Slot) (key : List ℕ) (h : Half)
     → ((g : KeptHalf) → Has e g → g.slot ≡ slot → g.key ≢ key) → Turns came blank h → Moves came e (put e slot key h)
 new_moves came e slot key h apart turns = record {

@@ -1,4 +1,4 @@
--- What was sent has its half: an ID that was sent is used, and where a dialogue was ended the half is closed.
+-- The IDs that a lawful end sent since the last mark are used, and the dialogues that it ended are closed.
 use Rattle.std.proofs.Common.{◌≡◌, ◌⊎◌, inl, inr, Bool, true, false, List, [], ◌∷◌, ◌++◌, Some, refl, sym, ◌∙◌}
 use Rattle.std.specs.Prelude.{◌||◌}
 use Rattle.tcap_msg.specs.declared.message.Message.{Message}
@@ -13,16 +13,16 @@ use Rattle.tcap_model.specs.Since.{EndedIsClosed, HasUsed, SentSince}
 use Rattle.tcap_model.proofs.RunLaws.{sound}
 use Rattle.tcap_model.proofs.WorldMoves.{Advances, HasEnded, worlds_keep}
 
--- each message that an end which keeps the rules sent since has what it says of its end
+-- for each message of a lawful end since the last mark: its ID is used, and it closed the half that it ends
 abbrev HasHalves : Side → List Event → World → Type 0
 HasHalves side events w = KeepsRules side events → (m : Message) → SentSince side m w.sent → HasUsed w side m × HasEnded w side m
 
--- Neither is so.
+-- A disjunction is false only if both parts are.
 or_parts : (a b : Bool) → (a || b) ≡ false → (a ≡ false) × (b ≡ false)
 or_parts true b is = cc
 or_parts false b is = (refl, is)
 
--- It kept them before the last step, and in it.
+-- An end that keeps the rules kept them before the last step, and in it.
 kept_before : (side : Side) (before : List Event) (event : Event) → KeepsRules side (before ++ event ∷ [])
     → KeepsRules side before × (is_told_by side event ≡ false)
 kept_before side [] event keeps = (refl, (or_parts (is_told_by side event) false keeps).0)
@@ -31,7 +31,7 @@ kept_before side (first ∷ before) event keeps =
     let rest = kept_before side before event both.1 in
     (rw (both.0) (rest.0), rest.1)
 
--- An ID stays used,
+-- A used ID stays used.
 still_used : {event : Event} → (w next : World) (side : Side) (m : Message) → Advances event w next → HasUsed w side m → HasUsed next side m
 still_used w next side (Unidirectional dialogue components) advances used = tt
 still_used w next side (Begin otid dialogue components) advances (f, had, own) =
@@ -43,14 +43,14 @@ still_used w next side (Continue otid dtid dialogue components) advances (f, had
 still_used w next side (EndMessage dtid dialogue components) advances used = tt
 still_used w next side (Abort dtid reason) advances used = tt
 
--- and a half stays closed.
+-- A closed half stays closed.
 still_ended : {event : Event} → (w next : World) (side : Side) (m : Message) → Advances event w next → HasEnded w side m → HasEnded next side m
 still_ended w next side m advances ended id ends =
     let was = ended id ends in
     let moved = (advances.ends side).moves.forth was.0 was.1 in
     (record (was.0) { half = moved.0 }, moved.1, moved.2.peer id was.2, moved.2.closed was.3)
 
--- A step keeps it,
+-- A step keeps `HasHalves`.
 keeps_halves : (side : Side) (before : List Event) (event : Event) (w next : World) → ((place : Side) → IsEnd (end_at place w))
     → Advances event w next → HasHalves side before w → HasHalves side (before ++ event ∷ []) next
 keeps_halves side before event w next sound advances held keeps m since =
@@ -63,22 +63,22 @@ keeps_halves side before event w next sound advances held keeps m since =
         (still_used w next side m advances had.0, still_ended w next side m advances had.1)
     by kept (inr new) = new
 
--- so it holds behind each run.
+-- It holds after each run.
 has_halves : (table : Table) (side : Side) (events : List Event) (w : World) → Runs table events w → HasHalves side events w
 has_halves table side = worlds_keep table (HasHalves side) (λ events w blank keeps m since. absurd (blank.sent side m since))
     (keeps_halves side)
 
--- An ID that was sent since is used.
+-- An ID sent since the last mark is used.
 pub ids_used : (table : Table) (events : List Event) (w : World) (side : Side) (m : Message) → Runs table events w
     → KeepsRules side events → SentSince side m w.sent → HasUsed w side m
 ids_used table events w side m runs keeps since = (has_halves table side events w runs keeps m since).0
 
--- At one place an end has one half.
+-- An end has one half at one place.
 one_half : (e : End) (f g : KeptHalf) → Has e f → Has e g → IsSame f g → g.half ≡ f.half
 one_half e f g in_f in_g same =
     let here : Some g.half ≡ Some f.half = sym in_g ∙ (rw (← same.0, ← same.1) in_f) in cc
 
--- A half is closed where the dialogue with its peer was ended since.
+-- A half is closed if the end ended its dialogue since the last mark.
 pub ended_closed : (table : Table) (events : List Event) (w : World) (side : Side) (f : KeptHalf) → Runs table events w
     → KeepsRules side events → Has (end_at side w) f → EndedIsClosed w side f
 ended_closed table events w side f runs keeps had m id since ends peer =

@@ -1,4 +1,4 @@
--- What each of two ends makes of the same items, put together: a run in which both keep the rules.
+-- Two ends that each do their part of the items give one run in which both keep the rules.
 use Rattle.std.proofs.Common.{◌≡◌, ℕ, List, [], ◌∷◌, ◌++◌, length, Some, refl, sym, ◌∙◌, append_assoc, append-nil}
 use Rattle.tcap_record.specs.declared.entry.End.TheVariants as sides
 use Rattle.tcap_end.specs.Table.{Table}
@@ -9,11 +9,11 @@ use Rattle.tcap_model.proofs.RunLaws.{played_on}
 use Rattle.tcap_model.proofs.WholeTurns.{Drifts, Goes, Takes, Turn, both_keep, with_newest}
 use Rattle.tcap_model.proofs.WholeViews.{goes_lawful}
 
--- both ends, what is on its way to each, and what was sent
+-- the world of two ends, the messages in transit to each, and the sent list
 abbrev both : End → End → List OnItsWay → List OnItsWay → List Item → World
 both a b to_a to_b sent = record { a = a; b = b; from_a = to_b; from_b = to_a; sent = sent }
 
--- From this world both ends, which keep the rules, send what is left of these items.
+-- From this world, a run in which both ends keep the rules sends the rest of the items.
 record Sends (table : Table) (w : World) (all : List Item) : Type 0 where
   events : List Event
   last : World
@@ -21,7 +21,7 @@ record Sends (table : Table) (w : World) (all : List Item) : Type 0 where
   sent : last.sent ≡ all
   keep : BothKeepRules events
 
--- What leads to such a world stands before.
+-- This still holds before a run that leads to the world.
 sends_behind : (table : Table) (events : List Event) (w next : World) (all : List Item) → BothKeepRules events
     → played table events w ≡ Some next → Sends table next all → Sends table w all
 sends_behind table events w next all keep is rest = record {
@@ -32,13 +32,13 @@ sends_behind table events w next all keep is rest = record {
   keep = both_keep events rest.events keep rest.keep;
 }
 
--- A step that leads to one does.
+-- It still holds before one step that leads to the world.
 one_behind : (table : Table) (event : Event) (w next : World) (all : List Item) → BothKeepRules (event ∷ [])
     → after table event w ≡ Some next → Sends table next all → Sends table w all
 one_behind table event w next all keep is = sends_behind table (event ∷ []) w next all keep (rw is refl)
 
 module _ (table : Table) (all : List Item) where
-  -- What happens to both ends unseen stands before.
+  -- Hidden steps of both ends come before.
   both_drift : (a b x y : End) (to_a to_b x_left y_left : List OnItsWay) (sent : List Item)
       → Drifts table sides.A a to_a x x_left → Drifts table sides.B b to_b y y_left
       → Sends table (both x y x_left y_left sent) all → Sends table (both a b to_a to_b sent) all
@@ -48,7 +48,7 @@ module _ (table : Table) (all : List Item) where
       (sends_behind table of_b.events (both x b x_left to_b sent) (both x y x_left y_left sent) all of_b.keep
       (of_b.plays (both x b x_left to_b sent)) rest)
 
-  -- Both ends make something of one item, and then of the others.
+  -- Both ends take one item, and then the rest.
   both_take : (item : Item) (a b x y : End) (to_a to_b x_left y_left : List OnItsWay) (sent : List Item)
       → Takes table sides.A item sent a to_a x x_left → Takes table sides.B item sent b to_b y y_left
       → Sends table (both x y x_left y_left (sent ++ item ∷ [])) all → Sends table (both a b to_a to_b sent) all
@@ -65,7 +65,7 @@ module _ (table : Table) (all : List Item) where
       is : after table Quiet (both a b to_a to_b sent) ≡ Some (both nothing nothing [] [] (sent ++ Item.Quiet ∷ []))
       is = rw (of_a.0, of_b.0, of_a.1, of_b.1) refl
 
--- So they go on to the last item.
+-- Both ends take all items.
 both_go : (table : Table) (items : List Item) (all sent : List Item) (a b : End) (to_a to_b : List OnItsWay)
     → sent ++ items ≡ all → Goes table sides.A items sent a to_a → Goes table sides.B items sent b to_b
     → Sends table (both a b to_a to_b sent) all
@@ -88,7 +88,7 @@ both_go table (item ∷ items) all sent a b to_a to_b are of_a of_b =
     y : Turn table sides.B item sent b to_b
     y = of_b.0
 
--- What each end may have sent lawfully, both may have sent lawfully.
+-- A list that is lawful for each end alone is lawful for both.
 pub lawful_together : (table : Table) (items : List Item) → IsLawfulFor sides.A items table
     → IsLawfulFor sides.B items table → (moves : ℕ) × IsLawful items table moves
 lawful_together table items of_a of_b =

@@ -1,5 +1,5 @@
--- What an end that keeps the rules makes of each item of a run: what happens to it unseen before the item, and then the
--- item. Nothing but the end itself and what is on its way to it matters, so the events are the same in each world.
+-- What an end that keeps the rules does for each item of a run: hidden steps, then the item. The events depend only on
+-- the end and on the messages in transit to it, so they are the same in each world.
 use Rattle.std.proofs.Common.{◌≡◌, ℤ, Bool, true, false, List, [], ◌∷◌, ◌++◌, length, Some, Ok, refl, ◌∙◌}
 use Rattle.std.proofs.lemmas.Bool.{eq-eqb, or_from, or_parts}
 use Rattle.tcap_msg.specs.declared.message.Message.{Message}
@@ -15,43 +15,43 @@ use Rattle.tcap_model.specs.World.{Item, OnItsWay, Sent, World, is_side, with_ch
 use Rattle.tcap_model.specs.Run.{Event, Sends, Receives, Replies, Loses, Expires, Closes, BothKeepRules, KeepsRules, after, joined, played, reply_to, tells}
 use Rattle.tcap_model.proofs.RunLaws.{played_on}
 
--- The world with this end, and with this on its way to it.
+-- the world with this end, and with these messages in transit to it
 abbrev pub seen_with : Side → End → List OnItsWay → World → World
 seen_with side e coming w = with_end side e (with_channel (other side) coming w)
 
--- An end is made into another, and what is on its way to it is less, unseen, whatever else there is.
+-- Hidden steps lead from this end and these messages to the others, in any world.
 pub record Drifts (table : Table) (side : Side) (e : End) (coming : List OnItsWay) (made : End) (left : List OnItsWay) : Type 0 where
   pub events : List Event
   pub plays : (w : World) → played table events (seen_with side e coming w) ≡ Some (seen_with side made left w)
   pub keep : BothKeepRules events
 
--- It says the message, or its provider does, whatever else there is.
+-- One step sends the message from this end, or from its provider, in any world.
 pub record Says (table : Table) (side : Side) (m : Message) (e : End) (coming : List OnItsWay) (made : End) (left : List OnItsWay) : Type 0 where
   pub event : Event
   pub plays : (w : World)
       → after table event (seen_with side e coming w) ≡ Some (joined side m (seen_with side made left w))
   pub keep : BothKeepRules (event ∷ [])
 
--- A message joins what is on its way to an end, behind these items.
+-- the messages in transit to an end after the other end sends one
 abbrev pub with_newest : List Item → Message → List OnItsWay → List OnItsWay
 with_newest sent m coming = coming ++ newest ∷ []
   where
     newest : OnItsWay
     newest = record { number = length sent; message = m }
 
--- What an end makes of a message: it is its own, or the other end's.
+-- What an end does at a message: it sends its own, or gets the other end's in transit.
 abbrev pub Meets : Table → Side → Bool → Message → List Item → End → List OnItsWay → End → List OnItsWay → Type 0
 Meets table side true m sent e coming made left = Says table side m e coming made left
 Meets table side false m sent e coming made left = (made ≡ e) × (left ≡ with_newest sent m coming)
 
--- What it makes of an item, behind these.
+-- What an end does at an item.
 abbrev pub Takes : Table → Side → Item → List Item → End → List OnItsWay → End → List OnItsWay → Type 0
 Takes table side (Sent sender m) sent e coming made left =
     Meets table side (is_side side sender) m sent e coming made left
 Takes table side Item.Quiet sent e coming made left =
     (coming ≡ []) × (quiet e ≡ Ok nothing) × (made ≡ nothing) × (left ≡ [])
 
--- What happens unseen before an item, and what the end makes of that.
+-- Hidden steps before an item, and then the item.
 pub record Turn (table : Table) (side : Side) (item : Item) (sent : List Item) (e : End) (coming : List OnItsWay) : Type 0 where
   pub drifted : End
   pub waiting : List OnItsWay
@@ -60,13 +60,13 @@ pub record Turn (table : Table) (side : Side) (item : Item) (sent : List Item) (
   pub left : List OnItsWay
   pub takes : Takes table side item sent drifted waiting made left
 
--- It does so with each of the items, one after the other.
+-- A turn for each item, in order.
 abbrev pub Goes : Table → Side → List Item → List Item → End → List OnItsWay → Type 0
 Goes table side [] sent e coming = Unit {0}
 Goes table side (item ∷ items) sent e coming =
     (t : Turn table side item sent e coming) × Goes table side items (sent ++ item ∷ []) t.made t.left
 
--- ---- rules that are kept
+-- ---- keeping the rules
 
 keeps_both : (side : Side) (xs ys : List Event) → KeepsRules side xs → KeepsRules side ys → KeepsRules side (xs ++ ys)
 keeps_both side [] ys here there = there
@@ -76,13 +76,13 @@ keeps_both side (x ∷ xs) ys here there =
 pub both_keep : (xs ys : List Event) → BothKeepRules xs → BothKeepRules ys → BothKeepRules (xs ++ ys)
 both_keep xs ys here there = (keeps_both sides.A xs ys here.0 there.0, keeps_both sides.B xs ys here.1 there.1)
 
--- ---- what happens unseen
+-- ---- hidden steps
 
--- Nothing does,
+-- There may be none.
 pub no_drift : {table : Table} {side : Side} {e : End} {coming : List OnItsWay} → Drifts table side e coming e coming
 no_drift = record { events = []; plays = λ w. refl; keep = (refl, refl) }
 
--- or one thing behind the other,
+-- Two sequences in a row are one.
 drifts_then : {table : Table} {side : Side} {e mid made : End} {coming waiting left : List OnItsWay}
     → Drifts table side e coming mid waiting → Drifts table side mid waiting made left → Drifts table side e coming made left
 drifts_then {table} {side} {e} {mid} {made} {coming} {waiting} {left} a b = record {
@@ -92,7 +92,7 @@ drifts_then {table} {side} {e} {mid} {made} {coming} {waiting} {left} a b = reco
   keep = both_keep a.events b.events a.keep b.keep;
 }
 
--- before the first item.
+-- They may come before the first item.
 pub drifts_first : {table : Table} {side : Side} {e made : End} {coming left : List OnItsWay} (items sent : List Item)
     → Drifts table side e coming made left → Goes table side items sent made left → Goes table side items sent e coming
 drifts_first [] sent drift goes = tt
@@ -109,7 +109,7 @@ drifts_first (item ∷ items) sent drift goes = (
 )
 
 module _ (table : Table) (e made : End) where
-  -- It receives a message,
+  -- The end receives a message.
   pub hears : (side : Side) (head : OnItsWay) (left : List OnItsWay) → receive table e head.message ≡ Ok made
       → Drifts table side e (head ∷ left) made left
   hears side head left step = record { events = Receives side head.number ∷ []; plays = by side; keep = (refl, refl) }
@@ -119,7 +119,7 @@ module _ (table : Table) (e made : End) where
       by sides.A w = rw (eq-eqb head.number head.number refl, step) refl
       by sides.B w = rw (eq-eqb head.number head.number refl, step) refl
 
-  -- an invocation ends,
+  -- An invocation expires.
   pub expires : (side : Side) (name : HalfName) (id : ℤ) (coming : List OnItsWay) → expire table e name id ≡ Ok made
       → Drifts table side e coming made coming
   expires side name id coming step = record { events = Expires side name id ∷ []; plays = by side; keep = (refl, refl) }
@@ -129,7 +129,7 @@ module _ (table : Table) (e made : End) where
       by sides.A w = rw step refl
       by sides.B w = rw step refl
 
-  -- or a half closes.
+  -- A half closes.
   pub closes : (side : Side) (name : HalfName) (coming : List OnItsWay) → close table e name ≡ Ok made
       → Drifts table side e coming made coming
   closes side name coming step = record { events = Closes side name ∷ []; plays = by side; keep = (refl, refl) }
@@ -139,7 +139,7 @@ module _ (table : Table) (e made : End) where
       by sides.A w = rw step refl
       by sides.B w = rw step refl
 
-  -- It sends a message.
+  -- The end sends a message.
   pub sends : (side : Side) (m : Message) (coming : List OnItsWay) → send table e m ≡ Ok made
       → Says table side m e coming made coming
   sends side m coming step = record { event = Sends side m; plays = by side; keep = (refl, refl) }
@@ -150,7 +150,7 @@ module _ (table : Table) (e made : End) where
       by sides.B w = rw step refl
 
 module _ (table : Table) (e : End) where
-  -- A message to it is lost.
+  -- A message to the end is lost.
   pub misses : (side : Side) (head : OnItsWay) (left : List OnItsWay) → Drifts table side e (head ∷ left) e left
   misses side head left = record { events = Loses (other side) head.number ∷ []; plays = by side; keep = (refl, refl) }
     where
@@ -159,7 +159,7 @@ module _ (table : Table) (e : End) where
       by sides.A w = rw (eq-eqb head.number head.number refl) refl
       by sides.B w = rw (eq-eqb head.number head.number refl) refl
 
-  -- Its provider answers one.
+  -- The provider of the end answers a message.
   pub replies : (side : Side) (head : OnItsWay) (left : List OnItsWay) (abort : Message)
       → reply_to e head.message ≡ Some abort → Says table side abort e (head ∷ left) e left
   replies side head left abort step = record { event = Replies side head.number; plays = by side; keep = (refl, refl) }

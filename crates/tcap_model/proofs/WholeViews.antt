@@ -1,4 +1,4 @@
--- From a run in which an end keeps the rules: what it makes of each item that was sent.
+-- A run in which one end keeps the rules, as this end's turns over the items.
 use Rattle.std.proofs.Common.{◌≡◌, ◌⊎◌, inl, inr, ℕ, ℤ, Bool, true, false, List, [], ◌∷◌, ◌++◌, Option, Some, None, Ok, refl, subst, ap, ◌∙◌, append_assoc, append-nil}
 use Rattle.std.proofs.lemmas.Bool.{or_parts}
 use Rattle.std.specs.Prelude.{◌&&◌, option_map}
@@ -19,22 +19,22 @@ use Rattle.tcap_model.specs.Run.{Event, Sends, Receives, Replies, Loses, Expires
 use Rattle.tcap_model.proofs.RunLaws.{closing, delivery, expiry, loss, quiet as quiet_step, reply, sending, telling}
 use Rattle.tcap_model.proofs.WholeTurns.{Drifts, Goes, Takes, closes, drifts_first, expires, hears, misses, no_drift, replies, sends}
 
--- what is on its way to an end
+-- the messages in transit to an end
 abbrev coming_to : Side → World → List OnItsWay
 coming_to side w = channel_from (other side) w
 
--- Something happens to the end unseen, and nothing is sent.
+-- hidden steps happen at the end, and nothing is sent
 abbrev Drifted : Table → Side → World → World → Type 0
 Drifted table side w next =
     (next.sent ≡ w.sent)
     × Drifts table side (end_at side w) (coming_to side w) (end_at side next) (coming_to side next)
 
--- An item is sent, and the end makes that of it.
+-- one item is sent, and the end takes it
 abbrev Took : Table → Side → World → World → Type 0
 Took table side w next = (item : Item) × (next.sent ≡ w.sent ++ item ∷ [])
     × Takes table side item w.sent (end_at side w) (coming_to side w) (end_at side next) (coming_to side next)
 
--- Each step in which the end tells nothing is one of both: a message is sent,
+-- A sending is one of both.
 sends_seen : (table : Table) (side sender : Side) (m : Message) (w next : World)
     → after table (Sends sender m) w ≡ Some next → Took table side w next
 sends_seen table side sender m w next is =
@@ -47,7 +47,7 @@ sends_seen table side sender m w next is =
     by sides.B sides.A made step = (Sent sides.A m, refl, (refl, refl))
     by sides.B sides.B made step = (Sent sides.B m, refl, sends table w.b made sides.B m w.from_a step)
 
--- one is received,
+-- A delivery is a hidden step.
 receives_seen : (table : Table) (side receiver : Side) (number : ℕ) (w next : World)
     → after table (Receives receiver number) w ≡ Some next → Drifted table side w next
 receives_seen table side receiver number w next is =
@@ -62,7 +62,7 @@ receives_seen table side receiver number w next is =
     by sides.B sides.A head more made was step = (refl, no_drift)
     by sides.B sides.B head more made was step = (refl, rw was (hears table w.b made sides.B head more step))
 
--- one is answered by a provider,
+-- A provider's reply is an item.
 replies_seen : (table : Table) (side replier : Side) (number : ℕ) (w next : World)
     → after table (Replies replier number) w ≡ Some next → Took table side w next
 replies_seen table side replier number w next is =
@@ -79,7 +79,7 @@ replies_seen table side replier number w next is =
     by sides.B sides.B head more abort was step =
         (Sent sides.B abort, refl, rw was (replies table w.b sides.B head more abort step))
 
--- one is lost,
+-- A loss is a hidden step.
 loses_seen : (table : Table) (side sender : Side) (number : ℕ) (w next : World)
     → after table (Loses sender number) w ≡ Some next → Drifted table side w next
 loses_seen table side sender number w next is =
@@ -92,7 +92,7 @@ loses_seen table side sender number w next is =
     by sides.B sides.A head more was = (refl, rw was (misses table w.b sides.B head more))
     by sides.B sides.B head more was = (refl, no_drift)
 
--- an invocation ends unseen,
+-- An expiry is a hidden step.
 expires_seen : (table : Table) (side place : Side) (name : HalfName) (id : ℤ) (w next : World)
     → after table (Expires place name id) w ≡ Some next → Drifted table side w next
 expires_seen table side place name id w next is =
@@ -105,7 +105,7 @@ expires_seen table side place name id w next is =
     by sides.B sides.A made step = (refl, no_drift)
     by sides.B sides.B made step = (refl, expires table w.b made sides.B name id w.from_a step)
 
--- a half closes unseen,
+-- A closing is a hidden step.
 closes_seen : (table : Table) (side place : Side) (name : HalfName) (w next : World)
     → after table (Closes place name) w ≡ Some next → Drifted table side w next
 closes_seen table side place name w next is =
@@ -118,7 +118,7 @@ closes_seen table side place name w next is =
     by sides.B sides.A made step = (refl, no_drift)
     by sides.B sides.B made step = (refl, closes table w.b made sides.B name w.from_a step)
 
--- the other end tells a message,
+-- A message that the other end sends by `Tells` is an item.
 tells_seen : (table : Table) (side teller : Side) (m : Message) (w next : World)
     → after table (Tells teller m) w ≡ Some next → is_side side teller ≡ false → Took table side w next
 tells_seen table side teller m w next is apart =
@@ -130,7 +130,7 @@ tells_seen table side teller m w next is apart =
     by sides.B sides.A apart = (Sent sides.A m, refl, (refl, refl))
     by sides.B sides.B apart = cc
 
--- Both ends are quiet at a quiet mark.
+-- Both ends are empty at a quiet mark.
 both_quiet : (a b : Bool) (x : World) (sent : List Item)
     → then_so (result_ok (needs a faults.StillOpen >> Ok nothing))
     (λ p.
@@ -152,7 +152,7 @@ ends_quiet table w next is = by w.from_a w.from_b is
     by [] (m ∷ b) is = cc
     by (m ∷ a) b is = cc
 
--- or all is quiet.
+-- A quiet mark is an item.
 quiet_seen : (table : Table) (side : Side) (w next : World) → after table Quiet w ≡ Some next → Took table side w next
 quiet_seen table side w next is =
     let q = quiet_step table w next is in let ends = ends_quiet table w next is in
@@ -178,12 +178,12 @@ step_seen table side (Tells teller m) w next is untold = inr (tells_seen table s
 
 -- ---- runs
 
--- What was sent between the two worlds, and what the end made of it.
+-- the items sent between two worlds, and the end's turns over them
 abbrev Went : Table → Side → World → World → Type 0
 Went table side w last = (items : List Item) × (last.sent ≡ w.sent ++ items)
     × Goes table side items w.sent (end_at side w) (coming_to side w)
 
--- One step more stands before it.
+-- One more step comes before.
 went_first : (table : Table) (side : Side) (w next last : World) → Drifted table side w next ⊎ Took table side w next
     → Went table side next last → Went table side w last
 went_first table side w next last (inl (same, drift)) (items, sent, goes) = (
@@ -220,7 +220,7 @@ went table side (event ∷ events) w last is keeps =
     by None at on untold is = cc
     by (Some next) at on untold is = went_first table side w next last (step_seen table side event w next at untold) (on next is)
 
--- What one end may have sent lawfully, it made so of the items.
+-- The end's part of a lawful list gives its turns.
 pub goes_lawful : (table : Table) (side : Side) (items : List Item) → IsLawfulFor side items table
     → Goes table side items [] nothing []
 goes_lawful table side items lawful = by side (went table side lawful.0 empty lawful.1.0 lawful.1.1 lawful.2)

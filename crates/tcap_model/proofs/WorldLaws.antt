@@ -1,4 +1,4 @@
--- What a change of a world leaves as it was.
+-- What a change of a world leaves unchanged.
 use Rattle.std.proofs.Common.{◌≡◌, true, false, List, [], ◌∷◌, ◌++◌, refl}
 use Rattle.tcap_msg.specs.declared.message.Message.{Message}
 use Rattle.tcap_record.specs.declared.entry.End.{End as Side}
@@ -60,7 +60,7 @@ pub peer_stays : (side : Side) (messages : List OnItsWay) (w : World)
 peer_stays sides.A messages w = refl
 peer_stays sides.B messages w = refl
 
--- ---- a message that joins
+-- ---- a message that joins a channel
 
 pub sent_joined : (side : Side) (m : Message) (w : World) → (joined side m w).sent ≡ w.sent ++ Sent side m ∷ []
 sent_joined sides.A m w = refl

@@ -1,4 +1,4 @@
--- What a step makes of a world: each end moves, and what was sent since stays so, with one message more at most.
+-- What each step does to a world: each end moves, and the sent list grows by at most one item.
 use Rattle.std.proofs.Common.{◌≡◌, ◌⊎◌, inl, inr, ℕ, true, false, List, [], ◌∷◌, ◌++◌, Option, Some, None, Result, Ok, refl, sym, ◌∙◌}
 use Rattle.std.specs.List.{AllByRecursion}
 use Rattle.std.proofs.lemmas.Option.{cond_some}
@@ -29,23 +29,23 @@ use Rattle.tcap_model.proofs.RunLaws.{IsDelivery, IsHidden, IsLoss, IsQuiet, IsR
 
 -- ---- what a step makes of a world
 
--- What an end received, if anything, its peer sent since.
+-- The received message, if any, was sent by the peer since the last mark.
 abbrev pub CameSince : World → Side → Option Message → Type 0
 CameSince w side None = Unit {0}
 CameSince w side (Some m) = SentSince (other side) m w.sent
 
--- An end moves, with what it received, if anything.
+-- The end moves, with the message that it receives, if any.
 pub record EndMoves (side : Side) (w next : World) : Type 1 where
   pub came : Option Message
   pub since : CameSince w side came
   pub moves : Moves came (end_at side w) (end_at side next)
 
--- Where the message ended the dialogue with a peer, the end has a closed half with that peer's ID.
+-- If the message ended the dialogue with a peer, the end has a closed half with this peer ID.
 abbrev pub HasEnded : World → Side → Message → Type 0
 HasEnded w side m = (id : List ℕ) → ended_by m ≡ Some id
     → (f : KeptHalf) × Has (end_at side w) f × (f.half.peer ≡ Some id) × (f.half.phase ≡ phases.Closed)
 
--- What was sent since stays so; what is new of an end that keeps the rules has its half.
+-- Messages sent since the last mark stay so, and a new one of a lawful end has its half.
 pub record SentMore (event : Event) (w next : World) : Type 0 where
   pub keeps : (side : Side) (m : Message) → SentSince side m w.sent → SentSince side m next.sent
   pub adds : (side : Side) (m : Message) → is_told_by side event ≡ false
@@ -56,19 +56,19 @@ pub record Advances (event : Event) (w next : World) : Type 1 where
   pub ends : (side : Side) → EndMoves side w next
   pub sent : SentMore event w next
 
--- No half is there, and nothing was sent since.
+-- There is no half, and nothing was sent since the last mark.
 pub record IsBlank (w : World) : Type 0 where
   pub halves : (side : Side) (f : KeptHalf) → Has (end_at side w) f → ⊥
   pub sent : (side : Side) (m : Message) → SentSince side m w.sent → ⊥
 
 -- ---- ends
 
--- The world has that end at one side, and the old one at the other.
+-- one end is new, and the other stays
 record Changes (side : Side) (made : End) (w next : World) : Type 0 where
   here : end_at side next ≡ made
   there : end_at (other side) next ≡ end_at (other side) w
 
--- Then both ends move, where that one does,
+-- If the new end is a move, both ends move.
 one_end : (side : Side) (made : End) (w next : World) (came : Option Message) → Changes side made w next → CameSince w side came
     → Moves came (end_at side w) made → (place : Side) → EndMoves place w next
 one_end side made w next came changes since moves place = by side place changes.here changes.there since moves
@@ -80,33 +80,33 @@ one_end side made w next came changes since moves place = by side place changes.
     by sides.B sides.A here there since moves = record { came = None; since = tt; moves = rw there (moves_nowhere None _) }
     by sides.B sides.B here there since moves = record { came = came; since = since; moves = rw here moves }
 
--- or where none changes.
+-- If no end changes, both ends move.
 no_end : (side : Side) (w next : World) → Changes side (end_at side w) w next → (place : Side) → EndMoves place w next
 no_end side w next changes = one_end side (end_at side w) w next None changes tt (moves_nowhere None _)
 
--- What each kind of step does to the ends: a message is sent,
+-- A sending changes its sender.
 changes_sent : (side : Side) (m : Message) (made : End) (w : World) → Changes side made w (joined side m (with_end side made w))
 changes_sent sides.A m made w = record { here = refl; there = refl }
 changes_sent sides.B m made w = record { here = refl; there = refl }
 
--- one is received,
+-- A delivery changes its receiver.
 changes_got : (side : Side) (more : List OnItsWay) (made : End) (w : World)
     → Changes side made w (with_end side made (with_channel (other side) more w))
 changes_got sides.A more made w = record { here = refl; there = refl }
 changes_got sides.B more made w = record { here = refl; there = refl }
 
--- one is answered by the provider,
+-- A provider's reply changes no end.
 changes_replied : (side : Side) (m : Message) (more : List OnItsWay) (w : World)
     → Changes side (end_at side w) w (joined side m (with_channel (other side) more w))
 changes_replied sides.A m more w = record { here = refl; there = refl }
 changes_replied sides.B m more w = record { here = refl; there = refl }
 
--- one is lost,
+-- A loss changes no end.
 changes_lost : (side : Side) (more : List OnItsWay) (w : World) → Changes side (end_at side w) w (with_channel side more w)
 changes_lost sides.A more w = record { here = refl; there = refl }
 changes_lost sides.B more w = record { here = refl; there = refl }
 
--- or something happens to an end unseen.
+-- A hidden step at an end changes this end.
 changes_hidden : (side : Side) (made : End) (w : World) → Changes side made w (with_end side made w)
 changes_hidden sides.A made w = record { here = refl; there = refl }
 changes_hidden sides.B made w = record { here = refl; there = refl }
@@ -120,7 +120,7 @@ none_sent event w next is = record {
   adds = λ side m told since. inl (rw is at since);
 }
 
--- A message is sent.
+-- An end sends a message by the rules.
 one_sent : (event : Event) (sender : Side) (n : Message) (w next : World) → next.sent ≡ w.sent ++ Sent sender n ∷ []
     → HasUsed next sender n → HasEnded next sender n → SentMore event w next
 one_sent event sender n w next is used ended = record {
@@ -133,7 +133,7 @@ one_sent event sender n w next is used ended = record {
     by side m (inl newest) = inr (rw (newest.0, newest.1) (used, ended))
     by side m (inr was) = inl was
 
--- A message is told.
+-- An end sends a message by `Tells`.
 one_told : (teller : Side) (n : Message) (w next : World) → next.sent ≡ w.sent ++ Sent teller n ∷ [] → SentMore (Tells teller n) w next
 one_told teller n w next is = record {
   keeps = λ side m was. rw is (since_more side teller m n w.sent was);
@@ -147,7 +147,7 @@ one_told teller n w next is = record {
 
 -- ---- steps
 
--- What a sent message says of its end holds behind it.
+-- The IDs of a sent message are used after it.
 send_uses : (table : Table) (side : Side) (m : Message) (w next : World) → IsEnd (end_at side w)
     → send table (end_at side w) m ≡ Ok (end_at side next) → HasUsed next side m
 send_uses table side (Unidirectional dialogue components) w next sound is = tt
@@ -157,7 +157,7 @@ send_uses table side (Continue otid dtid dialogue components) w next sound is =
 send_uses table side (EndMessage dtid dialogue components) w next sound is = tt
 send_uses table side (Abort dtid reason) w next sound is = tt
 
--- A message is sent,
+-- A sending advances the world.
 send_advances : (table : Table) (side : Side) (m : Message) (w next : World) → ((place : Side) → IsEnd (end_at place w))
     → IsSending table side m w next → Advances (Sends side m) w next
 send_advances table side m w next sound is = record {
@@ -175,7 +175,7 @@ send_advances table side m w next sound is = record {
     sent : next.sent ≡ w.sent ++ Sent side m ∷ []
     sent = rw (is.next_is, sent_joined side m (with_end side is.made w), sent_with_end side is.made w) refl
 
--- one is received,
+-- A delivery advances the world.
 delivery_advances : (table : Table) (side : Side) (number : ℕ) (w next : World) → ((place : Side) → IsEnd (end_at place w))
     → AllByRecursion (WasSent w (other side)) (channel_from (other side) w) → IsDelivery table side number w next
     → Advances (Receives side number) w next
@@ -206,7 +206,7 @@ reply_aborts e (Continue otid dtid dialogue components) abort is = (otid, 1, sym
 reply_aborts e (EndMessage dtid dialogue components) abort is = cc
 reply_aborts e (Abort dtid reason) abort is = cc
 
--- one is answered by the provider,
+-- A provider's reply advances the world.
 reply_advances : (side : Side) (number : ℕ) (w next : World) → IsReply side number w next → Advances (Replies side number) w next
 reply_advances side number w next is = record {
   ends = no_end side w next changes;
@@ -222,26 +222,26 @@ reply_advances side number w next is = record {
     sent : next.sent ≡ w.sent ++ Sent side is.abort ∷ []
     sent = rw (is.next_is, sent_joined side is.abort (with_channel (other side) is.more w), sent_with_channel (other side) is.more w) refl
 
--- one is lost,
+-- A loss advances the world.
 loss_advances : (side : Side) (number : ℕ) (w next : World) → IsLoss side number w next → Advances (Loses side number) w next
 loss_advances side number w next is = record {
   ends = no_end side w next (rw is.next_is (changes_lost side is.more w));
   sent = none_sent (Loses side number) w next (rw (is.next_is, sent_with_channel side is.more w) refl);
 }
 
--- A told message leaves both ends as they are.
+-- A message sent by `Tells` changes no end.
 changes_told : (side : Side) (m : Message) (w : World) → Changes side (end_at side w) w (joined side m w)
 changes_told sides.A m w = record { here = refl; there = refl }
 changes_told sides.B m w = record { here = refl; there = refl }
 
--- one is told,
+-- A message sent by `Tells` advances the world.
 told_advances : (side : Side) (m : Message) (w next : World) → IsTold side m w next → Advances (Tells side m) w next
 told_advances side m w next is = record {
   ends = no_end side w next (rw is.next_is (changes_told side m w));
   sent = one_told side m w next (rw (is.next_is, sent_joined side m w) refl);
 }
 
--- or something happens to an end unseen.
+-- An expiry or a closing advances the world.
 hidden_advances : (event : Event) (side : Side) (step : End → Result End EndFault) (w next : World)
     → ((made : End) → step (end_at side w) ≡ Ok made → Moves None (end_at side w) made) → IsHidden side step w next
     → Advances event w next
@@ -252,7 +252,7 @@ hidden_advances event side step w next moves is = record {
 
 -- ---- blank worlds
 
--- Ends over which nothing went have no half.
+-- Empty ends have no half.
 none_had : (w : World) → w.a ≡ nothing → w.b ≡ nothing → (side : Side) (f : KeptHalf) → Has (end_at side w) f → ⊥
 none_had w a b sides.A f had = no_half f.slot f.key f.half (rw a at had)
 none_had w a b sides.B f had = no_half f.slot f.key f.half (rw b at had)
@@ -262,17 +262,17 @@ none_since : (side : Side) (m : Message) → SentSince side m [] → ⊥
 none_since side m ([], behind, is, unmarked) = cc
 none_since side m (item ∷ front, behind, is, unmarked) = cc
 
--- The empty world is blank,
+-- The empty world is blank.
 empty_blank : IsBlank empty
 empty_blank = record { halves = none_had empty refl refl; sent = none_since }
 
--- and so is one behind a quiet mark.
+-- The world after a quiet mark is blank.
 quiet_blank : (w next : World) → IsQuiet w next → IsBlank next
 quiet_blank w next is = rw is.next_is (record { halves = none_had _ refl refl; sent = λ side m. since_quiet side m w.sent })
 
 -- ---- runs
 
--- A step goes on from what was there, or nothing is left behind it.
+-- A step advances the world, or leaves it blank.
 step_advances : (table : Table) (before : List Event) (event : Event) (w next : World) → Runs table before w
     → after table event w ≡ Some next → Advances event w next ⊎ IsBlank next
 step_advances table before (Sends side m) w next runs is =
@@ -293,7 +293,7 @@ step_advances table before (Closes side name) w next runs is =
 step_advances table before (Tells side m) w next runs is = inl (told_advances side m w next (telling table side m w next is))
 step_advances table before Quiet w next runs is = inr (quiet_blank w next (quiet table w next is))
 
--- What holds of each blank world, and is kept by each step that goes on, holds behind each run.
+-- A property of blank worlds that each advance keeps holds after each run.
 pub worlds_keep : (table : Table) (Holds : List Event → World → Type 0)
     → ((events : List Event) (w : World) → IsBlank w → Holds events w)
     → ((before : List Event) (event : Event) (w next : World) → ((side : Side) → IsEnd (end_at side w)) → Advances event w next

@@ -1,8 +1,9 @@
--- The numbers of the reasons why a certificate gives no run.
+-- The number of each reason why a certificate gives no run.
 use Rattle.std.specs.Prelude.{ℕ}
 use Rattle.tcap_model.specs.declared.reason.Reason.{Reason}
 use Rattle.tcap_model.specs.declared.reason.Reason.TheVariants as reasons
 
+-- the number that the output gives for a reason
 abbrev pub reason_number : Reason → ℕ
 reason_number reasons.CertificateShape = 60
 reason_number reasons.FateCount = 61

@@ -1,5 +1,6 @@
--- Runs of two ends over two channels (Q.774 3.2 and 3.3): one step after the other. A message is received by the other
--- end, answered by its provider, or lost. An end keeps the rules, or it tells what it likes.
+-- What two ends over two channels can do, one step at a time (Q.774 3.2 and 3.3). The other end receives a message, its
+-- provider answers the message with an Abort, or the message is lost. Each end either keeps the rules or sends any
+-- message at any time (`Tells`).
 use Rattle.std.specs.Prelude.{◌≡◌, ℕ, ◌+◌, ℤ, Bool, false, List, [], ◌∷◌, ◌++◌, map, length, Option, Some, None, is_ok, ◌==◌, ◌||◌, cond, option_and_then, option_map}
 use Rattle.std.specs.Result.{result_ok}
 use Rattle.tcap_msg.specs.declared.message.AbortReason.TheVariants.{Cause}
@@ -16,34 +17,37 @@ use Rattle.tcap_end.specs.Hidden.{close, expire}
 use Rattle.tcap_record.specs.Ends.{other}
 use Rattle.tcap_model.specs.World.{Item, OnItsWay, Sent, World, channel_from, empty, end_at, is_side, with_channel, with_end}
 
--- where the test passes
+-- the value if the condition holds, else None
 abbrev pub where_so : {A : Type 0} → Bool → Option A → Option A
 where_so so step = cond so step None
 
+-- the next step from a value, or None if there is no value
 abbrev pub then_so : {A B : Type 0} → Option A → (A → Option B) → Option B
 then_so o step = option_and_then step o
 
--- What may happen, with the end that acts; of a loss it is the end that sent the message. Where a message is taken from
--- a channel, its number in the sent list is named.
+-- A step of a run, with the end that acts; the actor of a loss is the end that sent the message. A step that takes a
+-- message from a channel has the number of the message in the sent list.
 pub data Event : Type 0 where
-  -- an end sends a message
+  -- an end sends a message by the rules
   Sends : Side → Message → Event
-  -- an end receives the message of that number, which the other sent
+  -- an end receives the message with this number, which the other end sent
   Receives : Side → ℕ → Event
-  -- the provider of an end answers the message of that number, which the other sent, by an Abort
+  -- the provider of an end answers the message with this number, which the other end sent, with an Abort
   Replies : Side → ℕ → Event
-  -- the message of that number, which an end sent, is lost
+  -- the message with this number, which this end sent, is lost
   Loses : Side → ℕ → Event
-  -- an own invocation of an end ends unseen, in the half of that name: by its timer, or the user cancels it (Q.774 3.2)
+  -- an own invocation in this half of an end ends without a message: its timer expires, or the user cancels it (Q.774
+  -- 3.2)
   Expires : Side → HalfName → ℤ → Event
-  -- a half of an end closes unseen: by prearrangement, or its Begin is given up (Q.774 3.3)
+  -- a half of an end closes without a message: by prearranged end, or the end gives up its Begin (Q.774 3.3)
   Closes : Side → HalfName → Event
-  -- a quiet mark: nothing is on its way, all halves are closed, and all IDs are free again (this profile's choice)
+  -- a quiet mark: nothing is in transit, all halves are closed, and all transaction IDs are free again (a choice of
+  -- this profile)
   Quiet : Event
-  -- An end that keeps no rule sends a message: it may always happen, and the end stays as it is.
+  -- an end that keeps no rules sends a message: this step is always possible, and leaves the end unchanged
   Tells : Side → Message → Event
 
--- A message joins the end of its channel, and of the sent list.
+-- the world after an end sends a message: the message is the last on its channel and in the sent list
 abbrev pub joined : Side → Message → World → World
 joined side message w = record (with_channel side
     (channel_from side w ++ on_its_way ∷ []) w) { sent = w.sent ++ Sent side message ∷ [] }
@@ -51,30 +55,32 @@ joined side message w = record (with_channel side
     on_its_way : OnItsWay
     on_its_way = record { number = length w.sent; message = message }
 
--- Only the head of a channel is taken from it.
+-- `step` applied to the head of a channel and the rest, or None if the head does not have this number
 abbrev pub head_taken : {A : Type 0} → ℕ → (Message → List OnItsWay → Option A) → List OnItsWay → Option A
 head_taken number step [] = None
 head_taken number step (head ∷ more) = where_so (head.number == number) (step head.message more)
 
--- an Abort of a provider to that transaction ID, with that cause
+-- an Abort with this P-Abort cause to this transaction ID (Q.773)
 abbrev pub provider_abort : List ℕ → ℕ → Message
 provider_abort dtid cause = Abort dtid (Some (Cause cause))
 
--- the one by which a provider answers a message that it does not deliver (Q.774 3.3, abnormal procedures)
+-- The Abort with which a provider answers a message that it does not deliver, or None (Q.774 3.3, abnormal procedures).
+-- It has cause 4 for a Begin and cause 1 for a Continue; other messages get no answer.
 abbrev pub abort_for : Message → Option Message
 abort_for (Begin otid dialogue components) = Some (provider_abort otid 4)
 abort_for (Continue otid dtid dialogue components) = Some (provider_abort otid 1)
 abort_for _ = None
 
--- whether the provider of this end may answer the message by this Abort
+-- whether the provider of this end may answer the message with this Abort
 abbrev pub may_refuse : End → Message → Message → Bool
 may_refuse e message abort = is_ok (refuse_begin e message abort) || is_ok (refuse_continue e message abort)
 
--- the Abort by which it may answer the message, if it may
+-- the Abort with which the provider of this end may answer the message, or None
 abbrev pub reply_to : End → Message → Option Message
 reply_to e message = then_so (abort_for message) (λ abort. where_so (may_refuse e message abort) (Some abort))
 
--- Both ends are quiet, and nothing is on its way: no half and no used ID is left.
+-- the world after a quiet mark, or None unless both ends are quiet and nothing is in transit; no half and no used ID is
+-- left
 abbrev pub after_quiet : World → Option World
 after_quiet w = by w.from_a w.from_b
   where
@@ -85,7 +91,7 @@ after_quiet w = by w.from_a w.from_b
         (result_ok (quiet w.b)))
     by _ _ = None
 
--- the world behind an event, where it may happen
+-- the world after an event, or None if the event cannot happen
 abbrev pub after : Table → Event → World → Option World
 after table (Event.Sends side message) w =
     option_map (λ e. joined side message (with_end side e w)) (result_ok (send table (end_at side w) message))
@@ -109,16 +115,17 @@ after table (Event.Closes side name) w = option_map (λ e. with_end side e w)
 after table Event.Quiet w = after_quiet w
 after table (Event.Tells side message) w = Some (joined side message w)
 
--- the world behind a run
+-- the world after these events, or None if one of them cannot happen
 abbrev pub played : Table → List Event → World → Option World
 played table [] w = Some w
 played table (event ∷ events) w = then_so (after table event w) (played table events)
 
--- A run from the empty world to this one.
+-- These events lead from the empty world to this one.
 abbrev pub Runs : Table → List Event → World → Type 0
 Runs table events w = played table events empty ≡ Some w
 
--- What an event adds to the sent list; a reply, the Abort that answers the message which it takes.
+-- An event adds these items to the sent list. A reply adds the Abort that answers the message at the head of the
+-- channel.
 abbrev pub Adds : World → Event → List Item → Type 0
 Adds w (Sends side message) items = items ≡ Sent side message ∷ []
 Adds w (Replies side number) items =
@@ -129,57 +136,58 @@ Adds w Quiet items = items ≡ Item.Quiet ∷ []
 Adds w (Tells side message) items = items ≡ Sent side message ∷ []
 Adds w _ items = items ≡ []
 
--- the number of the message that an event takes from an end's channel, if it takes one
+-- the number of the message that an event takes from this end's channel, if it takes one
 abbrev pub takes_from : Side → Event → List ℕ
 takes_from side (Receives receiver number) = cond (is_side side (other receiver)) (number ∷ []) []
 takes_from side (Replies replier number) = cond (is_side side (other replier)) (number ∷ []) []
 takes_from side (Loses sender number) = cond (is_side side sender) (number ∷ []) []
 takes_from side _ = []
 
--- the numbers of the messages that were taken from it, one after the other
+-- the numbers of the messages that the events take from this end's channel, in order
 abbrev pub numbers_taken : Side → List Event → List ℕ
 numbers_taken side [] = []
 numbers_taken side (event ∷ events) = takes_from side event ++ numbers_taken side events
 
+-- the numbers of these messages
 abbrev pub numbers_of : List OnItsWay → List ℕ
 numbers_of messages = map (λ m. m.number) messages
 
--- the numbers of the messages that an end sent; the first of these items has number n
+-- the numbers of the messages that this end sent; the first of these items has number n
 abbrev pub numbers_sent : Side → ℕ → List Item → List ℕ
 numbers_sent side n [] = []
 numbers_sent side n (Sent sender message ∷ items) =
     cond (is_side side sender) (n ∷ numbers_sent side (n + 1) items) (numbers_sent side (n + 1) items)
 numbers_sent side n (Item.Quiet ∷ items) = numbers_sent side (n + 1) items
 
--- A run that sends these items, in this order, and nothing else.
+-- The run sends exactly these items, in this order.
 abbrev pub IsRunOf : List Item → Table → List Event → Type 0
 IsRunOf items table events = (w : World) × Runs table events w × (w.sent ≡ items)
 
 -- ---- ends that keep the rules
 
--- whether this end tells a message in an event
+-- whether the event is a message that this end sends by `Tells`
 abbrev pub is_told_by : Side → Event → Bool
 is_told_by side (Tells sender message) = is_side side sender
 is_told_by side _ = false
 
--- whether it does in one of these
+-- whether one of these events is a message that this end sends by `Tells`
 abbrev pub tells : Side → List Event → Bool
 tells side [] = false
 tells side (event ∷ events) = is_told_by side event || tells side events
 
--- An end keeps the rules in these events: it tells nothing. The other may do anything.
+-- This end keeps the rules in these events: it sends no message by `Tells`. The other end may do anything.
 abbrev pub KeepsRules : Side → List Event → Type 0
 KeepsRules side events = tells side events ≡ false
 
--- Both ends keep them.
+-- Both ends keep the rules in these events.
 abbrev pub BothKeepRules : List Event → Type 0
 BothKeepRules events = KeepsRules sides.A events × KeepsRules sides.B events
 
--- Two lawful ends may have sent these items, in this order, by a run of so many steps.
+-- A run of this many steps, in which both ends keep the rules, sends exactly these items.
 abbrev pub IsLawful : List Item → Table → ℕ → Type 0
 IsLawful items table moves =
     (events : List Event) × IsRunOf items table events × BothKeepRules events × (length events ≡ moves)
 
--- One lawful end may have sent its part of these items, whatever the other end sends.
+-- Some run, in which this end keeps the rules and the other end may do anything, sends exactly these items.
 abbrev pub IsLawfulFor : Side → List Item → Table → Type 0
 IsLawfulFor side items table = (events : List Event) × IsRunOf items table events × KeepsRules side events

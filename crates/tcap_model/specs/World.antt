@@ -1,4 +1,4 @@
--- Two ends of TCAP dialogues, and the two channels between them, which keep order and may lose messages (Q.774 3.3).
+-- What a world is: two ends, and two channels that keep order and may lose messages (Q.774 3.3).
 use Rattle.std.specs.Prelude.{ℕ, Bool, true, false, List, [], ◌∷◌, cond}
 use Rattle.tcap_msg.specs.declared.message.Message.{Message}
 use Rattle.tcap_record.specs.declared.entry.End.{End as Side}
@@ -6,26 +6,27 @@ use Rattle.tcap_record.specs.declared.entry.End.TheVariants as sides
 use Rattle.tcap_end.specs.End.{End, nothing}
 pub use Rattle.tcap_record.specs.Ends.{is_side}
 
--- What a record lists: a message that an end sent, or a quiet mark.
+-- An item of a record: a message with its sender, or a quiet mark.
 pub data Item : Type 0 where
   Sent : Side → Message → Item
   Quiet : Item
 
+-- whether an item is a quiet mark
 abbrev pub is_quiet : Item → Bool
 is_quiet (Sent side message) = false
 is_quiet Item.Quiet = true
 
+-- whether one of these items is a quiet mark
 abbrev pub has_quiet : List Item → Bool
 has_quiet [] = false
 has_quiet (item ∷ more) = cond (is_quiet item) true (has_quiet more)
 
--- A message on its way, with its number in the sent list, counted from 0.
+-- A message in transit, with its number in the sent list, counted from 0.
 pub record OnItsWay : Type 0 where
   pub number : ℕ
   pub message : Message
 
--- Both ends; what is on its way from each to the other, from the oldest on; and what was sent so far, with the quiet
--- marks.
+-- Two ends; the messages in transit from each, oldest first; and the items sent so far, quiet marks included.
 pub record World : Type 0 where
   pub a : End
   pub b : End
@@ -33,24 +34,26 @@ pub record World : Type 0 where
   pub from_b : List OnItsWay
   pub sent : List Item
 
--- the world in which nothing happened yet
+-- the world before the first step
 abbrev pub empty : World
 empty = record { a = nothing; b = nothing; from_a = []; from_b = []; sent = [] }
 
--- what an end is
+-- the state of an end
 abbrev pub end_at : Side → World → End
 end_at sides.A w = w.a
 end_at sides.B w = w.b
 
--- what is on its way from it
+-- the messages in transit from an end, oldest first
 abbrev pub channel_from : Side → World → List OnItsWay
 channel_from sides.A w = w.from_a
 channel_from sides.B w = w.from_b
 
+-- the world with this state of an end
 abbrev pub with_end : Side → End → World → World
 with_end sides.A e w = record w { a = e }
 with_end sides.B e w = record w { b = e }
 
+-- the world with these messages in transit from an end
 abbrev pub with_channel : Side → List OnItsWay → World → World
 with_channel sides.A messages w = record w { from_a = messages }
 with_channel sides.B messages w = record w { from_b = messages }

@@ -1,5 +1,5 @@
-//! Two ends of TCAP dialogues over two channels: worlds, events, runs, and which lists of messages two lawful ends, or one
-//! whatever its peer does, may have sent (Q.771, Q.774); with laws over all runs.
+//! The model of two TCAP ends over two channels: worlds, events and runs (Q.771, Q.774). It defines the lists of
+//! messages that two lawful ends, or one, may have sent, and has laws over all runs.
 #![tactic(auto)]
 
 pub mod laws;

@@ -1,4 +1,4 @@
-//! Why entries are not what a run sends, as far as a certificate tells.
+//! The reasons why a certificate gives no run of the given entries.
 
 ghost use Rattle.std.specs.Prelude.{◌≡◌};
 ghost use Rattle.tcap_model.specs.Reason.{reason_number};
@@ -6,36 +6,36 @@ ghost use Rattle.tcap_model.specs.Reason.{reason_number};
 use tcap_ber::Fault;
 use tcap_end::EndFault;
 
-/// Why a certificate gives no run for a record.
+/// The reason why a certificate gives no run of a record.
 #[derive(Clone, Copy, Debug, PartialEq, Eq)]
 pub enum Reason {
-    /// The text is no certificate.
+    /// The text is not a certificate.
     CertificateShape,
-    /// There are not as many fates as entries.
+    /// The number of fates is not the number of entries.
     FateCount,
-    /// A fate, or what is listed, lies outside the gaps that it may lie in, or names an entry of another kind.
+    /// A fate, expiry or closing is outside the gaps allowed for it, or names an entry of the wrong kind.
     FateRange,
-    /// A message comes before an earlier one of the same end.
+    /// A message is delivered before an earlier message of the same end.
     OutOfOrder,
-    /// A message is received, or answered by the provider, where it may not be; or an entry takes a message that is no
-    /// provider's reply, or a provider's reply does not take one message.
+    /// An end may not receive a message, or its provider may not answer the message. Or a provider's reply does not
+    /// take exactly one message, or an entry that is no provider's reply takes one.
     BadReply,
-    /// An entry is sent where it may not be.
+    /// The sender of an entry may not send it then.
     SendRefused(EndFault),
-    /// A listed expiry or closing may not happen there.
+    /// A listed expiry or closing may not happen then.
     HiddenRefused(EndFault),
-    /// A quiet mark stands where not all is quiet.
+    /// Something is in transit or open at a quiet mark.
     NotQuiet,
-    /// An entry's octets are no message.
+    /// The octets of an entry are not a message.
     BadMessage(Fault),
-    /// An entry has a message and no end, or an end and a quiet mark. No entry that was read is so.
+    /// An entry has a message without an end, or a quiet mark with an end. The reader never produces such an entry.
     NoItem,
     /// Memory ran out.
     Memory,
 }
 
 impl Reason {
-    /// The number that a line of output gives for this reason.
+    /// Returns the number that the output gives for this reason.
     pub fn number(self) -> u8
         ensures { result ≡ reason_number self }
     {

@@ -1,4 +1,4 @@
--- Where no provider aborts, nothing is tied.
+-- Without a provider's Abort, nothing is tied.
 use Rattle.std.proofs.Common.{◌≡◌, Bool, false, List, [], ◌∷◌, reverse, Option, Some, None, refl, sym, ap, ◌∙◌}
 use Rattle.std.specs.List.{list_any}
 use Rattle.std.proofs.lemmas.List.{reverse-append}

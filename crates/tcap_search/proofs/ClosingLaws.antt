@@ -1,4 +1,4 @@
--- The half that a tie shows to have closed, and what is listed.
+-- The halves that ties show to have closed, and the list of closings.
 use Rattle.std.proofs.Common.{◌≡◌, ℕ, ◌+◌, ◌<◌, ◌≤◌, ◌==◌, ◌&&◌, ◌||◌, not, Bool, true, false, cond, List, [], ◌∷◌, ◌++◌, length, take, drop, get_or, Option, Some, None, is_some, refl, sym, ap, ◌∙◌, arith}
 use Rattle.std.specs.Prelude.{option_map, slice_get}
 use Rattle.std.specs.List.{list_any}
@@ -57,7 +57,7 @@ module _ (entries : List Entry) (transactions : List (Option ℕ)) (all : List F
   half_is : half_of e.side line.transaction ≡ half_shown entries all k reply
   half_is = sym (ap (shown_by all (lines_of entries) reply) there)
 
-  -- It has no end, or no transaction.
+  -- The entry has no end, or no transaction.
   pub no_side : e.side ≡ None → None ≡ half_shown entries all k reply
   no_side none =
       sym (ap (λ (s : Option Side). half_of s line.transaction) none ∙ both_same is_unseen None) ∙ half_is
@@ -69,7 +69,7 @@ module _ (entries : List Entry) (transactions : List (Option ℕ)) (all : List F
       ∙ (ap (half_of (Some side)) (sym has ∙ none) ∙ both_same is_unseen None))
       ∙ half_is
 
-  -- It has both, and what is kept says whether the half closed unseen.
+  -- The entry has both, and the numbers kept decide whether the half had closed.
   pub shown_is : (ended told : Leasts) (side : Side) (transaction : ℕ) (unseen : Bool) → e.side ≡ Some side
       → get_or transactions k None ≡ Some transaction → KeepsEnded (length entries) (lines_of entries) ended
       → KeepsTold (length entries) all told
@@ -90,7 +90,7 @@ module _ (entries : List Entry) (transactions : List (Option ℕ)) (all : List F
       ∙ (sym (ap (λ (s : Option Side). half_of s line.transaction) sent ∙ ap (half_of (Some side)) belongs_line)
       ∙ half_is)
 
--- What is shown is in range.
+-- The transaction shown is in range.
 pub shown_below : (entries : List Entry) (all : List Fated) (k reply : ℕ) (side : Side) (transaction : ℕ)
     → half_shown entries all k reply ≡ Some (side, transaction)
     → transaction < length entries
@@ -112,9 +112,9 @@ shown_below entries all k reply side transaction is = by (slice_get (lines_of en
         of_both true None t is = cc
         of_both false s t is = cc
 
--- ---- what is listed
+-- ---- the list
 
--- with the half that is shown, unless it is listed
+-- the list with the half shown, unless it is listed
 abbrev with_shown : List Closing → ℕ → Option (Side × ℕ) → List Closing
 with_shown listed reply None = listed
 with_shown listed reply (Some (side, transaction)) =
@@ -136,7 +136,7 @@ closing_is all lines listed reply (Some x) =
     by true (Some s) (Some t) = refl
     by false s t = refl
 
--- What is listed so far, and what the ties that are left add to it.
+-- The list so far, to which the rest of the ties add the rest.
 pub record Listed (all : List Fated) (lines : List Line) (ties : List Tie) (count i : ℕ) (listed : List Closing)
     (l : Leasts) : Type 0 where
   pub room : HasRoom count l

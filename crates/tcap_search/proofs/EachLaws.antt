@@ -1,4 +1,4 @@
--- What is found along the entries, for both ends or for one alone.
+-- The certificate found along the entries, for both ends or for one alone.
 use Rattle.std.proofs.Common.{◌≡◌, true, false, ℕ, ◌+◌, ◌-◌, ◌≤◌, ◌<◌, arith, List, length, take, drop, get_or, Option, sym, ◌∙◌}
 use Rattle.tcap_record.specs.declared.entry.End.{End as Side}
 use Rattle.tcap_record.specs.declared.entry.Entry.{Entry}
@@ -6,8 +6,8 @@ use Rattle.tcap_certificate.specs.Certificate.{Certificate}
 use Rattle.tcap_search.specs.Proposed.{behind, is_mark, of_mark, of_stretch, of_stretches, proposed_by, stretches, then_certificate}
 use Rattle.tcap_search.proofs.StretchLaws.{begins_at, count_begins, count_ends, ends_at, has_mark}
 
--- What was found before a stretch is under way: the fates of the entries before it; and with what is proposed from that
--- stretch on it is what is proposed.
+-- The certificate found before a segment has the fates of the entries before it. With the certificate proposed from
+-- this segment on, it is the whole.
 pub record IsBefore (judged : Option Side) (entries : List Entry) (first : ℕ) (found : Certificate) : Type 0 where
   pub count : length found.fates ≡ first
   pub is : then_certificate found (of_stretches judged first (stretches (drop first entries)))
@@ -16,7 +16,7 @@ pub record IsBefore (judged : Option Side) (entries : List Entry) (first : ℕ) 
 module _ (judged : Option Side) (entries : List Entry) (first i : ℕ) (begun : first ≤ i)
     (none : has_mark (take (i - first) (drop first entries)) ≡ false) (found : Certificate)
     (before : IsBefore judged entries first found) where
-  -- So it is with a stretch and its mark,
+  -- This holds after another segment and its mark.
   pub mark_is_before : (e : Entry) → i < length entries → e ≡ get_or entries i e → is_mark e.body ≡ true
       → (stretch new : Certificate)
       → stretch ≡ then_certificate found (behind first (of_stretch judged true (take (i - first) (drop first entries))))
@@ -29,7 +29,7 @@ module _ (judged : Option Side) (entries : List Entry) (first i : ℕ) (begun : 
         (sym (begins_at entries first i begun judged e found within is mark none) ∙ before.is);
   }
 
-  -- and with the last stretch it is all.
+  -- After the last segment, the certificate is the whole.
   pub all_found : i ≡ length entries → (new : Certificate)
       → new ≡ then_certificate found (behind first
       (of_stretch judged false (take (length entries - first) (drop first entries))))

@@ -1,4 +1,4 @@
--- What is noted of the entries that end transactions.
+-- Which entries end transactions, as noted in `Leasts`.
 use Rattle.std.proofs.Common.{◌≡◌, ℕ, ◌+◌, ◌<◌, ◌≤◌, ◌&&◌, ◌||◌, Bool, true, false, cond, List, length, take, get_or, Option, None, sym, ap, ◌∙◌, arith}
 use Rattle.std.specs.Prelude.{nat_lt}
 use Rattle.std.proofs.lemmas.List.{take_all}
@@ -15,9 +15,9 @@ use Rattle.tcap_search.proofs.NotedLaws.{any_push, below_lesser, same_tests, sha
 use Rattle.tcap_search.proofs.PeerLaws.{of_peer}
 use Rattle.tcap_search.proofs.TestLaws.{and_false, or_false}
 
--- ---- what ended transactions
+-- ---- entries that end transactions
 
--- what is noted of the first entries
+-- the numbers noted for the first entries
 pub record Ended (entries : List Entry) (count : ℕ) (l : Leasts) : Type 0 where
   pub room : HasRoom (length entries) l
   pub kept : KeepsEnded (length entries) (lines_of (take count entries)) l

@@ -1,4 +1,4 @@
--- Expiries, from what a sweep keeps.
+-- The expiries that a sweep finds.
 use Rattle.std.proofs.Common.{◌≡◌, ℕ, ℤ, ◌+◌, Bool, true, false, List, [], ◌∷◌, ◌++◌, take, Option, Some, None, refl, sym, ap, ap₂, ◌∙◌, arith}
 use Rattle.std.specs.Prelude.{◌&&◌, is_some, nat_lt, nat_le}
 use Rattle.std.specs.List.{list_any}
@@ -26,9 +26,9 @@ use Rattle.tcap_search.proofs.NumberedLaws.{AreNumbered}
 use Rattle.tcap_search.proofs.SweepLaws.{answer_with, answered_in, components_are, is_answering, is_in_gap_below}
 use Rattle.tcap_search.proofs.TestLaws.{and_and, and_false, and_swap}
 
--- ---- the last Invoke below a number
+-- ---- the last Invoke before a number
 
--- It is the last among so many lines.
+-- The last Invoke before a number is the last among this many lines.
 invocation_is : (lines : List Line) (x : Line) (side : Side) (t : ℕ) (id : ℤ) (gap : ℕ) → AreNumbered 0 lines
     → x.entry.side ≡ Some side → x.transaction ≡ Some t
     → last_invocation lines x id gap ≡ invoked_in (take gap lines) t side id
@@ -67,7 +67,7 @@ invocation_is lines x side t id gap are at_side at_t =
     once true (Some a) = refl
     once false o = refl
 
--- ---- what one component adds
+-- ---- the expiry that one component adds
 
 abbrev pub answered_by : List Line → List Fated → ℕ → ℕ → Side → Option (Bool × ℤ) → Option Answer
 answered_by lines all limit t side None = None
@@ -87,7 +87,7 @@ module _ (lines : List Line) (all : List Fated) (x : Line) where
       && is_delivered_by x.number y.fate
       && list_any (is_answer_of is_result id) (components_at y.line)
 
-  -- Where there is no end or no transaction, nothing adds anything.
+  -- A line without end or transaction adds nothing.
   adds_nothing : ((y : Line) → (is_of_peer x.entry y.entry && share_transaction x y) ≡ false)
       → (listed : List Expiry) (o : Option (Bool × ℤ)) → expiry_by all lines x listed o ≡ listed
   adds_nothing never listed None = refl
@@ -108,7 +108,7 @@ module _ (lines : List Line) (all : List Fated) (x : Line) where
 
 module _ (lines : List Line) (all : List Fated) (x : Line) (side : Side) (t : ℕ) (are : AreNumbered 0 lines)
     (at_side : x.entry.side ≡ Some side) (at_t : x.transaction ≡ Some t) where
-  -- whether that is an answer that came, as a sweep tells it
+  -- whether y is an answer delivered so far, as the sweep sees it
   abbrev came : Bool → ℤ → Fated → Bool
   came is_result id y = is_in_gap_below (x.number + 1) y.fate && is_answering is_result t side id y
 
@@ -135,7 +135,7 @@ module _ (lines : List Line) (all : List Fated) (x : Line) (side : Side) (t : �
       by (By reply) in_gap = absurd (cc)
       by (Gap g) in_gap = refl
 
-  -- What a component adds is what the answer that it rejects adds.
+  -- A component adds the expiry of the answer that it rejects.
   adds : (listed : List Expiry) (o : Option (Bool × ℤ))
       → expiry_by all lines x listed o ≡ with_answer side listed (answered_by lines all (x.number + 1) t side o)
   adds listed None = refl
@@ -187,7 +187,7 @@ module _ (lines : List Line) (all : List Fated) (x : Line) (side : Side) (t : �
       ap (λ (l : List Expiry). expiries_by all lines x l more) (adds listed (unrecognized c))
       ∙ all_add (with_answer side listed (answered_by lines all (x.number + 1) t side (unrecognized c))) more
 
--- ---- what one line adds
+-- ---- the expiries that one line adds
 
 pub line_adds : (lines : List Line) (all : List Fated) (x : Line) (listed : List Expiry) → AreNumbered 0 lines
     → expiries_by all lines x listed (components_at x)
@@ -207,7 +207,7 @@ line_adds lines all x listed are =
         listed (components_of x.entry)
     by (Some side) at (Some t) is = all_add lines all x side t are at is listed (components_of x.entry)
 
--- The same answers add the same.
+-- Equal answers add equal expiries.
 all_same : (found other : Option (Bool × ℤ) → Option Answer) → ((o : Option (Bool × ℤ)) → found o ≡ other o)
     → (side : Side) (listed : List Expiry) (components : List Component)
     → all_rejected found side listed components ≡ all_rejected other side listed components
@@ -227,7 +227,7 @@ entry_same found other same listed e transaction = by e.side transaction
     by (Some side) None = refl
     by (Some side) (Some t) = all_same (found t side) (other t side) (same t side) side listed (components_of e)
 
--- ---- one line more
+-- ---- one more line
 
 pub expiries_more : (all : List Fated) (lines front : List Line) (x : Line) (listed : List Expiry)
     → expiries_from all lines (front ++ x ∷ []) listed

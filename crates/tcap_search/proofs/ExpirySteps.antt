@@ -1,4 +1,4 @@
--- The loop that finds expiries: one entry more.
+-- The loop that finds expiries: one more entry.
 use Rattle.std.proofs.Common.{◌≡◌, ℕ, ℤ, ◌+◌, ◌<◌, Bool, true, false, cond, List, [], ◌∷◌, map, length, take, get_or, Option, Some, None, refl, sym, ap, ◌∙◌, arith}
 use Rattle.std.specs.Prelude.{◌&&◌, nat_lt}
 use Rattle.std.specs.List.{list_any}
@@ -39,11 +39,11 @@ module _ (entries : List Entry) (fates : List Fate) (counted : length fates ≡ 
   same : length fates ≡ length (lines_of entries)
   same = counted ∙ sym (count_lines entries)
 
-  -- These are their entries,
+  -- the entries of lines with fates
   all_entries : map (λ y. y.line.entry) all_of ≡ entries
   all_entries = entries_fated (lines_of entries) fates same ∙ entries_of_lines entries
 
-  -- and these their transactions.
+  -- the transactions of lines with fates
   all_transactions : (transactions : List (Option ℕ)) → AreTransactions entries transactions
       → map (λ y. y.line.transaction) all_of ≡ transactions
   all_transactions transactions are =
@@ -52,7 +52,7 @@ module _ (entries : List Entry) (fates : List Fate) (counted : length fates ≡ 
 
 -- ---- at the start
 
--- No answer comes in a gap below 0.
+-- No answer is delivered in a gap below 0.
 answered_none : (lines : List Line) (all : List Fated) (is_result : Bool) (t : ℕ) (s : Side) (id : ℤ)
     → answered_in lines all 0 is_result t s id ≡ None
 answered_none lines [] is_result t s id = refl
@@ -71,9 +71,9 @@ pub answers_start : (entries : List Entry) (fates : List Fate) (sweep : Sweep)
 answers_start entries fates sweep none is_result t s id =
     none is_result t s id ∙ sym (answered_none (lines_of entries) (fated (lines_of entries) fates) is_result t s id)
 
--- ---- one entry more
+-- ---- one more entry
 
--- Answers are kept where nothing else changes.
+-- The answers stay if both maps do.
 pub answers_stay : (a b : Sweep) → b.results ≡ a.results → b.errors ≡ a.errors
     → (is_result : Bool) (t : ℕ) (s : Side) (id : ℤ) → answer_kept is_result t s id b ≡ answer_kept is_result t s id a
 answers_stay a b results errors true t s id = rw results refl
@@ -91,7 +91,7 @@ module _ (entries : List Entry) (transactions : List (Option ℕ)) (fates : List
   fates_there : fates ≡ map (λ x. x.fate) all
   fates_there = sym (fates_fated (lines_of entries) fates (same entries fates counted))
 
-  -- The answers behind the gap before the entry.
+  -- the answers after the gap before the entry
   pub answers_step : (before behind : Sweep) (due : List ℕ) → due ≡ due_in i 0 fates
       → ((t : ℕ) (s : Side) (id : ℤ) → kept_at t s id before.invokes ≡ invoked_in (take i lines) t s id)
       → ((is_result : Bool) (t : ℕ) (s : Side) (id : ℤ)
@@ -123,7 +123,7 @@ module _ (entries : List Entry) (transactions : List (Option ℕ)) (fates : List
     abbrev here : Line
     here = line_at i e (get_or transactions i None)
 
-    -- The Invokes behind the entry.
+    -- the Invokes after the entry
     pub invokes_step : (before behind : Option (ℕ × ℕ)) (t : ℕ) (s : Side) (id : ℤ)
         → before ≡ invoked_in (take i lines) t s id
         → behind ≡ or_else (where_so (is_of s t e (get_or transactions i None)) (invoked_by i e id)) before
@@ -133,7 +133,7 @@ module _ (entries : List Entry) (transactions : List (Option ℕ)) (fates : List
         ∙ sym (invoked_more (take i lines) here t s id)
         ∙ ap (λ (ls : List Line). invoked_in ls t s id) (sym (lines_more entries transactions are i within e is_entry))
 
-    -- The list behind the entry.
+    -- the list after the entry
     pub listed_step : (sweep : Sweep) (before behind : List Expiry)
         → ((is_result : Bool) (t : ℕ) (s : Side) (id : ℤ)
         → answer_kept is_result t s id sweep ≡ answered_in lines all (i + 1) is_result t s id)

@@ -1,4 +1,4 @@
--- Steps of the loops that find fates: one entry more, or one tie.
+-- The loops that find fates: one more entry, or one more tie.
 use Rattle.std.proofs.Common.{◌≡◌, ℕ, ◌+◌, ◌^◌, ◌<◌, ◌≤◌, max, ◌==◌, Bool, true, false, cond, List, [], ◌∷◌, ◌++◌, map, length, take, drop, set, get_or, Option, Some, None, refl, sym, ap, ◌∙◌, arith, append_assoc}
 use Rattle.std.specs.Prelude.{◌&&◌, slice_get}
 use Rattle.std.proofs.lemmas.List.{drop_all, drop_more, get_or-map, get_or-take, get_or_append_left, get_or_default, length-take-le, map-append, set_at, take_all, take_more}
@@ -40,7 +40,7 @@ reply_step ties i number d old within is = rw is
 
 -- ---- entries, from the first on
 
--- the gaps that are kept of these entries
+-- the gaps kept are those of these entries
 abbrev pub KeepsGaps : Option Side → List Entry → List (PerEnd ℕ) → Type 0
 KeepsGaps judged entries gaps = (side : Side) (t : ℕ) → t < length entries
     → gap_kept side t gaps ≡ gap_behind_last judged side t (lines_of entries)
@@ -70,7 +70,7 @@ module _ (entries : List Entry) (transactions : List (Option ℕ)) (are : AreTra
       (sym (highest_more side (take i (lines_of entries)) (line_at i e (get_or transactions i None)) ties))
       ∙ ap (λ (lines : List Line). highest side lines ties) (sym lines_more)
 
-  -- What is kept for the receiver is the gap behind its last entry in the transaction.
+  -- The gap kept for the receiver is that after its last entry in the transaction.
   receiver_is : (judged : Option Side) (gaps : List (PerEnd ℕ)) → KeepsGaps judged entries gaps
       → receiver_gap gaps e.side (get_or transactions i None)
       ≡ gap_of_receiver judged (lines_of entries) e.side (get_or transactions i None)
@@ -86,7 +86,7 @@ module _ (entries : List Entry) (transactions : List (Option ℕ)) (are : AreTra
           sym at ∙ get_or_default transactions i None (Some t) (omega arith) in
           kept (other side) t (transaction_within entries transactions are i t within there)
 
-  -- So the fate that is found is the first fate of the line.
+  -- The fate found is the first fate of the line.
   pub fate_step : (judged : Option Side) (ties : List Tie) (gaps : List (PerEnd ℕ)) (raised : PerEnd ℕ)
       → KeepsGaps judged entries gaps
       → ((side : Side) → at_end side raised ≡ highest side (take i (lines_of entries)) ties)
@@ -106,13 +106,13 @@ module _ (entries : List Entry) (transactions : List (Option ℕ)) (are : AreTra
       raised_is None = refl
       raised_is (Some side) = high side
 
--- All of the lines, at the end.
+-- At the end, all lines are done.
 pub all_lines : (entries : List Entry) (i : ℕ) → length entries ≤ i → take i (lines_of entries) ≡ lines_of entries
 all_lines entries i past =
     let count : length (lines_of entries) ≡ length entries = count_lines entries in
     take_all i (lines_of entries) (omega arith)
 
--- ---- a reply that is read
+-- ---- a reply that is looked up
 
 pub reply_read : (replies : List (Option ℕ)) (i : ℕ) (reply : Option ℕ) (ties : List Tie)
     → slice_get replies i ≡ Some (reply_of ties i) → reply ≡ get_or replies i reply → reply ≡ reply_of ties i
@@ -129,7 +129,7 @@ reply_fits entries ties i are few =
 
 module _ (entries : List Entry) (old : List Fate) (same : length old ≡ length entries)
     (k n : ℕ) (next : n ≡ k + 1) (within : k < length entries) (e : Entry) (is_entry : e ≡ get_or entries k e) where
-  -- what there is at that place
+  -- the entry at this place, with a fate
   abbrev d : Fated
   d = record { line = line_at k e None; fate = Gap 0 }
 
@@ -164,7 +164,7 @@ module _ (entries : List Entry) (old : List Fate) (same : length old ≡ length 
   losses_here : with_losses (drop k all) ≡ (let x : Fated = record here { fate = fate_before later here } in x) ∷ later
   losses_here = ap with_losses drop_here
 
-  -- What is read there is the first fate of the line,
+  -- The fate looked up is the first fate of the line.
   fate_read : (fates : List Fate) → fates ≡ take n old ++ map (λ x. x.fate) later
       → get_or fates k (Gap 0) ≡ get_or old k (Gap 0)
   fate_read fates are = rw are
@@ -180,7 +180,7 @@ module _ (entries : List Entry) (old : List Fate) (same : length old ≡ length 
     kept None = refl
     kept (Some side) = times side
 
-    -- and what it is made there is its fate behind the losses.
+    -- The new fate is that after losses.
     loss_is : made ≡ fate_before later here
     loss_is = is
         ∙ ap (λ (f : Fate). fate_behind_least e f (time_kept least e.side)) (fate_read fates are ∙ sym fate_here)

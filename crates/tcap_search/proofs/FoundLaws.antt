@@ -1,4 +1,4 @@
--- What is found for a stretch is its certificate.
+-- The certificate found for a segment is the one proposed for it.
 use Rattle.std.proofs.Common.{◌≡◌, ℕ, ◌+◌, ◌≤◌, Bool, List, length, map, Option, None, Some, refl, sym, ap, subst, ◌∙◌}
 use Rattle.tcap_record.specs.declared.entry.End.{End as Side}
 use Rattle.tcap_record.specs.declared.entry.Entry.{Entry}
@@ -38,7 +38,7 @@ module _ (judged : Option Side) (marked : Bool) (entries : List Entry) (fates : 
       ∙ ap (λ (all : List Fated). closings_of all (lines_of entries) (ties_of (lines_of entries)))
       (all_is judged marked entries fates are)
 
-  -- With them the three parts are the certificate of the stretch.
+  -- The three parts make the certificate of the segment.
   pub stretch_is : (new : Certificate) → new.fates ≡ fates
       → new.expire ≡ expiries_of (fated (lines_of entries) fates) (lines_of entries)
       → new.close ≡ closings_of (fated (lines_of entries) fates) (lines_of entries) (ties_of (lines_of entries))
@@ -46,7 +46,7 @@ module _ (judged : Option Side) (marked : Bool) (entries : List Entry) (fates : 
   stretch_is new new_fates new_expire new_close =
       certificate_is new _ (new_fates ∙ are) (expiries_are new.expire new_expire) (closings_are new.close new_close)
 
--- Where the fates of a stretch are the same for two, so is its certificate.
+-- Segments with equal fates have equal certificates.
 pub same_stretch : (judged other : Option Side) (marked : Bool) (entries : List Entry)
     → AreFates judged marked entries ((of_stretch other marked entries).fates)
     → of_stretch other marked entries ≡ of_stretch judged marked entries
@@ -62,7 +62,7 @@ same_stretch judged other marked entries are =
     })
     all
 
--- So what is found for one end alone is what is found for both, where the fates are.
+-- The certificate for one end alone is that for both, if the fates are equal.
 pub same_as_both : (side : Side) (marked : Bool) (entries : List Entry) (both : Certificate)
     → both ≡ of_stretch None marked entries
     → (fates : List Fate) → AreFates (Some side) marked entries fates → fates ≡ both.fates
@@ -72,7 +72,7 @@ same_as_both side marked entries both is fates are same =
     ∙ same_stretch (Some side) None marked entries
     (sym (ap (λ (c : Certificate). c.fates) is) ∙ sym same ∙ are)
 
--- It fits behind so many entries.
+-- It is within the limits after `first` entries.
 pub fits_behind : (judged : Option Side) (marked : Bool) (first : ℕ) (entries : List Entry)
     → first + length entries ≤ number_limit → (c : Certificate) → c ≡ of_stretch judged marked entries
     → FitsBehind first c

@@ -1,5 +1,5 @@
--- First fates, from what is kept: the gap behind the last entry of each end in each transaction, and the gap behind the
--- last reply so far.
+-- First fates, from the gap after the last entry of each end in each transaction, and the gap after the last reply so
+-- far.
 use Rattle.std.proofs.Common.{◌≡◌, ℕ, zero, suc, ◌+◌, ◌<◌, ◌≤◌, max, ◌==◌, Bool, true, false, cond, List, [], ◌∷◌, ◌++◌, take, Option, Some, None, refl, sym, ap, subst, ◌∙◌, arith}
 use Rattle.std.specs.Prelude.{◌&&◌, nat_lt, option_map}
 use Rattle.std.proofs.lemmas.Bool.{le-ltb, lt-ltb, ltb-false, ltb-true}
@@ -22,7 +22,7 @@ use Rattle.tcap_search.proofs.TestLaws.{and_and, and_false, and_swap}
 
 -- ---- ends and transactions
 
--- A line of that end which shares that transaction is one of both.
+-- A line of this end in the transaction of x.
 pub of_both : (side : Side) (t : ℕ) (x y : Line) → x.transaction ≡ Some t
     → (is_end side y.entry.side && share_transaction x y) ≡ is_line_of side t y
 of_both side t x y is = by y.transaction refl
@@ -36,9 +36,9 @@ of_both side t x y is = by y.transaction refl
 pub shares_none : (x y : Line) → x.transaction ≡ None → share_transaction x y ≡ false
 shares_none x y is = rw is refl
 
--- ---- the last later one
+-- ---- the last later line
 
--- Of lines from that number on, the last has that number or a greater one.
+-- The last of lines numbered from n has at least this number.
 last_number : (n : ℕ) (lines : List Line) (passes : Line → Bool) (x : Line) → AreNumbered n lines
     → last passes lines ≡ Some x → n ≤ x.number
 last_number n [] passes x are is = absurd (none-some x is)
@@ -51,12 +51,12 @@ last_number n (y ∷ lines) passes x are is =
     by None later true found = subst (λ (z : Line). n ≤ z.number) (same_Some y x found) (omega (arith, are.0))
     by (Some z) later b found = let more = later found in omega (arith, more)
 
--- where it is later than that number
+-- the line, if it is later than this number
 abbrev if_later : ℕ → Option Line → Option Line
 if_later k None = None
 if_later k (Some x) = where_so (nat_lt k x.number) (Some x)
 
--- The last later line that passes is the last that passes, where that is later.
+-- The last later line that passes is the last that passes, if it is later.
 last_later : (k n : ℕ) (lines : List Line) (passes : Line → Bool) → AreNumbered n lines
     → last (λ y. nat_lt k y.number && passes y) lines ≡ if_later k (last passes lines)
 last_later k n [] passes are = refl
@@ -86,7 +86,7 @@ last_later k n (x ∷ lines) passes are = by (last passes lines) refl (last_late
         let after : n + 1 ≤ z.number = last_number (n + 1) lines passes z are.1 at in
         rw is (behind z (omega arith) (nat_lt k z.number) (passes x) refl)
 
--- The gap behind it, or behind a line itself, is the greater one of the gaps behind both.
+-- The gap after it, or after x, is the greater of both.
 gap_is : (x : Line) (o : Option Line) → gap_behind x (if_later x.number o) ≡ max (x.number + 1) (gap_behind_line o)
 gap_is x None = omega arith
 gap_is x (Some y) = by (nat_lt x.number y.number) refl
@@ -100,7 +100,7 @@ abbrev pub gap_of_receiver : Option Side → List Line → Option Side → Optio
 gap_of_receiver judged lines (Some side) (Some t) = gap_behind_last judged (other side) t lines
 gap_of_receiver judged lines _ _ = 0
 
--- So is the gap behind the last later line of the receiver in the transaction.
+-- The same for the last later line of the receiver in the transaction.
 pub receiver_gap_is : (judged : Option Side) (lines : List Line) (x : Line) → AreNumbered 0 lines
     → gap_behind x (last_of_receiver judged lines x)
     ≡ max (x.number + 1) (gap_of_receiver judged lines x.entry.side x.transaction)
@@ -140,7 +140,7 @@ receiver_gap_is judged lines x are =
         ∙ and_swap (is_line_of (other side) t y) (holds y))
         lines)
 
--- ---- what is raised
+-- ---- raised gaps
 
 raise_step : (b : Bool) (gap reply high : ℕ)
     → max (cond b (max gap reply) gap) high ≡ max gap (max (cond b reply 0) high)
@@ -151,7 +151,7 @@ abbrev pub gap_so_far : List Line → List Tie → Option Side → ℕ
 gap_so_far lines ties None = 0
 gap_so_far lines ties (Some side) = highest side lines ties
 
--- Behind a line nothing raises it.
+-- Later lines do not raise the gap of x.
 raised_late : (n : ℕ) (lines : List Line) (ties : List Tie) (x : Line) (gap : ℕ) → AreNumbered n lines → x.number ≤ n
     → raised lines ties x gap ≡ gap
 raised_late n [] ties x gap are after = refl
@@ -159,7 +159,7 @@ raised_late n (y ∷ lines) ties x gap are after =
     let not_before : nat_lt y.number x.number ≡ false = le-ltb y.number x.number (omega (arith, are.0)) in
     rw not_before (raised_late (n + 1) lines ties x gap are.1 (omega arith))
 
--- Before it each of its end does.
+-- Each earlier line of its end raises it.
 raised_of : (side : Side) (n : ℕ) (lines : List Line) (ties : List Tie) (x : Line) (i gap : ℕ)
     → x.entry.side ≡ Some side
     → AreNumbered n lines → x.number ≡ n + i → raised lines ties x gap ≡ max gap (highest side (take i lines) ties)
@@ -200,7 +200,7 @@ earliest_is judged lines x (Continue otid dtid dialogue components) are = refl
 earliest_is judged lines x (End dtid dialogue components) are = receiver_gap_is judged lines x are
 earliest_is judged lines x (Abort dtid reason) are = receiver_gap_is judged lines x are
 
--- The first fate of a line is that of its entry, from what is kept.
+-- The first fate of a line is given by the gaps kept.
 pub fate_is : (judged : Option Side) (lines : List Line) (ties : List Tie) (x : Line) → AreNumbered 0 lines
     → fate_of judged lines ties x
     ≡ fate_from x.number x.entry (reply_of ties x.number) (gap_of_receiver judged lines x.entry.side x.transaction)
@@ -224,12 +224,12 @@ fate_is judged lines ties x are = by (reply_of ties x.number) (message_of x.entr
     by (Some reply) m at = refl
     by None m at = untied m at ∙ ap (λ (m : Option Message). untied_fate x.number m behind high) (sym at)
 
--- ---- one line more
+-- ---- one more line
 
 max_zero : (n : ℕ) → max n 0 ≡ n
 max_zero n = omega arith
 
--- The highest with one more.
+-- the highest gap, with one more line
 pub highest_more : (side : Side) (lines : List Line) (x : Line) (ties : List Tie)
     → highest side (lines ++ x ∷ []) ties
     ≡ cond (is_end side x.entry.side) (max (highest side lines ties) (gap_behind_reply (reply_of ties x.number)))
@@ -251,7 +251,7 @@ highest_more side (y ∷ lines) x ties =
     by true first high reply = omega arith
     by false first high reply = refl
 
--- The gap behind the last with one more.
+-- the gap after the last, with one more line
 pub gap_more : (judged : Option Side) (side : Side) (t : ℕ) (lines : List Line) (x : Line)
     → gap_behind_last judged side t (lines ++ x ∷ [])
     ≡ cond (holds_back_in judged side t x) (x.number + 1) (gap_behind_last judged side t lines)
@@ -265,7 +265,7 @@ gap_more judged side t lines x =
 
 -- ---- replies
 
--- The reply with one tie more.
+-- the reply, with one more tie
 pub reply_more : (ties : List Tie) (t : Tie) (number : ℕ)
     → reply_of (ties ++ t ∷ []) number ≡ cond (t.entry == number) (Some t.reply) (reply_of ties number)
 reply_more ties t number = ap (option_map (λ (t : Tie). t.reply)) (last_push (λ t. t.entry == number) ties t)

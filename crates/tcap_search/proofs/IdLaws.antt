@@ -1,4 +1,4 @@
--- Transaction IDs as keys, and as lines are told apart by them.
+-- Transaction IDs as keys.
 use Rattle.std.proofs.Common.{◌≡◌, ℕ, Bool, true, false, List, refl, sym, ◌∙◌}
 use Rattle.std.specs.Ordering.{is_eq, nat_cmp}
 use Rattle.std.specs.Str.{bytes_eq}
@@ -6,7 +6,7 @@ use Rattle.std.specs.Cmp.Lexicographic.{slice_cmp}
 use Rattle.std.proofs.lemmas.Map.Text.{is_eq-slice_cmp}
 use Rattle.std.proofs.lemmas.Slice.Eq.{bytes_eq-Decides}
 
--- Whether two are one is the same either way round.
+-- Equality of IDs is symmetric.
 pub turned : (a b : List ℕ) → bytes_eq a b ≡ bytes_eq b a
 turned a b = by (bytes_eq a b) (bytes_eq b a) refl refl
   where
@@ -20,6 +20,6 @@ turned a b = by (bytes_eq a b) (bytes_eq b a) refl refl
         let same : b ≡ a = (bytes_eq-Decides b a).0 is_turned in
         sym is ∙ (bytes_eq-Decides a b).1 (sym same)
 
--- A key is found by its own octets.
+-- Keys are equal if their octets are.
 pub same_id : (a b : List ℕ) → is_eq (slice_cmp nat_cmp a b) ≡ bytes_eq b a
 same_id a b = is_eq-slice_cmp a b ∙ turned a b

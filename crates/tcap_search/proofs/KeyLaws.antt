@@ -34,7 +34,7 @@ halves_equal t u sides.B sides.B = grind (arith, nat_tests)
 halves_equal t u sides.A sides.B = grind (arith, nat_tests)
 halves_equal t u sides.B sides.A = grind (arith, nat_tests)
 
--- Two keys are one where their transactions, their ends and their IDs are.
+-- Keys are equal if their parts are.
 pub same_key : (t u : ℕ) (s r : Side) (i j : ℤ)
     → is_at (key_cmp (key_of u r j)) (key_of t s i) ≡ ((t == u) && is_side s r && is_at (int_cmp i) j)
 same_key t u s r i j =

@@ -1,4 +1,4 @@
--- What the last of a list gives that gives something.
+-- The last value that a function gives for the elements of a list.
 use Rattle.std.proofs.Common.{◌≡◌, ℕ, zero, suc, ◌+◌, ◌≤◌, Bool, true, false, List, [], ◌∷◌, ◌++◌, take, Option, Some, None, refl, sym, ap, ◌∙◌, arith}
 use Rattle.std.specs.Prelude.{◌&&◌, is_some, nat_lt}
 use Rattle.std.proofs.lemmas.Bool.{false≢true, le-ltb, lt-ltb}
@@ -8,14 +8,14 @@ use Rattle.tcap_search.specs.Sweep.{last_given}
 use Rattle.tcap_search.proofs.LastLaws.{last_passes, or_none, or_or}
 use Rattle.tcap_search.proofs.NumberedLaws.{AreNumbered}
 
--- With one more, that is asked first.
+-- A further element comes first.
 pub given_more : {A B : Type 0} (f : A → Option B) (xs : List A) (x : A)
     → last_given f (xs ++ x ∷ []) ≡ or_else (f x) (last_given f xs)
 given_more f [] x = sym (or_none (f x))
 given_more f (y ∷ xs) x =
     ap (λ o. or_else o (f y)) (given_more f xs x) ∙ or_or (f x) (last_given f xs) (f y)
 
--- Two that give the same of each give the same.
+-- Equal functions give equal values.
 pub given_same : {A B : Type 0} (f g : A → Option B) → ((x : A) → f x ≡ g x)
     → (xs : List A) → last_given f xs ≡ last_given g xs
 given_same f g same [] = refl
@@ -26,7 +26,7 @@ or_some : {B : Type 0} (o p q : Option B) → is_some o ≡ true → o ≡ p →
 or_some None p q some is = absurd (false≢true some)
 or_some (Some b) p q some is = rw (← is) refl
 
--- What the last that passes gives, where each that passes gives something.
+-- `last` and then a function, if the function gives a value for each element that passes.
 pub given_is : {A B : Type 0} (passes : A → Bool) (f : A → Option B)
     → ((x : A) → passes x ≡ true → is_some (f x) ≡ true)
     → (xs : List A) → then_so (last passes xs) f ≡ last_given (λ x. where_so (passes x) (f x)) xs
@@ -64,7 +64,7 @@ earlier_from (suc i) k n (x ∷ lines) passes are is =
     let early : nat_lt x.number k ≡ true = lt-ltb x.number k (omega (arith, are.0)) in
     rw (earlier_from i k (n + 1) lines passes are.1 (omega arith), early) refl
 
--- The last of a lower number that passes is the last of so many that passes.
+-- The last earlier line that passes is the last that passes among the first lines.
 pub last_earlier : (k : ℕ) (lines : List Line) (passes : Line → Bool) → AreNumbered 0 lines
     → last (λ y. nat_lt y.number k && passes y) lines ≡ last passes (take k lines)
 last_earlier k lines passes are = earlier_from k k 0 lines passes are (omega arith)

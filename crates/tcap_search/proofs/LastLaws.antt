@@ -1,28 +1,28 @@
--- The last of a list that passes a test.
+-- The last element of a list that passes a test.
 use Rattle.std.proofs.Common.{◌≡◌, Bool, true, false, List, [], ◌∷◌, Option, Some, None, refl, ap, subst, ◌∙◌}
 use Rattle.std.specs.List.{AllByRecursion}
 use Rattle.std.proofs.lemmas.Option.{none-some, same_Some}
 use Rattle.tcap_model.specs.Run.{where_so}
 use Rattle.tcap_search.specs.Lines.{last, or_else}
 
--- None stands for nothing behind another,
+-- None is a right unit of `or_else`.
 pub or_none : {A : Type 0} (o : Option A) → or_else o None ≡ o
 or_none None = refl
 or_none (Some a) = refl
 
--- and the first of three is the same either way.
+-- `or_else` is associative.
 pub or_or : {A : Type 0} (o p q : Option A) → or_else (or_else o p) q ≡ or_else o (or_else p q)
 or_or None p q = refl
 or_or (Some a) p q = refl
 
--- Two tests that agree on each have the same last.
+-- Tests that agree have the same last.
 pub last_same : {A : Type 0} (P Q : A → Bool) → ((x : A) → P x ≡ Q x) → (xs : List A) → last P xs ≡ last Q xs
 last_same P Q same [] = refl
 last_same P Q same (x ∷ xs) =
     ap (λ b. or_else (last P xs) (where_so b (Some x))) (same x)
     ∙ ap (λ o. or_else o (where_so (Q x) (Some x))) (last_same P Q same xs)
 
--- What holds of each holds of the last.
+-- A property of all elements holds for the last.
 pub last_among : {A : Type 0} (P : A → Type 0) (passes : A → Bool) (xs : List A) (x : A)
     → AllByRecursion P xs → last passes xs ≡ Some x → P x
 last_among P passes [] x all found = absurd (none-some x found)
@@ -46,7 +46,7 @@ last_passes {A = A} passes (a ∷ xs) x found =
     by None more true test is = subst (λ (y : A). passes y ≡ true) (same_Some a x is) test
     by (Some y) more b test is = more is
 
--- Where none passes there is none.
+-- If no element passes, there is no last.
 pub last_never : {A : Type 0} (passes : A → Bool) (xs : List A) → ((x : A) → passes x ≡ false) → last passes xs ≡ None
 last_never passes [] never = refl
 last_never passes (x ∷ xs) never = rw (last_never passes xs never, never x) refl

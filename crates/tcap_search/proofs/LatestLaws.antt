@@ -1,4 +1,4 @@
--- What is kept of the lines so far gives the transaction of the next one.
+-- The map of the lines so far gives the transaction of the next one.
 use Rattle.std.proofs.Common.{◌≡◌, ℕ, ◌&&◌, Bool, true, false, cond, List, [], ◌∷◌, ◌++◌, length, map, take, get_or, Option, Some, None, refl, sym, ap, ◌∙◌, ◌<◌, ◌+◌, arith}
 use Rattle.std.specs.BTreeMap.{is_at}
 use Rattle.std.specs.Map.{lookup}
@@ -19,7 +19,7 @@ use Rattle.tcap_search.specs.Lines.{Line, is_end, is_from, last, line_behind, li
 use Rattle.tcap_search.proofs.IdLaws.{same_id}
 use Rattle.tcap_search.proofs.LineLaws.{count_taken, last_none, last_push, lines_more}
 
--- ---- one entry more in a map
+-- ---- one more entry in a map
 
 put_in : (transaction : Option ℕ) (b c : Bool) (old new : Option (Option ℕ)) → b ≡ c
     → new ≡ cond b (Some transaction) old → then_so new (λ t. t) ≡ cond c transaction (then_so old (λ t. t))
@@ -46,14 +46,14 @@ put_is sides.B id transaction old new put kept sides.B key =
     put_in transaction (is_at (octets_cmp id) key) (bytes_eq key id) (lookup (is_at (octets_cmp key)) old.b.entries)
     (lookup (is_at (octets_cmp key)) new.b.entries) (same_id id key) (put key)
 
--- ---- what is kept
+-- ---- the map
 
--- the transaction of the last of these lines that is of that end from that ID
+-- the transaction of the last of these lines that is from this end and ID
 abbrev last_from : List Line → Side → List ℕ → Option ℕ
 last_from lines side id =
     then_so (last (λ f. is_end side f.entry.side && is_from id f.entry) lines) (λ f. f.transaction)
 
--- Of these lines that is kept.
+-- The map is that of these lines.
 abbrev pub IsLatest : List Line → Latest → Type 0
 IsLatest lines latest = (side : Side) (id : List ℕ) → latest_at side id latest ≡ last_from lines side id
 
@@ -82,7 +82,7 @@ belongs_is lines latest number e is counted = by (message_of e)
     by (Some (EndMessage dtid dialogue components)) = asked_is lines latest is e (Some dtid)
     by (Some (Abort dtid reason)) = asked_is lines latest is e (Some dtid)
 
--- ---- one line more
+-- ---- one more line
 
 chosen : (b : Bool) (x : Line) (o : Option Line)
     → cond b x.transaction (then_so o (λ f. f.transaction)) ≡ then_so (cond b (Some x) o) (λ f. f.transaction)

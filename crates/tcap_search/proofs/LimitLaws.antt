@@ -1,4 +1,4 @@
--- The numbers of what is proposed for a stretch are gaps and entries of it, and one fate for each entry.
+-- A segment's certificate has one fate for each entry, and its numbers are gaps and entries of the segment.
 use Rattle.std.proofs.Common.{◌≡◌, ℕ, ℤ, ◌+◌, ◌≤◌, ◌<◌, arith, max, Bool, true, false, cond, List, [], ◌∷◌, ◌++◌, map, length, Option, Some, None, option_map, slice_get, refl, sym, ap, subst, ◌∙◌}
 use Rattle.std.specs.Prelude.{◌&&◌, not, nat_le, nat_lt, is_some}
 use Rattle.std.specs.List.{AllByRecursion, list_any}
@@ -29,7 +29,7 @@ use Rattle.tcap_search.proofs.ReplyLaws.{RepliesBelow, behind_reply, numbers_bel
 use Rattle.tcap_search.proofs.LineLaws.{count_lines, transaction_below}
 use Rattle.tcap_search.proofs.SweepSteps.{first_invoke}
 
--- ---- what lies within
+-- ---- numbers within a segment
 
 abbrev pub FateWithin : ℕ → Fate → Type 0
 FateWithin n (Gap gap) = gap ≤ n
@@ -91,14 +91,14 @@ module _ (judged : Option Side) (n : ℕ) (lines : List Line) (numbers : AllByRe
   fates_within (x ∷ some) all =
       (fate_within x (reply_of ties x.number) (message_of x.entry) all.0 refl, fates_within some all.1)
 
--- The fate of each lies within,
+-- The fate of each line is within.
 fated_within : (n : ℕ) (lines : List Line) (fates : List Fate) → AllByRecursion (FateWithin n) fates
     → AllByRecursion (λ x. FateWithin n x.fate) (fated lines fates)
 fated_within n [] fates all = tt
 fated_within n (line ∷ lines) [] all = tt
 fated_within n (line ∷ lines) (fate ∷ fates) all = (all.0, fated_within n lines fates all.1)
 
--- and what is lost has none.
+-- A loss has no number.
 lost_within : (n : ℕ) (later : List Fated) (x : Fated) → FateWithin n x.fate → FateWithin n (fate_before later x)
 lost_within n later x within =
     by (is_gap x.fate && is_some (message_of x.line.entry) && list_any (is_overtaken x) later)
@@ -128,7 +128,7 @@ unanswered_within n (Some side) true lines (x ∷ all) within = (
     by true = tt
     by false = within.0
 
--- ---- a stretch
+-- ---- a segment
 
 module _ (judged : Option Side) (marked : Bool) (entries : List Entry) where
   abbrev lines : List Line
@@ -178,7 +178,7 @@ module _ (judged : Option Side) (marked : Bool) (entries : List Entry) where
           all_more (ExpiryWithin (length entries)) listed added all
           (gap_in_it, within.1, omega (arith, within.0))
 
-  -- The place of an Invoke that is found is within the limit,
+  -- The place of an Invoke is within the limit.
   place_within : (id : ℤ) (place : ℕ) (components : List Component) (found : ℕ)
       → last_invoke id place components ≡ Some found
       → found ≤ number_limit
@@ -201,7 +201,7 @@ module _ (judged : Option Side) (marked : Bool) (entries : List Entry) where
           let within : place ≤ number_limit = leb-true place number_limit small in
           omega (arith, within, same)
 
-  -- and its entry is one of the stretch.
+  -- Its entry is in the segment.
   invocation_within : (x : Line) (id : ℤ) (below entry component : ℕ)
       → last_invocation lines x id below ≡ Some (entry, component)
       → (entry < length entries) × (component ≤ number_limit)
@@ -222,7 +222,7 @@ module _ (judged : Option Side) (marked : Bool) (entries : List Entry) where
           let also : place ≡ component = ap (λ (p : ℕ × ℕ). p.1) made in
           (rw (← same) there, rw (← also) (place_within id 0 (components_at y) place found))
 
-  -- What a component adds lies within,
+  -- The expiry that a component adds is within.
   rejects_within : (x : Line) (listed : List Expiry) (o : Option (Bool × ℤ))
       → AllByRecursion (ExpiryWithin (length entries)) listed
       → AllByRecursion (ExpiryWithin (length entries)) (expiry_by all_of lines x listed o)
@@ -322,7 +322,7 @@ fate_fits first n Lost few within = tt
 
 module _ (judged : Option Side) (marked : Bool) (first : ℕ) (entries : List Entry)
     (few : first + length entries ≤ number_limit) where
-  -- What is added lies within, where the stretch begins behind so many entries.
+  -- The numbers are within the limits after `first` entries.
   pub fates_fit : (fates : List Fate) → AreFates judged marked entries fates
       → AllByRecursion FateFits (map (fate_behind first) fates)
   fates_fit fates are =
@@ -356,7 +356,7 @@ fate_small n (By reply) few within = omega (arith, few, within)
 fate_small n Lost few within = tt
 
 module _ (judged : Option Side) (marked : Bool) (entries : List Entry) (few : length entries ≤ number_limit) where
-  -- So does what is found.
+  -- They are within the limits without entries before.
   pub fates_small : (fates : List Fate) → AreFates judged marked entries fates → AllByRecursion FateFits fates
   fates_small fates are =
       all_weaker (FateWithin (length entries)) FateFits fates

@@ -1,4 +1,4 @@
--- The lines of entries: one for each, in their order.
+-- The lines of entries: one for each, in order.
 use Rattle.std.proofs.Common.{◌≡◌, ℕ, zero, suc, ◌+◌, ◌<◌, ◌≤◌, Bool, true, false, cond, List, [], ◌∷◌, ◌++◌, length, take, get_or, reverse, Option, Some, None, refl, sym, ap, ◌∙◌, arith}
 use Rattle.std.specs.Prelude.{IfSome, slice_get, option_map}
 use Rattle.std.specs.List.{AllByRecursion}
@@ -11,7 +11,7 @@ use Rattle.tcap_search.specs.Lines.{Line, is_asked_from, last, line_behind, line
 use Rattle.tcap_search.specs.Traced.{AreTransactions}
 use Rattle.std.proofs.lemmas.Option.{get_or_from_slice_get, slice_get-map, slice_get_read}
 
--- ---- one entry more
+-- ---- one more entry
 
 pub lines_push : (earlier : List Line) (es : List Entry) (e : Entry)
     → lines_behind earlier (es ++ e ∷ []) ≡ lines_behind earlier es ++ line_behind (lines_behind earlier es) e ∷ []
@@ -27,7 +27,7 @@ lines_more es i e below is =
 pub reverse_push : {A : Type 0} (xs : List A) (x : A) → reverse (xs ++ x ∷ []) ≡ x ∷ reverse xs
 reverse_push xs x = reverse-append xs (x ∷ [])
 
--- ---- how many there are
+-- ---- their number
 
 pub count_behind : (earlier : List Line) (es : List Entry)
     → length (lines_behind earlier es) ≡ length earlier + length es
@@ -88,7 +88,7 @@ line_at es i e is =
     let here : i ≡ 0 + i = omega arith in
     ap (slice_get (lines_of es)) here ∙ line_from [] es i e is
 
--- ---- the last that passes
+-- ---- the last line that passes
 
 pub last_push : {A : Type 0} (passes : A → Bool) (xs : List A) (x : A)
     → last passes (xs ++ x ∷ []) ≡ cond (passes x) (Some x) (last passes xs)
@@ -106,7 +106,7 @@ pub last_none : {A : Type 0} (xs : List A) → last (λ x. false) xs ≡ None
 last_none [] = refl
 last_none {A} (x ∷ xs) = ap (λ (o : Option A). or_else o None) (last_none xs)
 
--- What holds of each holds of it.
+-- A property of all lines holds for the last.
 last_holds : {A : Type 0} (P : A → Type 0) (passes : A → Bool) (xs : List A) → AllByRecursion P xs
     → IfSome (last passes xs) P
 last_holds P passes [] all = tt

@@ -1,4 +1,4 @@
--- Expiries as they are listed, and lists of what is due.
+-- The list of expiries, and the lists of deliveries.
 use Rattle.std.proofs.Common.{◌≡◌, ℕ, zero, suc, ◌==◌, Bool, true, false, cond, List, [], ◌∷◌, ◌++◌, Some, Vec, refl, sym, ap₂, ◌∙◌, arith}
 use Rattle.std.specs.Prelude.{◌&&◌, ◌||◌}
 use Rattle.std.specs.List.{list_any}
@@ -16,13 +16,13 @@ use Rattle.tcap_search.proofs.KeyLaws.{then_equal}
 abbrev pub expiry_at : ℕ → ℕ → Side → ℕ → Expiry
 expiry_at gap component side entry = record { gap = gap; component = component; side = side; entry = entry }
 
--- An invocation that is not listed is listed,
+-- An invocation that is not listed is added.
 pub adds_new : (listed : List Expiry) (side : Side) (gap entry component : ℕ)
     → list_any (is_expiry_of (entry, component)) listed ≡ false
     → listed ++ expiry_at gap component side entry ∷ [] ≡ with_expiry listed (Some side) gap (Some (entry, component))
 adds_new listed side gap entry component new = rw new refl
 
--- and one that is is not.
+-- An invocation that is listed is not added.
 pub adds_none : (listed : List Expiry) (side : Side) (gap entry component : ℕ)
     → list_any (is_expiry_of (entry, component)) listed ≡ true
     → listed ≡ with_expiry listed (Some side) gap (Some (entry, component))
@@ -35,7 +35,7 @@ pairs_equal : (m n k l : ℕ) → is_at (pair_cmp (m, n)) (k, l) ≡ ((m == k) &
 pairs_equal m n k l =
     then_equal (nat_cmp m k) (nat_cmp n l) ∙ ap₂ (λ (a b : Bool). a && b) (numbers_equal m k) (numbers_equal n l)
 
--- Behind one more, that one is named too.
+-- The set of named invocations, with one more.
 pub named_more : (listed : List Expiry) (side : Side) (gap entry component e c : ℕ) (was : Bool)
     → was ≡ list_any (is_expiry_of (e, c)) listed
     → cond (is_at (pair_cmp (entry, component)) (e, c)) true was
@@ -50,7 +50,7 @@ named_more listed side gap entry component e c was is = rw (pairs_equal entry co
     by false true = refl
     by false false = refl
 
--- Where no list has a number, none has with an empty one more.
+-- One more empty list adds no number.
 pub one_more_empty : {A : Type 0} (lists : List (Vec ℕ A)) (list : Vec ℕ A) → list.items ≡ []
     → ((gap : ℕ) → due_at gap lists ≡ []) → (gap : ℕ) → due_at gap (lists ++ list ∷ []) ≡ []
 one_more_empty [] list is empty zero = is

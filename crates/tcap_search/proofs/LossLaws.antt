@@ -23,14 +23,14 @@ use Rattle.tcap_search.proofs.TestLaws.{or_false}
 min_before : (a b c : ℕ) → nat_lt (min a b) c ≡ (nat_lt a c || nat_lt b c)
 min_before a b c = grind (arith, nat_tests)
 
--- The sooner of two times is before another where one of them is.
+-- The lesser of two times is before another if one of them is.
 sooner_is : (o p q : Option ℕ) → is_later (sooner o p) q ≡ (is_later o q || is_later p q)
 sooner_is None p q = refl
 sooner_is (Some a) None q = sym (or_false (is_later (Some a) q))
 sooner_is (Some a) (Some b) None = refl
 sooner_is (Some a) (Some b) (Some c) = min_before a b c
 
--- A fate is overtaken by one of that end where the least time is before its own.
+-- A fate is overtaken if the least time of its end is before its own.
 overtaken_by : (x : Fated) (side : Side) (later : List Fated) → x.line.entry.side ≡ Some side
     → list_any (is_overtaken x) later ≡ is_later (least_time side later) (time_of x.fate)
 overtaken_by x side [] at = refl
@@ -51,7 +51,7 @@ abbrev pub least_so_far : List Fated → Option Side → Option ℕ
 least_so_far later None = None
 least_so_far later (Some side) = least_time side later
 
--- So a line has the fate that the least time says.
+-- The least time gives the fate after losses.
 pub fate_before_is : (later : List Fated) (x : Fated)
     → fate_before later x ≡ fate_behind_least x.line.entry x.fate (least_so_far later x.line.entry.side)
 fate_before_is later x =
@@ -75,7 +75,7 @@ count_fated (line ∷ lines) [] same = refl
 count_fated [] (fate ∷ fates) same = absurd (omega arith)
 count_fated (line ∷ lines) (fate ∷ fates) same = ap suc (count_fated lines fates (omega arith))
 
--- The fates of lines with them are those.
+-- The fates of lines with fates.
 pub fates_fated : (lines : List Line) (fates : List Fate) → length fates ≡ length lines
     → map (λ x. x.fate) (fated lines fates) ≡ fates
 fates_fated [] [] same = refl
@@ -84,7 +84,7 @@ fates_fated [] (fate ∷ fates) same = absurd (omega arith)
 fates_fated (line ∷ lines) (fate ∷ fates) same = ap (λ (fs : List Fate). fate ∷ fs)
     (fates_fated lines fates (omega arith))
 
--- What is there at a place.
+-- the line and the fate at a place
 pub fated_there : (lines : List Line) (fates : List Fate) (i : ℕ) (line : Line) (fate : Fate) (d : Fated)
     → i < length lines → length fates ≡ length lines → line ≡ get_or lines i line → fate ≡ get_or fates i fate
     → get_or (fated lines fates) i d ≡ fated_at line fate
@@ -95,7 +95,7 @@ fated_there (x ∷ lines) (y ∷ fates) zero line fate d within same is_line is_
 fated_there (x ∷ lines) (y ∷ fates) (suc i) line fate d within same is_line is_fate =
     fated_there lines fates i line fate d (omega arith) (omega arith) is_line is_fate
 
--- Lines and fates come apart, and together again.
+-- Lines and fates, taken apart and joined again.
 pub fated_parts : (all : List Fated) → fated (map (λ x. x.line) all) (map (λ x. x.fate) all) ≡ all
 fated_parts [] = refl
 fated_parts (x ∷ all) = ap (λ (more : List Fated). x ∷ more) (fated_parts all)
@@ -107,7 +107,7 @@ losses_step : (x : Fated) (more : List Fated)
     ≡ fate_before (with_losses more) x ∷ map (λ x. x.fate) (with_losses more)
 losses_step x more = refl
 
--- Losses keep the lines, as does what is not answered.
+-- Losses keep the lines, and so does the rule on unanswered messages.
 pub lines_kept : (all : List Fated) → map (λ x. x.line) (with_losses all) ≡ map (λ x. x.line) all
 lines_kept [] = refl
 lines_kept (x ∷ more) = ap (λ (lines : List Line). x.line ∷ lines) (lines_kept more)
@@ -144,10 +144,10 @@ entries_fated [] (fate ∷ fates) same = absurd (omega arith)
 entries_fated (line ∷ lines) (fate ∷ fates) same =
     ap (λ (es : List Entry). line.entry ∷ es) (entries_fated lines fates (omega arith))
 
--- ---- the fates behind all rules
+-- ---- the fates after all rules
 
 module _ (judged : Option Side) (marked : Bool) where
-  -- those of lines before the losses
+  -- the fates before losses
   abbrev pub before_losses : List Line → List Fated
   before_losses lines = without_unanswered judged marked lines (fated lines (first_fates judged lines (ties_of lines)))
 
@@ -158,7 +158,7 @@ module _ (judged : Option Side) (marked : Bool) where
       lines_answered judged marked lines (fated lines (first_fates judged lines (ties_of lines)))
       ∙ lines_fated lines (first_fates judged lines (ties_of lines)) same
 
-  -- They are of these lines, one for each.
+  -- The lines are those of the entries.
   pub all_lines : (lines : List Line) → map (λ y. y.line) (all_fated judged marked lines) ≡ lines
   all_lines lines = lines_kept (before_losses lines) ∙ lines_before lines
 
@@ -170,7 +170,7 @@ module _ (judged : Option Side) (marked : Bool) where
       ∙ ap length (all_lines (lines_of entries))
       ∙ count_lines entries
 
-  -- With their lines they are what the rules give.
+  -- The fates with their lines are those of the rules.
   pub all_is : (entries : List Entry) (fates : List Fate) → AreFates judged marked entries fates
       → fated (lines_of entries) fates ≡ all_fated judged marked (lines_of entries)
   all_is entries fates are =
@@ -186,7 +186,7 @@ module _ (judged : Option Side) (marked : Bool) where
       ∙ ap (λ (ls : List Line). fated ls (map (λ x. x.fate) (before_losses lines))) (sym (lines_before lines))
       ∙ fated_parts (before_losses lines)
 
-  -- What is found by each of the rules is found by all.
+  -- The three steps together give the fates.
   module _ (entries : List Entry) (ties : List Tie) (first left : List Fate) (are_ties : AreTies entries ties)
       (is_first : first ≡ first_fates judged (lines_of entries) ties)
       (is_left : left ≡ map (λ x. x.fate)

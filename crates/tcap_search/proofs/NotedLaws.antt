@@ -1,4 +1,4 @@
--- What a least number tells, once one more is noted; and tests of lines.
+-- Least numbers with one more noted, and tests of lines.
 use Rattle.std.proofs.Common.{◌≡◌, ℕ, ◌==◌, ◌&&◌, ◌||◌, Bool, true, false, cond, List, [], ◌∷◌, ◌++◌, Option, Some, None, refl, sym, ap, ◌∙◌, arith}
 use Rattle.std.specs.Prelude.{nat_le, nat_lt}
 use Rattle.std.specs.List.{list_any}
@@ -10,7 +10,7 @@ use Rattle.tcap_search.specs.Leasts.{is_below, is_transaction, is_within, lesser
 use Rattle.tcap_search.specs.Lines.{Line, share_transaction}
 use Rattle.tcap_search.proofs.TestLaws.{and_true, or_false}
 
--- ---- numbers that are noted
+-- ---- noted numbers
 
 pub below_lesser : (limit number : ℕ) (o : Option ℕ)
     → is_below limit (lesser number o) ≡ (is_below limit o || nat_lt number limit)
@@ -29,7 +29,7 @@ eqb_turned m n = by (m == n) refl
     by true is = sym (eq-eqb n m (sym (eqb-true m n is)))
     by false is = sym (ne_eqb n m (λ same. eqb-false m n is (sym same)))
 
--- What a test says where a number is noted for a half, or not.
+-- A test of the least number, after a number is noted or not.
 pub test_noted : (test : Option ℕ → Bool) (first second number : Bool) (new old : Option ℕ) (least : Option ℕ)
     → test least ≡ (test old || number) → new ≡ cond (first && second) least old
     → test new ≡ (test old || (number && first && second))
@@ -57,7 +57,7 @@ shares x y transaction has =
     by None = refl
     by (Some other) = refl
 
--- Three tests, each as another, and a fourth that passes.
+-- three equal tests, and a fourth that passes
 pub same_tests : (a b c d x y z : Bool) → a ≡ x → b ≡ y → c ≡ z → d ≡ true → (a && b && c && d) ≡ (x && y && z)
 same_tests a b c d x y z is_x is_y is_z is_true =
     ap (λ (v : Bool). v && b && c && d) is_x
@@ -65,7 +65,7 @@ same_tests a b c d x y z is_x is_y is_z is_true =
     ∙ (ap (λ (v : Bool). x && y && v && d) is_z
     ∙ (ap (λ (v : Bool). x && y && z && v) is_true ∙ and_true (x && y && z))))
 
--- The same, where the last of four stands first.
+-- the same tests in another order
 pub turned_tests : (a b c d x y z : Bool) → a ≡ x → b ≡ y → c ≡ true → d ≡ z → (a && b && c && d) ≡ (z && x && y)
 turned_tests a b c d x y z is_x is_y is_true is_z =
     ap (λ (v : Bool). v && b && c && d) is_x

@@ -10,7 +10,7 @@ use Rattle.tcap_search.proofs.LineLaws.{count_lines, count_transactions, transac
 
 -- ---- entries
 
--- The lines behind these are of these entries,
+-- the entries of the lines
 lines_entries : (earlier : List Line) (entries : List Entry)
     → map (λ x. x.entry) (lines_behind earlier entries) ≡ map (λ x. x.entry) earlier ++ entries
 lines_entries earlier [] = sym (append-nil (map (λ x. x.entry) earlier))
@@ -24,7 +24,7 @@ entries_of_lines entries = lines_entries [] entries
 
 -- ---- numbers
 
--- The first has that number, each other the next one.
+-- The lines are numbered from n.
 abbrev pub AreNumbered : ℕ → List Line → Type 0
 AreNumbered n [] = Unit {0}
 AreNumbered n (x ∷ lines) = (x.number ≡ n) × AreNumbered (n + 1) lines
@@ -41,7 +41,7 @@ numbered_behind earlier (e ∷ entries) are =
     numbered_behind (earlier ++ line_behind earlier e ∷ []) entries
     (numbered_more 0 earlier (line_behind earlier e) are (omega arith))
 
--- and they are numbered from 0.
+-- The lines of entries are numbered from 0.
 pub lines_numbered : (entries : List Entry) → AreNumbered 0 (lines_of entries)
 lines_numbered entries = numbered_behind [] entries tt
 
@@ -71,7 +71,7 @@ module _ (entries : List Entry) (transactions : List (Option ℕ)) (are : AreTra
   within_lines : i < length (lines_of entries)
   within_lines = let n : length (lines_of entries) ≡ length entries = count_lines entries in omega arith
 
-  -- The line at a place has that number, the entry there and the transaction there.
+  -- The line at a place has this number, entry and transaction.
   pub line_there : get_or (lines_of entries) i (line_at i e t) ≡ line_at i e t
   line_there = line_is (get_or (lines_of entries) i (line_at i e t)) i e t
       (number_at 0 (lines_of entries) i (line_at i e t) (lines_numbered entries) within_lines ∙ omega arith)
@@ -80,14 +80,14 @@ module _ (entries : List Entry) (transactions : List (Option ℕ)) (are : AreTra
       (sym (get_or-map (λ x. x.transaction) (lines_of entries) i (line_at i e t) t within_lines)
       ∙ ap (λ (ts : List (Option ℕ)). get_or ts i t) (sym are) ∙ sym is_transaction)
 
-  -- So the lines up to there are one more.
+  -- One more line.
   pub line_more : take (i + 1) (lines_of entries) ≡ take i (lines_of entries) ++ line_at i e t ∷ []
   line_more = take_more (lines_of entries) i (line_at i e t) within_lines
       ∙ ap (λ (x : Line). take i (lines_of entries) ++ x ∷ []) line_there
 
 -- ---- transactions are numbers of entries
 
--- The transaction of each is the number of an entry.
+-- Each transaction is the number of an entry.
 pub transaction_within : (entries : List Entry) (transactions : List (Option ℕ)) → AreTransactions entries transactions
     → (i t : ℕ) → i < length entries → Some t ≡ get_or transactions i (Some t) → t < length entries
 transaction_within entries transactions are i t within is = by (slice_get (lines_of entries) i) refl there

@@ -1,4 +1,4 @@
--- Behind the losses no message comes before an earlier one of its end.
+-- After losses, no message is delivered before an earlier one of its end.
 use Rattle.std.proofs.Common.{◌≡◌, ℕ, ◌*◌, ◌≤◌, Bool, true, false, cond, List, [], ◌∷◌, refl, arith}
 use Rattle.std.specs.Prelude.{◌&&◌, is_some, nat_lt}
 use Rattle.std.specs.List.{AllByRecursion, list_any}
@@ -11,7 +11,7 @@ use Rattle.tcap_search.specs.Proposed.{Fated, fate_before, is_gap, is_overtaken,
 use Rattle.tcap_search.specs.Order.{AreInOrder, ComesNoEarlier}
 use Rattle.tcap_search.proofs.LossLaws.{fated_at}
 
--- A fate that is a gap behind the losses was one before, and is overtaken by none.
+-- A gap after losses was the gap before, and is not overtaken.
 kept_gap : (b c : Bool) (fate : Fate) (g : ℕ) → cond (is_gap fate && b && c) Lost fate ≡ Gap g → b ≡ true
     → (fate ≡ Gap g) × (c ≡ false)
 kept_gap true true (Gap k) g is some = absurd (cc)
@@ -45,7 +45,7 @@ each_not_overtaken line fate kept (y ∷ later) never = (
   )),
 )
 
--- So they are in order.
+-- The fates after losses are in order.
 pub losses_order : (all : List Fated) → AreInOrder (with_losses all)
 losses_order [] = tt
 losses_order (x ∷ more) = (

@@ -1,4 +1,4 @@
--- Where nothing is rejected as unrecognized, no expiry is listed.
+-- If no answer is rejected as unrecognized, no expiry is listed.
 use Rattle.std.proofs.Common.{◌≡◌, Bool, true, false, ℤ, List, [], ◌∷◌, Option, Some, None, refl, ◌∙◌}
 use Rattle.std.specs.Prelude.{◌||◌, is_some}
 use Rattle.std.specs.List.{list_any}
@@ -11,7 +11,7 @@ use Rattle.tcap_search.specs.Rejected.{has_rejection, rejects}
 use Rattle.tcap_search.specs.Sweep.{components_of}
 use Rattle.tcap_search.proofs.UnansweredLaws.{any_line}
 
--- where none of two tests is passed
+-- A disjunction is false only if both parts are.
 pub neither : (a b : Bool) → (a || b) ≡ false → (a ≡ false) × (b ≡ false)
 neither true b none = cc
 neither false b none = (refl, none)

@@ -1,4 +1,4 @@
--- The reply of a tie is the number of an entry.
+-- Replies are numbers of entries.
 use Rattle.std.proofs.Common.{◌≡◌, ℕ, ◌+◌, ◌<◌, ◌≤◌, List, [], ◌∷◌, ◌++◌, reverse, length, Option, Some, None, refl, sym, subst, arith}
 use Rattle.std.specs.Prelude.{◌==◌, option_map}
 use Rattle.std.specs.List.{AllByRecursion}
@@ -56,7 +56,7 @@ all_reversed P [] all = tt
 all_reversed P (x ∷ lines) all = subst (λ (xs : List Line). AllByRecursion P xs) (sym (reversed x lines))
     (all_more P (reverse lines) x (all_reversed P lines all.1) all.0)
 
--- The reply of each tie is the number of an entry,
+-- The reply of each tie is the number of an entry.
 pub replies_below : (entries : List Entry) (ties : List Tie) → AreTies entries ties → RepliesBelow (length entries) ties
 replies_below entries ties are =
     let count : length (lines_of entries) ≡ length entries = count_lines entries in
@@ -65,7 +65,7 @@ replies_below entries ties are =
     (all_reversed (λ x. x.number < length entries) (lines_of entries)
     (numbers_below (length entries) 0 (lines_of entries) (lines_numbered entries) (omega arith))) tt)
 
--- and so the gap behind the reply of an entry is one of theirs.
+-- The gap after a reply is one of the segment.
 pub behind_reply : (n : ℕ) (ties : List Tie) (number : ℕ) → RepliesBelow n ties
     → gap_behind_reply (reply_of ties number) ≤ n
 behind_reply n ties number below = by (last (λ t. t.entry == number) ties) refl

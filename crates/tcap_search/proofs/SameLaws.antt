@@ -1,4 +1,4 @@
--- What `==` says of fates, expiries and closings.
+-- `==` decides equality of fates, expiries and closings.
 use Rattle.std.proofs.Common.{◌≡◌, Bool, true, List, ap, refl}
 use Rattle.std.specs.Prelude.{◌&&◌}
 use Rattle.std.specs.Bool.{Decides}
@@ -77,7 +77,7 @@ closing_decides a b =
           (ap (λ (x : Closing). x.gap) e, (ap (λ (x : Closing). x.side) e, ap (λ (x : Closing). x.entry) e)),
     )
 
--- What `==` says of lists of them.
+-- `==` decides equality of lists of them.
 pub same_fates : (xs ys : List Fate) → pointwise fate_eq.eq-value.it xs ys ≡ true → xs ≡ ys
 same_fates xs ys = (slice_eq-Decides fate_decides xs ys _ refl).0
 

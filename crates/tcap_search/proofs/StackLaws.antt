@@ -14,7 +14,7 @@ use Rattle.tcap_search.proofs.LineLaws.{reverse_push}
 
 -- ---- one map
 
--- What is put at an ID changes the stack of that ID alone.
+-- A stack put at an ID changes no other.
 pub put_stack : {A : Type 0} (step : List ℕ → List ℕ) (id : List ℕ) (old new : List (List ℕ × Vec ℕ A))
     (stack : Vec ℕ A)
     → ((key : List ℕ) → lookup (is_at (octets_cmp key)) new
@@ -32,7 +32,7 @@ put_stack {A} step id old new stack put is key =
     by true same = let one : key ≡ id = (bytes_eq-Decides key id).0 same in rw one is
     by false apart = refl
 
--- Where a step changes nothing at an ID, nothing is to be put.
+-- A step that changes nothing at an ID needs no change.
 pub same_stack : {A : Type 0} (step : List ℕ → List ℕ) (id : List ℕ) (old new : List (List ℕ × Vec ℕ A)) → new ≡ old
     → stack_in id old ≡ step (stack_in id old)
     → (key : List ℕ) → stack_in key new ≡ cond (bytes_eq key id) (step (stack_in key old)) (stack_in key old)
@@ -45,7 +45,7 @@ same_stack {A} step id old new same is key =
 
 -- ---- one stack
 
--- a number more
+-- one more number
 pub pushed : {A : Type 0} (number : ℕ) (o : Option (Vec ℕ A)) (old new : Vec ℕ A) → Some old ≡ o
     → new.items ≡ old.items ++ number ∷ [] → reverse new.items ≡ number ∷ numbers_of o
 pushed {A} number o old new is more =
@@ -58,7 +58,7 @@ pushed_first {A} number o items left is empty more =
     ap (reverse {A = ℕ}) (more ∙ ap (λ (ns : List ℕ). ns ++ number ∷ []) empty)
     ∙ ap (λ (v : Option (Vec ℕ A)). number ∷ numbers_of v) is
 
--- the top one less
+-- one number less
 pub popped : (items left : List ℕ) (number : Option ℕ) (count left_count : ℕ) → count ≡ length items
     → items ≡ left ++ option_to_list number
     → MatchOption number ((count ≡ 0) × (left_count ≡ 0)) (λ n. left_count + 1 ≡ count)
@@ -69,7 +69,7 @@ popped [] left None count left_count counted is none =
     let same : left ≡ [] = sym (is ∙ append-nil left) in ap (reverse {A = ℕ}) same
 popped (x ∷ items) left None count left_count counted is none = absurd (omega arith)
 
--- one number less, where it is on top, and where it is not
+-- one number less if it is on top, else the same
 pub taken_off : (number : ℕ) (stack : List ℕ) → is_top number stack ≡ true → under_top stack ≡ without number stack
 taken_off number stack is = sym (ap (λ (b : Bool). cond b (under_top stack) stack) is)
 

@@ -1,4 +1,4 @@
--- Entries, stretch by stretch between quiet marks.
+-- Entries, segment by segment between quiet marks.
 use Rattle.std.proofs.Common.{◌≡◌, Bool, true, false, cond, ℕ, ◌+◌, ◌-◌, ◌≤◌, ◌<◌, arith, List, [], ◌∷◌, ◌++◌, length, take, drop, get_or, Option, zero, suc, refl, sym, ap, subst, ◌∙◌, append_assoc}
 use Rattle.std.specs.Prelude.{◌||◌, Result, Ok, Err, IfOk, map}
 use Rattle.std.specs.List.{list_any}
@@ -14,7 +14,7 @@ use Rattle.tcap_search.proofs.LimitLaws.{count_of_stretch}
 abbrev pub has_mark : List Entry → Bool
 has_mark entries = list_any (λ e. is_mark e.body) entries
 
--- There is a first stretch.
+-- There is a first segment.
 pub first_stretch : (entries : List Entry)
     → (stretch : List Entry) × (more : List (List Entry)) × (stretches entries ≡ stretch ∷ more)
 first_stretch [] = ([], [], refl)
@@ -27,7 +27,7 @@ first_stretch (e ∷ entries) = by (is_mark e.body) refl (first_stretch entries)
     by true so rest = ([], stretches entries, refl)
     by false so (stretch, more, is) = (e ∷ stretch, more, rw is refl)
 
--- Entries without a mark are one stretch,
+-- Entries without a mark are one segment.
 pub one_stretch : (entries : List Entry) → has_mark entries ≡ false → stretches entries ≡ entries ∷ []
 one_stretch [] none = refl
 one_stretch (e ∷ entries) none = by (is_mark e.body) none (one_stretch entries)
@@ -37,7 +37,7 @@ one_stretch (e ∷ entries) none = by (is_mark e.body) none (one_stretch entries
     by true none on = cc
     by false none on = rw (on none) refl
 
--- and before a mark they are the first.
+-- Entries before a mark are the first segment.
 pub stretch_before : (front : List Entry) (mark : Entry) (more : List Entry) → has_mark front ≡ false
     → is_mark mark.body ≡ true → stretches (front ++ mark ∷ more) ≡ front ∷ stretches more
 stretch_before [] mark more none is = rw is refl
@@ -51,7 +51,7 @@ stretch_before (e ∷ front) mark more none is =
     by true none on = cc
     by false none on = rw (on none) refl
 
--- ---- certificates, one after the other
+-- ---- certificates in a row
 
 pub then_assoc : (c d f : Certificate)
     → then_certificate (then_certificate c d) f ≡ then_certificate c (then_certificate d f)
@@ -62,12 +62,12 @@ then_assoc c d f =
       append_assoc c.close d.close f.close,
     ) refl
 
--- What is proposed for entries without a mark.
+-- the certificate of entries without a mark
 pub of_one : (judged : Option Side) (first : ℕ) (entries : List Entry) → has_mark entries ≡ false
     → of_stretches judged first (stretches entries) ≡ behind first (of_stretch judged false entries)
 of_one judged first entries none = rw (one_stretch entries none) refl
 
--- What is proposed for entries before a mark, for the mark, and for what stands behind it.
+-- the certificates of entries before a mark, of the mark, and of the entries after it
 pub of_more : (judged : Option Side) (first : ℕ) (front : List Entry) (mark : Entry) (more : List Entry)
     → has_mark front ≡ false
     → is_mark mark.body ≡ true
@@ -88,7 +88,7 @@ drop_drop (suc n) k (x ∷ xs) =
     let more : suc (n + k) ≡ suc n + k = omega arith in
     drop_drop n k xs ∙ ap (λ m. drop m (x ∷ xs)) more
 
--- The entry of that number, k behind the first of a stretch that is under way.
+-- the entry at place k of the present segment
 module _ (entries : List Entry) (first k : ℕ) (e : Entry) (within : first + k < length entries)
     (is : e ≡ get_or entries (first + k) e) where
   abbrev under : List Entry
@@ -100,7 +100,7 @@ module _ (entries : List Entry) (first k : ℕ) (e : Entry) (within : first + k 
   is_there : get_or under k e ≡ e
   is_there = get_or-drop first entries k e ∙ sym is
 
-  -- It is no mark, and the stretch goes on.
+  -- The entry is no mark, and the segment goes on.
   pub goes_on : is_mark e.body ≡ false → has_mark (take k under) ≡ false → has_mark (take (k + 1) under) ≡ false
   goes_on plain none =
       let more : has_mark (take (k + 1) under) ≡ (has_mark (take k under) || is_mark (get_or under k e).body) =
@@ -114,7 +114,7 @@ module _ (entries : List Entry) (first k : ℕ) (e : Entry) (within : first + k 
       (drop_more under k e k_within ∙ ap (λ x. x ∷ drop (k + 1) under) is_there
       ∙ ap (λ x. e ∷ x) (drop_drop first (k + 1) entries ∙ ap (λ n. drop n entries) (omega arith)))
 
-  -- It is a mark, and the next stretch begins.
+  -- The entry is a mark, and the next segment begins.
   pub begins : (judged : Option Side) (found : Certificate) → is_mark e.body ≡ true → has_mark (take k under) ≡ false
       → then_certificate found (of_stretches judged first (stretches under))
       ≡ then_certificate
@@ -133,7 +133,7 @@ module _ (entries : List Entry) (first k : ℕ) (e : Entry) (within : first + k 
       (of_mark (first + k))
       (of_stretches judged (first + k + 1) (stretches (drop (first + k + 1) entries)))))
 
--- What stands behind the last mark is the last stretch.
+-- The entries after the last mark are the last segment.
 pub ends : (judged : Option Side) (entries : List Entry) (found : Certificate) (first k : ℕ)
     → first + k ≡ length entries
     → has_mark (take k (drop first entries)) ≡ false
@@ -145,7 +145,7 @@ ends judged entries found first k all none =
     subst (λ n. take n (drop first entries) ≡ drop first entries) count (take-length (drop first entries)) in
     ap (then_certificate found) (of_one judged first (drop first entries) (subst (λ x. has_mark x ≡ false) whole none))
 
--- The same by the number of the entry.
+-- the same facts, by the number of the entry
 module _ (entries : List Entry) (first i : ℕ) (begun : first ≤ i) where
   at : first + (i - first) ≡ i
   at = omega (arith, begun)
@@ -190,7 +190,7 @@ module _ (entries : List Entry) (first i : ℕ) (begun : first ≤ i) where
       (sym (subst (λ n. take n (drop first entries) ≡ drop first entries) (length-drop first entries)
       (take-length (drop first entries))))
 
--- ---- how many fates there are
+-- ---- the number of fates
 
 module _ (judged : Option Side) where
   with_count : (marked : Bool) (found : Certificate) (first : ℕ) (stretch : List Entry)
@@ -234,7 +234,7 @@ module _ (judged : Option Side) where
       (take (i - first) (drop first entries))))).fates) _
       ∙ omega (arith, front, some, count, begun)
 
--- What follows of what is answered.
+-- A weaker property of a result.
 pub answers_so : {A E : Type 0} (P Q : A → Type 0) (r : Result A E) → ((x : A) → P x → Q x) → IfOk r P → IfOk r Q
 answers_so P Q (Ok x) so is = so x is
 answers_so P Q (Err e) so is = is

@@ -34,7 +34,7 @@ components_are x = by (message_of x.entry) refl
     by None at = rw at refl
     by (Some m) at = rw at refl
 
--- ---- invocations, with one entry more
+-- ---- invocations, with one more entry
 
 pub invocation_is : (id : ℤ) (x : Line) → invocation_at id x ≡ invoked_by x.number x.entry id
 invocation_is id x = rw (components_are x) refl
@@ -47,7 +47,7 @@ invoked_more lines x t s id =
     ∙ ap (λ (o : Option (ℕ × ℕ)). or_else (where_so (is_line_of s t x) o) (invoked_in lines t s id))
     (invocation_is id x)
 
--- ---- answers, with one gap more
+-- ---- answers, with one more gap
 
 abbrev pub is_in_gap : ℕ → Fate → Bool
 is_in_gap gap (Gap g) = g == gap
@@ -57,7 +57,7 @@ abbrev pub is_in_gap_below : ℕ → Fate → Bool
 is_in_gap_below limit (Gap g) = nat_lt g limit
 is_in_gap_below limit _ = false
 
--- the answer that comes with a fate
+-- the answer delivered with a fate
 abbrev pub answer_with : List Line → ℕ → Side → ℤ → Fate → Option Answer
 answer_with lines t s id (Gap gap) = Some (answer_at gap (invoked_in (take gap lines) t s id))
 answer_with lines t s id _ = None
@@ -65,13 +65,13 @@ answer_with lines t s id _ = None
 abbrev pub is_answering : Bool → ℕ → Side → ℤ → Fated → Bool
 is_answering is_result t s id y = answers is_result t s id y.line.entry y.line.transaction
 
--- the last answer that came in a gap below a limit
+-- the last answer delivered in a gap below a limit
 abbrev pub answered_in : List Line → List Fated → ℕ → Bool → ℕ → Side → ℤ → Option Answer
 answered_in lines all limit is_result t s id =
     last_given (λ y. where_so (is_in_gap_below limit y.fate && is_answering is_result t s id y)
     (answer_with lines t s id y.fate)) all
 
--- What answers has components, so it is a message; and both entries that answer are of one end.
+-- An answer is a component of a message, and all answers to an end are from its peer.
 any_message : (test : Component → Bool) (m : Option Message) → list_any test (message_components m) ≡ true
     → is_some m ≡ true
 any_message test None any = absurd (cc)
@@ -98,12 +98,12 @@ is_of_end s t e None is = absurd (cc)
 is_of_end s t e (Some u) is = (and_parts (is_end s e.side) (t == u) is).0
 
 module _ (lines : List Line) (gap : ℕ) (is_result : Bool) (t : ℕ) (s : Side) (id : ℤ) where
-  -- what comes in a gap below that limit
+  -- the answer delivered in a gap below this limit
   below : ℕ → Fated → Option Answer
   below limit y = where_so (is_in_gap_below limit y.fate && is_answering is_result t s id y)
       (answer_with lines t s id y.fate)
 
-  -- whether that answers and comes in this gap
+  -- whether y is an answer delivered in this gap
   here : Fated → Bool
   here y = is_in_gap gap y.fate && is_answering is_result t s id y
 
@@ -113,7 +113,7 @@ module _ (lines : List Line) (gap : ℕ) (is_result : Bool) (t : ℕ) (s : Side)
   where_false : (b : Bool) (o : Option Answer) → b ≡ false → where_so b o ≡ None
   where_false b o is = rw is refl
 
-  -- Behind what answers in this gap nothing of that end answers in an earlier one.
+  -- After an answer in this gap, no answer of its end is delivered in an earlier gap.
   one_earlier : (x y : Fated) → ComesNoEarlier x y → x.fate ≡ Gap gap → is_answering is_result t s id x ≡ true
       → below gap y ≡ None
   unfolding below
@@ -153,7 +153,7 @@ module _ (lines : List Line) (gap : ℕ) (is_result : Bool) (t : ℕ) (s : Side)
   lt_same : (h : ℕ) → (h == gap) ≡ true → nat_lt h (gap + 1) ≡ true
   lt_same h same = grind (arith, nat_tests)
 
-  -- What does not answer in this gap is below both limits or below none.
+  -- An answer in another gap is below both limits or below none.
   not_here : (x : Fated) → here x ≡ false → below (gap + 1) x ≡ below gap x
   unfolding below here
   not_here x is = by x.fate (is_answering is_result t s id x) is
@@ -166,7 +166,7 @@ module _ (lines : List Line) (gap : ℕ) (is_result : Bool) (t : ℕ) (s : Side)
       by (Gap h) false is = rw (and_false (nat_lt h (gap + 1)), and_false (nat_lt h gap)) refl
       by (Gap h) true is = rw (lt_next h (sym (and_true (h == gap)) ∙ is)) refl
 
-  -- What answers in this gap comes below the next limit.
+  -- An answer in this gap is below the next limit.
   is_here : (x : Fated) → here x ≡ true → (x.fate ≡ Gap gap) × (is_answering is_result t s id x ≡ true)
   unfolding here
   is_here x is =
@@ -184,7 +184,7 @@ module _ (lines : List Line) (gap : ℕ) (is_result : Bool) (t : ℕ) (s : Side)
       let early : nat_lt gap (gap + 1) ≡ true = lt-ltb gap (gap + 1) (omega arith) in
       rw (is, answers_x, early) refl
 
-  -- The last answer below the next limit comes in this gap, where one does, or else below this limit.
+  -- The last answer below the next limit is in this gap if there is one there, else below this limit.
   gap_more : (all : List Fated) → AreInOrder all
       → last_given (below (gap + 1)) all ≡ cond (list_any here all) (Some answer) (last_given (below gap) all)
   gap_more [] order = refl
@@ -201,7 +201,7 @@ module _ (lines : List Line) (gap : ℕ) (is_result : Bool) (t : ℕ) (s : Side)
           let parts = is_here x test in
           rw (is, none_earlier x more order.0 parts.0 parts.1, comes x parts.0 parts.1) refl
 
--- ---- what is due in a gap
+-- ---- deliveries in a gap
 
 due_from : (F : ℕ → Bool) (G : Fated → Bool) (gap k : ℕ) (rest : List Fated)
     → ((j : ℕ) (y : Fated) → slice_get rest j ≡ Some y → F (k + j) ≡ G y)
@@ -230,7 +230,7 @@ due_from F G gap k (y ∷ rest) agree = by y.fate (due_from F G gap (k + 1) rest
         in_gap true = rw (first, is) refl
         in_gap false = is
 
--- Those of that gap that answer are those among what is due.
+-- The answers in this gap are among its deliveries.
 pub due_is : (gap : ℕ) (is_result : Bool) (t : ℕ) (s : Side) (id : ℤ) (all : List Fated)
     → list_any (answers_at (map (λ y. y.line.entry) all) (map (λ y. y.line.transaction) all) is_result t s id)
     (due_in gap 0 (map (λ y. y.fate) all))
@@ -251,7 +251,7 @@ due_is gap is_result t s id all =
           at,
         ) refl
 
--- So the answers that are kept behind a gap are those below the next limit.
+-- The answers kept after a gap are those below the next limit.
 pub answered_more : (lines : List Line) (all : List Fated) (gap : ℕ) (is_result : Bool) (t : ℕ) (s : Side) (id : ℤ)
     → AreInOrder all
     → cond (list_any (answers_at (map (λ y. y.line.entry) all) (map (λ y. y.line.transaction) all) is_result t s id)

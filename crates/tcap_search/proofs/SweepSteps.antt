@@ -1,4 +1,4 @@
--- Steps of a sweep: one component more.
+-- A sweep with one more component.
 use Rattle.std.proofs.Common.{◌≡◌, ℕ, ℤ, ◌+◌, ◌<◌, ◌≤◌, ◌==◌, Bool, true, false, cond, List, ◌∷◌, length, drop, get_or, Option, Some, None, refl, sym, ap, ◌∙◌}
 use Rattle.std.specs.Prelude.{◌&&◌, nat_le, option_map}
 use Rattle.std.proofs.lemmas.List.{at_drop_more, drop_all}
@@ -13,7 +13,7 @@ use Rattle.tcap_search.specs.Fates.{is_of}
 use Rattle.tcap_search.specs.Sweep.{components_of, invoked_by}
 use Rattle.tcap_search.proofs.TestLaws.{and_swap}
 
--- The last Invoke of components is that of those behind the first, or else the first.
+-- The last Invoke is that after the first component, or else the first.
 pub first_invoke : (id : ℤ) (place : ℕ) (c : Component) (more : List Component)
     → last_invoke id place (c ∷ more)
     ≡ or_else (last_invoke id (place + 1) more) (where_so (is_invoke_of id c && nat_le place number_limit) (Some place))
@@ -25,11 +25,11 @@ first_invoke id place c more = by (last_invoke id (place + 1) more) refl
     by None at = rw at refl
     by (Some later) at = rw at refl
 
--- what is kept behind these components, where they are of that end in that transaction
+-- the Invoke kept after these components
 abbrev pub kept_behind : Bool → ℕ → Option ℕ → Option (ℕ × ℕ) → Option (ℕ × ℕ)
 kept_behind here number invoked kept = or_else (where_so here (option_map (λ place. (number, place)) invoked)) kept
 
--- What is kept behind a first component and then the others.
+-- one more component
 pub invoke_step : (here : Bool) (number : ℕ) (id : ℤ) (components : List Component) (place : ℕ) (d : Component)
     (kept : Option (ℕ × ℕ)) → place < length components → d ≡ get_or components place d
     → kept_behind here number (last_invoke id (place + 1) (drop (place + 1) components))
@@ -53,7 +53,7 @@ invoke_step here number id components place d kept within is =
     by true None true = refl
     by true None false = refl
 
--- Behind the last component nothing is left.
+-- After the last component nothing is left.
 pub invoke_end : (here : Bool) (number : ℕ) (id : ℤ) (components : List Component) (place : ℕ) (kept : Option (ℕ × ℕ))
     → length components ≤ place → kept ≡ kept_behind here number (last_invoke id place (drop place components)) kept
 invoke_end here number id components place kept past =
@@ -64,7 +64,7 @@ invoke_end here number id components place kept past =
     by true = refl
     by false = refl
 
--- What is kept behind the components of a Begin or a Continue.
+-- the Invoke kept after the components of a Begin or a Continue
 pub entry_step : (e : Entry) (number : ℕ) (side s : Side) (transaction t : ℕ) (id : ℤ) (kept : Option (ℕ × ℕ))
     → e.side ≡ Some side → may_invoke (message_of e) ≡ true
     → kept_behind (t == transaction && is_side s side) number (last_invoke id 0 (components_of e)) kept

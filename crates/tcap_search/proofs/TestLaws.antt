@@ -1,4 +1,4 @@
--- Tests that are joined.
+-- Conjunctions of tests.
 use Rattle.std.proofs.Common.{◌≡◌, Bool, true, false, refl}
 use Rattle.std.specs.Prelude.{◌&&◌, ◌||◌}
 

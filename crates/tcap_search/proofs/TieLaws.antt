@@ -24,7 +24,7 @@ use Rattle.tcap_search.specs.Proposed.{answered_line, is_answered_by, is_tied, t
 use Rattle.tcap_search.proofs.LineLaws.{count_taken, last_none, lines_more, reverse_push}
 use Rattle.tcap_search.proofs.UntiedLaws.{AreBelow, Falls, are_below, falls_of, first_holds, first_passes, is_left, last_reversed, left, left_others, left_popped, top_of}
 
--- ---- keys tell candidates apart
+-- ---- keys distinguish candidates
 
 one_side : (a b : Side) (sender : Option Side) → is_end a sender ≡ true → is_end b sender ≡ true → a ≡ b
 one_side a b None is is_too = cc
@@ -57,7 +57,7 @@ one_cause a b (Some (Continue otid dtid dialogue components)) is is_too = eqb-tr
 one_cause a b (Some (EndMessage dtid dialogue components)) is is_too = cc
 one_cause a b (Some (Abort dtid reason)) is is_too = cc
 
--- All three parts of the keys of a candidate are the same.
+-- A candidate has one key.
 one_key : (side asked : Side) (id dtid : List ℕ) (cause given : ℕ) (e : Entry) → is_candidate side id cause e ≡ true
     → is_candidate asked dtid given e ≡ true → (side ≡ asked) × (id ≡ dtid) × (cause ≡ given)
 one_key side asked id dtid cause given e is is_too =
@@ -70,7 +70,7 @@ one_key side asked id dtid cause given e is is_too =
       one_cause cause given (message_of e) first.1 second.1,
     )
 
--- ---- what an Abort asks for
+-- ---- the key that an Abort asks for
 
 turned_round : (side sender : Side) → is_side (other side) sender ≡ true → side ≡ other sender
 turned_round sides.A sides.A is = cc
@@ -101,12 +101,12 @@ asks_for side sender id dtid cause given are =
 
 -- ---- one step back
 
--- the ties, with that of a reply where it answers something
+-- the ties with that of a reply, if it answers an entry
 abbrev pub more_tie : Option ℕ → ℕ → List Tie → List Tie
 more_tie None reply ties = ties
 more_tie (Some answered) reply ties = record { entry = answered; reply = reply } ∷ ties
 
--- What is kept gives the tie.
+-- The candidates give the tie.
 tie_is : (ties : List Tie) (lines : List Line) (c : Candidates) (x : Line) → AreUntied ties lines c
     → with_tie (reverse lines) ties x ≡ more_tie (answered_of c x.entry) x.number ties
 tie_is ties lines c x kept = by x.entry.side (message_of x.entry)
@@ -144,10 +144,10 @@ tie_is ties lines c x kept = by x.entry.side (message_of x.entry)
         tied side dtid cause (answered_line (reverse lines) ties (from side).entry dtid cause) refl
         ∙ ap (λ (o : Option ℕ). more_tie o x.number ties) (chosen side dtid cause)
 
--- Behind the tie the others are kept.
+-- After the tie, the other candidates are kept.
 module _ (ties : List Tie) (lines : List Line) (old new : Candidates) (reply : ℕ) (kept : AreUntied ties lines old)
     (falls : Falls lines) where
-  -- What was taken is what the Abort asks for.
+  -- The candidate taken is the one that the Abort asks for.
   abbrev Takes : Option Side → Option Message → Type 0
   Takes sender message =
       (side : Side) (id : List ℕ) (cause : ℕ) → candidates_at side id cause new
@@ -159,7 +159,7 @@ module _ (ties : List Tie) (lines : List Line) (old new : Candidates) (reply : �
     abbrev asked : Line → Bool
     asked x = is_candidate (other sender) dtid given x.entry
 
-    -- of the key that is asked for
+    -- for the key asked for
     taken_at : candidates_at (other sender) dtid given new ≡ under_top (untied (other sender) dtid given ties lines)
     taken_at =
         takes (other sender) dtid given
@@ -168,7 +168,7 @@ module _ (ties : List Tie) (lines : List Line) (old new : Candidates) (reply : �
         (asks_for (other sender) sender dtid dtid given given (refl, refl, refl))
         ∙ ap under_top (kept (other sender) dtid given))
 
-    -- of each key, where that and the others are known
+    -- for each key
     each : (more : List Tie)
         → candidates_at (other sender) dtid given new ≡ untied (other sender) dtid given more lines
         → ((side : Side) (id : List ℕ) (cause : ℕ)
@@ -186,7 +186,7 @@ module _ (ties : List Tie) (lines : List Line) (old new : Candidates) (reply : �
             let key = asked_key side sender id dtid cause given asks in rw (key.0, key.1, key.2) here
         by false not_asks new_is = new_is ∙ (kept side id cause ∙ others side id cause not_asks)
 
-    -- the newest of the key that is asked for
+    -- the newest of the key asked for
     newest_is : newest_of old (Some sender) dtid given ≡ top (map (λ x. x.number) (left asked ties lines))
     newest_is = ap top (kept (other sender) dtid given)
 
@@ -286,7 +286,7 @@ drop_kept ties lines x old new kept falls dropped side id cause =
 
 -- ---- along the entries
 
--- what is kept of the first entries, where nothing is tied
+-- the candidates of the first entries, before ties
 pub record Collected (entries : List Entry) (count : ℕ) (c : Candidates) : Type 0 where
   pub kept : AreUntied [] (reverse (lines_of (take count entries))) c
 
@@ -330,7 +330,7 @@ pub collected_all : (entries : List Entry) (count : ℕ) (c : Candidates) → le
 collected_all entries count c all so_far =
     rw (take_all count entries all) at so_far.kept
 
--- The ties so far, from the last Abort on, and what is kept of the entries before.
+-- The ties so far, from the last Abort on, and the candidates of the entries before.
 pub record Tied (entries : List Entry) (count : ℕ) (c : Candidates) (found : List Tie) : Type 0 where
   pub within : count ≤ length entries
   pub kept : AreUntied (reverse found) (reverse (lines_of (take count entries))) c

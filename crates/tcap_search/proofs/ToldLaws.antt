@@ -1,4 +1,4 @@
--- What is noted of the entries that tell of ends, by their fates.
+-- In which gaps Ends and Aborts are delivered, as noted in `Leasts`.
 use Rattle.std.proofs.Common.{◌≡◌, ℕ, ◌+◌, ◌<◌, ◌≤◌, ◌&&◌, ◌||◌, Bool, true, false, cond, List, [], ◌∷◌, ◌++◌, length, map, take, get_or, Option, Some, None, refl, sym, ap, ◌∙◌, arith}
 use Rattle.std.specs.Prelude.{nat_le}
 use Rattle.std.proofs.lemmas.List.{length-take-le, take_all, take_more}
@@ -27,7 +27,7 @@ fated_push (y ∷ lines) [] x fate same = cc
 fated_push (y ∷ lines) (f ∷ fates) x fate same =
     ap (λ (more : List Fated). record { line = y; fate = f } ∷ more) (fated_push lines fates x fate (omega arith))
 
--- ---- what tells of ends
+-- ---- Ends and Aborts
 
 pub record Told (entries : List Entry) (fates : List Fate) (count : ℕ) (told : Leasts) : Type 0 where
   pub room : HasRoom (length entries) told

@@ -1,4 +1,4 @@
--- What an end answered, as the IDs that are kept tell it.
+-- What an end did not answer, by the sets of IDs.
 use Rattle.std.proofs.Common.{◌≡◌, ℕ, ◌+◌, ◌<◌, ◌≤◌, Bool, true, false, cond, List, [], ◌∷◌, ◌++◌, length, map, take, get_or, Option, Some, None, not, bytes_eq, refl, sym, ap, ap₂, ◌∙◌, arith}
 use Rattle.std.specs.Prelude.{◌&&◌, ◌||◌}
 use Rattle.std.specs.BTreeMap.{is_at}
@@ -29,7 +29,7 @@ use Rattle.tcap_search.proofs.NumberedLaws.{entries_of_lines, line_at}
 
 -- ---- IDs
 
--- A set with an ID more.
+-- a set with one more ID
 pub set_more : (id : List ℕ) (old new : BTreeSet (List ℕ))
     → ((key : List ℕ) → set.contains octets_cmp new key
     ≡ cond (is_at (octets_cmp id) key) true (set.contains octets_cmp old key))
@@ -44,7 +44,7 @@ set_more id old new puts key =
     by false true = refl
     by false false = refl
 
--- The IDs of entries with one more.
+-- the IDs of entries, with one more
 pub spoken_more : (side : Side) (entries : List Entry) (i : ℕ) (old new : Spoken) (e : Entry) → i < length entries
     → e ≡ get_or entries i e → IsSpoken side (take i entries) old
     → ((id : List ℕ) → set.contains octets_cmp new.to id
@@ -62,7 +62,7 @@ spoken_more side entries i old new e within is so_far to from = record {
     one_more test =
         ap (λ (x : Entry). list_any test (take i entries) || test x) is ∙ sym (list_any_more test entries i e within)
 
--- ---- what is not answered
+-- ---- unanswered messages
 
 any_entry : (test : Entry → Bool) (lines : List Line)
     → list_any (λ y. test y.entry) lines ≡ list_any test (map (λ y. y.entry) lines)
@@ -90,7 +90,7 @@ module _ (side : Side) (entries : List Entry) (s : Spoken) (is : IsSpoken side e
   unanswered_is (Some (EndMessage dtid dialogue components)) = refl
   unanswered_is (Some (Abort dtid reason)) = refl
 
-  -- So the fate that is found is that of the line.
+  -- The fate found is that of the line.
   heard_is : (x : Fated) → fate_heard s side x.line.entry x.fate ≡ fate_unanswered side (lines_of entries) x
   heard_is x =
       ap (λ (b : Bool). cond (is_gap x.fate && is_end (other side) x.line.entry.side && b) Lost x.fate)
@@ -109,7 +109,7 @@ module _ (side : Side) (entries : List Entry) (s : Spoken) (is : IsSpoken side e
     abbrev fate_so : Fated → Fate
     fate_so = fate_unanswered side (lines_of entries)
 
-    -- One entry more.
+    -- one more entry
     pub heard_step : (i : ℕ) (e : Entry) (heard : List Fate) → i < length entries → e ≡ get_or entries i e
         → heard ≡ map fate_so (take i all)
         → heard ++ fate_heard s side e (get_or fates i (Gap 0)) ∷ [] ≡ map fate_so (take (i + 1) all)
@@ -124,14 +124,14 @@ module _ (side : Side) (entries : List Entry) (s : Spoken) (is : IsSpoken side e
         ∙ sym (map-append fate_so (take i all) (here ∷ []))
         ∙ ap (map fate_so) (sym (take_more all i d (omega (arith, within, count))))
 
-    -- All of them.
+    -- all entries
     pub heard_all : (i : ℕ) (heard : List Fate) → length entries ≤ i → heard ≡ map fate_so (take i all)
         → heard ≡ map (λ x. x.fate) (without_unanswered (Some side) true (lines_of entries) all)
     heard_all i heard past so_far =
         so_far ∙ ap (map fate_so) (take_all i all (omega (arith, past, count)))
         ∙ sym (map-map (λ (x : Fated). x.fate) (λ (x : Fated). record x { fate = fate_so x }) all)
 
--- Where nothing is asked, the fates are the same.
+-- Without the rule, the fates stay.
 pub heard_same : (entries : List Entry) (fates : List Fate) → length fates ≡ length entries
     → fates ≡ map (λ x. x.fate) (fated (lines_of entries) fates)
 heard_same entries fates counted = sym (fates_fated (lines_of entries) fates (counted ∙ sym (count_lines entries)))

@@ -1,4 +1,4 @@
--- Lines, newest first, that no tie names, and what one tie more takes from them.
+-- Untied lines, newest first, and the effect of one more tie.
 use Rattle.std.proofs.Common.{◌≡◌, ℕ, ◌<◌, ◌≤◌, ◌==◌, ◌&&◌, ◌||◌, not, Bool, true, false, cond, List, [], ◌∷◌, ◌++◌, length, map, reverse, Option, Some, None, refl, sym, ap, ◌∙◌, arith}
 use Rattle.std.specs.Prelude.{filter, option_map}
 use Rattle.std.specs.List.{AllByRecursion}
@@ -27,7 +27,7 @@ falls_behind earlier (e ∷ es) falls =
 pub falls_of : (es : List Entry) → Falls (reverse (lines_of es))
 falls_of es = falls_behind [] es tt
 
--- Each is below so many.
+-- Each number is below the count.
 abbrev pub AreBelow : ℕ → List Line → Type 0
 AreBelow count lines = AllByRecursion (λ x. x.number < count) lines
 
@@ -58,7 +58,7 @@ pub top_of : (lines : List Line) → top (map (λ x. x.number) lines) ≡ option
 top_of [] = refl
 top_of (x ∷ lines) = refl
 
--- The first that passes passes,
+-- The first that passes passes the test.
 pub first_passes : {A : Type 0} (passes : A → Bool) (xs : List A) (y : A) (rest : List A)
     → filter passes xs ≡ y ∷ rest → passes y ≡ true
 first_passes passes [] y rest is = cc
@@ -69,7 +69,7 @@ first_passes {A} passes (x ∷ xs) y rest is = by (passes x) refl (first_passes 
     by true so more is = let same : x ≡ y = cc in rw (← same) so
     by false so more is = more is
 
--- and what holds of each holds of it.
+-- A property of all lines holds for it.
 pub first_holds : {A : Type 0} (P : A → Type 0) (passes : A → Bool) (xs : List A) (y : A) (rest : List A)
     → AllByRecursion P xs → filter passes xs ≡ y ∷ rest → P y
 first_holds P passes [] y rest all is = cc
@@ -80,9 +80,9 @@ first_holds {A} P passes (x ∷ xs) y rest all is = by (passes x) (first_holds P
     by true more is = let same : x ≡ y = cc in rw (← same) all.0
     by false more is = more is
 
--- ---- one tie more
+-- ---- one more tie
 
--- whether a line passes and is not tied
+-- whether a line passes and is untied
 abbrev pub is_left : (Line → Bool) → List Tie → Line → Bool
 is_left passes ties x = passes x && not (is_tied ties x)
 
@@ -102,7 +102,7 @@ module _ (t : Tie) (ties : List Tie) where
       ap (λ (b : Bool). passes x && not (b || is_tied ties x)) (eq-eqb t.entry x.number is)
       ∙ and_right (passes x) false refl
 
-  -- It changes nothing of lines below its number.
+  -- The tie changes nothing below its number.
   left_below : (passes : Line → Bool) (lines : List Line) → AreBelow t.entry lines
       → left passes (t ∷ ties) lines ≡ left passes ties lines
   left_below passes [] below = refl
@@ -114,7 +114,7 @@ module _ (t : Tie) (ties : List Tie) where
   below_own : (x : Line) (lines : List Line) → Falls (x ∷ lines) → t.entry ≡ x.number → AreBelow t.entry lines
   below_own x lines falls is = are_below t.entry lines falls.1 (omega arith)
 
-  -- The first one that is left is tied: the others are left.
+  -- If the first line left is tied, the others are left.
   pub left_popped : (passes : Line → Bool) (lines : List Line) (y : Line) (rest : List Line) → Falls lines
       → left passes ties lines ≡ y ∷ rest → t.entry ≡ y.number → left passes (t ∷ ties) lines ≡ rest
   left_popped passes [] y rest falls is its = cc
@@ -144,7 +144,7 @@ module _ (t : Tie) (ties : List Tie) where
           ap (λ (b : Bool). cond b (x ∷ left passes (t ∷ ties) lines) (left passes (t ∷ ties) lines)) (dropped so)
           ∙ more is its
 
-  -- Where another test fails at it, it leaves the same.
+  -- A test that fails at this line leaves the same.
   pub left_others : (asked passes : Line → Bool) (lines : List Line) (y : Line) (rest : List Line) → Falls lines
       → left asked ties lines ≡ y ∷ rest → t.entry ≡ y.number → passes y ≡ false
       → left passes (t ∷ ties) lines ≡ left passes ties lines

@@ -1,4 +1,4 @@
--- What is kept of the entries so far: by end and originating ID, the transaction of the last entry.
+-- The transaction of the last entry so far, by end and originating ID.
 use Rattle.std.specs.Prelude.{ℕ, List, Option, Some, None}
 use Rattle.std.specs.Map.{lookup}
 use Rattle.std.specs.BTreeMap.{is_at}
@@ -14,24 +14,26 @@ use Rattle.tcap_model.specs.Run.{then_so}
 use Rattle.tcap_search.specs.declared.lines.Latest.{Latest}
 use Rattle.tcap_search.specs.Lines.{message_of}
 
+-- the transactions kept for an end, by originating ID
 abbrev pub latest_of : Side → Latest → List (List ℕ × Option ℕ)
 latest_of sides.A l = l.a.entries
 latest_of sides.B l = l.b.entries
 
--- the transaction of the last entry of that end from that ID, where there is one and it has one
+-- the transaction of the last entry of this end from this ID, if there is one
 abbrev pub latest_at : Side → List ℕ → Latest → Option ℕ
 latest_at side id l = then_so (lookup (is_at (octets_cmp id)) (latest_of side l)) (λ transaction. transaction)
 
--- that of the last entry of the peer
+-- the transaction of the last entry of the peer from this ID, if there is one
 abbrev pub latest_asked : Option Side → Option (List ℕ) → Latest → Option ℕ
 latest_asked (Some side) (Some id) l = latest_at (other side) id l
 latest_asked _ _ l = None
 
--- the transaction of an entry of that number
+-- the transaction of an entry with this number
 abbrev pub belongs_by : ℕ → Entry → Latest → Option Message → Option ℕ
 belongs_by number e l None = None
 belongs_by number e l (Some (Begin otid dialogue components)) = Some number
 belongs_by number e l (Some message) = latest_asked e.side (dtid_in message) l
 
+-- the transaction of an entry, by its message
 abbrev pub belongs : ℕ → Entry → Latest → Option ℕ
 belongs number e l = belongs_by number e l (message_of e)

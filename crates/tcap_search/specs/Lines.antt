@@ -1,5 +1,5 @@
--- The entries of a stretch between two quiet marks, as the search sees them: each with its number in the stretch and
--- the transaction that it belongs to (Q.774 3.3).
+-- How the search sees the entries of a segment between two quiet marks: each with its number in the segment and the
+-- transaction to which it belongs (Q.774 3.3).
 use Rattle.std.specs.Prelude.{ℕ, Bool, false, List, [], ◌∷◌, ◌++◌, length, Option, Some, None, ◌==◌, ◌&&◌}
 use Rattle.tcap_msg.specs.declared.message.Message.{Message}
 use Rattle.tcap_msg.specs.declared.message.Message.TheVariants.{Begin}
@@ -13,23 +13,24 @@ use Rattle.tcap_record.specs.Ends.{other}
 use Rattle.tcap_model.specs.World.{is_side}
 use Rattle.tcap_model.specs.Run.{then_so, where_so}
 
--- this one, or the other where there is none
+-- the first value, or the second if there is no first
 abbrev pub or_else : {A : Type 0} → Option A → Option A → Option A
 or_else None other = other
 or_else (Some a) other = Some a
 
--- the last of these that passes a test
+-- the last element that passes a test
 abbrev pub last : {A : Type 0} → (A → Bool) → List A → Option A
 last passes [] = None
 last passes (a ∷ more) = or_else (last passes more) (where_so (passes a) (Some a))
 
 -- ---- entries
 
+-- whether the sender, if there is one, is this end
 abbrev pub is_end : Side → Option Side → Bool
 is_end side None = false
 is_end side (Some sender) = is_side side sender
 
--- whether both entries are of one end
+-- whether both entries are from one end
 abbrev pub are_of_one_end : Entry → Entry → Bool
 are_of_one_end e f = by e.side
   where
@@ -37,7 +38,7 @@ are_of_one_end e f = by e.side
     by None = false
     by (Some side) = is_end side f.side
 
--- whether the second is of the peer of the first one's end
+-- whether the second entry is from the peer of the first one's sender
 abbrev pub is_of_peer : Entry → Entry → Bool
 is_of_peer e f = by e.side
   where
@@ -45,15 +46,16 @@ is_of_peer e f = by e.side
     by None = false
     by (Some side) = is_end (other side) f.side
 
--- the message of an entry; octets that are none have none
+-- the message of an entry, if it is one
 abbrev pub message_in : Body → Option Message
 message_in (Good message) = Some message
 message_in _ = None
 
+-- the message of an entry, if it is one
 abbrev pub message_of : Entry → Option Message
 message_of e = message_in e.body
 
--- whether the entry is a message from that originating ID
+-- whether the entry is a message from this originating ID
 abbrev pub is_from : List ℕ → Entry → Bool
 is_from id e = by (message_of e)
   where
@@ -61,30 +63,31 @@ is_from id e = by (message_of e)
     by None = false
     by (Some message) = is_id id (otid_in message)
 
--- whether it is a message of the peer of that entry's end from that ID
+-- whether entry f is a message from the peer of e's sender, from this originating ID
 abbrev pub is_asked_from : Entry → List ℕ → Entry → Bool
 is_asked_from e id f = is_of_peer e f && is_from id f
 
 -- ---- transactions
 
--- an entry, with its number, and the transaction that it belongs to, by the number of the Begin that began it
+-- An entry with its number and its transaction, which is identified by the number of its Begin.
 pub record Line : Type 0 where
   pub number : ℕ
   pub entry : Entry
   pub transaction : Option ℕ
 
--- the last earlier entry of the peer from that ID belongs to it
+-- the transaction of the last earlier entry of the peer from this ID
 abbrev pub transaction_from : List Line → Entry → Option (List ℕ) → Option ℕ
 transaction_from earlier e None = None
 transaction_from earlier e (Some id) = then_so (last (λ f. is_asked_from e id f.entry) earlier) (λ f. f.transaction)
 
--- The transaction of a Begin is its number. That of a message with a destination ID is that of the last earlier entry
--- of the peer from that ID. Another entry has none, which no two entries share.
+-- The transaction of a Begin is its number. A message with a destination ID has the transaction of the last earlier
+-- entry of the peer from this ID. Other entries have none.
 abbrev pub transaction_by : List Line → Entry → Option Message → Option ℕ
 transaction_by earlier e None = None
 transaction_by earlier e (Some (Begin otid dialogue components)) = Some (length earlier)
 transaction_by earlier e (Some message) = transaction_from earlier e (dtid_in message)
 
+-- the line of an entry after the earlier lines
 abbrev pub line_behind : List Line → Entry → Line
 line_behind earlier e = record {
   number = length earlier;
@@ -92,15 +95,16 @@ line_behind earlier e = record {
   transaction = transaction_by earlier e (message_of e);
 }
 
--- the lines of these entries, behind these lines
+-- the lines of these entries after the earlier lines
 abbrev pub lines_behind : List Line → List Entry → List Line
 lines_behind earlier [] = earlier
 lines_behind earlier (e ∷ entries) = lines_behind (earlier ++ line_behind earlier e ∷ []) entries
 
+-- the lines of the entries of a segment
 abbrev pub lines_of : List Entry → List Line
 lines_of entries = lines_behind [] entries
 
--- whether both belong to one transaction
+-- whether two lines are in the same transaction
 abbrev pub share_transaction : Line → Line → Bool
 share_transaction x y = by x.transaction y.transaction
   where

@@ -1,4 +1,4 @@
--- Whether anything is rejected as unrecognized.
+-- Whether an entry rejects an answer as unrecognized.
 use Rattle.std.specs.Prelude.{Bool, is_some}
 use Rattle.std.specs.List.{list_any}
 use Rattle.tcap_parts.specs.declared.component.Component.{Component}
@@ -10,6 +10,6 @@ use Rattle.tcap_search.specs.Sweep.{components_of}
 abbrev pub rejects : Component → Bool
 rejects c = is_some (unrecognized c)
 
--- whether one of an entry does
+-- whether a component of the entry does
 abbrev pub has_rejection : Entry → Bool
 has_rejection e = list_any rejects (components_of e)

@@ -1,4 +1,4 @@
--- To which IDs an end sent messages, and from which it sent Continues.
+-- To which IDs an end sent messages, and from which IDs it sent Continues.
 use Rattle.std.specs.Prelude.{◌≡◌, ℕ, Bool, false, List, Option, Some, None, ◌&&◌, not, cond}
 use Rattle.std.specs.BTreeSet as set
 use Rattle.std.specs.List.{list_any}
@@ -20,19 +20,19 @@ abbrev pub continued_from : Message → Option (List ℕ)
 continued_from (Continue otid dtid dialogue components) = Some otid
 continued_from _ = None
 
--- These are the IDs of these entries.
+-- The sets have the IDs of this end's messages among these entries.
 pub record IsSpoken (side : Side) (entries : List Entry) (s : Spoken) : Type 0 where
   pub to : (id : List ℕ) → set.contains octets_cmp s.to id ≡ list_any (speaks_to side id) entries
   pub from : (id : List ℕ) → set.contains octets_cmp s.from id ≡ list_any (goes_on_from side id) entries
 
--- whether a message is unanswered, where these are the IDs
+-- whether a message is unanswered, by these sets
 abbrev pub unanswered_by : Spoken → Option Message → Bool
 unanswered_by s (Some (Begin otid dialogue components)) = not (set.contains octets_cmp s.to otid)
 unanswered_by s (Some (Continue otid dtid dialogue components)) =
     not (set.contains octets_cmp s.to otid) && not (set.contains octets_cmp s.from dtid)
 unanswered_by s _ = false
 
--- the fate of an entry, where these are the IDs of the end that is judged
+-- the fate of an entry, by these sets of the judged end
 abbrev pub fate_heard : Spoken → Side → Entry → Fate → Fate
 fate_heard s side e fate =
     cond (is_gap fate && is_end (other side) e.side && unanswered_by s (message_of e)) Lost fate

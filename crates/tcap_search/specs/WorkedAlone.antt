@@ -1,5 +1,5 @@
--- Worked records: the verdict on each end alone, by the certificate that is proposed for that end. tests/cases/faults.json has 270 more, judged by
--- the program.
+-- Worked records: the result for each end alone, by the certificate proposed for it. tests/cases/faults.json has more
+-- records, which the tests judge with the program.
 use Rattle.std.specs.Prelude.{◌≡◌, ℕ, List, [], ◌∷◌, map, Ok, Some, None, refl}
 use Rattle.tcap_record.specs.declared.entry.End.{End as Side}
 use Rattle.tcap_record.specs.declared.entry.End.TheVariants.{A, B}
@@ -16,13 +16,14 @@ use Rattle.tcap_msg.specs.declared.message.Message.TheVariants.{Begin, Continue,
 use Rattle.tcap_model.specs.declared.reason.Reason.TheVariants.{BadReply}
 use Rattle.tcap_refute.specs.WorkedTables.{all_expire}
 
--- There is a run, in which so many of the peer's messages are not heard; or there is none, for that reason at that entry;
--- or the end is at fault, so that no run is asked for.
+-- The result for one end: a run with this many unheard messages of its peer, or no run for this reason at this entry.
+-- If the end is at fault, no run is searched.
 pub data Verdict : Type 0 where
   Heard : ℕ → Verdict
   Unheard : ℕ → Reason → Verdict
   AtFault : Verdict
 
+-- The certificate proposed for this end gives this result.
 abbrev Says : Table → Side → List Entry → Verdict → Type 0
 Says table side entries (Heard count) =
     map_ok (unheard_of side) (replayed_by (Some side) table (proposed_for side entries) entries) ≡ Ok count
@@ -30,11 +31,11 @@ Says table side entries (Unheard entry reason) =
     replayed_by (Some side) table (proposed_for side entries) entries ≡ refused reason entry
 Says table side entries AtFault = Unit {0}
 
--- what the record of these items says of A, and of B
+-- the results for A and for B
 abbrev pub IsAlone : Table → List Item → Verdict → Verdict → Type 0
 IsAlone table items of_a of_b = Says table A (map entry_of items) of_a × Says table B (map entry_of items) of_b
 
--- A goes on with a half that it began, before the peer's Continue came to it. B did not hear A's last message.
+-- A sends a Continue in a half that it began before the peer's Continue arrived. B did not hear A's last message.
 pub first_is_at_fault : IsAlone all_expire
     (Sent A (Begin (1 ∷ []) None None)
     ∷ Sent B (Begin (7 ∷ []) None None)
@@ -43,7 +44,7 @@ pub first_is_at_fault : IsAlone all_expire
     (Heard 1)
 first_is_at_fault = (tt, refl)
 
--- After the peer's Continue A may go on, and each end hears all.
+-- A may send it after the peer's Continue, and each end hears all messages.
 pub all_are_heard : IsAlone all_expire
     (Sent A (Begin (1 ∷ []) None None)
     ∷ Sent B (Continue (7 ∷ []) (1 ∷ []) None None)
@@ -61,7 +62,7 @@ pub open_at_mark : IsAlone all_expire
     (Heard 1)
 open_at_mark = (tt, refl)
 
--- B begins with one ID twice, and A's provider refuses the second Begin: the search finds no run of A.
+-- B begins twice with one ID, and A's provider refuses the second Begin: the search finds no run of A.
 pub no_run_is_found : IsAlone all_expire
     (Sent B (Begin (7 ∷ []) None None)
     ∷ Sent A (Continue (1 ∷ []) (7 ∷ []) None None)

@@ -1,4 +1,4 @@
--- Worked proposals: the certificate that is proposed for a record.
+-- Worked proposals: the certificate proposed for a record.
 use Rattle.std.specs.Prelude.{◌≡◌, List, [], ◌∷◌, map, Some, None}
 use Rattle.tcap_ber.specs.declared.fault.Reason.TheVariants as reading
 use Rattle.tcap_msg.specs.declared.message.Message.{Message}
@@ -16,15 +16,15 @@ use Rattle.tcap_model.specs.WorkedItems.{answer, begin, end_to, id}
 use Rattle.tcap_certificate.specs.Worked.{Worked, by_fates, both_again, closed_half, crossing, delayed, empty_record, end_implies, late_reject, over_a_mark, refused_begin, three_entries, two_entries}
 use Rattle.tcap_search.specs.Proposed.{proposed, proposed_for}
 
--- The certificate that is proposed for the record of a worked run is the one that describes it.
+-- The certificate proposed for the items of a worked run is the one that describes the run.
 abbrev pub IsProposed : Worked → Type 0
 IsProposed w = proposed (map entry_of w.items) ≡ w.certificate
 
--- the certificate that is proposed for these items
+-- the certificate proposed for these items
 abbrev pub Proposes : List Item → Certificate → Type 0
 Proposes items certificate = proposed (map entry_of items) ≡ certificate
 
--- the one that is proposed for that end alone
+-- the certificate proposed for this end alone
 abbrev pub ProposesFor : Side → List Item → Certificate → Type 0
 ProposesFor side items certificate = proposed_for side (map entry_of items) ≡ certificate
 
@@ -34,15 +34,16 @@ of_worked_runs =
     × IsProposed late_reject × IsProposed closed_half × IsProposed refused_begin × IsProposed over_a_mark
     × IsProposed both_again × IsProposed end_implies
 
--- B's last Continue crosses A's End, and A's provider answers it. So the End comes behind it, and would overtake A's
--- second Begin, which comes at once.
+-- B's last Continue crosses A's End, and A's provider answers it. So the End would be delivered after this Continue,
+-- and after A's second Begin, which is delivered at once: the End is lost.
 abbrev pub lost_end : Type 0
 lost_end = Proposes
     (Sent A (begin None None) ∷ Sent B (answer None None) ∷ Sent A (end_to 2 None) ∷ Sent A (Begin (id 3) None None)
     ∷ Sent B (answer None None) ∷ Sent A (provider_abort (id 2) 1) ∷ [])
     (by_fates (Gap 1 ∷ Gap 2 ∷ Lost ∷ Gap 4 ∷ By 5 ∷ Gap 6 ∷ []))
 
--- A result that comes late is proposed to come at once; so is a Continue that comes behind its dialogue's end.
+-- The certificate proposed for a late result delivers it at once, and so for a Continue after its dialogue's end. These
+-- certificates give no run.
 abbrev pub not_lawful : Type 0
 not_lawful =
     Proposes delayed.items (by_fates (Gap 1 ∷ Gap 2 ∷ Gap 3 ∷ Gap 4 ∷ Gap 5 ∷ []))
@@ -50,6 +51,7 @@ not_lawful =
     (Sent A (begin None None) ∷ Sent B (answer None None) ∷ Sent A (end_to 2 None) ∷ Sent B (answer None None) ∷ [])
     (by_fates (Gap 1 ∷ Gap 2 ∷ Gap 4 ∷ Gap 4 ∷ []))
 
+-- an entry of B that is no message
 abbrev bad_of_b : Entry
 bad_of_b = record {
   side = Some B;
@@ -62,7 +64,7 @@ bad_entry =
     proposed (entry_of (Sent A (begin None None)) ∷ bad_of_b ∷ entry_of (Sent B (end_to 1 None)) ∷ [])
     ≡ by_fates (Gap 1 ∷ Gap 2 ∷ Gap 3 ∷ [])
 
--- ---- for one end alone
+-- ---- one end alone
 
 -- A's End, and an Abort of B's provider that answers nothing
 abbrev aborted_end : List Item
@@ -70,18 +72,18 @@ aborted_end =
     Sent A (begin None None) ∷ Sent B (answer None None) ∷ Sent A (end_to 2 None)
     ∷ Sent B (provider_abort (id 1) 1) ∷ []
 
--- For both ends the End comes behind the Abort, for one alone at once.
+-- For both ends, the End is delivered after the Abort; for one end alone, at once.
 abbrev pub end_before_an_abort : Type 0
 end_before_an_abort =
     Proposes aborted_end (by_fates (Gap 1 ∷ Gap 2 ∷ Gap 4 ∷ Gap 4 ∷ []))
     × ProposesFor A aborted_end (by_fates (Gap 1 ∷ Gap 2 ∷ Gap 3 ∷ Gap 4 ∷ []))
     × ProposesFor B aborted_end (by_fates (Gap 1 ∷ Gap 2 ∷ Gap 3 ∷ Gap 4 ∷ []))
 
--- A's Begin that nobody answers, before a mark
+-- A's unanswered Begin, before a mark
 abbrev unanswered_begin : List Item
 unanswered_begin = Sent A (begin None None) ∷ Item.Quiet ∷ []
 
--- For B alone it is lost. It is not for both ends, nor for A, nor where no mark stands behind it.
+-- The Begin is lost for B alone. It is delivered for both ends, for A alone, and if no mark follows.
 abbrev pub lost_begin : Type 0
 lost_begin =
     ProposesFor B unanswered_begin (by_fates (Lost ∷ Gap 2 ∷ []))
@@ -89,8 +91,7 @@ lost_begin =
     × Proposes unanswered_begin (by_fates (Gap 1 ∷ Gap 2 ∷ []))
     × ProposesFor B (Sent A (begin None None) ∷ []) (by_fates (Gap 1 ∷ []))
 
--- A's Continue from 03 to 02. For B alone it is lost before a mark, but not where B sent a Continue from 02, or a message
--- to 03.
+-- A's Continue from 03 to 02 is lost for B alone before a mark, unless B sent a Continue from 02 or a message to 03.
 abbrev pub lost_continue : Type 0
 lost_continue =
     ProposesFor B (Sent A stray ∷ Item.Quiet ∷ []) (by_fates (Lost ∷ Gap 2 ∷ []))

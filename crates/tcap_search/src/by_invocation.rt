@@ -7,13 +7,13 @@ use std::alloc::{AllocError, Global};
 use std::collections::BTreeMap;
 use tcap_record::End;
 
-/// Values by transaction, end and invoke ID.
+/// A map of values by transaction, end and invoke ID.
 #[derive(Drop)]
 pub(crate) struct ByInvocation<T> {
     map: BTreeMap<(u64, i8), T>,
 }
 
-/// The key of a transaction, an end and an invoke ID. The first two are one number.
+/// Returns the key of a transaction, an end and an invoke ID. One number stands for the first two.
 fn key(transaction: u32, side: End, id: i8) -> (u64, i8)
     ensures { result ≡ key_of transaction side id }
 {
@@ -32,7 +32,7 @@ impl<T: Copy> ByInvocation<T> {
     ghost use Rattle.tcap_model.specs.World.{is_side};
     ghost use Rattle.tcap_search.specs.ByInvocation.{kept_at};
 
-    /// No values.
+    /// Creates an empty map.
     pub(crate) fn new(alloc: Global) -> ByInvocation<T>
         ensures { (transaction : ℕ) (side : Side) (id : ℤ) → kept_at transaction side id result ≡ None }
     {
@@ -41,14 +41,14 @@ impl<T: Copy> ByInvocation<T> {
         }
     }
 
-    /// The value that is kept there.
+    /// Returns the value kept for these keys.
     pub(crate) fn get(&self, transaction: u32, side: End, id: i8) -> Option<T>
         ensures { result ≡ kept_at transaction side id self.now }
     {
         self.map.get(&key(transaction, side, id)).copied()
     }
 
-    /// Keeps a value there, in place of one that was.
+    /// Keeps a value for these keys, in place of an earlier one. Fails if memory runs out.
     pub(crate) fn put(
         &mut self,
         transaction: u32,

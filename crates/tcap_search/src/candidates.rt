@@ -9,13 +9,13 @@ use std::alloc::{AllocError, Global};
 use tcap_msg::{AbortReason, Message};
 use tcap_record::{Body, Entry};
 
-/// The P-Abort cause by which a Continue is answered where no transaction has its destination ID (Q.773 4.2.1).
+/// The P-Abort cause of the answer to a Continue whose destination ID no transaction has (Q.773 4.2.1).
 const UNRECOGNIZED_TRANSACTION_ID: u8 = 1;
 
-/// The P-Abort cause by which a Begin is answered where resources are short (Q.773 4.2.1).
+/// The P-Abort cause of the answer to a Begin if resources are short (Q.773 4.2.1).
 const RESOURCE_LIMITATION: u8 = 4;
 
-/// Entries that an Abort may answer and that are not tied, by their numbers; the newest of an ID is on top.
+/// The untied entries that an Abort may answer, by their numbers; the newest of an ID is on top.
 #[derive(Drop)]
 pub(crate) struct Candidates {
     pub(crate) begins: Stacks,
@@ -23,7 +23,7 @@ pub(crate) struct Candidates {
 }
 
 impl Candidates {
-    /// No entries.
+    /// Creates an empty set of candidates.
     pub(crate) fn new(alloc: Global) -> Candidates
         ensures { (side : Side) (id : List ℕ) (cause : ℕ) → candidates_at side id cause result ≡ [] }
     {
@@ -33,7 +33,7 @@ impl Candidates {
         }
     }
 
-    /// One entry more, which is the newest.
+    /// Adds an entry, which is the newest. Fails if memory runs out.
     pub(crate) fn push(
         &mut self,
         alloc: Global,
@@ -54,7 +54,7 @@ impl Candidates {
         }
     }
 
-    /// Takes an entry away, where it is on top.
+    /// Removes an entry, if it is on top.
     pub(crate) fn drop_top(&mut self, number: u32, entry: &Entry)
         ensures { (side : Side) (id : List ℕ) (cause : ℕ) → candidates_at side id cause self.new
             ≡ cond (is_candidate side id cause entry.now) (without number (candidates_at side id cause self.old))
@@ -70,7 +70,7 @@ impl Candidates {
         }
     }
 
-    /// Takes the newest entry that an Abort answers, where it has a cause and there is one.
+    /// Takes the newest entry that this Abort answers, if the entry is an Abort with a cause and there is one.
     pub(crate) fn answered(&mut self, entry: &Entry) -> Option<u32>
         ensures answered { result ≡ answered_of self.old entry.now }
         ensures left { (side : Side) (id : List ℕ) (cause : ℕ) → candidates_at side id cause self.new

@@ -1,4 +1,4 @@
-//! The fifth rule: which halves closed unseen.
+//! The fifth rule: which halves closed without a message.
 
 ghost use Rattle.std.specs.Prelude.{◌≡◌, ◌≤◌, ◌&&◌, not, List, length, option_copied, slice_get, IfOk};
 ghost use Rattle.tcap_record.specs.Ends.{other};
@@ -15,7 +15,7 @@ use tcap_certificate::{Closing, Fate};
 use tcap_msg::{AbortReason, Message};
 use tcap_record::{Body, End, Entry};
 
-/// The message of an entry; octets that are none have none.
+/// Returns the message of an entry, if it is one.
 fn message_of(entry: &Entry) -> Option<&Message>
     ensures { option_copied result ≡ message_of entry.now }
 {
@@ -25,7 +25,7 @@ fn message_of(entry: &Entry) -> Option<&Message>
     }
 }
 
-/// Whether an entry ends a dialogue: an End, or an Abort without cause.
+/// Returns whether an entry ends a dialogue: an End, or an Abort without cause.
 fn ends(entry: &Entry) -> bool
     ensures { result ≡ ends (message_of entry.now) }
 {
@@ -36,7 +36,7 @@ fn ends(entry: &Entry) -> bool
     }
 }
 
-/// The gap in which an entry tells its receiver of the end of a dialogue: where an End or an Abort is delivered.
+/// Returns the gap in which an End or an Abort is delivered. Returns `None` for other entries, or if it is lost.
 fn gap_told(entry: &Entry, fate: Fate) -> Option<u32>
     ensures { result ≡ gap_told (message_of entry.now) fate }
 {
@@ -46,14 +46,14 @@ fn gap_told(entry: &Entry, fate: Fate) -> Option<u32>
     }
 }
 
-/// Whether an entry is a Continue.
+/// Returns whether an entry is a Continue.
 fn is_continue(entry: &Entry) -> bool
     ensures { result ≡ is_continue (message_of entry.now) }
 {
     matches!(message_of(entry), Some(Message::Continue { .. }))
 }
 
-/// By end and transaction, the first entry that ends it.
+/// Finds the first entry that ends each transaction, by its sender. Fails if memory runs out.
 fn ends_of(
     alloc: Global,
     entries: &[Entry],
@@ -72,7 +72,8 @@ fn ends_of(
     Ok(ended)
 }
 
-/// By end and transaction, the first gap in which an End or an Abort is delivered.
+/// Finds the first gap in which an End or an Abort of each transaction is delivered, by its sender. Fails if memory
+/// runs out.
 fn told_of(
     alloc: Global,
     entries: &[Entry],
@@ -92,8 +93,8 @@ fn told_of(
     Ok(told)
 }
 
-/// Whether the Abort that answers an entry shows that a half had closed unseen: the entry is a Continue, its receiver
-/// had not ended the transaction before the Abort, and no End or Abort of its sender was delivered before.
+/// Returns whether the Abort that answers an entry shows that a half had closed. The entry is then a Continue, its
+/// receiver had not ended the transaction before the Abort, and no End or Abort of its sender was delivered before.
 fn is_unseen(
     entry: &Entry,
     side: End,
@@ -111,7 +112,7 @@ fn is_unseen(
         && !told.has_within(side, transaction, reply)
 }
 
-/// The half that a tie shows to have closed: its end and its transaction.
+/// Returns the half that a tie shows to have closed, by its end and its transaction.
 fn shown_by(
     entries: &[Entry],
     transactions: &[Option<u32>],
@@ -134,7 +135,8 @@ fn shown_by(
     }
 }
 
-/// The closings of a stretch with these fates, in the order of the Aborts that show them.
+/// Finds the closings of a segment with these fates, in the order of the Aborts that show them. Fails if memory runs
+/// out.
 fn shown_closings(
     alloc: Global,
     entries: &[Entry],
@@ -169,7 +171,8 @@ fn shown_closings(
     Ok(listed)
 }
 
-/// The closings of a stretch with these fates. Where an Abort answers nothing there are none.
+/// Finds the closings of a segment with these fates. Without ties there are none, and no memory is allocated. Fails if
+/// memory runs out.
 pub(crate) fn closings_of(
     alloc: Global,
     entries: &[Entry],

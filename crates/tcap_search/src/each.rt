@@ -1,4 +1,4 @@
-//! The certificates that are proposed for both ends of a record, and for each alone.
+//! The certificates proposed for both ends of a record together, and for each alone.
 
 ghost use Rattle.std.specs.Prelude.{◌≡◌, ◌≤◌, ◌+◌, length, None, Some, IfOk};
 ghost use Rattle.tcap_record.specs.declared.entry.End.TheVariants as sides;
@@ -14,18 +14,18 @@ use tcap_certificate::Certificate;
 use tcap_record::{End, Entry, Record};
 use tcap_refute::SearchFault;
 
-/// What is proposed for a record: for both ends, and for each alone.
+/// The certificates proposed for a record.
 #[derive(Debug, Drop)]
 pub struct Proposals {
-    /// For both ends.
+    /// The certificate for both ends.
     pub both: Certificate,
-    /// For A alone; `None` where it is the one for both.
+    /// The certificate for A alone, or `None` if it is that for both ends.
     pub a: Option<Certificate>,
-    /// For B alone; `None` where it is the one for both.
+    /// The certificate for B alone, or `None` if it is that for both ends.
     pub b: Option<Certificate>,
 }
 
-/// What is proposed for the stretches so far: for both ends, and for each alone.
+/// The certificates for the segments so far.
 #[derive(Drop)]
 pub(crate) struct Each {
     both: Found,
@@ -34,7 +34,7 @@ pub(crate) struct Each {
 }
 
 impl Each {
-    /// Nothing.
+    /// Creates empty certificates.
     fn new(alloc: Global) -> Each
         ensures both { result.both ≡ nothing_found }
         ensures a { result.a ≡ nothing_found }
@@ -47,8 +47,8 @@ impl Each {
         }
     }
 
-    /// The same, and what is proposed for a stretch that begins behind so many entries; behind the stretch a mark stands or
-    /// not. Its transactions and ties are the same for each end, and all else where the fates are.
+    /// Appends the certificates of a segment after `first` entries; `marked` says whether a mark follows it.
+    /// Transactions and ties are found once for all three, and the rest once for equal fates. Fails if memory runs out.
     fn with_stretch(
         self,
         alloc: Global,
@@ -76,7 +76,7 @@ impl Each {
         })
     }
 
-    /// The same, and the fate of a quiet mark of that number.
+    /// Appends the fate of a quiet mark with this number. Fails if memory runs out.
     fn with_mark(self, number: usize) -> Result<Each, AllocError>
         requires few { number + 1 ≤ 100000 }
         ensures both { IfOk result (λ each. each.both ≡ then_certificate self.both (of_mark number)) }
@@ -90,7 +90,7 @@ impl Each {
         })
     }
 
-    /// The certificates.
+    /// Returns the certificates.
     fn into_proposals(self) -> Proposals
         requires both { length self.both.fates ≤ 100000 }
         requires a { length self.a.fates ≤ 100000 }
@@ -110,7 +110,7 @@ impl Each {
     }
 }
 
-/// What is proposed for one end alone, where it is given only if it is something else than for both.
+/// Returns the certificate for one end alone, which is given only if it differs from that for both ends.
 fn or_both<'a>(both: &'a Found, alone: &'a Option<Found>) -> &'a Found
     ensures { result.now ≡ or_both both.now alone.now }
 {
@@ -120,7 +120,7 @@ fn or_both<'a>(both: &'a Found, alone: &'a Option<Found>) -> &'a Found
     }
 }
 
-/// The certificate of what was found.
+/// Converts what was found to a certificate.
 fn certificate_of(found: Found) -> Certificate
     requires few { length found.fates ≤ 100000 }
     ensures { result ≡ found }
@@ -131,7 +131,7 @@ fn certificate_of(found: Found) -> Certificate
     }
 }
 
-/// The certificate of what was found for one end alone; `None` where it is what was found for both.
+/// Converts what was found for one end alone to a certificate, or returns `None` if it equals that for both ends.
 fn certificate_beside(both: &Found, alone: Found) -> Option<Certificate>
     requires few { length alone.fates ≤ 100000 }
     ensures { or_both both.now result ≡ alone }
@@ -142,7 +142,7 @@ fn certificate_beside(both: &Found, alone: Found) -> Option<Certificate>
     Some(certificate_of(alone))
 }
 
-/// What is proposed for these entries, stretch by stretch.
+/// Proposes certificates for these entries, segment by segment. Fails if memory runs out.
 fn each_in(alloc: Global, entries: &[Entry]) -> Result<Each, AllocError>
     requires few { length entries.now ≤ 100000 }
     ensures both { IfOk result (λ each.
@@ -165,8 +165,12 @@ fn each_in(alloc: Global, entries: &[Entry]) -> Result<Each, AllocError>
     each.with_stretch(alloc, false, first, &entries[first..])
 }
 
-/// Proposes what `search` does, and what `search_for` does for each end, in one go over the record: what the three
-/// certificates share is found once. Fails only where memory ran out.
+/// Proposes the certificate of `search` and those of `search_for` for each end, in one pass over a record of at most
+/// 100,000 entries.
+///
+/// # Errors
+///
+/// `SearchFault::Memory` if memory runs out.
 pub fn search_each(alloc: Global, record: &Record) -> Result<Proposals, SearchFault>
     requires few { length «record».now.entries.items ≤ 100000 }
     ensures both { IfOk result (λ p. p.both ≡ proposed «record».now.entries.items) }

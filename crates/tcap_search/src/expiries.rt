@@ -1,4 +1,4 @@
-//! The fourth rule: which invocations ended unseen.
+//! The fourth rule: which invocations expired.
 
 ghost use Rattle.std.specs.Prelude.{◌≡◌, ◌≤◌, ◌<◌, ◌++◌, ◌∷◌, [], ◌==◌, ℕ, Some, cond, length, IfOk, OnOk};
 ghost use Rattle.std.specs.List.{list_any};
@@ -18,8 +18,7 @@ use tcap_certificate::{Expiry, Fate};
 use tcap_parts::Component;
 use tcap_record::{End, Entry};
 
-/// Expiries as they are listed, and which invocations they name: the number of an entry, and the place of the Invoke
-/// there.
+/// The listed expiries, and the invocations that they name: the number of an entry, and the place of its Invoke.
 #[derive(Drop)]
 pub(crate) struct Listed {
     expiries: Vec<Expiry>,
@@ -27,7 +26,7 @@ pub(crate) struct Listed {
 }
 
 impl Listed {
-    /// None.
+    /// Creates an empty list.
     fn new(alloc: Global) -> Listed
         ensures none { result.expiries.items ≡ [] }
         ensures listed { IsListed result }
@@ -38,8 +37,8 @@ impl Listed {
         }
     }
 
-    /// Lists what an end's rejection of an answer shows: the last invocation of the ID, which ended as the answer came.
-    /// Nothing where it is listed.
+    /// Lists the expiry that an end's rejection of an answer shows: the last invocation of the ID ended in the gap of
+    /// the answer. Lists nothing if this invocation is listed. Fails if memory runs out.
     fn add(&mut self, side: End, answer: Answer) -> Result<(), AllocError>
         requires listed { IsListed self.old }
         ensures added { OnOk result (self.new.expiries.items
@@ -60,7 +59,7 @@ impl Listed {
         Ok(())
     }
 
-    /// Lists what components of an end in a transaction show.
+    /// Lists the expiries that components of an end show in a transaction. Fails if memory runs out.
     fn add_all(
         &mut self,
         sweep: &Sweep,
@@ -81,7 +80,7 @@ impl Listed {
         Ok(())
     }
 
-    /// Lists what an entry shows.
+    /// Lists the expiries that an entry shows. Fails if memory runs out.
     fn add_entry(
         &mut self,
         sweep: &Sweep,
@@ -102,7 +101,7 @@ impl Listed {
     }
 }
 
-/// So many empty lists.
+/// Creates `count` empty lists. Fails if memory runs out.
 fn empty_lists(alloc: Global, count: usize) -> Result<Vec<Vec<u32>>, AllocError>
     ensures empty { IfOk result (λ lists. (gap : ℕ) → due_at gap lists.items ≡ []) }
     ensures count { IfOk result (λ lists. length lists.items ≡ count) }
@@ -114,7 +113,7 @@ fn empty_lists(alloc: Global, count: usize) -> Result<Vec<Vec<u32>>, AllocError>
     Ok(lists)
 }
 
-/// Puts a number behind the others of a gap; nowhere where there is no list of it.
+/// Appends a number to the list of a gap, if there is such a list. Fails if memory runs out.
 fn push_due(lists: &mut Vec<Vec<u32>>, gap: u32, number: u32) -> Result<(), AllocError>
     ensures pushed { OnOk result ((g : ℕ) → g < length lists.old.items → due_at g lists.new.items
         ≡ cond (g == gap) (due_at g lists.old.items ++ number ∷ []) (due_at g lists.old.items)) }
@@ -126,7 +125,8 @@ fn push_due(lists: &mut Vec<Vec<u32>>, gap: u32, number: u32) -> Result<(), Allo
     Ok(())
 }
 
-/// The numbers of the entries that are delivered in each gap, but for the gap behind the last entry.
+/// Returns the numbers of the entries delivered in each gap, except in the gap after the last entry. Fails if memory
+/// runs out.
 fn due_by_gap(alloc: Global, fates: &[Fate]) -> Result<Vec<Vec<u32>>, AllocError>
     requires few { length fates.now ≤ 100000 }
     ensures { IfOk result (λ lists. (gap : ℕ) → gap < length fates.now
@@ -141,7 +141,7 @@ fn due_by_gap(alloc: Global, fates: &[Fate]) -> Result<Vec<Vec<u32>>, AllocError
     Ok(lists)
 }
 
-/// The numbers of a gap.
+/// Returns the numbers of a gap.
 fn due_at(lists: &[Vec<u32>], gap: usize) -> &[u32]
     ensures { result.now ≡ due_at gap lists.now }
 {
@@ -151,7 +151,7 @@ fn due_at(lists: &[Vec<u32>], gap: usize) -> &[u32]
     }
 }
 
-/// Whether one of these components rejects an answer as unrecognized.
+/// Returns whether one of these components rejects an answer as unrecognized.
 fn has_rejection(components: &[Component]) -> bool
     ensures { result ≡ list_any rejects components.now }
 {
@@ -163,7 +163,7 @@ fn has_rejection(components: &[Component]) -> bool
     false
 }
 
-/// Whether a component of one of these entries does.
+/// Returns whether a component of one of these entries rejects an answer as unrecognized.
 fn is_any_rejected(entries: &[Entry]) -> bool
     ensures { result ≡ list_any has_rejection entries.now }
 {
@@ -175,8 +175,8 @@ fn is_any_rejected(entries: &[Entry]) -> bool
     false
 }
 
-/// The expiries of a stretch with these fates, in the order in which what was unrecognized is rejected: found by a sweep
-/// over gaps and entries.
+/// Finds the expiries of a segment with these fates in one sweep over gaps and entries. They are in the order of the
+/// rejections. Fails if memory runs out.
 fn swept_expiries(
     alloc: Global,
     entries: &[Entry],
@@ -204,7 +204,8 @@ fn swept_expiries(
 }
 
 #[tactic(auto, using(crate::proofs::RejectedLaws::no_expiries))]
-/// The expiries of a stretch with these fates. Where nothing is rejected as unrecognized there are none.
+/// Finds the expiries of a segment with these fates. If no answer is rejected as unrecognized, there are none, and no
+/// memory is allocated. Fails if memory runs out.
 pub(crate) fn expiries_of(
     alloc: Global,
     entries: &[Entry],

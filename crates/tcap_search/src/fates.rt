@@ -1,4 +1,4 @@
-//! The second and the third rule: in which gap each message is delivered, and what is lost.
+//! The second and the third rule: in which gap each message is delivered, and which are lost.
 
 ghost use Rattle.std.specs.Prelude.{◌≡◌, ◌≤◌, ◌<◌, ◌+◌, ◌^◌, ◌==◌, ◌&&◌, ℕ, max, cond, length, map, slice_get, Some, None, IfOk};
 ghost use Rattle.tcap_record.specs.declared.entry.End.{End as Side};
@@ -18,7 +18,7 @@ use tcap_certificate::Fate;
 use tcap_msg::{AbortReason, Message};
 use tcap_record::{Body, End, Entry};
 
-/// Notes the reply to an entry, in place of one that was noted.
+/// Notes the reply to an entry, in place of an earlier one.
 fn note_reply(replies: &mut Vec<Option<u32>>, tie: &Tie)
     ensures noted { (number : ℕ) → number < length replies.old.items → slice_get replies.new.items number
         ≡ cond (tie.now.entry == number) (Some (Some tie.now.reply)) (slice_get replies.old.items number) }
@@ -29,7 +29,7 @@ fn note_reply(replies: &mut Vec<Option<u32>>, tie: &Tie)
     }
 }
 
-/// The reply to each entry, where it has one.
+/// Returns the reply to each of `count` entries, if it has one. Fails if memory runs out.
 fn replies_of(alloc: Global, count: usize, ties: &[Tie]) -> Result<Vec<Option<u32>>, AllocError>
     ensures replies { IfOk result (λ replies. (number : ℕ) → number < count
         → slice_get replies.items number ≡ Some (reply_of ties.now number)) }
@@ -43,7 +43,7 @@ fn replies_of(alloc: Global, count: usize, ties: &[Tie]) -> Result<Vec<Option<u3
     Ok(replies)
 }
 
-/// Whether an entry is an Abort of a provider.
+/// Returns whether an entry is a provider's Abort.
 pub(crate) fn is_provider_abort(entry: &Entry) -> bool
     ensures { result ≡ is_provider_abort (message_of entry.now) }
 {
@@ -53,8 +53,8 @@ pub(crate) fn is_provider_abort(entry: &Entry) -> bool
     }
 }
 
-/// Whether an End or an Abort comes behind such an entry of its receiver. Where one end is judged alone, an Abort of a
-/// provider does not hold it back.
+/// Returns whether an End or an Abort is delivered only after such an entry of its receiver. A provider's Abort does
+/// not hold it back if one end is judged alone.
 fn holds_back(judged: Option<End>, entry: &Entry) -> bool
     ensures { result ≡ holds_back judged (message_of entry.now) }
 {
@@ -64,7 +64,7 @@ fn holds_back(judged: Option<End>, entry: &Entry) -> bool
     }
 }
 
-/// Notes the gap behind an entry as that behind the last of its end in its transaction, where it holds back.
+/// Notes the gap after an entry as that after the last of its end in its transaction, if the entry holds back.
 fn note_last(
     gaps: &mut Vec<PerEnd<u32>>,
     judged: Option<End>,
@@ -87,7 +87,8 @@ fn note_last(
     }
 }
 
-/// The gap behind the last entry of each end in each transaction that holds back; 0 where there is none.
+/// Returns, by end and transaction, the gap after the last entry that holds back, or 0 if there is none. Fails if
+/// memory runs out.
 fn last_gaps(
     alloc: Global,
     judged: Option<End>,
@@ -113,7 +114,7 @@ fn last_gaps(
     Ok(gaps)
 }
 
-/// The gap that is kept for the receiver of an entry; 0 where there is none.
+/// Returns the gap kept for the receiver of an entry, or 0 if there is none.
 fn receiver_gap(gaps: &[PerEnd<u32>], side: Option<End>, transaction: Option<u32>) -> u32
     ensures { result ≡ receiver_gap gaps.now side transaction }
 {
@@ -129,7 +130,7 @@ fn receiver_gap(gaps: &[PerEnd<u32>], side: Option<End>, transaction: Option<u32
     }
 }
 
-/// The gap to which an entry is raised; 0 where there is none.
+/// Returns the gap to which the fate of an entry is raised, or 0 if there is none.
 fn gap_raised(raised: &PerEnd<u32>, side: Option<End>) -> u32
     ensures { result ≡ gap_raised raised.now side }
 {
@@ -139,7 +140,7 @@ fn gap_raised(raised: &PerEnd<u32>, side: Option<End>) -> u32
     }
 }
 
-/// Raises what an end sends later to the gap behind a reply.
+/// Raises the fates of later entries of an end to the gap after a reply.
 fn raise(raised: &mut PerEnd<u32>, side: Option<End>, reply: Option<u32>)
     requires { gap_behind_reply reply < 2 ^ 32 }
     ensures { (s : Side) → at_end s raised.new
@@ -151,7 +152,7 @@ fn raise(raised: &mut PerEnd<u32>, side: Option<End>, reply: Option<u32>)
     }
 }
 
-/// The first fate of an entry.
+/// Returns the first fate of an entry.
 fn first_fate(number: u32, entry: &Entry, reply: Option<u32>, behind: u32, raised: u32) -> Fate
     requires { number + 1 < 2 ^ 32 }
     ensures { result ≡ fate_from number entry.now reply behind raised }
@@ -169,7 +170,7 @@ fn first_fate(number: u32, entry: &Entry, reply: Option<u32>, behind: u32, raise
     }
 }
 
-/// The fates of entries before any are lost.
+/// Returns the fates of entries before losses. Fails if memory runs out.
 fn first_fates(
     alloc: Global,
     judged: Option<End>,
@@ -196,7 +197,7 @@ fn first_fates(
     Ok(fates)
 }
 
-/// Where a fate stands in the order of what happens.
+/// Returns the time of a fate, which orders fates; a loss has none.
 fn time_of(fate: Fate) -> Option<u64>
     ensures { result ≡ time_of fate }
 {
@@ -207,14 +208,14 @@ fn time_of(fate: Fate) -> Option<u64>
     }
 }
 
-/// The least time of what an end sends later, where there is one.
+/// Returns the least time of later entries of an end, if there is one.
 fn time_kept(least: &PerEnd<Option<u64>>, side: Option<End>) -> Option<u64>
     ensures { result ≡ time_kept least.now side }
 {
     least.get(side?)
 }
 
-/// Notes the time of what an end sends.
+/// Notes the time of an entry of an end.
 fn note_time(least: &mut PerEnd<Option<u64>>, side: Option<End>, fate: Fate)
     ensures { (s : Side) → at_end s least.new
         ≡ cond (is_end s side) (sooner (time_of fate) (at_end s least.old)) (at_end s least.old) }
@@ -228,7 +229,7 @@ fn note_time(least: &mut PerEnd<Option<u64>>, side: Option<End>, fate: Fate)
     }
 }
 
-/// The fate of an entry, where that is the least time of what its end sends later.
+/// Returns the fate of an entry: a loss if `least`, the least time of later entries of its end, is before its gap.
 fn fate_behind_least(entry: &Entry, fate: Fate, least: Option<u64>) -> Fate
     ensures { result ≡ fate_behind_least entry.now fate least }
 {
@@ -238,7 +239,7 @@ fn fate_behind_least(entry: &Entry, fate: Fate, least: Option<u64>) -> Fate
     }
 }
 
-/// Loses each message that would come behind a later one of its end.
+/// Loses each message that would be delivered after a later entry of its end.
 fn lose_overtaken(entries: &[Entry], fates: &mut [Fate])
     requires { length fates.old ≡ length entries.now }
     ensures { fates.new ≡ map (λ x. x.fate) (with_losses (fated (lines_of entries.now) fates.old)) }
@@ -252,8 +253,8 @@ fn lose_overtaken(entries: &[Entry], fates: &mut [Fate])
     }
 }
 
-/// The fates of the entries of a stretch, one for each, for the end that is judged alone, where one is; behind the
-/// stretch a mark stands or not.
+/// Returns the fate of each entry of a segment, for the judged end alone or for both; `marked` says whether a mark
+/// follows the segment. Fails if memory runs out.
 pub(crate) fn fates_of(
     alloc: Global,
     judged: Option<End>,

@@ -1,4 +1,4 @@
-//! A certificate under way.
+//! The certificate that the search has found so far.
 
 ghost use Rattle.std.specs.Prelude.{◌≡◌, ◌≤◌, ◌+◌, ◌++◌, Bool, true, Option, length, map, None, Some, IfOk, OnOk};
 ghost use Rattle.std.specs.List.{AllByRecursion};
@@ -20,7 +20,7 @@ use std::marker::Model;
 use tcap_certificate::{Certificate, Closing, Expiry, Fate};
 use tcap_record::{End, Entry};
 
-/// What is proposed for the stretches so far; its numbers are in the limits of a certificate.
+/// A certificate for the segments so far, whose numbers are within the limits of a certificate.
 #[derive(Drop)]
 pub(crate) struct Found {
     fates: Vec<Fate>,
@@ -41,7 +41,7 @@ impl Model for Found {
         × AllByRecursion ClosingFits c.close.items };
 }
 
-/// A fate, where its stretch begins behind so many entries.
+/// Returns a fate as it is if `first` entries come before the segment.
 fn fate_behind(first: u32, fate: Fate) -> Fate
     requires few { first ≤ 100000 }
     requires fits { FateFits fate }
@@ -54,7 +54,7 @@ fn fate_behind(first: u32, fate: Fate) -> Fate
     }
 }
 
-/// An expiry, where its stretch begins behind so many entries.
+/// Returns an expiry as it is if `first` entries come before the segment.
 fn expiry_behind(first: u32, x: Expiry) -> Expiry
     requires few { first ≤ 100000 }
     requires fits { ExpiryFits x }
@@ -68,7 +68,7 @@ fn expiry_behind(first: u32, x: Expiry) -> Expiry
     }
 }
 
-/// A closing, where its stretch begins behind so many entries.
+/// Returns a closing as it is if `first` entries come before the segment.
 fn closing_behind(first: u32, x: Closing) -> Closing
     requires few { first ≤ 100000 }
     requires fits { ClosingFits x }
@@ -81,7 +81,7 @@ fn closing_behind(first: u32, x: Closing) -> Closing
     }
 }
 
-/// Adds the fates of a stretch that begins behind so many entries.
+/// Appends the fates of a segment after `first` entries. Fails if memory runs out.
 fn add_fates(fates: &mut Vec<Fate>, first: u32, more: &[Fate]) -> Result<(), AllocError>
     requires few { first ≤ 100000 }
     requires fit { AllByRecursion FateFits more.now }
@@ -93,7 +93,7 @@ fn add_fates(fates: &mut Vec<Fate>, first: u32, more: &[Fate]) -> Result<(), All
     Ok(())
 }
 
-/// Adds its expiries.
+/// Appends the expiries of a segment after `first` entries. Fails if memory runs out.
 fn add_expiries(expire: &mut Vec<Expiry>, first: u32, more: &[Expiry]) -> Result<(), AllocError>
     requires few { first ≤ 100000 }
     requires fit { AllByRecursion ExpiryFits more.now }
@@ -105,7 +105,7 @@ fn add_expiries(expire: &mut Vec<Expiry>, first: u32, more: &[Expiry]) -> Result
     Ok(())
 }
 
-/// Adds its closings.
+/// Appends the closings of a segment after `first` entries. Fails if memory runs out.
 fn add_closings(close: &mut Vec<Closing>, first: u32, more: &[Closing]) -> Result<(), AllocError>
     requires few { first ≤ 100000 }
     requires fit { AllByRecursion ClosingFits more.now }
@@ -118,7 +118,7 @@ fn add_closings(close: &mut Vec<Closing>, first: u32, more: &[Closing]) -> Resul
 }
 
 impl Found {
-    /// Nothing.
+    /// Creates an empty certificate.
     pub(crate) fn new(alloc: Global) -> Found
         ensures { result ≡ nothing_found }
     {
@@ -129,7 +129,7 @@ impl Found {
         }
     }
 
-    /// What is proposed for a stretch with these transactions, ties and fates.
+    /// Finds the certificate of a segment with these transactions, ties and fates. Fails if memory runs out.
     fn of_fates(
         alloc: Global,
         entries: &[Entry],
@@ -153,8 +153,8 @@ impl Found {
         })
     }
 
-    /// What is proposed for a stretch with these transactions and ties, for the end that is judged alone, where one is;
-    /// behind the stretch a mark stands or not.
+    /// Finds the certificate of a segment with these transactions and ties, for the judged end alone or for both;
+    /// `marked` says whether a mark follows the segment. Fails if memory runs out.
     pub(crate) fn of_stretch(
         alloc: Global,
         judged: Option<End>,
@@ -172,8 +172,8 @@ impl Found {
         Found::of_fates(alloc, entries, transactions, ties, fates)
     }
 
-    /// What is proposed for a stretch for that end alone; `None` where its fates are those for both ends, by which all
-    /// else is the same.
+    /// Finds the certificate of a segment for one end alone, or returns `None` if its fates are those for both ends,
+    /// since the rest is then equal too. Fails if memory runs out.
     pub(crate) fn of_end(
         &self,
         alloc: Global,
@@ -196,7 +196,7 @@ impl Found {
         Ok(Some(Found::of_fates(alloc, entries, transactions, ties, fates)?))
     }
 
-    /// The same, and what is proposed for a stretch that begins behind so many entries.
+    /// Appends the certificate of a segment after `first` entries. Fails if memory runs out.
     pub(crate) fn with_behind(self, first: usize, stretch: &Found) -> Result<Found, AllocError>
         requires few { first ≤ 100000 }
         requires fits { FitsBehind first stretch.now }
@@ -209,8 +209,8 @@ impl Found {
         Ok(found)
     }
 
-    /// The same, and what is proposed for a stretch that begins behind so many entries, for the end that is judged alone,
-    /// where one is; behind the stretch a mark stands or not.
+    /// Finds and appends the certificate of a segment after `first` entries, for the judged end alone or for both;
+    /// `marked` says whether a mark follows the segment. Fails if memory runs out.
     pub(crate) fn with_stretch(
         self,
         alloc: Global,
@@ -229,7 +229,7 @@ impl Found {
         self.with_behind(first, &stretch)
     }
 
-    /// The same, and the fate of a quiet mark of that number.
+    /// Appends the fate of a quiet mark with this number. Fails if memory runs out.
     pub(crate) fn with_mark(self, number: usize) -> Result<Found, AllocError>
         requires few { number + 1 ≤ 100000 }
         ensures { IfOk result (λ found. found ≡ then_certificate self (of_mark number)) }
@@ -239,14 +239,14 @@ impl Found {
         Ok(found)
     }
 
-    /// Whether both are the same.
+    /// Returns whether both have equal parts.
     pub(crate) fn is_same(&self, other: &Found) -> bool
         ensures { result ≡ true → self.now ≡ other.now }
     {
         self.fates == other.fates && self.expire == other.expire && self.close == other.close
     }
 
-    /// The certificate; `None` where it has too many fates.
+    /// Converts this to a certificate, or returns `None` if it has too many fates.
     pub(crate) fn into_certificate(self) -> Option<Certificate>
         ensures { length self.fates ≤ 100000 → result ≡ Some self }
     {

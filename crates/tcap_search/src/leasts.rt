@@ -1,4 +1,4 @@
-//! The least number that was noted, by end and transaction.
+//! The least number noted so far, by end and transaction.
 
 ghost use Rattle.std.specs.Prelude.{◌≡◌, ◌<◌, ◌&&◌, ◌==◌, ℕ, None, cond, length, slice_get, IfOk};
 ghost use Rattle.tcap_record.specs.declared.entry.End.{End as Side};
@@ -9,14 +9,14 @@ ghost use Rattle.tcap_search.specs.Lines.{is_end};
 use std::alloc::{AllocError, Global};
 use tcap_record::End;
 
-/// For each end and each of so many transactions, from 0, the least number that was noted.
+/// The least number noted for each end and each transaction below a count.
 #[derive(Drop)]
 pub(crate) struct Leasts {
     pub(crate) a: Vec<Option<u32>>,
     pub(crate) b: Vec<Option<u32>>,
 }
 
-/// Of so many transactions, none.
+/// Creates a list for `count` transactions without a number. Fails if memory runs out.
 fn nothing(alloc: Global, count: usize) -> Result<Vec<Option<u32>>, AllocError>
     ensures nothing { IfOk result (λ made. (at : ℕ) → then_so (slice_get made.items at) (λ least. least) ≡ None) }
     ensures room { IfOk result (λ made. length made.items ≡ count) }
@@ -26,7 +26,7 @@ fn nothing(alloc: Global, count: usize) -> Result<Vec<Option<u32>>, AllocError>
     Ok(list)
 }
 
-/// Notes one number more of a transaction; nothing where there is no room for it.
+/// Notes a number for a transaction, if there is room for the transaction.
 fn note_in(list: &mut Vec<Option<u32>>, transaction: u32, number: u32)
     ensures noted { (at : ℕ) → at < length list.old.items
         → then_so (slice_get list.new.items at) (λ least. least)
@@ -43,7 +43,7 @@ fn note_in(list: &mut Vec<Option<u32>>, transaction: u32, number: u32)
 }
 
 impl Leasts {
-    /// Nothing noted of so many transactions.
+    /// Creates a table for `count` transactions without a number. Fails if memory runs out.
     pub(crate) fn new(alloc: Global, count: usize) -> Result<Leasts, AllocError>
         ensures nothing { IfOk result (λ made. (side : Side) (at : ℕ) → least_at side at made ≡ None) }
         ensures room { IfOk result (λ made. HasRoom count made) }
@@ -54,7 +54,7 @@ impl Leasts {
         })
     }
 
-    /// The least number of an end's half of a transaction.
+    /// Returns the least number noted for an end and a transaction.
     pub(crate) fn get(&self, side: End, transaction: u32) -> Option<u32>
         ensures { result ≡ least_at side transaction self.now }
     {
@@ -65,7 +65,7 @@ impl Leasts {
         *list.get(transaction as usize)?
     }
 
-    /// Whether a number below that one was noted of it.
+    /// Returns whether a number below the limit was noted for an end and a transaction.
     pub(crate) fn has_below(&self, side: End, transaction: u32, limit: u32) -> bool
         ensures { result ≡ is_below limit (least_at side transaction self.now) }
     {
@@ -75,7 +75,7 @@ impl Leasts {
         }
     }
 
-    /// Whether a number that is at most that one was noted of it.
+    /// Returns whether a number up to the limit was noted for an end and a transaction.
     pub(crate) fn has_within(&self, side: End, transaction: u32, limit: u32) -> bool
         ensures { result ≡ is_within limit (least_at side transaction self.now) }
     {
@@ -85,7 +85,7 @@ impl Leasts {
         }
     }
 
-    /// Notes one number more of an end's half of a transaction; nothing where there is no room for it.
+    /// Notes a number for an end and a transaction, if there is room for the transaction.
     pub(crate) fn note(&mut self, side: Option<End>, transaction: Option<u32>, number: u32)
         ensures noted { (count : ℕ) (at : Side) (t : ℕ) → HasRoom count self.old → t < count
             → least_at at t self.new

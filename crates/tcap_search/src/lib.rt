@@ -1,5 +1,5 @@
-//! The search for a certificate of a record of TCAP messages: five rules, by which one certificate is proposed.
-//! Nothing of it is believed: `tcap_check` replays it.
+//! Searches for a certificate of a record of TCAP messages: five rules propose one certificate. The result is not
+//! trusted: `tcap_check` replays it.
 #![tactic(auto)]
 
 mod by_invocation;

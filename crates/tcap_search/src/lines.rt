@@ -1,4 +1,4 @@
-//! The transactions that the entries of a stretch between quiet marks belong to.
+//! The transactions to which the entries of a segment between quiet marks belong.
 
 ghost use Rattle.std.specs.Prelude.{◌≡◌, ◌≤◌, ◌&&◌, ℕ, List, None, cond, length, IfOk, OnOk};
 ghost use Rattle.std.specs.Str.{bytes_eq};
@@ -13,7 +13,7 @@ use std::collections::BTreeMap;
 use tcap_msg::{Message, TransactionId, TransactionIdView};
 use tcap_record::{Body, End, Entry};
 
-/// The transactions of the last entries of each end, by their originating IDs.
+/// The transaction of the last entry of each end, by originating ID.
 #[derive(Drop)]
 struct Latest {
     a: BTreeMap<TransactionId, Option<u32>>,
@@ -21,7 +21,7 @@ struct Latest {
 }
 
 impl Latest {
-    /// Those of no entries.
+    /// Creates an empty map, before the first entry.
     fn new(alloc: Global) -> Latest
         ensures { (side : Side) (id : List ℕ) → latest_at side id result ≡ None }
     {
@@ -31,7 +31,7 @@ impl Latest {
         }
     }
 
-    /// The transaction of the last entry of that end from that ID.
+    /// Returns the transaction of the last entry of this end from this ID.
     fn get(&self, side: End, id: TransactionIdView) -> Option<u32>
         ensures { result ≡ latest_at side id.entry.octets.now self.now }
     {
@@ -43,7 +43,7 @@ impl Latest {
         *found?
     }
 
-    /// One entry more of that end from that ID.
+    /// Sets the transaction of the last entry of this end from this ID. Fails if memory runs out.
     fn set(
         &mut self,
         side: End,
@@ -61,7 +61,7 @@ impl Latest {
         Ok(())
     }
 
-    /// The transaction of an entry of that number.
+    /// Returns the transaction of an entry with this number.
     fn transaction_of(&self, number: u32, entry: &Entry) -> Option<u32>
         ensures { result ≡ belongs number entry.now self.now }
     {
@@ -77,7 +77,7 @@ impl Latest {
         }
     }
 
-    /// One entry more, with its transaction.
+    /// Notes an entry with its transaction. Fails if memory runs out.
     fn note(&mut self, entry: &Entry, transaction: Option<u32>) -> Result<(), AllocError>
         ensures { OnOk result ((at : Side) (key : List ℕ) → latest_at at key self.new
             ≡ cond (is_end at entry.now.side && is_from key entry.now) transaction (latest_at at key self.old)) }
@@ -94,7 +94,7 @@ impl Latest {
     }
 }
 
-/// The transaction of each entry, by the number of the Begin that began it.
+/// Returns the transaction of each entry, as the number of its Begin. Fails if memory runs out.
 pub(crate) fn transactions_of(
     alloc: Global,
     entries: &[Entry],

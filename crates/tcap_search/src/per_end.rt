@@ -15,14 +15,14 @@ impl<T: Copy> PerEnd<T> {
     ghost use Rattle.tcap_model.specs.World.{is_side};
     ghost use Rattle.tcap_search.specs.PerEnd.{at_end};
 
-    /// That value for both ends.
+    /// Creates a pair with this value for both ends.
     pub(crate) fn both(value: T) -> PerEnd<T>
         ensures { (side : Side) → at_end side result ≡ value }
     {
         PerEnd { a: value, b: value }
     }
 
-    /// The value of an end.
+    /// Returns the value of an end.
     pub(crate) fn get(&self, side: End) -> T
         ensures { result ≡ at_end side self.now }
     {

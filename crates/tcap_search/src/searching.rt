@@ -1,4 +1,4 @@
-//! The certificate that is proposed for a record.
+//! The certificate proposed for a record.
 
 ghost use Rattle.std.specs.Prelude.{◌≡◌, ◌≤◌, ◌+◌, length, IfOk};
 ghost use Rattle.tcap_search.specs.Proposed.{is_mark, proposed, proposed_by, proposed_for};
@@ -9,14 +9,15 @@ use tcap_certificate::Certificate;
 use tcap_record::{Body, End, Entry, Record};
 use tcap_refute::SearchFault;
 
-/// Whether the entry is a quiet mark.
+/// Returns whether an entry is a quiet mark.
 pub(crate) fn is_mark(entry: &Entry) -> bool
     ensures { result ≡ is_mark entry.now.body }
 {
     matches!(entry.body, Body::Quiet)
 }
 
-/// What is proposed for these entries, stretch by stretch: for the end that is judged alone, or for both.
+/// Finds the certificate of these entries, segment by segment, for the judged end alone or for both. Fails if memory
+/// runs out.
 fn found_in(alloc: Global, judged: Option<End>, entries: &[Entry]) -> Result<Found, AllocError>
     requires few { length entries.now ≤ 100000 }
     ensures { IfOk result (λ found.
@@ -35,7 +36,7 @@ fn found_in(alloc: Global, judged: Option<End>, entries: &[Entry]) -> Result<Fou
     found.with_stretch(alloc, judged, false, first, &entries[first..])
 }
 
-/// The certificate that is proposed for these entries.
+/// Proposes a certificate for these entries, for the judged end alone or for both. Fails if memory runs out.
 fn certificate_of(
     alloc: Global,
     judged: Option<End>,
@@ -53,9 +54,12 @@ fn certificate_of(
     }
 }
 
-/// Proposes a certificate for a record of at most 100,000 entries: the one that the five rules give. Nothing says that
-/// it gives a run, nor that there is none where it gives none: `tcap_check::check` says what it gives. Fails only where
-/// memory ran out.
+/// Proposes a certificate for a record of at most 100,000 entries, by five rules. The certificate need not give a run,
+/// even if another one does: use `tcap_check::check` to replay it.
+///
+/// # Errors
+///
+/// `SearchFault::Memory` if memory runs out.
 pub fn search(alloc: Global, record: &Record) -> Result<Certificate, SearchFault>
     requires few { length «record».now.entries.items ≤ 100000 }
     ensures { IfOk result (λ c. c ≡ proposed «record».now.entries.items) }
@@ -63,8 +67,13 @@ pub fn search(alloc: Global, record: &Record) -> Result<Certificate, SearchFault
     certificate_of(alloc, None, &record.entries)
 }
 
-/// Proposes a certificate for that end of a record alone: the one that the five rules give, of which the second is
-/// milder, with one more rule behind it. Its peer may break the rules of TCAP. All else is as for `search`.
+/// Proposes a certificate for this end alone of a record of at most 100,000 entries; its peer may break the rules of
+/// TCAP. The rules are those of `search`, but the second is milder, and one more follows it. The certificate need not
+/// give a run.
+///
+/// # Errors
+///
+/// `SearchFault::Memory` if memory runs out.
 pub fn search_for(alloc: Global, record: &Record, end: End) -> Result<Certificate, SearchFault>
     requires few { length «record».now.entries.items ≤ 100000 }
     ensures { IfOk result (λ c. c ≡ proposed_for «end» «record».now.entries.items) }

@@ -1,4 +1,4 @@
-//! Numbers of entries by originating IDs.
+//! Numbers of entries by originating ID.
 
 ghost use Rattle.std.specs.Prelude.{◌≡◌, ◌∷◌, ◌&&◌, [], ℕ, List, cond, reverse, OnOk};
 ghost use Rattle.std.specs.Str.{bytes_eq};
@@ -11,14 +11,14 @@ use std::collections::BTreeMap;
 use tcap_msg::{TransactionId, TransactionIdView};
 use tcap_record::End;
 
-/// Numbers of entries of each end, by their originating IDs: of each ID a stack.
+/// A stack of numbers of entries for each end and originating ID.
 #[derive(Drop)]
 pub(crate) struct Stacks {
     pub(crate) a: BTreeMap<TransactionId, Vec<u32>>,
     pub(crate) b: BTreeMap<TransactionId, Vec<u32>>,
 }
 
-/// One number more of an ID.
+/// Pushes a number for an ID. Fails if memory runs out.
 fn push_to(
     alloc: Global,
     stacks: &mut BTreeMap<TransactionId, Vec<u32>>,
@@ -41,7 +41,7 @@ fn push_to(
     Ok(())
 }
 
-/// Takes the top number of an ID, where there is one.
+/// Pops the top number of an ID, if there is one.
 fn pop_from(stacks: &mut BTreeMap<TransactionId, Vec<u32>>, id: TransactionIdView) -> Option<u32>
     ensures top { result ≡ top (stack_in id.entry.octets.now stacks.old.entries) }
     ensures left { (key : List ℕ) → stack_in key stacks.new.entries
@@ -52,7 +52,7 @@ fn pop_from(stacks: &mut BTreeMap<TransactionId, Vec<u32>>, id: TransactionIdVie
     stacks.get_mut(&key)?.pop()
 }
 
-/// Whether that number is the last.
+/// Returns whether this number is the last of the stack.
 fn is_top(stack: &[u32], number: u32) -> bool
     ensures { result ≡ is_top number (reverse stack.now) }
 {
@@ -62,7 +62,7 @@ fn is_top(stack: &[u32], number: u32) -> bool
     }
 }
 
-/// Takes a number of an ID away, where it is on top.
+/// Pops this number of an ID, if it is on top.
 fn drop_from(stacks: &mut BTreeMap<TransactionId, Vec<u32>>, id: TransactionIdView, number: u32)
     ensures { (key : List ℕ) → stack_in key stacks.new.entries
         ≡ cond (bytes_eq key id.entry.octets.now) (without number (stack_in key stacks.old.entries))
@@ -77,7 +77,7 @@ fn drop_from(stacks: &mut BTreeMap<TransactionId, Vec<u32>>, id: TransactionIdVi
 }
 
 impl Stacks {
-    /// No numbers.
+    /// Creates empty stacks.
     pub(crate) fn new(alloc: Global) -> Stacks
         ensures { (side : Side) (id : List ℕ) → stack_at side id result ≡ [] }
     {
@@ -87,7 +87,7 @@ impl Stacks {
         }
     }
 
-    /// One number more of an ID of an end.
+    /// Pushes a number for an ID of an end. Fails if memory runs out.
     pub(crate) fn push(
         &mut self,
         alloc: Global,
@@ -105,7 +105,7 @@ impl Stacks {
         }
     }
 
-    /// Takes the top number of an ID of an end, where there is one.
+    /// Pops the top number of an ID of an end, if there is one.
     pub(crate) fn pop(&mut self, side: End, id: TransactionIdView) -> Option<u32>
         ensures top { result ≡ top (stack_at side id.entry.octets.now self.old) }
         ensures left { (at : Side) (key : List ℕ) → stack_at at key self.new
@@ -118,7 +118,7 @@ impl Stacks {
         }
     }
 
-    /// Takes a number of an ID of an end away, where it is on top.
+    /// Pops this number of an ID of an end, if it is on top.
     pub(crate) fn drop_top(&mut self, side: End, id: TransactionIdView, number: u32)
         ensures { (at : Side) (key : List ℕ) → stack_at at key self.new
             ≡ cond (is_side at side && bytes_eq key id.entry.octets.now) (without number (stack_at at key self.old))

@@ -1,4 +1,4 @@
-//! What is kept in a sweep over gaps and entries: the last Invokes so far, and the last answers that came.
+//! What a sweep over gaps and entries keeps: the last Invokes so far, and the last answers delivered.
 
 ghost use Rattle.std.specs.Prelude.{◌≡◌, ◌==◌, ◌&&◌, ℕ, ℤ, Bool, Some, None, nat_le, cond, option_map, OnOk};
 ghost use Rattle.std.specs.List.{list_any};
@@ -18,19 +18,19 @@ use tcap_msg::Message;
 use tcap_parts::{Component, Portion, Problem};
 use tcap_record::{Body, End, Entry};
 
-/// The greatest place of a component that a certificate names.
+/// The greatest place of a component in a certificate.
 const PLACE_LIMIT: usize = 100_000;
 
-/// An answer that came: in which gap, and the last Invoke of its ID before, by the number of its entry and its place
-/// among the entry's components.
+/// A delivered answer: its gap, and the last Invoke of its ID before, by the number of its entry and its place among
+/// the components.
 #[derive(Clone, Copy)]
 pub(crate) struct Answer {
     pub(crate) gap: u32,
     pub(crate) invoked: Option<(u32, u32)>,
 }
 
-/// For each transaction, end and invoke ID of its own: the last Invoke so far, and the last Return Result and the last
-/// Return Error that came to it.
+/// For each transaction, end and own invoke ID: the last Invoke so far, and the last Return Result and Return Error
+/// delivered to it.
 #[derive(Drop)]
 pub(crate) struct Sweep {
     pub(crate) invokes: ByInvocation<(u32, u32)>,
@@ -38,7 +38,7 @@ pub(crate) struct Sweep {
     pub(crate) errors: ByInvocation<Answer>,
 }
 
-/// The components of a portion, if there is one.
+/// Returns the components of a portion, or none if there is no portion.
 fn portion_items(portion: &Option<Portion>) -> &[Component]
     ensures { result.now ≡ items_of portion.now }
 {
@@ -48,7 +48,7 @@ fn portion_items(portion: &Option<Portion>) -> &[Component]
     }
 }
 
-/// The components of an entry; of octets that are no message none.
+/// Returns the components of an entry, or none if it is no message.
 pub(crate) fn components_of(entry: &Entry) -> &[Component]
     ensures { result.now ≡ components_of entry.now }
 {
@@ -64,7 +64,7 @@ pub(crate) fn components_of(entry: &Entry) -> &[Component]
     }
 }
 
-/// Whether an entry is a Begin or a Continue, whose Invokes a certificate may name.
+/// Returns whether an entry is a Begin or a Continue, whose Invokes a certificate may name.
 fn may_invoke(entry: &Entry) -> bool
     ensures { result ≡ may_invoke (message_of entry.now) }
 {
@@ -74,7 +74,8 @@ fn may_invoke(entry: &Entry) -> bool
     )
 }
 
-/// The ID, and whether it is a Return Result, of which a component says unrecognizedInvokeID (Q.773 4.2.2).
+/// Returns the invoke ID that a Reject with problem unrecognizedInvokeID names, and whether it rejects a Return Result
+/// (Q.773 4.2.2).
 pub(crate) fn unrecognized(component: &Component) -> Option<(bool, i8)>
     ensures { result ≡ unrecognized component.now }
 {
@@ -93,7 +94,7 @@ pub(crate) fn unrecognized(component: &Component) -> Option<(bool, i8)>
 }
 
 impl Sweep {
-    /// Nothing yet.
+    /// Creates an empty sweep.
     pub(crate) fn new(alloc: Global) -> Sweep
         ensures invokes { (t : ℕ) (s : Side) (id : ℤ) → kept_at t s id result.invokes ≡ None }
         ensures answers { (is_result : Bool) (t : ℕ) (s : Side) (id : ℤ) → answer_kept is_result t s id result ≡ None }
@@ -105,7 +106,7 @@ impl Sweep {
         }
     }
 
-    /// Notes a component that comes to an end in a gap, if it is an answer.
+    /// Notes a component delivered to an end in a gap, if it is an answer. Fails if memory runs out.
     fn note_answer(
         &mut self,
         gap: u32,
@@ -134,7 +135,7 @@ impl Sweep {
         }
     }
 
-    /// Notes the answers among components that come to an end in a gap.
+    /// Notes the answers among components delivered to an end in a gap. Fails if memory runs out.
     fn note_answers(
         &mut self,
         gap: u32,
@@ -154,7 +155,7 @@ impl Sweep {
         Ok(())
     }
 
-    /// Notes the answers of an entry that is delivered in a gap.
+    /// Notes the answers of an entry delivered in a gap. Fails if memory runs out.
     fn deliver(
         &mut self,
         gap: u32,
@@ -175,7 +176,7 @@ impl Sweep {
         }
     }
 
-    /// Notes the answers of the entry of that number, which is delivered in a gap.
+    /// Notes the answers of the entry with this number, which is delivered in a gap. Fails if memory runs out.
     fn deliver_number(
         &mut self,
         gap: u32,
@@ -196,7 +197,7 @@ impl Sweep {
         }
     }
 
-    /// Notes the answers of the entries of these numbers, which are delivered in a gap.
+    /// Notes the answers of the entries with these numbers, which are delivered in a gap. Fails if memory runs out.
     pub(crate) fn deliver_all(
         &mut self,
         gap: u32,
@@ -216,7 +217,8 @@ impl Sweep {
         Ok(())
     }
 
-    /// Notes a component of an entry with that number, if it is an Invoke and a certificate can name its place.
+    /// Notes a component of an entry, if it is an Invoke and a certificate can name its place. Fails if memory runs
+    /// out.
     fn note_invoke(
         &mut self,
         number: u32,
@@ -240,7 +242,7 @@ impl Sweep {
         }
     }
 
-    /// Notes the Invokes among the components of an entry with that number.
+    /// Notes the Invokes among the components of an entry. Fails if memory runs out.
     fn note_invokes(
         &mut self,
         number: u32,
@@ -261,7 +263,7 @@ impl Sweep {
         Ok(())
     }
 
-    /// Notes the Invokes of an entry with that number, if it is a Begin or a Continue.
+    /// Notes the Invokes of an entry, if it is a Begin or a Continue. Fails if memory runs out.
     pub(crate) fn note_entry(
         &mut self,
         number: u32,
@@ -284,7 +286,7 @@ impl Sweep {
         Ok(())
     }
 
-    /// The last answer to an invoke ID of an end, a Return Result or a Return Error, where one came.
+    /// Returns the last answer delivered for an invoke ID of an end, a Return Result or a Return Error.
     fn answer(&self, is_result: bool, transaction: u32, side: End, id: i8) -> Option<Answer>
         ensures { result ≡ answer_kept is_result transaction side id self.now }
     {
@@ -295,7 +297,7 @@ impl Sweep {
         }
     }
 
-    /// The answer that a component of an end rejects as unrecognized, where one came.
+    /// Returns the answer that a component of an end rejects as unrecognized, if one was delivered.
     pub(crate) fn rejected(
         &self,
         transaction: u32,

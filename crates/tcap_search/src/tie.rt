@@ -1,7 +1,7 @@
-//! What the Aborts of providers answer.
+//! The messages that providers' Aborts answer.
 
-/// An entry that is answered by an Abort of the receiver's provider (Q.774 3.3). Entries are counted from 0, from the
-/// first of their stretch between quiet marks.
+/// An entry that an Abort of its receiver's provider answers (Q.774 3.3). Entries are counted from 0 in their segment
+/// between quiet marks.
 #[derive(Clone, Copy, PartialEq, Eq)]
 pub(crate) struct Tie {
     /// The number of the entry.

@@ -1,4 +1,4 @@
-//! The first rule: what the Aborts of providers answer.
+//! The first rule: the messages that providers' Aborts answer.
 
 ghost use Rattle.std.specs.Prelude.{◌≡◌, ◌≤◌, [], length, reverse, IfOk};
 ghost use Rattle.std.specs.List.{list_any};
@@ -13,7 +13,7 @@ use crate::tie::Tie;
 use std::alloc::{AllocError, Global};
 use tcap_record::Entry;
 
-/// All entries that an Abort may answer.
+/// Returns all entries that an Abort may answer. Fails if memory runs out.
 fn candidates_of(alloc: Global, entries: &[Entry]) -> Result<Candidates, AllocError>
     requires few { length entries.now ≤ 100000 }
     ensures { IfOk result (λ c. AreUntied [] (reverse (lines_of entries.now)) c) }
@@ -25,7 +25,7 @@ fn candidates_of(alloc: Global, entries: &[Entry]) -> Result<Candidates, AllocEr
     Ok(candidates)
 }
 
-/// Whether one of the entries is an Abort of a provider.
+/// Returns whether one of the entries is a provider's Abort.
 fn has_provider_abort(entries: &[Entry]) -> bool
     ensures { result ≡ list_any aborts_by_provider entries.now }
 {
@@ -37,7 +37,8 @@ fn has_provider_abort(entries: &[Entry]) -> bool
     false
 }
 
-/// The ties of a stretch, in the order of the Aborts, found from the last entry to the first.
+/// Finds the ties of a segment from the last entry to the first, and returns them in the order of the Aborts. Fails if
+/// memory runs out.
 fn traced_ties(alloc: Global, entries: &[Entry]) -> Result<Vec<Tie>, AllocError>
     requires few { length entries.now ≤ 100000 }
     ensures { IfOk result (λ ties. AreTies entries.now ties.items) }
@@ -61,7 +62,8 @@ fn traced_ties(alloc: Global, entries: &[Entry]) -> Result<Vec<Tie>, AllocError>
 }
 
 #[tactic(auto, using(crate::proofs::AbortLaws::no_ties))]
-/// The ties of a stretch, in the order of the Aborts. Where no provider aborts there are none.
+/// Finds the ties of a segment, in the order of the Aborts. Without a provider's Abort there are none, and no memory is
+/// allocated. Fails if memory runs out.
 pub(crate) fn ties_of(alloc: Global, entries: &[Entry]) -> Result<Vec<Tie>, AllocError>
     requires few { length entries.now ≤ 100000 }
     ensures { IfOk result (λ ties. AreTies entries.now ties.items) }

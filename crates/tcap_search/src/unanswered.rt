@@ -1,4 +1,4 @@
-//! The rule behind the second one, where one end is judged alone: what it did not answer before a mark, it never heard.
+//! The rule after the second one, for an end judged alone: it did not receive what it did not answer before a mark.
 
 ghost use Rattle.std.specs.Prelude.{◌≡◌, ◌||◌, true, [], ℕ, List, Some, length, map, IfOk, OnOk};
 ghost use Rattle.std.specs.BTreeSet as set;
@@ -16,14 +16,14 @@ use tcap_certificate::Fate;
 use tcap_msg::{Kind, Message, MessageParts, TransactionId, TransactionIdView};
 use tcap_record::{Body, End, Entry};
 
-/// To which IDs an end sent messages, and from which it sent Continues.
+/// The IDs to which an end sent messages, and those from which it sent Continues.
 #[derive(Drop)]
 pub(crate) struct Spoken {
     pub(crate) to: BTreeSet<TransactionId>,
     pub(crate) from: BTreeSet<TransactionId>,
 }
 
-/// An ID more, where there is one.
+/// Adds an ID to a set, if there is one. Fails if memory runs out.
 fn note_id(
     ids: &mut BTreeSet<TransactionId>,
     id: Option<TransactionIdView>,
@@ -37,7 +37,7 @@ fn note_id(
     Ok(())
 }
 
-/// The originating ID of a Continue.
+/// Returns the originating ID of a Continue.
 fn continued_from(message: &Message) -> Option<TransactionIdView<'_>>
     ensures { id_of result ≡ continued_from message.now }
 {
@@ -47,7 +47,7 @@ fn continued_from(message: &Message) -> Option<TransactionIdView<'_>>
     }
 }
 
-/// Whether an entry is of that end.
+/// Returns whether an entry is from this end.
 fn is_end(side: End, sender: Option<End>) -> bool
     ensures { result ≡ is_end side sender }
 {
@@ -58,7 +58,7 @@ fn is_end(side: End, sender: Option<End>) -> bool
 }
 
 impl Spoken {
-    /// Those of no entries.
+    /// Creates empty sets, before the first entry.
     fn new(alloc: Global) -> Spoken
         ensures { (side : Side) → IsSpoken side [] result }
     {
@@ -68,7 +68,7 @@ impl Spoken {
         }
     }
 
-    /// One entry more.
+    /// Notes the IDs of an entry, if this end sent it. Fails if memory runs out.
     fn note(&mut self, side: End, entry: &Entry) -> Result<(), AllocError>
         ensures to { OnOk result ((id : List ℕ) → set.contains octets_cmp self.new.to id
             ≡ set.contains octets_cmp self.old.to id || speaks_to side id entry.now) }
@@ -85,7 +85,7 @@ impl Spoken {
         note_id(&mut self.from, continued_from(message))
     }
 
-    /// Those of the messages that an end sent.
+    /// Collects the IDs of the messages that an end sent. Fails if memory runs out.
     fn of(alloc: Global, side: End, entries: &[Entry]) -> Result<Spoken, AllocError>
         ensures { IfOk result (λ spoken. IsSpoken side entries.now spoken) }
     {
@@ -96,7 +96,7 @@ impl Spoken {
         Ok(spoken)
     }
 
-    /// Whether an entry is a Begin or a Continue that the end did not answer.
+    /// Returns whether an entry is a Begin or a Continue that the end did not answer.
     fn is_unanswered(&self, entry: &Entry) -> bool
         ensures { result ≡ unanswered_by self.now (message_of entry.now) }
     {
@@ -109,7 +109,7 @@ impl Spoken {
         }
     }
 
-    /// The fate of an entry, where these are the IDs of the end that is judged.
+    /// Returns the fate of an entry, by these IDs of the judged end.
     fn fate_heard(&self, side: End, entry: &Entry, fate: Fate) -> Fate
         ensures { result ≡ fate_heard self.now side entry.now fate }
     {
@@ -122,7 +122,7 @@ impl Spoken {
     }
 }
 
-/// The fates of a stretch behind which a mark stands, without what an end did not answer.
+/// Returns the fates of a segment before a mark, with the unanswered messages lost. Fails if memory runs out.
 fn heard_by(
     alloc: Global,
     side: End,
@@ -142,7 +142,8 @@ fn heard_by(
 }
 
 #[tactic(auto, using(crate::proofs::UnansweredLaws::heard_same))]
-/// The same, where a mark stands behind the stretch; else the fates as they are.
+/// Returns the fates with the unanswered messages lost if a mark follows the segment, else the given fates. Fails if
+/// memory runs out.
 fn heard_where(
     alloc: Global,
     side: End,
@@ -161,8 +162,8 @@ fn heard_where(
 }
 
 #[tactic(auto, using(crate::proofs::UnansweredLaws::heard_same))]
-/// The fates of a stretch: without what an end did not answer, where it is judged alone and a mark stands behind the
-/// stretch.
+/// Returns the fates with the unanswered messages lost if one end is judged alone and a mark follows the segment, else
+/// the given fates. Fails if memory runs out.
 pub(crate) fn without_unanswered(
     alloc: Global,
     judged: Option<End>,

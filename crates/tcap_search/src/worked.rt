@@ -1,38 +1,38 @@
-//! Worked proposals. Each function says by its contract alone what holds of the definitions.
+//! Worked proposals. Each function has an empty body, and its contract is the fact.
 
 ghost use Rattle.tcap_search.specs.WorkedProposals as worked;
 
-/// Records for which the certificate is proposed that describes their worked run.
+/// Shows that the certificate proposed for these records is the one that describes their worked run.
 pub fn of_worked_runs()
     ensures { worked.of_worked_runs }
 {}
 
-/// A Begin comes late, and the End behind which it would come is lost.
+/// Shows that an End is lost if it would be delivered after a later Begin of the same end.
 pub fn lost_end()
     ensures { worked.lost_end }
 {}
 
-/// Certificates that give no run, where another does: the search is not complete.
+/// Shows that the search is incomplete: it proposes certificates that give no run although another certificate does.
 pub fn not_lawful()
     ensures { worked.not_lawful }
 {}
 
-/// Octets that are no message have the gap behind them.
+/// Shows that an entry that is no message has the gap after it.
 pub fn bad_entry()
     ensures { worked.bad_entry }
 {}
 
-/// An End that an Abort of its receiver's provider does not hold back, for one end alone.
+/// Shows that, for one end alone, an Abort of its receiver's provider does not hold back an End.
 pub fn end_before_an_abort()
     ensures { worked.end_before_an_abort }
 {}
 
-/// A Begin that nobody answered before a mark is lost, for its receiver alone.
+/// Shows that a Begin without an answer before a mark is lost for its receiver alone.
 pub fn lost_begin()
     ensures { worked.lost_begin }
 {}
 
-/// So is a Continue to a half that sent none.
+/// Shows that a Continue to a half that sent none is lost before a mark, for its receiver alone.
 pub fn lost_continue()
     ensures { worked.lost_continue }
 {}

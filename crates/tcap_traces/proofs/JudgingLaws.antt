@@ -1,4 +1,4 @@
--- Both ends agree which entry is the first that is no message, so the entries before it are judged once for both.
+-- Both ends have the same first entry that is no message, so the entries before it are judged once for both.
 use Rattle.std.proofs.Common.{◌≡◌, ℕ, ◌==◌, cond, List, length, map, Option, Some, None, refl, sym, ap, ◌∙◌}
 use Rattle.tcap_record.specs.declared.entry.End.{End as Side}
 use Rattle.tcap_record.specs.declared.entry.End.TheVariants as sides
@@ -16,7 +16,7 @@ use Rattle.tcap_traces.specs.declared.said.Circumstances.{Circumstances}
 use Rattle.tcap_traces.specs.declared.said.Said.{Said}
 use Rattle.tcap_traces.specs.Verdict.{found_before, no_message_at, said_by, said_of}
 
--- ---- of so many entries none is blamed: those before the first that is no message
+-- ---- an end that is not blamed: the number of entries before the first that is no message
 
 abbrev pub number_in : ℕ → Finding → ℕ
 number_in count (NotBlamed n) = n
@@ -34,7 +34,7 @@ pub counted : (table : Table) (entries : List Entry) (side : Side)
     → number_in (items_before (map item_of entries)) (finding table entries side) ≡ items_before (map item_of entries)
 counted table entries side = counted_by (items_before (map item_of entries)) (verdict_for side table entries)
 
--- ---- the number that both ends have
+-- ---- the number for both ends
 
 or_none : (o : Option ℕ) → or_else o None ≡ o
 or_none None = refl
@@ -61,7 +61,7 @@ module _ (n all : ℕ) where
       ap (λ k. or_else (cond (k == all) None (Some k)) (cond (n == all) None (Some n))) is
       ∙ or_same (cond (n == all) None (Some n))
 
--- ---- what is said
+-- ---- results
 
 module _ (table : Table) (c : Circumstances) (entries : List Entry) (side : Side) where
   abbrev with_number : Finding → Option ℕ → Said
@@ -82,7 +82,7 @@ module _ (table : Table) (c : Circumstances) (entries : List Entry) (side : Side
       ap (with_number (NotBlamed n)) (or_before n all a (rw (sym of_b) at of_a))
 
 module _ (table : Table) (c : Circumstances) (entries now : List Entry) (a b : Finding) (number : Option ℕ) where
-  -- So what is said by that number is what is said of A,
+  -- the result for A, by the number for both ends
   pub says_of_a : now ≡ entries → a ≡ finding table entries sides.A → b ≡ finding table entries sides.B
       → number ≡ or_else (no_message_at a (length entries)) (no_message_at b (length entries))
       → (earlier : Option Finding) → earlier ≡ found_before table entries sides.A number
@@ -93,7 +93,7 @@ module _ (table : Table) (c : Circumstances) (entries now : List Entry) (a b : F
       (finding table entries sides.A) (finding table entries sides.B) (counted table entries sides.A)
       (counted table entries sides.B))
 
-  -- and of B.
+  -- the result for B, by the number for both ends
   pub says_of_b : now ≡ entries → a ≡ finding table entries sides.A → b ≡ finding table entries sides.B
       → number ≡ or_else (no_message_at a (length entries)) (no_message_at b (length entries))
       → (earlier : Option Finding) → earlier ≡ found_before table entries sides.B number

@@ -1,4 +1,4 @@
--- What is said of an end is so, where what `blame` found is so.
+-- The result for an end holds if the findings hold.
 use Rattle.std.proofs.Common.{◌≡◌, inl, inr, ℕ, Bool, true, false, cond, ◌==◌, List, drop, length, map, take, Option, Some, None, Result, Ok, Err, refl, sym, ap, ◌∙◌, subst}
 use Rattle.std.specs.List.{list_any}
 use Rattle.tcap_record.specs.declared.entry.End.{End as Side}
@@ -26,7 +26,7 @@ use Rattle.tcap_traces.specs.Shown.{IsFoundBefore, IsSo, MayHaveSentUnheard}
 use Rattle.tcap_traces.specs.Verdict.{doubt_of, fails, found_before, is_of, no_message_at, passes, said_before, said_by}
 use Rattle.tcap_traces.proofs.JudgingLaws.{counted, number_in, or_before, or_behind}
 
--- ---- what is blamed
+-- ---- blame
 
 abbrev named_in : Finding → Option Refutation
 named_in (Blamed r) = Some r
@@ -44,7 +44,7 @@ named_is table entries side =
     named_by_all side (items_before (map item_of entries)) (length entries) (blamed table side entries)
     (replayed_by (Some side) table (proposed_by (Some side) entries) entries)
 
--- ---- what is said
+-- ---- results
 
 module _ (table : Table) (c : Circumstances) (entries : List Entry) (side : Side) where
   passes_so : (under_way early_mark cut unsure over : Bool) (unheard : ℕ)
@@ -79,7 +79,7 @@ module _ (table : Table) (c : Circumstances) (entries : List Entry) (side : Side
   before_so number (Some (Lawful n unheard)) so =
       behind_so number unheard (list_any (is_of side) (drop number entries)) refl so
 
-  -- By what was found of all entries, and of those before the first that is no message, it is so;
+  -- The result holds by the findings on all entries, and on those before the first that is no message.
   said_so : ((r : Refutation) → blamed table side entries ≡ Some r → IsAtFaultOf table side entries r)
       → (found : Finding) → found ≡ finding table entries side → IsFound side table entries found
       → (earlier : Option Finding)
@@ -91,7 +91,7 @@ module _ (table : Table) (c : Circumstances) (entries : List Entry) (side : Side
   said_so at_fault (Lawful n unheard) is so earlier are = passes_so c.under_way c.early_mark c.cut c.unsure c.open unheard (inl so)
   said_so at_fault (NotBlamed n) is so earlier are = before_so n earlier (are n refl)
 
--- ---- those before the first that is no message, as both ends have it
+-- ---- the entries before the first that is no message, for both ends
 
 module _ (table : Table) (entries : List Entry) (side : Side) (earlier : Option Finding) where
   at_number : (n : ℕ) (is_all : Bool) → earlier ≡ found_before table entries side (cond is_all None (Some n))
@@ -126,7 +126,7 @@ module _ (table : Table) (entries : List Entry) (side : Side) (earlier : Option 
 module _ (at_fault : (table : Table) (side : Side) (entries : List Entry) (r : Refutation)
     → blamed table side entries ≡ Some r → IsAtFaultOf table side entries r)
     (table : Table) (c : Circumstances) (entries now : List Entry) (a b : Finding) (number : Option ℕ) where
-  -- so of A,
+  -- the result for A holds
   pub so_of_a : now ≡ entries → a ≡ finding table entries sides.A → b ≡ finding table entries sides.B
       → IsFound sides.A table entries a
       → number ≡ or_else (no_message_at a (length entries)) (no_message_at b (length entries))
@@ -143,7 +143,7 @@ module _ (at_fault : (table : Table) (side : Side) (entries : List Entry) (r : R
       (is_earlier ∙ ap (found_before table entries sides.A) is)
       (subst (λ o. IsFoundBefore sides.A table entries o earlier) is earlier_so)))
 
-  -- and of B.
+  -- the result for B holds
   pub so_of_b : now ≡ entries → a ≡ finding table entries sides.A → b ≡ finding table entries sides.B
       → IsFound sides.B table entries b
       → number ≡ or_else (no_message_at a (length entries)) (no_message_at b (length entries))

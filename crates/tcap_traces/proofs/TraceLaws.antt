@@ -1,4 +1,4 @@
--- Who is at fault in a dialogue is at fault in its trace.
+-- An end at fault in a dialogue is at fault in its trace.
 use Rattle.std.proofs.Common.{◌≡◌, inl, inr, ℕ, zero, suc, ◌+◌, false, true, List, [], ◌∷◌, ◌++◌, length, map, take, Some, Result, Ok, refl, sym, ap, subst, ◌∙◌, add-one}
 use Rattle.std.specs.Prelude.{Contains, slice_get}
 use Rattle.std.proofs.lemmas.List.{take-map}
@@ -21,7 +21,7 @@ use Rattle.tcap_refute.proofs.RefutedLaws.{are_oks, oks}
 use Rattle.tcap_faults.specs.AtFault.{IsAtFaultOf}
 use Rattle.tcap_traces.specs.Shown.{IsFaultOfTrace}
 
--- the first items, and the one behind them
+-- the first items, with the next one
 up_to : (before : List Item) (item : Item) (more : List (Result Item Reason)) (n : ℕ) → length before ≡ n
     → take (suc n) (oks before ++ (Ok item ∷ more)) ≡ oks (before ++ item ∷ [])
 up_to [] item more zero is = refl
@@ -40,7 +40,7 @@ same_items (item ∷ items) (other ∷ others) is =
     let rest : items ≡ others = same_items items others tail in
     cc
 
--- the entries up to one that is the first behind these items are the items with it
+-- The entries up to the first after these items are the items and this one.
 items_up_to : (entries : List Entry) (items before : List Item) (item : Item) (more : List (Result Item Reason)) (n : ℕ)
     → AreItems (take (suc n) entries) items → map item_of entries ≡ oks before ++ (Ok item ∷ more) → length before ≡ n
     → items ≡ before ++ item ∷ []
@@ -49,7 +49,7 @@ items_up_to entries items before item more n are is counted =
     (sym (are_oks (take (suc n) entries) items are) ∙ sym (take-map item_of (suc n) entries)
     ∙ ap (take (suc n)) is ∙ up_to before item more n counted)
 
--- an entry whose octets are no message is no item
+-- An entry that is no message is no item.
 bad_is_none : (entries : List Entry) (items : List Item) (entry : Entry) (fault : Fault) (n : ℕ)
     → AreItems (take (suc n) entries) items → slice_get entries n ≡ Some entry → entry.body ≡ Bad fault → ⊥
 bad_is_none [] items entry fault n are there bad = cc
@@ -62,7 +62,7 @@ bad_is_none (first ∷ entries) (Item.Quiet ∷ items) entry fault zero are ther
 bad_is_none (first ∷ entries) (item ∷ items) entry fault (suc n) are there bad =
     bad_is_none entries items entry fault n are.1 there bad
 
--- So an end can't have sent the items up to the entry at fault.
+-- A lawful end does not send the items up to the entry at fault.
 not_sent : (table : Table) (side : Side) (entries : List Entry) (items : List Item) (r : Refutation)
     → AreItems (take (suc r.entry) entries) items → IsAtFaultOf table side entries r → IsLawfulFor side items table → ⊥
 not_sent table side entries items r are (inl (kind, bad)) lawful =

@@ -1,5 +1,5 @@
--- The verdict on a dialogue, which is judged as a record of its own, in the words of TTCN-3 (ES 201 873-1): what is said of each
--- end that is asked, and where a blame rests on what the bench said and not on the end alone.
+-- Which verdict a dialogue gets, in the words of TTCN-3 (ES 201 873-1). The dialogue is judged as a separate record.
+-- Each judged end has a result, which says whether a blame depends on the bench's statements as well as on the end.
 use Rattle.std.specs.Prelude.{ℕ, ℤ, Bool, true, false, List, [], ◌∷◌, length, map, take, drop, slice_get, Option, Some, None, is_none, Result, Ok, ◌==◌, ◌&&◌, ◌||◌, not, nat_le, cond, codes}
 use Rattle.std.specs.List.{list_any}
 use Rattle.tcap_parts.specs.declared.component.Component.{Component}
@@ -37,9 +37,9 @@ use Rattle.tcap_traces.specs.declared.said.Said.{Said}
 use Rattle.tcap_traces.specs.declared.said.Said.TheVariants as saids
 use Rattle.tcap_traces.specs.declared.said.Circumstances.{Circumstances}
 
--- ---- what a blame may rest on beside the end
+-- ---- what a blame may depend on besides the end
 
--- the message of an entry, where it is one
+-- the message of an entry, if it is one
 abbrev pub message_in : Result Item Reason → Option Message
 message_in (Ok (Sent sender m)) = Some m
 message_in item = None
@@ -51,20 +51,21 @@ message_of (Some entry) = message_in (item_of entry)
 abbrev pub message_at : List Entry → ℕ → Option Message
 message_at entries number = message_of (slice_get entries number)
 
--- what the entries before that number are: items, or why they are none
+-- the entries before this number, as items or the reasons why they are none
 abbrev pub read_before : List Entry → ℕ → List (Result Item Reason)
 read_before entries number = map item_of (take number entries)
 
--- the component at fault
+-- the component at fault, if there is one
 abbrev pub component_in : Option ℕ → Option Message → Option Component
 component_in number None = None
 component_in number (Some m) = component_at number (components_in m)
 
+-- the component at fault in an entry that is blamed on an end, if there is one
 abbrev pub faulty_component : Table → Side → List Entry → Refutation → Option Component
 faulty_component table side entries r =
     component_in (subject_of true table side entries r).component (message_at entries r.entry)
 
--- the ID of an Invoke of the peer that it answers, or rejects, or is badly linked to
+-- the ID of an Invoke of the peer that the component answers, rejects or wrongly links to
 abbrev pub heard_id : Kind → Component → Option ℤ
 heard_id kinds.BadLink (Invoke id linked code parameter) = linked
 heard_id kind (ReturnResult last id body) = Some id
@@ -72,22 +73,23 @@ heard_id kind (ReturnError id code parameter) = Some id
 heard_id kind (Reject id (problems.Invoke n)) = id
 heard_id kind c = None
 
--- whether a component is an Invoke of that ID of an operation that the table lacks
+-- whether the component is an Invoke with this ID of an operation that is not in the table
 abbrev pub invokes_lacking : Table → ℤ → Component → Bool
 invokes_lacking table id c = invokes_so id (λ code. is_none (operation_of table code)) c
 
--- whether that end sent such a one in an entry
+-- whether the end sent such an Invoke in this entry
 abbrev pub sends_lacking : Table → Side → ℤ → Result Item Reason → Bool
 sends_lacking table side id (Ok (Sent sender m)) =
     is_side side sender && list_any (invokes_lacking table id) (components_in m)
 sends_lacking table side id item = false
 
--- whether the peer sent one among these entries
+-- whether the peer sent such an Invoke in these entries
 abbrev pub lacks_heard : Table → Side → Option ℤ → List (Result Item Reason) → Bool
 lacks_heard table side None items = false
 lacks_heard table side (Some id) items = list_any (sends_lacking table (other side) id) items
 
--- An operation that the table lacks: it is invoked at fault, or what is at fault answers one that the peer invoked before.
+-- whether the blame depends on an operation that is not in the table: the component at fault invokes it, or answers an
+-- earlier Invoke of it
 abbrev pub rests_by : Table → Side → List (Result Item Reason) → Kind → Option Component → Bool
 rests_by table side items kind None = false
 rests_by table side items kind (Some c) = is_unknown_operation table c || lacks_heard table side (heard_id kind c) items
@@ -96,8 +98,8 @@ abbrev pub rests_on_lack : Table → Side → List Entry → Refutation → Bool
 rests_on_lack table side entries r =
     rests_by table side (read_before entries r.entry) r.kind (faulty_component table side entries r)
 
--- Whether the peer sent something to an ID since the end began a transaction from it, or, where it has not, at all: behind one entry
--- more, by whether it had before; and behind these.
+-- Whether the peer has sent a message to this ID since the end's last Begin from it, or at all if there was none. The
+-- first function gives this after one more entry, the second after all these entries.
 abbrev pub is_heard_with : Side → List ℕ → Bool → Result Item Reason → Bool
 is_heard_with side id so (Ok (Sent sender m)) =
     cond (is_side side sender) (so && not (is_a forms.Begin m && is_id id (otid_in m))) (so || is_id id (dtid_in m))
@@ -107,28 +109,30 @@ abbrev pub is_heard : Side → List ℕ → Bool → List (Result Item Reason) �
 is_heard side id so [] = so
 is_heard side id so (item ∷ items) = is_heard side id (is_heard_with side id so item) items
 
--- whether there is an ID to which it sent nothing
+-- whether there is an ID to which the peer sent no message
 abbrev pub is_silent : Side → Option (List ℕ) → List (Result Item Reason) → Bool
 is_silent side None items = false
 is_silent side (Some id) items = not (is_heard side id false items)
 
--- A Begin whose ID is used already, which its peer sent nothing to: that transaction may have been given up, or, where the table
--- has prearranged ends, may have ended, in silence.
+-- whether a Begin reuses an ID (F3) whose transaction may be over without a message: the peer sent nothing to it, or
+-- the table has prearranged end
 abbrev pub may_be_over_by : Table → Side → List (Result Item Reason) → Kind → Option Message → Bool
 may_be_over_by table side items kinds.ReusedId (Some m) =
     is_a forms.Begin m && (table.prearranged || is_silent side (otid_in m) items)
 may_be_over_by table side items kind m = false
 
+-- whether the entry at fault is such a Begin
 abbrev pub may_be_over : Table → Side → List Entry → Refutation → Bool
 may_be_over table side entries r =
     may_be_over_by table side (read_before entries r.entry) r.kind (message_at entries r.entry)
 
--- whether it is of a quiet mark
+-- whether the kind is that of a quiet mark (F15)
 abbrev pub is_of_mark : Kind → Bool
 is_of_mark kinds.OpenAtMark = true
 is_of_mark kind = false
 
--- whether it rests on what the table says of an operation: its class, whether it may expire, what may be linked to it
+-- whether a blame of this kind depends on what the table says of an operation: its class, whether it expires, or its
+-- linked operations
 abbrev pub rests_on_table : Kind → Bool
 rests_on_table kinds.WrongOperation = true
 rests_on_table kinds.InvokeIdBusy = true
@@ -137,42 +141,43 @@ rests_on_table kinds.AnsweredAlready = true
 rests_on_table kinds.RejectNotAllowed = true
 rests_on_table kind = false
 
--- whether an entry is that one or behind it
+-- whether an entry is the first of these or a later one
 abbrev pub is_from : Option ℕ → ℕ → Bool
 is_from None number = false
 is_from (Some first) number = nat_le first number
 
--- whether the peer of an end began the dialogue, by whose Begin it began
+-- whether the peer of this end began the dialogue, given the end whose Begin began it
 abbrev pub is_begun_by_peer : Option Side → Side → Bool
 is_begun_by_peer None side = false
 is_begun_by_peer (Some began) side = is_side (other side) began
 
--- The first of these that makes a blame inconclusive. The first two come before all others, since a bench can mend nothing else that would
--- make the blame sure.
+-- The first doubt that makes a blame inconclusive, if there is one. The first two come before all others: while one of
+-- them is open, a bench cannot make the blame certain by removing another.
 abbrev pub doubt_of : Table → Circumstances → Side → List Entry → Refutation → Option Doubt
 doubt_of table c side entries r =
-    -- The dialogue may have been under way before its trace, or before a quiet mark that came too early.
+    -- The dialogue may have begun before its trace, or before a quiet mark that came too early.
     cond c.under_way (Some doubts.UnderWay)
     (cond c.early_mark (Some doubts.EarlyMark)
-    -- The blame is about a quiet mark; about an operation that the table lacks; about an ID whose transaction may be over.
+    -- The blame is about a quiet mark, an operation that is not in the table, or an ID whose transaction may be over.
     (cond (is_of_mark r.kind) (Some doubts.AtMark)
     (cond (rests_on_lack table side entries r) (Some doubts.LackingOperation)
     (cond (may_be_over table side entries r) (Some doubts.MaybeOver)
-    -- It rests on what the table says, and the table may not be the dialogue's.
+    -- The blame depends on the table, which may not be the dialogue's.
     (cond (c.unsure && rests_on_table r.kind) (Some doubts.UnsureTable)
-    -- An ID of the dialogue came again; or its peer, which began it, may have used its ID just before the trace.
+    -- An earlier dialogue had an ID of this one; or the peer began this dialogue, and may have used its ID just before
+    -- the trace.
     (cond c.again (Some doubts.CameAgain)
     (cond (is_begun_by_peer c.began side) (Some doubts.UsedBefore)
-    -- An entry that cannot be read comes before it, and may belong to the dialogue.
+    -- An unreadable entry comes before the entry at fault, and may belong to the dialogue.
     (cond (is_from c.unread_from r.entry) (Some doubts.Unread) None))))))))
 
--- ---- what is said of an end
+-- ---- the result for an end
 
--- whether that end sent an entry
+-- whether the end sent this entry
 abbrev pub is_of : Side → Entry → Bool
 is_of side entry = is_entry_of side entry.side
 
--- that it passes, unless one of these makes that inconclusive
+-- the result for an end that may have sent its part: it passes, or is inconclusive for the first of these circumstances
 abbrev pub passes : Circumstances → ℕ → Said
 passes c unheard =
     cond c.under_way saids.UnderWay
@@ -181,35 +186,35 @@ passes c unheard =
     (cond c.unsure saids.UnsureTable
     (cond c.open saids.Open (saids.Pass unheard)))))
 
--- that it fails, or what makes that doubtful
+-- the result for an end that is blamed: it fails, or is doubtful
 abbrev pub fails : Refutation → Option Doubt → Said
 fails r None = saids.Fail r
 fails r (Some doubt) = saids.Doubtful r doubt
 
--- By what is found of the entries before one that is no message, of which nobody is blamed: it passes, where no entry of its own is
--- there or behind.
+-- The result for an end on which nothing is blamed, by the finding on the entries before the first that is no message.
+-- The end passes only if it sent no entry from that one on.
 abbrev pub said_before : Circumstances → Side → List Entry → ℕ → Option Finding → Said
 said_before c side entries number (Some (findings.Lawful count unheard)) =
     cond (list_any (is_of side) (drop number entries)) (saids.Behind number) (passes c unheard)
 said_before c side entries number found = saids.Undecided
 
--- by what is found of all entries, and of those before one that is no message
+-- the result by the finding on all entries, and by that on the entries before the first that is no message
 abbrev pub said_by : Table → Circumstances → Side → List Entry → Finding → Option Finding → Said
 said_by table c side entries (findings.Blamed r) earlier = fails r (doubt_of table c side entries r)
 said_by table c side entries (findings.Lawful count unheard) earlier = passes c unheard
 said_by table c side entries (findings.NotBlamed count) earlier = said_before c side entries count earlier
 
--- the number of the first entry that is no message, where there is such and the end is not blamed for it or one before it
+-- the number of the first entry that is no message, if there is one and the end is not blamed
 abbrev pub no_message_at : Finding → ℕ → Option ℕ
 no_message_at (findings.NotBlamed count) all = cond (count == all) None (Some count)
 no_message_at found all = None
 
--- what is found of the entries before that one, where there is such
+-- the finding on the entries before this number, if there is one
 abbrev pub found_before : Table → List Entry → Side → Option ℕ → Option Finding
 found_before table entries side None = None
 found_before table entries side (Some number) = Some (finding table (take number entries) side)
 
--- What is said of an end of a dialogue, by what `blame` answers of its entries.
+-- the result for an end of a dialogue, by the finding on its entries
 abbrev pub said_of : Table → Circumstances → List Entry → Side → Said
 said_of table c entries side =
     said_by table c side entries (finding table entries side)
@@ -217,41 +222,42 @@ said_of table c entries side =
 
 -- ---- verdicts
 
+-- the verdict on an end: pass, fail, or inconclusive
 abbrev pub verdict_of : Said → Verdict
 verdict_of (saids.Pass unheard) = verdicts.Pass
 verdict_of (saids.Fail r) = verdicts.Fail
 verdict_of said = verdicts.Inconclusive
 
--- how bad a verdict is
+-- the rank of a verdict, from best to worst
 abbrev pub rank : Verdict → ℕ
 rank verdicts.Pass = 0
 rank verdicts.Inconclusive = 1
 rank verdicts.Fail = 2
 rank verdicts.Error = 3
 
--- the worse of two
+-- the worse of two verdicts
 abbrev pub worse : Verdict → Verdict → Verdict
 worse a b = cond (nat_le (rank a) (rank b)) b a
 
--- that of a dialogue: the worse one of the ends that are asked
+-- the verdict on a dialogue: the worse of its two ends, or that of the judged end
 abbrev pub verdict_asked : Option Side → Said → Said → Verdict
 verdict_asked None a b = worse (verdict_of a) (verdict_of b)
 verdict_asked (Some sides.A) a b = verdict_of a
 verdict_asked (Some sides.B) a b = verdict_of b
 
--- that of a trace, with so many entries of which a kind can be read, by the worst of its dialogues: a fault of its form is an error, and so
--- is that there is no such entry
+-- The verdict on a trace, by the worst of its dialogues and the number of entries with a readable tag. It is an error
+-- if the trace has a fault of form, or no such entry.
 abbrev pub trace_verdict : Bool → ℕ → Verdict → Verdict
 trace_verdict is_faulty readable worst = cond (is_faulty || readable == 0) verdicts.Error worst
 
--- the exit status of a run by its worst verdict
+-- the exit status of a run whose worst verdict this is
 abbrev pub status_of : Verdict → ℕ
 status_of verdicts.Pass = 0
 status_of verdicts.Fail = 1
 status_of verdicts.Inconclusive = 2
 status_of verdicts.Error = 3
 
--- its word
+-- the word for a verdict
 abbrev pub word_of : Verdict → List ℕ
 word_of verdicts.Pass = codes "pass"
 word_of verdicts.Inconclusive = codes "inconc"

@@ -1,4 +1,4 @@
--- Worked rows: what was heard of an ID, what makes a blame inconclusive, and verdicts.
+-- Worked rows: messages sent to an ID, doubts that make a blame inconclusive, and verdicts.
 use Rattle.std.specs.Prelude.{◌≡◌, ℕ, Bool, true, false, List, [], ◌∷◌, map, Option, Some, None, Result, Ok, Err, refl}
 use Rattle.tcap_record.specs.declared.entry.End.{End as Side}
 use Rattle.tcap_record.specs.declared.entry.End.TheVariants as sides
@@ -17,9 +17,9 @@ use Rattle.tcap_traces.specs.declared.said.Said.TheVariants as saids
 use Rattle.tcap_traces.specs.declared.said.Circumstances.{Circumstances}
 use Rattle.tcap_traces.specs.Verdict.{doubt_of, is_heard, passes, trace_verdict, verdict_asked, worse}
 
--- ---- what was heard of an ID
+-- ---- messages sent to an ID
 
--- A's Begin from 01, B's Continue from 02 to 01, B's End to 01, and A's to 02
+-- A's Begin from 01, B's Continue from 02 to 01, B's End to 01, and A's End to 02
 abbrev begins : Item
 begins = Sent sides.A (begin None None)
 
@@ -32,7 +32,7 @@ ends = Sent sides.B (end_to 1 None)
 abbrev ends_there : Item
 ends_there = Sent sides.A (end_to 2 None)
 
--- whether B sent something to 01 of A, in these entries
+-- whether B sent a message to A's ID 01 in these entries, since A's last Begin
 abbrev heard : List (Result Item Reason) → Bool
 heard items = is_heard sides.A (id 1) false items
 
@@ -43,19 +43,19 @@ nothing_is_heard = (refl, refl, refl)
 pub something_is_heard : (heard (Ok begins ∷ Ok answers ∷ []) ≡ true) × (heard (Ok ends ∷ Ok ends_there ∷ []) ≡ true)
 something_is_heard = (refl, refl)
 
--- What was heard of the transaction before counts no more.
+-- After another Begin of A, earlier messages do not count.
 pub begins_anew : (heard (Ok begins ∷ Ok ends ∷ Ok begins ∷ []) ≡ false)
     × (heard (Ok begins ∷ Ok begins ∷ Ok answers ∷ []) ≡ true)
 begins_anew = (refl, refl)
 
--- It is of one ID, and of one end.
+-- It depends on the ID, and on the end.
 pub of_another : (is_heard sides.A (id 2) false (Ok begins ∷ Ok answers ∷ []) ≡ false)
     × (is_heard sides.B (id 1) false (Ok begins ∷ Ok answers ∷ []) ≡ false)
 of_another = (refl, refl)
 
--- ---- what makes a blame inconclusive
+-- ---- doubts that make a blame inconclusive
 
--- that no ID came again, that each entry could be read, and so on
+-- a dialogue without any circumstance that makes a result inconclusive
 abbrev alone : Circumstances
 alone = record {
   again = false;
@@ -68,13 +68,15 @@ alone = record {
   «open» = false;
 }
 
+-- the doubt about a blame of this kind, for this entry of the items
 abbrev doubt : Table → Circumstances → Side → List Item → ℕ → Kind → Option Doubt
 doubt given c side items entry kind = doubt_of given c side (map entry_of items) (record { entry = entry; kind = kind })
 
 pub of_a_mark : doubt table alone sides.B (begins ∷ answers ∷ Item.Quiet ∷ []) 2 kinds.OpenAtMark ≡ Some doubts.AtMark
 of_a_mark = refl
 
--- A invokes an operation that the table lacks, and B answers it; where the table has it, that is no doubt.
+-- A invokes an operation that is not in the table, and B answers it. If the operation is in the table, there is no
+-- doubt.
 abbrev invoked : ℕ → List Item
 invoked code = Sent sides.A (begin None (Some (invoke code ∷ []))) ∷ Sent sides.B (end_to 1 (Some (result ∷ []))) ∷ []
 
@@ -83,20 +85,21 @@ pub of_an_operation : (doubt table alone sides.A (invoked 49) 0 kinds.WrongOpera
     × (doubt table alone sides.B (invoked 48) 1 kinds.WrongOperation ≡ None)
 of_an_operation = (refl, refl, refl)
 
--- A begins from 01 again: where B was silent, or ends are prearranged.
+-- A reuses ID 01: there is a doubt if B sent nothing to it, or if the table has prearranged end.
 pub of_an_id : (doubt table alone sides.A (begins ∷ begins ∷ []) 1 kinds.ReusedId ≡ Some doubts.MaybeOver)
     × (doubt table alone sides.A (begins ∷ answers ∷ begins ∷ []) 2 kinds.ReusedId ≡ None)
     × (doubt prearranged alone sides.A (begins ∷ answers ∷ begins ∷ []) 2 kinds.ReusedId ≡ Some doubts.MaybeOver)
 of_an_id = (refl, refl, refl)
 
--- An ID came again; an entry could not be read, from the one at fault on, or from the next.
+-- An earlier dialogue had one of the IDs; or an entry was unreadable, before the entry at fault or after it.
 abbrev unread : ℕ → Circumstances
 unread number = record alone { unread_from = Some number }
 
+-- the doubt about B's End to an unknown transaction ID
 abbrev to_nothing : Circumstances → Option Doubt
 to_nothing c = doubt table c sides.B (begins ∷ Sent sides.B (end_to 9 None) ∷ []) 1 kinds.UnknownTransaction
 
--- That the dialogue may have been under way counts before all others.
+-- The doubt that a dialogue began before its trace precedes all others.
 pub under_way : (to_nothing (record alone { under_way = true }) ≡ Some doubts.UnderWay)
     × (to_nothing (record (unread 1) { under_way = true; again = true }) ≡ Some doubts.UnderWay)
     × (doubt table (record alone { under_way = true }) sides.B (begins ∷ answers ∷ Item.Quiet ∷ []) 2 kinds.OpenAtMark
@@ -104,13 +107,13 @@ pub under_way : (to_nothing (record alone { under_way = true }) ≡ Some doubts.
     × (doubt table (record alone { under_way = true }) sides.A (invoked 49) 0 kinds.WrongOperation ≡ Some doubts.UnderWay)
 under_way = (refl, refl, refl, refl)
 
--- A quiet mark that came too early counts before all others, too.
+-- So does the doubt of an early quiet mark.
 pub early_mark : (to_nothing (record alone { early_mark = true; again = true }) ≡ Some doubts.EarlyMark)
     × (doubt table (record alone { early_mark = true }) sides.B (begins ∷ answers ∷ Item.Quiet ∷ []) 2 kinds.OpenAtMark
     ≡ Some doubts.EarlyMark)
 early_mark = (refl, refl)
 
--- A began the dialogue, and may have used its ID before: a doubt of B's fault, and none of A's.
+-- A began the dialogue, and may have used its ID before: a doubt about a fault of B, and not of A.
 pub used_before : (to_nothing (record alone { began = Some sides.A }) ≡ Some doubts.UsedBefore)
     × (to_nothing (record alone { began = Some sides.B }) ≡ None)
     × (to_nothing (record alone { began = Some sides.A; again = true }) ≡ Some doubts.CameAgain)

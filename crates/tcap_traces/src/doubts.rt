@@ -1,4 +1,4 @@
-//! What a blame rests on beside the end that is blamed.
+//! Finds what a blame depends on besides the end that is blamed.
 
 ghost use Rattle.std.specs.Prelude.{◌≡◌, IfOk, false, is_none, map, option_map, slice_get, take};
 ghost use Rattle.std.specs.List.{list_any};
@@ -23,14 +23,14 @@ use tcap_parts::{CodeView, ComponentView, ProblemView};
 use tcap_record::{Body, End, Entry, Record};
 use tcap_refute::{Kind, Refutation};
 
-/// The entry of that number.
+/// Returns the entry with this number.
 fn entry_at(read: &Record, number: u64) -> Option<&Entry>
     ensures { option_map (λ e. e.now) result ≡ slice_get read.now.entries.items number }
 {
     read.entries.get(number as usize)
 }
 
-/// The message of that entry, where it is one.
+/// Returns the message of this entry, if it is one.
 fn message_at(read: &Record, number: u64) -> Option<&Message>
     ensures { option_map (λ m. m.now) result ≡ message_at read.now.entries.items number }
 {
@@ -41,7 +41,7 @@ fn message_at(read: &Record, number: u64) -> Option<&Message>
     }
 }
 
-/// The entries before that number.
+/// Returns the entries before this number.
 fn entries_before(read: &Record, number: u64) -> &[Entry]
     ensures { result.now ≡ take number read.now.entries.items }
 {
@@ -49,14 +49,14 @@ fn entries_before(read: &Record, number: u64) -> &[Entry]
     &entries[..entries.len().min(number as usize)]
 }
 
-/// The component of that number.
+/// Returns the component with this number.
 fn component_at(message: &Message, number: Option<u64>) -> Option<ComponentView<'_>>
     ensures { option_map component_of result ≡ component_at number (components_in message.now) }
 {
     message.components().nth(number? as usize)
 }
 
-/// The component at fault.
+/// Returns the component at fault, if there is one. Fails if memory runs out.
 fn faulty_component<'a>(
     alloc: Global,
     read: &'a Record,
@@ -76,7 +76,7 @@ fn faulty_component<'a>(
     }
 }
 
-/// The ID of an Invoke of the peer that a component answers, or rejects, or is badly linked to.
+/// Returns the ID of an Invoke of the peer that a component answers, rejects or wrongly links to.
 fn heard_id(kind: Kind, component: ComponentView) -> Option<i8>
     ensures { result ≡ heard_id kind (component_of component.entry) }
 {
@@ -91,14 +91,14 @@ fn heard_id(kind: Kind, component: ComponentView) -> Option<i8>
     }
 }
 
-/// Whether the table lacks an operation.
+/// Returns whether an operation is not in the table.
 fn lacks(table: &Table, code: CodeView) -> bool
     ensures { result ≡ is_none (operation_of table.now (code_of code.entry)) }
 {
     table.class_of(code).is_none()
 }
 
-/// Whether a component is an Invoke of an operation that the table lacks.
+/// Returns whether a component is an Invoke of an operation that is not in the table.
 fn is_unknown_operation(table: &Table, component: ComponentView) -> bool
     ensures { result ≡ is_unknown_operation table.now (component_of component.entry) }
 {
@@ -108,7 +108,7 @@ fn is_unknown_operation(table: &Table, component: ComponentView) -> bool
     }
 }
 
-/// Whether it is one, of that ID.
+/// Returns whether a component is an Invoke with this ID of an operation that is not in the table.
 fn invokes_lacking(table: &Table, id: i8, component: ComponentView) -> bool
     ensures { result ≡ invokes_lacking table.now id (component_of component.entry) }
 {
@@ -122,7 +122,7 @@ fn invokes_lacking(table: &Table, id: i8, component: ComponentView) -> bool
     }
 }
 
-/// Whether one of a message's components is.
+/// Returns whether a message has an Invoke with this ID of an operation that is not in the table.
 fn has_lacking(table: &Table, id: i8, message: &Message) -> bool
     ensures { result ≡ list_any (invokes_lacking table.now id) (components_in message.now) }
 {
@@ -134,7 +134,7 @@ fn has_lacking(table: &Table, id: i8, message: &Message) -> bool
     false
 }
 
-/// Whether that end sent such a one in an entry.
+/// Returns whether the end sent, in this entry, an Invoke with this ID of an operation that is not in the table.
 fn sends_lacking(table: &Table, end: End, id: i8, entry: &Entry) -> bool
     ensures { result ≡ sends_lacking table.now end id (item_of entry.now) }
 {
@@ -144,7 +144,8 @@ fn sends_lacking(table: &Table, end: End, id: i8, entry: &Entry) -> bool
     }
 }
 
-/// Whether that end sent such a one in one of these entries.
+/// Returns whether the end sent, in one of these entries, an Invoke with this ID of an operation that is not in the
+/// table.
 fn some_sends_lacking(table: &Table, end: End, id: i8, before: &[Entry]) -> bool
     ensures { result ≡ list_any (sends_lacking table.now end id) (map item_of before.now) }
 {
@@ -156,7 +157,8 @@ fn some_sends_lacking(table: &Table, end: End, id: i8, before: &[Entry]) -> bool
     false
 }
 
-/// Whether the peer sent, in these entries, an Invoke of that ID of an operation that the table lacks.
+/// Returns whether the peer sent, in one of these entries, an Invoke with this ID of an operation that is not in the
+/// table.
 fn lacks_heard(table: &Table, end: End, before: &[Entry], id: Option<i8>) -> bool
     ensures { result ≡ lacks_heard table.now end id (map item_of before.now) }
 {
@@ -166,7 +168,8 @@ fn lacks_heard(table: &Table, end: End, before: &[Entry], id: Option<i8>) -> boo
     }
 }
 
-/// Whether what is at fault invokes an operation that the table lacks, or answers one.
+/// Returns whether the component at fault invokes an operation that is not in the table, or answers one. Fails if
+/// memory runs out.
 fn rests_on_lack(
     alloc: Global,
     read: &Record,
@@ -186,7 +189,7 @@ fn rests_on_lack(
     )
 }
 
-/// Whether there is an ID and it is that one.
+/// Returns whether there is an ID and it equals the other.
 fn is_that(found: Option<TransactionIdView>, id: TransactionIdView) -> bool
     ensures { result ≡ is_id id.entry.octets.now (id_of found.entry) }
 {
@@ -196,14 +199,15 @@ fn is_that(found: Option<TransactionIdView>, id: TransactionIdView) -> bool
     }
 }
 
-/// Whether a message is a Begin.
+/// Returns whether a message is a Begin.
 fn is_begin(message: &Message) -> bool
     ensures { result ≡ is_a forms.Begin message.now }
 {
     matches!(message, Message::Begin { .. })
 }
 
-/// Whether the peer sent something to an ID behind an entry, by whether it had before.
+/// Returns whether the peer has sent a message to this ID since the end's last Begin from it, after one more entry.
+/// `so` is the result before the entry.
 fn is_heard_with(end: End, id: TransactionIdView, so: bool, entry: &Entry) -> bool
     ensures { result ≡ is_heard_with end id.entry.octets.now so (item_of entry.now) }
 {
@@ -219,7 +223,8 @@ fn is_heard_with(end: End, id: TransactionIdView, so: bool, entry: &Entry) -> bo
     }
 }
 
-/// Whether the peer sent something to an ID since the end began a transaction from it, or, where it has not, at all.
+/// Returns whether the peer has sent a message to this ID since the end's last Begin from it, or at all if there was
+/// none.
 fn is_heard(end: End, id: TransactionIdView, before: &[Entry]) -> bool
     ensures { result ≡ is_heard end id.entry.octets.now false (map item_of before.now) }
 {
@@ -230,7 +235,7 @@ fn is_heard(end: End, id: TransactionIdView, before: &[Entry]) -> bool
     so
 }
 
-/// Whether there is an ID to which it sent nothing.
+/// Returns whether there is an ID to which the peer sent no message.
 fn is_silent(end: End, id: Option<TransactionIdView>, before: &[Entry]) -> bool
     ensures { result ≡ is_silent end (id_of id.entry) (map item_of before.now) }
 {
@@ -240,7 +245,7 @@ fn is_silent(end: End, id: Option<TransactionIdView>, before: &[Entry]) -> bool
     }
 }
 
-/// Whether it is a Begin whose ID is used already, of a transaction that may be over in silence.
+/// Returns whether a Begin reuses an ID (F3) whose transaction may be over without a message.
 fn may_be_over(read: &Record, table: &Table, end: End, at: Refutation) -> bool
     ensures { result ≡ may_be_over table.now end read.now.entries.items at }
 {
@@ -256,7 +261,7 @@ fn may_be_over(read: &Record, table: &Table, end: End, at: Refutation) -> bool
     }
 }
 
-/// Whether an entry is that one or behind it.
+/// Returns whether an entry is the first of these or a later one.
 fn is_from(first: Option<u64>, number: u64) -> bool
     ensures { result ≡ is_from first number }
 {
@@ -266,7 +271,7 @@ fn is_from(first: Option<u64>, number: u64) -> bool
     }
 }
 
-/// Returns whether the peer of an end began the dialogue, which began by a Begin of `began`.
+/// Returns whether the peer of an end began the dialogue, given the end whose Begin began it.
 fn is_begun_by_peer(began: Option<End>, end: End) -> bool
     ensures { result ≡ is_begun_by_peer began «end» }
 {
@@ -276,7 +281,8 @@ fn is_begun_by_peer(began: Option<End>, end: End) -> bool
     }
 }
 
-/// Whether a kind rests on what the table says of an operation: its class, whether it may expire, what may be linked to it.
+/// Returns whether a blame of this kind depends on what the table says of an operation: its class, whether it expires,
+/// or its linked operations.
 fn rests_on_table(kind: Kind) -> bool
     ensures { result ≡ rests_on_table kind }
 {
@@ -290,7 +296,7 @@ fn rests_on_table(kind: Kind) -> bool
     )
 }
 
-/// What makes a blame inconclusive, the first that is so. `AllocError` where memory ran out.
+/// Returns the first doubt that makes a blame inconclusive, if there is one. Fails if memory runs out.
 pub(crate) fn doubt_of(
     alloc: Global,
     read: &Record,

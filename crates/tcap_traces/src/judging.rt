@@ -1,4 +1,4 @@
-//! Judging a dialogue.
+//! Judges a dialogue.
 
 ghost use Rattle.std.specs.Prelude.{◌≡◌, ◌≤◌, drop, length, take, IfOk, OnOk};
 ghost use Rattle.std.specs.List.{list_any};
@@ -17,19 +17,19 @@ use tcap_faults::laws;
 use tcap_judge::{Ends as Found, Finding, blame_record};
 use tcap_record::{End, Entry, Record};
 
-/// What is said of both ends of a dialogue.
+/// The results for both ends of a dialogue.
 #[derive(Clone, Copy, Debug, PartialEq, Eq)]
 pub struct Ends {
-    /// Of A.
+    /// The result for A.
     pub a: Said,
-    /// Of B.
+    /// The result for B.
     pub b: Said,
 }
 
 impl Ends {
     ghost use Rattle.tcap_traces.specs.Asked.{said_at};
 
-    /// What is said of an end.
+    /// Returns the result for an end.
     pub fn of(self, end: End) -> Said
         ensures { result ≡ said_at end self }
     {
@@ -39,7 +39,7 @@ impl Ends {
         }
     }
 
-    /// The verdict on the dialogue: the worse one of the ends that are asked, of both where none is named.
+    /// Returns the verdict on the dialogue: that of the judged end, or the worse of both if `asked` is `None`.
     pub fn verdict(self, asked: Option<End>) -> Verdict
         ensures { result ≡ verdict_asked asked self.a self.b }
     {
@@ -51,7 +51,7 @@ impl Ends {
     }
 }
 
-/// That an end passes, but for what the bench asks beside.
+/// Returns the result for an end that may have sent its part: it passes, unless a circumstance makes it inconclusive.
 fn passes(circumstances: Circumstances, unheard: u64) -> Said
     ensures { result ≡ passes circumstances unheard }
 {
@@ -70,7 +70,7 @@ fn passes(circumstances: Circumstances, unheard: u64) -> Said
     }
 }
 
-/// Whether that end sent an entry.
+/// Returns whether the end sent this entry.
 fn is_of(end: End, entry: &Entry) -> bool
     ensures { result ≡ is_of end entry.now }
 {
@@ -80,7 +80,7 @@ fn is_of(end: End, entry: &Entry) -> bool
     }
 }
 
-/// Whether an entry of that end stands among these.
+/// Returns whether the end sent one of these entries.
 fn has_own(end: End, entries: &[Entry]) -> bool
     ensures { result ≡ list_any (is_of end) entries.now }
 {
@@ -92,7 +92,7 @@ fn has_own(end: End, entries: &[Entry]) -> bool
     false
 }
 
-/// The entries from that number on.
+/// Returns the entries from this number on.
 fn entries_from(read: &Record, number: usize) -> &[Entry]
     ensures { result.now ≡ drop number read.now.entries.items }
 {
@@ -100,7 +100,7 @@ fn entries_from(read: &Record, number: usize) -> &[Entry]
     &entries[entries.len().min(number)..]
 }
 
-/// What `blame` says of both ends of a record. `AllocError` where memory ran out.
+/// Returns the findings on both ends of a record. Fails if memory runs out.
 fn find_both(alloc: Global, read: &Record, table: &Table) -> Result<Found, AllocError>
     requires few { length read.now.entries.items ≤ 100000 }
     ensures found { IfOk result (λ found. (found.a ≡ finding table.now read.now.entries.items sides.A)
@@ -114,7 +114,8 @@ fn find_both(alloc: Global, read: &Record, table: &Table) -> Result<Found, Alloc
     }
 }
 
-/// What `blame` says of both ends of the entries before that number; all stay as they are.
+/// Returns the findings on both ends for the entries before this number, and leaves the record unchanged. Fails if
+/// memory runs out.
 fn find_before(
     alloc: Global,
     read: &mut Record,
@@ -134,7 +135,7 @@ fn find_before(
     Ok(found)
 }
 
-/// The same, where there is such a number.
+/// Returns the findings on both ends for the entries before this number, if there is one. Fails if memory runs out.
 fn found_before(
     alloc: Global,
     read: &mut Record,
@@ -157,7 +158,7 @@ fn found_before(
     }
 }
 
-/// The number of the first entry that is no message, where there is such and an end is not blamed for it or one before it.
+/// Returns the number of the first entry that is no message, if there is one and the end is not blamed.
 fn no_message_at(found: Finding, all: usize) -> Option<usize>
     ensures { result ≡ no_message_at found all }
 {
@@ -167,7 +168,7 @@ fn no_message_at(found: Finding, all: usize) -> Option<usize>
     }
 }
 
-/// The same, where one of both ends is not.
+/// Returns the number of the first entry that is no message, if there is one and at least one end is not blamed.
 fn no_message_of(found: Found, all: usize) -> Option<usize>
     ensures { result ≡ or_else (no_message_at found.a all) (no_message_at found.b all) }
 {
@@ -177,7 +178,8 @@ fn no_message_of(found: Found, all: usize) -> Option<usize>
     }
 }
 
-/// What is said of an end by what is found of the entries before one that is no message, of which nobody is blamed.
+/// Returns the result for an end on which nothing is blamed, by the finding on the entries before the first that is no
+/// message.
 fn said_before(
     read: &Record,
     circumstances: Circumstances,
@@ -199,7 +201,8 @@ fn said_before(
     }
 }
 
-/// What is said of an end by what is found of all entries, and of those before one that is no message.
+/// Returns the result for an end, by the finding on all entries, and by that on the entries before the first that is no
+/// message. Fails if memory runs out.
 fn said_by(
     alloc: Global,
     read: &Record,
@@ -222,8 +225,11 @@ fn said_by(
     }
 }
 
-/// What is said of both ends of a dialogue, whose entries are those of `read`, at most 100,000; which stay as they are.
-/// `AllocError` where memory ran out: then they may be fewer.
+/// Judges both ends of a dialogue, whose entries are those of `read`, at most 100,000. Leaves the entries unchanged.
+///
+/// # Errors
+///
+/// `AllocError` if memory runs out; `read` may then have fewer entries.
 pub fn judge_dialogue(
     alloc: Global,
     read: &mut Record,

@@ -1,4 +1,5 @@
-//! What is at fault in a dialogue, said of its trace. The function says by its contract alone what holds of the definitions.
+//! A law that carries a fault in a dialogue over to its trace. The function has an empty body, and its contract is the
+//! law.
 
 ghost use Rattle.std.specs.Prelude.{◌≡◌, ◌+◌, ℕ, true, false, List, Contains, map, take};
 ghost use Rattle.tcap_record.specs.declared.entry.End.{End as Side};
@@ -13,9 +14,12 @@ ghost use Rattle.tcap_refute.specs.declared.kind.Refutation.{Refutation};
 ghost use Rattle.tcap_faults.specs.AtFault.{IsAtFaultOf};
 ghost use Rattle.tcap_traces.specs.Shown.{IsFaultOfTrace};
 
-/// Who is at fault in a dialogue is at fault in its trace. In a segment of messages, no ID of this dialogue came again; its entries, up to the
-/// one that is at fault of an end, are its messages up to a place of the segment. Then an end that keeps the rules can't have sent its
-/// part of the segment up to that place, whatever its peer sent: neither where the segment begins the trace nor behind a quiet mark.
+/// Shows that an end at fault in a dialogue is at fault in its trace.
+///
+/// The dialogue belongs to a segment of messages, and no earlier dialogue of the segment had one of its IDs. Its
+/// entries, up to the one at fault, are its messages up to a place of the segment. Then no end that keeps the rules may
+/// have sent its part of the segment up to that place, no matter what its peer sent. This holds for a segment at the
+/// beginning of the trace and for one after a quiet mark.
 pub fn fault_of_dialogue_is_of_trace()
     ensures { (table : Table) (side : Side) (reuse : Reuse) (items : List Item) (headings : List Heading) (d : Course) (n : ℕ)
         (entries : List Entry) (r : Refutation) → has_quiet items ≡ false → map bare headings ≡ headings_of items

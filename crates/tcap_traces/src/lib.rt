@@ -1,4 +1,4 @@
-//! Traces of TCAP messages, judged dialogue by dialogue: what `tcapjudge test` says.
+//! Judges a dialogue of a trace of TCAP messages, for `tcapjudge test`.
 #![tactic(auto)]
 
 mod doubts;

@@ -1,4 +1,4 @@
-//! What is said of an end of a dialogue.
+//! The result for an end of a dialogue.
 
 ghost use Rattle.std.specs.Prelude.{◌≡◌};
 ghost use Rattle.tcap_traces.specs.Verdict.{verdict_of};
@@ -7,77 +7,84 @@ use crate::verdict::Verdict;
 use tcap_record::End;
 use tcap_refute::Refutation;
 
-/// What a blame rests on beside the end that is blamed, so that it is inconclusive.
+/// A reason why a blame is inconclusive: it depends on more than the end.
 #[derive(Clone, Copy, Debug, PartialEq, Eq)]
 pub enum Doubt {
-    /// The dialogue may have been under way before its trace, which then lacks its Begin.
+    /// The dialogue may have begun before its trace, which then lacks its Begin.
     UnderWay,
-    /// The quiet mark before the dialogue may have come too early: the dialogue goes on with IDs that were in use before it.
+    /// The quiet mark before the dialogue may have come too early: the dialogue has IDs that were in use before it.
     EarlyMark,
-    /// It is of a quiet mark: that all was quiet the bench said.
+    /// The blame is about a quiet mark, and only the bench says that all was quiet.
     AtMark,
-    /// It is of an operation that the table lacks, which is invoked or answered.
+    /// The entry at fault invokes or answers an operation that is not in the table.
     LackingOperation,
-    /// It is of an ID that is begun again, whose transaction may be over: its peer sent nothing to it, or ends are prearranged.
+    /// The blame is about a Begin that reuses an ID, whose transaction may be over: the peer sent nothing to it, or the
+    /// table has prearranged end.
     MaybeOver,
-    /// It is of what the table says of an operation, and it is not sure which table is the dialogue's.
+    /// The blame depends on what the table says of an operation, and the table may not be the dialogue's.
     UnsureTable,
-    /// An earlier dialogue of the stretch had one of the dialogue's IDs, and a message of it may have been under way.
+    /// An earlier dialogue of the segment had one of the dialogue's IDs, and a message of it may have been in transit.
     CameAgain,
-    /// The peer began the dialogue after the bench's word that dialogues may have been under way, and may have used its ID just before.
+    /// The peer began the dialogue after the bench said that dialogues may be under way, and may have used its ID just
+    /// before.
     UsedBefore,
-    /// Before it stands an entry of which nothing can be read, and which may have been one of this dialogue.
+    /// An unreadable entry comes before the entry at fault, and may belong to the dialogue.
     Unread,
 }
 
-/// What is said of an end of a dialogue.
+/// The result for an end of a dialogue.
 #[derive(Clone, Copy, Debug, PartialEq, Eq)]
 pub enum Said {
-    /// It may have sent its part, and so many messages of its peer are taken as unheard.
+    /// The end may have sent its part, with this many unheard messages of its peer.
     Pass(u64),
-    /// It broke the rules by that entry.
+    /// The end broke the rules in this entry.
     Fail(Refutation),
-    /// It broke them, if what the blame rests on is so.
+    /// The end broke the rules in this entry, unless the doubt is justified.
     Doubtful(Refutation, Doubt),
-    /// No run was found in which it keeps the rules, and none of its entries is blamed.
+    /// No run was found in which the end keeps the rules, and none of its entries is blamed.
     Undecided,
-    /// It may have sent its part before that entry, which is no message and stands before others of its own or is one.
+    /// The end may have sent its part before this entry. The entry is no message, and the end sent it or a later entry.
     Behind(u64),
-    /// It may have sent its part of the entries, and the dialogue may have been under way before its trace, which then lacks its Begin.
+    /// The end may have sent its part of the entries, but the dialogue may have begun before its trace, which then
+    /// lacks its Begin.
     UnderWay,
-    /// It may have sent its part of the entries, and the quiet mark before the dialogue may have come too early.
+    /// The end may have sent its part of the entries, but the quiet mark before the dialogue may have come too early.
     EarlyMark,
-    /// The dialogue has more entries than are judged, and those that are judged may have been sent.
+    /// The end may have sent its part of the entries that are judged, but the dialogue has more.
     TooLong,
-    /// It may have sent its part by one table, and it is not sure which table is the dialogue's.
+    /// The end may have sent its part by one table, but the table may not be the dialogue's.
     UnsureTable,
-    /// It may have sent its part, and the dialogue is open at the end of its trace, where it was to be complete.
+    /// The end may have sent its part, but the dialogue should be complete and is still open at the end of its trace.
     Open,
 }
 
-/// What is known of a dialogue beside its entries.
+/// The circumstances of a dialogue, besides its entries.
 #[derive(Clone, Copy, Debug, PartialEq, Eq)]
 pub struct Circumstances {
-    /// An ID of it came again, and something of its earlier use may have been under way.
+    /// Whether an earlier dialogue had one of this dialogue's IDs, and a message of the earlier one may have been in
+    /// transit.
     pub again: bool,
-    /// It may have been under way before its trace: its first message goes to an ID that was never sent.
+    /// Whether the dialogue may have begun before its trace: its first message goes to an ID that no message came from.
     pub under_way: bool,
-    /// The quiet mark before it may have come too early: it goes on with IDs that were in use before that mark.
+    /// Whether the quiet mark before the dialogue may have come too early: the dialogue has IDs that were in use before
+    /// that mark.
     pub early_mark: bool,
-    /// The end whose Begin began it after the bench's word that dialogues may have been under way, unless IDs have settled.
+    /// The end whose Begin began the dialogue after the bench said that dialogues may be under way, unless IDs have
+    /// settled.
     pub began: Option<End>,
-    /// It is judged by one table, and it is not sure that this is its own.
+    /// Whether the dialogue is judged by one table that may not be its own.
     pub unsure: bool,
-    /// The number of the first of its entries from which on one that could not be read may have been one of this dialogue.
+    /// The number of the first entry of the dialogue that comes after an unreadable entry which may belong to the
+    /// dialogue.
     pub unread_from: Option<u64>,
-    /// It has more entries than are judged.
+    /// Whether the dialogue has more entries than are judged.
     pub cut: bool,
-    /// It is open, and was to be complete.
+    /// Whether the dialogue is open, but should be complete.
     pub open: bool,
 }
 
 impl Said {
-    /// The verdict on the end.
+    /// Returns the verdict on the end.
     pub fn verdict(self) -> Verdict
         ensures { result ≡ verdict_of self }
     {

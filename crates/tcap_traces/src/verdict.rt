@@ -3,21 +3,21 @@
 ghost use Rattle.std.specs.Prelude.{◌≡◌};
 ghost use Rattle.tcap_traces.specs.Verdict.{rank, status_of, trace_verdict, word_of, worse};
 
-/// The verdict on an end, a dialogue, a trace or all of them, from the best to the worst.
+/// The verdict on an end, a dialogue, a trace or a run, from best to worst.
 #[derive(Clone, Copy, Debug, PartialEq, Eq)]
 pub enum Verdict {
-    /// Each end that is asked may have sent its part.
+    /// Each judged end may have sent its part.
     Pass,
-    /// It is neither shown that it may have, nor that it may not; or what shows that rests on what the bench said.
+    /// Neither a pass nor a failure is shown; or a failure depends on the bench's statements.
     Inconclusive,
-    /// An end that is asked broke the rules.
+    /// A judged end broke the rules.
     Fail,
     /// There is nothing to judge: a file, a line or a table has a fault, or a trace has no message.
     Error,
 }
 
 impl Verdict {
-    /// How bad it is, from 0.
+    /// Returns the rank of a verdict, from 0 for the best.
     fn rank(self) -> u8
         ensures { result ≡ rank self }
     {
@@ -29,7 +29,7 @@ impl Verdict {
         }
     }
 
-    /// The worse of two.
+    /// Returns the worse of two verdicts.
     pub fn worse(self, other: Verdict) -> Verdict
         ensures { result ≡ worse self other }
     {
@@ -40,7 +40,8 @@ impl Verdict {
         }
     }
 
-    /// The exit status of a run of which this is the worst: 0 pass, 1 fail, 2 inconclusive, 3 error.
+    /// Returns the exit status of a run whose worst verdict this is: 0 for pass, 1 for fail, 2 for inconclusive, 3 for
+    /// error.
     pub fn status(self) -> u8
         ensures { result ≡ status_of self }
     {
@@ -52,7 +53,7 @@ impl Verdict {
         }
     }
 
-    /// Its word.
+    /// Returns the word for a verdict.
     pub fn word(self) -> &'static str
         ensures { result.now ≡ word_of self }
     {
@@ -65,8 +66,8 @@ impl Verdict {
     }
 }
 
-/// The verdict on a trace with so many entries of which a kind can be read, by the worst of its dialogues: an error where its form has a
-/// fault, or where it has no such entry.
+/// Returns the verdict on a trace, by the worst of its dialogues and the number of entries with a readable tag. It is
+/// an error if the trace has a fault of form, or no such entry.
 pub fn trace_verdict(is_faulty: bool, readable: u64, worst: Verdict) -> Verdict
     ensures { result ≡ trace_verdict is_faulty readable worst }
 {

@@ -1,4 +1,4 @@
--- the digits of the number so far, and what is left, are the digits at first and all octets
+-- the digits of the number so far, with the rest, are all digits and octets
 use Rattle.std.proofs.Common.{◌≡◌, ◌<◌, ◌≤◌, ◌++◌, decimal, length}
 use Rattle.tcap_certificate.specs.Certificate.{number_limit}
 use Rattle.tcap_certificate_text.proofs.compact_reading.more_digits.Given as goal

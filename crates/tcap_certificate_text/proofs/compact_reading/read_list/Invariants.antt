@@ -1,4 +1,4 @@
--- the parts so far, with a comma behind each, and what is left
+-- the items so far, each with a comma, and the rest
 use Rattle.std.proofs.Common.{◌≡◌, ◌++◌, ◌∷◌, length}
 use Rattle.std.specs.List.{AllByRecursion}
 use Rattle.tcap_certificate_text.proofs.CompactLaws.{led}

@@ -4,7 +4,7 @@ use Rattle.tcap_end.specs.TableText.{has_only}
 use Rattle.tcap_end.proofs.TableLaws.{are_keys}
 use Rattle.tcap_certificate_text.proofs.text.has_only.Given as goal
 
--- what is left decides
+-- All keys so far are among these, so the rest decides.
 abbrev pub invariant-loop-key : goal.invariant-loop-key
 invariant-loop-key l = record {
   can : (goal.iterator-loop-key).can_next l.key-iterator;

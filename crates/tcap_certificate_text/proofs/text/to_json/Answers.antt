@@ -4,7 +4,7 @@ use Rattle.tcap_certificate_text.specs.CertificateText.{certificate_data}
 use Rattle.tcap_certificate_text.proofs.CertificateTextLaws.{text_read, text_written}
 use Rattle.tcap_certificate_text.proofs.text.to_json.Goals as goal
 
--- the value is the one that is written for the certificate
+-- the value is the one written for the certificate
 is_value : (c : goal.Joined-branch-2) → view c.in_ok-certificate_value.field-0 ≡ certificate_data c.args.certificate.now
 is_value c = rw (c.fates-fates.ensures.lends, c.expiries.ensures, c.closings.ensures) at c.in_ok-certificate_value.ensures
 

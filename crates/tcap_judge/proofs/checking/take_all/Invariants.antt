@@ -1,4 +1,4 @@
--- what the reader told was taken, the checker took its entries, and nothing is wrong with it
+-- the octets returned so far are taken, with their entries, without a fault
 use Rattle.std.proofs.Common.{◌≡◌, ℕ, ◌+◌, ◌-◌, ◌^◌, Option, None, List, [], length}
 use Rattle.std.specs.Io.KnownBytes.{Consumes}
 use Rattle.tcap_record.specs.declared.entry.End.{End as Side}

@@ -1,4 +1,4 @@
--- what was taken of the piece, and the entries of it, which the checker took
+-- part of the piece is taken, with its entries
 use Rattle.std.proofs.Common.{◌≡◌, ℕ, ◌+◌, ◌≤◌, length, take, drop}
 use Rattle.tcap_record.specs.Held.{IsHeld}
 use Rattle.tcap_judge.specs.Judging.{Leads}

@@ -1,4 +1,4 @@
--- So many are lost of what was looked at, and what is left decides.
+-- The count so far, and that of the rest, make the whole.
 use Rattle.std.proofs.Common.{◌≡◌, ◌≤◌, ◌+◌, length}
 use Rattle.tcap_judge.specs.EachEnd.{lost_of}
 use Rattle.tcap_judge.proofs.each_end.count_lost.Given as goal

@@ -1,4 +1,4 @@
--- So many entries were items, and what is left decides.
+-- All entries so far are items, and the rest decides.
 use Rattle.std.proofs.Common.{◌≡◌, ◌+◌, map, drop}
 use Rattle.tcap_model.specs.Entries.{item_of}
 use Rattle.tcap_judge.specs.Blamed.{items_before}

@@ -1,4 +1,4 @@
--- the text is what the reader told, and it isn't longer than the limit; a piece has its length
+-- the text is what the reader returned so far, within the limit
 use Rattle.std.proofs.Common.{◌≡◌, ◌-◌, ◌≤◌, length, vec_len}
 use Rattle.std.specs.Io.KnownBytes.{Consumes}
 use Rattle.tcap_judge.specs.Text.{piece_limit}

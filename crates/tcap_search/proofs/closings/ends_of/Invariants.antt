@@ -1,4 +1,4 @@
--- what is noted of the entries so far
+-- the numbers noted for the entries so far
 use Rattle.tcap_search.proofs.EndedLaws.{Ended}
 use Rattle.tcap_search.proofs.closings.ends_of.Given as goal
 

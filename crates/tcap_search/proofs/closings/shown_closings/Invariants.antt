@@ -1,4 +1,4 @@
--- what the ties so far list, and what those that are left add to it
+-- the list so far, to which the rest of the ties add the rest
 use Rattle.std.proofs.Common.{length}
 use Rattle.tcap_search.specs.Lines.{lines_of}
 use Rattle.tcap_search.specs.Proposed.{fated}

@@ -1,4 +1,4 @@
--- what is noted of the entries so far
+-- the gaps noted for the entries so far
 use Rattle.tcap_search.proofs.ToldLaws.{Told}
 use Rattle.tcap_search.proofs.closings.told_of.Given as goal
 

@@ -4,7 +4,7 @@ use Rattle.tcap_search.proofs.EachLaws.{IsBefore}
 use Rattle.tcap_search.proofs.StretchLaws.{has_mark}
 use Rattle.tcap_search.proofs.each.each_in.Given as goal
 
--- Each was found before the stretch that is under way.
+-- Each certificate is that before the present segment.
 abbrev pub invariant-loop-number : goal.invariant-loop-number
 invariant-loop-number l = record {
   begun : l.first ≤ l.number;

@@ -1,4 +1,4 @@
--- One empty list more.
+-- One more empty list.
 use Rattle.std.proofs.Common.{arith, length-append}
 use Rattle.tcap_search.proofs.ListedLaws.{one_more_empty}
 use Rattle.tcap_search.proofs.expiries.empty_lists.Goals as goal

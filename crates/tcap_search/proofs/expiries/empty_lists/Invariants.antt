@@ -1,4 +1,4 @@
--- so many empty lists
+-- the lists so far are empty
 use Rattle.std.proofs.Common.{◌≡◌, ℕ, [], length}
 use Rattle.tcap_search.specs.Due.{due_at}
 use Rattle.tcap_search.proofs.expiries.empty_lists.Given as goal

@@ -1,4 +1,4 @@
--- none of the components so far
+-- no component so far
 use Rattle.std.proofs.Common.{◌≡◌, false, take}
 use Rattle.std.specs.List.{list_any}
 use Rattle.tcap_search.specs.Rejected.{rejects}

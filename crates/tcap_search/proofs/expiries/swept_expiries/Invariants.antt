@@ -1,4 +1,4 @@
--- what the sweep keeps, and what is listed, behind the entries so far
+-- the sweep and the list after the entries so far
 use Rattle.std.proofs.Common.{◌≡◌, ℕ, ℤ, Bool, [], take}
 use Rattle.tcap_record.specs.declared.entry.End.{End as Side}
 use Rattle.tcap_search.specs.Lines.{lines_of}

@@ -1,4 +1,4 @@
--- The fates behind each rule.
+-- The fates after each rule.
 use Rattle.std.proofs.Common.{◌≡◌, List, drop, length, map, sym, ap, arith, ◌∙◌}
 use Rattle.std.proofs.lemmas.List.{length-map, take_at}
 use Rattle.tcap_certificate.specs.declared.certificate.Fate.{Fate}

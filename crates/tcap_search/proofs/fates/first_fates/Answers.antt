@@ -1,4 +1,4 @@
--- One entry more.
+-- One more entry.
 use Rattle.std.proofs.Common.{◌≡◌, map, ap, ◌∙◌, arith}
 use Rattle.tcap_search.specs.Lines.{lines_of}
 use Rattle.tcap_search.specs.Proposed.{fate_of, reply_of}

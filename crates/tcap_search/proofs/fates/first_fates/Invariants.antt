@@ -1,4 +1,4 @@
--- the fates of the entries so far, and what the replies to them raise
+-- the fates of the entries so far, and the gaps raised by their replies
 use Rattle.std.proofs.Common.{◌≡◌, map, take}
 use Rattle.tcap_record.specs.declared.entry.End.{End as Side}
 use Rattle.tcap_search.specs.Lines.{lines_of}

@@ -1,4 +1,4 @@
--- One entry more.
+-- One more entry.
 use Rattle.std.proofs.Common.{ap, ◌∙◌, arith}
 use Rattle.tcap_search.specs.Fates.{gap_behind_last}
 use Rattle.tcap_search.proofs.FateSteps.{all_lines, gap_step}

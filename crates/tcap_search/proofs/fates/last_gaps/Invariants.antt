@@ -1,4 +1,4 @@
--- the gaps behind the last entries so far
+-- the gaps after the last entries so far
 use Rattle.std.proofs.Common.{◌≡◌, ◌<◌, ℕ, length, take}
 use Rattle.tcap_record.specs.declared.entry.End.{End as Side}
 use Rattle.tcap_search.specs.Lines.{lines_of}

@@ -1,4 +1,4 @@
--- One entry more, from the last on.
+-- One more entry, from the last on.
 use Rattle.std.proofs.Common.{◌≡◌, ◌+◌, ◌-◌, ◌<◌, length, take, sym, ◌∙◌, arith}
 use Rattle.std.proofs.lemmas.List.{append-nil, take_all}
 use Rattle.tcap_search.proofs.FateSteps.{least_step, losses_start, losses_step}

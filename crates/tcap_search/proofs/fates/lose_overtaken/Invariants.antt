@@ -1,4 +1,4 @@
--- what is lost of the entries from there on, and the least times of the others
+-- the fates after losses from here on, and their least times
 use Rattle.std.proofs.Common.{◌≡◌, ◌++◌, map, take, drop}
 use Rattle.tcap_record.specs.declared.entry.End.{End as Side}
 use Rattle.tcap_search.specs.Lines.{lines_of}

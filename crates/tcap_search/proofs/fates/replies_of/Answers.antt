@@ -1,4 +1,4 @@
--- One tie more.
+-- One more tie.
 use Rattle.std.proofs.Common.{◌∙◌, arith}
 use Rattle.tcap_search.proofs.FateSteps.{reply_step}
 use Rattle.tcap_search.proofs.fates.replies_of.Goals as goal

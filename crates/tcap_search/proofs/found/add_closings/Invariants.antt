@@ -1,4 +1,4 @@
--- what was added so far
+-- the closings so far
 use Rattle.std.proofs.Common.{◌≡◌, ◌++◌, map, take}
 use Rattle.tcap_search.specs.Proposed.{closing_behind}
 use Rattle.tcap_search.proofs.found.add_closings.Given as goal

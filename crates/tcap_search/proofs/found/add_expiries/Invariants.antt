@@ -1,4 +1,4 @@
--- what was added so far
+-- the expiries so far
 use Rattle.std.proofs.Common.{◌≡◌, ◌++◌, map, take}
 use Rattle.tcap_search.specs.Proposed.{expiry_behind}
 use Rattle.tcap_search.proofs.found.add_expiries.Given as goal

@@ -1,4 +1,4 @@
--- what was added so far
+-- the fates so far
 use Rattle.std.proofs.Common.{◌≡◌, ◌++◌, map, take}
 use Rattle.tcap_search.specs.Proposed.{fate_behind}
 use Rattle.tcap_search.proofs.found.add_fates.Given as goal

@@ -1,4 +1,4 @@
--- what is kept of the entries so far, and their transactions
+-- the map and the transactions of the entries so far
 use Rattle.tcap_search.proofs.LatestLaws.{Noted}
 use Rattle.tcap_search.proofs.lines.transactions_of.Given as goal
 

@@ -3,7 +3,7 @@ use Rattle.tcap_search.specs.Proposed.{of_stretches, proposed_by, stretches, the
 use Rattle.tcap_search.proofs.StretchLaws.{has_mark}
 use Rattle.tcap_search.proofs.searching.found_in.Given as goal
 
--- what was found, and then what is proposed from the stretch on that is under way, is what is proposed
+-- the certificate found, with that proposed from the present segment on, is the whole
 abbrev pub invariant-loop-number : goal.invariant-loop-number
 invariant-loop-number l = record {
   count : length l.found.fates ≡ l.first;

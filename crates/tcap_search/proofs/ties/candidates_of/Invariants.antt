@@ -1,4 +1,4 @@
--- what is kept of the entries so far
+-- the candidates of the entries so far
 use Rattle.tcap_search.proofs.TieLaws.{Collected}
 use Rattle.tcap_search.proofs.ties.candidates_of.Given as goal
 

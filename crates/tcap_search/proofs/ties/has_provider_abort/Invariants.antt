@@ -1,4 +1,4 @@
--- none of the entries so far
+-- no entry so far
 use Rattle.std.proofs.Common.{◌≡◌, false, take}
 use Rattle.std.specs.List.{list_any}
 use Rattle.tcap_search.specs.Aborts.{aborts_by_provider}

@@ -1,4 +1,4 @@
--- the ties of the entries from that number on, and what is kept of those before
+-- the ties from this number on, and the candidates before
 use Rattle.tcap_search.proofs.TieLaws.{Tied}
 use Rattle.tcap_search.proofs.ties.traced_ties.Given as goal
 

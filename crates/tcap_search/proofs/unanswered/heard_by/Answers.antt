@@ -1,4 +1,4 @@
--- One entry more.
+-- One more entry.
 use Rattle.std.proofs.Common.{◌∙◌, arith}
 use Rattle.tcap_search.proofs.UnansweredLaws.{heard_all, heard_step}
 use Rattle.tcap_search.proofs.unanswered.heard_by.Goals as goal

@@ -1,4 +1,4 @@
--- Of those that are left one is so where one of all is.
+-- No component so far fits, so the rest decides.
 use Rattle.std.proofs.Common.{◌≡◌}
 use Rattle.std.specs.List.{list_any}
 use Rattle.tcap_parts.specs.Meaning.{components_left}

@@ -1,4 +1,4 @@
--- What is left decides, by whether it is so now.
+-- The result so far and the rest decide.
 use Rattle.std.proofs.Common.{◌≡◌, false, drop, map}
 use Rattle.tcap_model.specs.Entries.{item_of}
 use Rattle.tcap_traces.specs.Verdict.{is_heard}

@@ -1,4 +1,4 @@
--- The entries before that number are those that split_off leaves.
+-- `split_off` leaves the entries before this number.
 use Rattle.std.proofs.Common.{◌≡◌, ◌∙◌, ap, arith, length, min, rules, take}
 use Rattle.std.proofs.lemmas.List.{take_min}
 use Rattle.tcap_traces.proofs.judging.find_before.Goals as goal

@@ -1,4 +1,4 @@
--- Of those that are left one is so where one of all is.
+-- No entry so far fits, so the rest decides.
 use Rattle.std.proofs.Common.{◌≡◌, drop}
 use Rattle.std.specs.List.{list_any}
 use Rattle.tcap_traces.specs.Verdict.{is_of}

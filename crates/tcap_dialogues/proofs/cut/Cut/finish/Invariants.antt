@@ -1,4 +1,4 @@
--- What stands for the dialogues so far is handed over.
+-- The dialogues so far are handed over.
 use Rattle.std.proofs.Common.{◌≡◌, ◌++◌, List}
 use Rattle.tcap_dialogues.specs.declared.gathered.Gathered.{Gathered}
 use Rattle.tcap_dialogues.proofs.FinishLaws.{Stand}

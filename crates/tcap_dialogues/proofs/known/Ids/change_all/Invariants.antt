@@ -1,4 +1,4 @@
--- The IDs so far changed.
+-- The IDs so far are changed.
 use Rattle.std.proofs.Common.{map}
 use Rattle.tcap_dialogues.proofs.KnownLaws.{Changes, is_one}
 use Rattle.tcap_dialogues.proofs.known.Ids.change_all.Given as goal

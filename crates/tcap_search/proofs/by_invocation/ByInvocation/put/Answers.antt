@@ -1,4 +1,4 @@
--- Two keys are one where their transactions, their ends and their IDs are.
+-- Keys are equal if their parts are.
 use Rattle.std.proofs.Common.{Bool, Some, SFits, ap, cond, rules, to_z-of_z, w8, ◌∙◌}
 use Rattle.tcap_search.specs.ByInvocation.{kept_at, key_of}
 use Rattle.tcap_search.proofs.KeyLaws.{same_key}

@@ -1,4 +1,4 @@
--- The invocation was not listed, or it was.
+-- The invocation is new, or listed already.
 use Rattle.std.proofs.Common.{◌≡◌, true, false, sym, ◌∙◌}
 use Rattle.std.proofs.lemmas.Bool.{not-false, not-true}
 use Rattle.std.specs.List.{list_any}

@@ -1,4 +1,4 @@
--- what is left adds the rest
+-- The rest of the components add the rest.
 use Rattle.std.proofs.Common.{◌≡◌, drop}
 use Rattle.tcap_search.specs.Listed.{IsListed, all_rejected}
 use Rattle.tcap_search.specs.Sweep.{answer_rejected}

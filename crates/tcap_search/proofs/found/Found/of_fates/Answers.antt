@@ -1,4 +1,4 @@
--- What is found of a stretch is its certificate, which fits.
+-- The certificate found for a segment is the proposed one, within the limits.
 use Rattle.std.proofs.Common.{refl, ◌∙◌}
 use Rattle.tcap_search.proofs.FoundLaws.{closings_are, expiries_are, in_order, stretch_is}
 use Rattle.tcap_search.proofs.LimitLaws.{closings_small, expiries_small, fates_small}

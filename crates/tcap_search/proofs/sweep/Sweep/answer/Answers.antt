@@ -1,4 +1,4 @@
--- The map of the Return Results, or of the Return Errors.
+-- The map of Return Results, or of Return Errors.
 use Rattle.std.proofs.Common.{Bool, SFits, ap, rules, sym, to_z-of_z, w8, ◌∙◌}
 use Rattle.tcap_search.specs.Sweep.{answer_kept}
 use Rattle.tcap_search.proofs.sweep.Sweep.answer.Goals as goal

@@ -1,4 +1,4 @@
--- Neither map has a value.
+-- Both maps are empty.
 use Rattle.std.proofs.Common.{◌≡◌, ℕ, ℤ, Bool, true, false, None}
 use Rattle.tcap_record.specs.declared.entry.End.{End as Side}
 use Rattle.tcap_search.specs.Sweep.{answer_kept}

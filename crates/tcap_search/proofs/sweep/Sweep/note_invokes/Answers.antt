@@ -1,4 +1,4 @@
--- One component more.
+-- One more component.
 use Rattle.std.proofs.Common.{◌==◌, ◌&&◌, ◌+◌, drop, ap, ◌∙◌}
 use Rattle.tcap_model.specs.World.{is_side}
 use Rattle.tcap_search.specs.Proposed.{last_invoke}

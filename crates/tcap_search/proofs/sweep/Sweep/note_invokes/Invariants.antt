@@ -1,4 +1,4 @@
--- the Invokes so far, with those of what is left
+-- the Invokes so far, with those of the rest
 use Rattle.std.proofs.Common.{◌≡◌, ◌==◌, ◌&&◌, ℕ, ℤ, drop}
 use Rattle.std.specs.Prelude.{option_map}
 use Rattle.tcap_record.specs.declared.entry.End.{End as Side}

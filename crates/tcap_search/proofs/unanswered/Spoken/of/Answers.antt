@@ -1,4 +1,4 @@
--- One entry more.
+-- One more entry.
 use Rattle.tcap_search.proofs.UnansweredLaws.{spoken_more}
 use Rattle.tcap_search.proofs.unanswered.Spoken.of.Goals as goal
 
