@@ -1,4 +1,4 @@
--- Members that are put into a map one after the other, some of them left out.
+-- Members put into a map one by one, with some left out.
 use Rattle.std.proofs.Common.{◌≡◌, ℕ, Bool, true, false, cond, List, [], ◌∷◌, ◌++◌, Less, Greater, map, string_bytes, string_cmp, nat_cmp, refl, ap, ◌∙◌}
 use Rattle.std.proofs.lemmas.Cmp.{nat_list_cmp_total}
 use Rattle.std.specs.Cmp.Lexicographic.{slice_cmp}
@@ -16,7 +16,7 @@ below_middle : (first : Entry) (es : List Entry) (e : Entry) (more : List Entry)
 below_middle first [] e more h = h.0
 below_middle first (x ∷ es) e more h = below_middle first es e more h.1
 
--- a key above one that is kept, or not, goes behind it
+-- a key above one that may be left out goes after it
 put_behind : (b : Bool) (k l : List ℕ) (d e : Data) (ms ns : Members) → slice_cmp nat_cmp k l ≡ Greater → put k d ms ≡ ns
     → put k d (cond b ms (member l e ms)) ≡ cond b ns (member l e ns)
 put_behind true k l d e ms ns above is = is

@@ -1,4 +1,4 @@
--- Reading the data of a book, part by part.
+-- How each part of a book is read from JSON data.
 use Rattle.std.proofs.Common.{◌≡◌, ℕ, ◌<◌, ◌≤◌, ◌↔◌, ◌⊎◌, inl, inr, true, false, List, [], ◌∷◌, length, Some, None, Result, Ok, Err, suc, ◌≢◌, ◌==◌, is_some, is_ok, unwrap_or, le-leb, true≢false, refl, sym, ap, ◌∙◌, arith}
 use Rattle.std.proofs.lemmas.Bool.{lt-leb}
 use Rattle.std.proofs.lemmas.Bool.Decides.{eqb_tells}
@@ -102,7 +102,7 @@ module _ (octets : List ℕ) (table : Table) where
   none never (inl (e, other, is)) = never e other
   none never (inr (other, is)) = true≢false (ap is_ok is)
 
-  -- a text without tables is a book exactly where it is a table
+  -- a text without "tables" is a book exactly if it is a table
   pub plain_law : (r : Result (List NamedTable) BookFault) → IsPlain octets → IsBookOf octets r
       → (r ≡ Ok (plain table ∷ [])) ↔ IsTableOf octets (Ok table)
   plain_law r bare (inl (d, json, is)) =

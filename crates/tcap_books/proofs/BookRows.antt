@@ -1,9 +1,9 @@
--- Worked books, computed on the definitions: which table is that of a dialogue, and the names of operations.
+-- Test vectors, computed on the definitions: the table of a dialogue, and the names of operations.
 use Rattle.std.proofs.Common.{◌≡◌, ℕ, pos, false, List, [], ◌∷◌, Some, None, refl}
 use Rattle.tcap_parts.specs.declared.code.Code.TheVariants.{Local, Global}
 use Rattle.tcap_books.specs.Book.{NamedTable, clash, name_of, table_of}
 
--- a table that is told by its one octet of a name, with these contexts
+-- a table with these contexts, whose name is one octet
 abbrev with_contexts : ℕ → List (List ℕ) → NamedTable
 with_contexts name contexts =
     record { name = Some (name ∷ []); contexts = contexts; table = record { operations = []; prearranged = false }; names = [] }
@@ -23,7 +23,7 @@ any = with_contexts 4 []
 abbrev other : NamedTable
 other = with_contexts 5 []
 
--- the longest beginning, wherever it stands; the first of two that have it
+-- the longest prefix, wherever it is in the list, and the first of two tables that have it
 pub longest : table_of (short ∷ long ∷ again ∷ any ∷ []) (Some (4 ∷ 0 ∷ 0 ∷ 1 ∷ [])) ≡ Some long
 longest = refl
 
@@ -33,18 +33,18 @@ longest_first = refl
 pub shorter : table_of (short ∷ long ∷ again ∷ any ∷ []) (Some (4 ∷ 0 ∷ 1 ∷ [])) ≡ Some short
 shorter = refl
 
--- a context that is longer than the one asked for is no beginning of it, and a table without contexts has none
+-- a context longer than the requested one is not a prefix of it, and a table without contexts has no prefix
 pub no_context_fits : table_of (long ∷ any ∷ []) (Some (4 ∷ 0 ∷ [])) ≡ None
 no_context_fits = refl
 
--- without a context, the first table that has none
+-- without a context, the first table without contexts
 pub without : table_of (short ∷ any ∷ other ∷ []) None ≡ Some any
 without = refl
 
 pub none_without : table_of (short ∷ long ∷ []) None ≡ None
 none_without = refl
 
--- one table alone
+-- a single table
 pub alone : table_of (any ∷ []) (Some (4 ∷ [])) ≡ Some any
 alone = refl
 
@@ -68,9 +68,10 @@ global_name = refl
 pub no_name : name_of named (Local (pos 42)) ≡ None
 no_name = refl
 
--- ---- two tables with one context
+-- ---- two tables with a context in common
 
--- the first table that shares a context with a later one, and the first such; contexts that begin alike are two
+-- the first table that shares a context with a later one, and the first such; a common prefix of contexts does not
+-- count
 pub two_share : clash (short ∷ long ∷ any ∷ again ∷ again ∷ []) ≡ Some (1, 3)
 two_share = refl
 
@@ -80,6 +81,6 @@ first_shares = refl
 pub none_share : clash (short ∷ long ∷ any ∷ any ∷ []) ≡ None
 none_share = refl
 
--- one table that has a context twice
+-- one table with the same context twice
 pub twice_in_one : clash (with_contexts 1 ((4 ∷ []) ∷ (4 ∷ []) ∷ []) ∷ any ∷ []) ≡ None
 twice_in_one = refl

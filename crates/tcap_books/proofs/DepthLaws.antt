@@ -1,4 +1,4 @@
--- How deep what is read of a book nests: no deeper than the book.
+-- The parts of a book nest no deeper than the book.
 use Rattle.std.proofs.Common.{◌≡◌, ℕ, ◌≤◌, Bool, true, false, cond, List, Option, Some, Ordering, Less, Equal, Greater, nat_cmp, is_some, unwrap_or, true≢false, codes, sym, ap, subst, arith}
 use Rattle.std.specs.Ordering.{match_ordering}
 use Rattle.std.specs.Cmp.Lexicographic.{slice_cmp}
@@ -42,7 +42,7 @@ either_depth : (b : Bool) (d : Data) → depth (cond b (bare_rows d) d) ≤ dept
 either_depth true d = list_depth d
 either_depth false d = omega arith
 
--- a table without what only a book has nests no deeper
+-- a bare table nests no deeper
 pub bare_depth : (d : Data) → depth (bare_table d) ≤ depth d
 bare_depth null = omega arith
 bare_depth (boolean b) = omega arith
@@ -61,7 +61,7 @@ get_member_depth : (k : List ℕ) (ms : Members) (x : Data) → get_member k ms 
 get_member_depth k no_members x is = absurd (true≢false (sym (ap is_some is)))
 get_member_depth k (member l e ms) x is = found_depth (slice_cmp nat_cmp k l) l e x ms (get_member k ms) (get_member_depth k ms x) is
 
--- what is found in data nests no deeper
+-- the value of a key nests no deeper
 pub get_depth : (k : List ℕ) (d x : Data) → Some x ≡ get k d → depth x ≤ depth d
 get_depth k null x is = absurd (true≢false (ap is_some is))
 get_depth k (boolean b) x is = absurd (true≢false (ap is_some is))
@@ -70,6 +70,6 @@ get_depth k (string s) x is = absurd (true≢false (ap is_some is))
 get_depth k (array ds) x is = absurd (true≢false (ap is_some is))
 get_depth k (object ms) x is = omega (arith, get_member_depth k ms x (sym is))
 
--- and so do the items of a list
+-- the items of a list nest no deeper
 pub array_depth : (d : Data) (xs : Items) → Some xs ≡ as_array d → items_depth xs ≤ depth d
 array_depth d xs is = rw (is_array d xs is) (omega arith)

@@ -1,4 +1,4 @@
-//! A table without what only a book has: its name, its contexts, and the names of its rows.
+//! Removes the members that only a book has from a table: its name, its contexts, and the names of its rows.
 
 ghost use Rattle.std.specs.Prelude.{◌≡◌, IfOk, map};
 ghost use Rattle.serde_json.specs.View.{view, members_view};
@@ -7,14 +7,14 @@ ghost use Rattle.tcap_books.specs.BookText.{bare_members, bare_row, bare_rows, b
 use serde_json::{Map, Value};
 use std::alloc::{AllocError, Global};
 
-/// Whether a key is that of a name.
+/// Returns whether a key is "name".
 fn is_name(key: &str) -> bool
     ensures { result ≡ is_name key.now }
 {
     key == "name"
 }
 
-/// The members of a row without its name.
+/// Copies the members of a row without its name.
 fn without_name(
     alloc: Global,
     members: &Map<String, Value>,
@@ -32,7 +32,7 @@ fn without_name(
     Ok(kept)
 }
 
-/// A row without its name.
+/// Copies a row without its name.
 fn bare_row(alloc: Global, row: &Value) -> Result<Value, AllocError>
     ensures { IfOk result (λ v. view v ≡ bare_row (view row.now)) }
 {
@@ -42,7 +42,7 @@ fn bare_row(alloc: Global, row: &Value) -> Result<Value, AllocError>
     }
 }
 
-/// Rows without their names.
+/// Copies rows without their names.
 fn bare_items(alloc: Global, rows: &Vec<Value>) -> Result<Vec<Value>, AllocError>
     ensures { IfOk result (λ v. map view v.items ≡ map (λ row. bare_row (view row)) rows.now.items) }
 {
@@ -53,7 +53,7 @@ fn bare_items(alloc: Global, rows: &Vec<Value>) -> Result<Vec<Value>, AllocError
     Ok(bare)
 }
 
-/// A list of rows without their names.
+/// Copies a list of rows without their names.
 fn bare_rows(alloc: Global, rows: &Value) -> Result<Value, AllocError>
     ensures { IfOk result (λ v. view v ≡ bare_rows (view rows.now)) }
 {
@@ -63,14 +63,14 @@ fn bare_rows(alloc: Global, rows: &Value) -> Result<Value, AllocError>
     }
 }
 
-/// Whether a key is one that only a table of a book has.
+/// Returns whether a key is one that only a table of a book has.
 fn is_books(key: &str) -> bool
     ensures { result ≡ is_books key.now }
 {
     is_name(key) || key == "contexts"
 }
 
-/// The value of a key of a table, without the names of rows.
+/// Copies the value of a table's member, without the names of rows.
 fn bare_value(alloc: Global, key: &str, value: &Value) -> Result<Value, AllocError>
     ensures { IfOk result (λ v. view v ≡ bare_value key.now (view value.now)) }
 {
@@ -81,7 +81,7 @@ fn bare_value(alloc: Global, key: &str, value: &Value) -> Result<Value, AllocErr
     }
 }
 
-/// The members of a table without its name, its contexts, and the names of its rows.
+/// Copies the members of a table without its name, its contexts, and the names of its rows.
 fn bare_members(
     alloc: Global,
     members: &Map<String, Value>,
@@ -100,7 +100,7 @@ fn bare_members(
     Ok(kept)
 }
 
-/// A table without its name, its contexts, and the names of its rows.
+/// Copies a table without its name, its contexts, and the names of its rows.
 pub(crate) fn bare_table(alloc: Global, table: &Value) -> Result<Value, AllocError>
     ensures { IfOk result (λ v. view v ≡ bare_table (view table.now)) }
 {

@@ -1,4 +1,4 @@
-//! A book: operation tables, the dialogues that each is for, and the names of operations.
+//! A book (a table set): operation tables, the dialogues to which each applies, and the names of operations.
 
 ghost use Rattle.std.specs.Prelude.{◌≡◌, ◌∷◌, [], ◌++◌, None, OnOk, OnErr, option_copied, option_map};
 ghost use Rattle.std.specs.List.{list_any};
@@ -13,7 +13,7 @@ use std::marker::Model;
 use tcap_end::Table;
 use tcap_parts::CodeView;
 
-/// A beginning of application context names: octets of the content of an OBJECT IDENTIFIER.
+/// A prefix of application context names, as content octets of an OBJECT IDENTIFIER.
 #[derive(Debug, Drop)]
 pub struct Context {
     pub(crate) octets: Vec<u8>,
@@ -27,7 +27,7 @@ impl Model for Context {
     ghost view = { λ a. a.octets.items };
 }
 
-/// A table of a book: its name, the contexts that it is for, the operations, and their names.
+/// A table of a book: its name, its contexts, its operations, and their names.
 #[derive(Debug, Drop)]
 pub struct NamedTable {
     pub(crate) name: Option<String>,
@@ -66,7 +66,7 @@ impl Model for Book {
 }
 
 impl Context {
-    /// The octets.
+    /// Returns the octets.
     pub fn octets(&self) -> &[u8]
         ensures { result.now ≡ self.now }
     {
@@ -75,7 +75,7 @@ impl Context {
 }
 
 impl NamedTable {
-    /// The name of the table, where it has one.
+    /// Returns the name of the table, if it has one.
     pub fn name(&self) -> Option<&str>
         ensures { option_map (λ s. s.now) result ≡ self.now.name }
     {
@@ -85,7 +85,11 @@ impl NamedTable {
         }
     }
 
-    /// Appends the words for the table of that number: the number, and its name if it has one. `AllocError` where memory ran out.
+    /// Appends the words for this table: the number, and the name if it has one.
+    ///
+    /// # Errors
+    ///
+    /// AllocError if memory runs out.
     pub fn push_words(&self, text: &mut String, number: usize) -> Result<(), AllocError>
         ensures { OnOk result (string_bytes text.new ≡ string_bytes text.old ++ table_words number self.now) }
     {
@@ -96,21 +100,22 @@ impl NamedTable {
         }
     }
 
-    /// The beginnings of the application context names of the dialogues that it is for, in the order of the text.
+    /// Returns the contexts of the table: prefixes of the application context names of its dialogues, in the order of
+    /// the text.
     pub fn contexts(&self) -> &[Context]
         ensures { result.now ≡ self.now.contexts }
     {
         self.contexts.as_slice()
     }
 
-    /// The operations.
+    /// Returns the operations.
     pub fn table(&self) -> &Table
         ensures { result.now ≡ self.now.table }
     {
         &self.table
     }
 
-    /// The name of an operation, where it has one. It goes through the names.
+    /// Returns the name of an operation, if it has one. Searches all names.
     pub fn name_of(&self, code: CodeView) -> Option<&str>
         ensures { option_map (λ s. s.now) result ≡ name_of self.now (code_of code.entry) }
     {
@@ -118,7 +123,7 @@ impl NamedTable {
     }
 }
 
-/// By how many octets a context fits the one that is asked for.
+/// Returns the length of a context, if it is a prefix of the requested one.
 fn fit(asked: &[u8], context: &[u8]) -> Option<usize>
     ensures { result ≡ fit asked.now context.now }
 {
@@ -129,7 +134,7 @@ fn fit(asked: &[u8], context: &[u8]) -> Option<usize>
     }
 }
 
-/// Whether the first fits better.
+/// Returns whether the first fit is better.
 fn is_better(a: Option<usize>, b: Option<usize>) -> bool
     ensures { result ≡ is_better a b }
 {
@@ -140,7 +145,7 @@ fn is_better(a: Option<usize>, b: Option<usize>) -> bool
     }
 }
 
-/// How the best of the contexts of a table fits.
+/// Returns the best fit among the contexts of a table.
 fn table_fit(asked: &[u8], table: &NamedTable) -> Option<usize>
     ensures { result ≡ table_fit asked.now table.now }
 {
@@ -154,7 +159,7 @@ fn table_fit(asked: &[u8], table: &NamedTable) -> Option<usize>
     best
 }
 
-/// The first of the tables that fits best.
+/// Returns the first table with the best fit.
 fn best<'a>(asked: &[u8], tables: &'a [NamedTable]) -> Option<&'a NamedTable>
     ensures { option_copied result ≡ best asked.now None None tables.now }
 {
@@ -170,7 +175,7 @@ fn best<'a>(asked: &[u8], tables: &'a [NamedTable]) -> Option<&'a NamedTable>
     found
 }
 
-/// The first table without contexts.
+/// Returns the first table without contexts.
 fn first_without(tables: &[NamedTable]) -> Option<&NamedTable>
     ensures { option_copied result ≡ first_without tables.now }
 {
@@ -182,7 +187,7 @@ fn first_without(tables: &[NamedTable]) -> Option<&NamedTable>
     None
 }
 
-/// The one table, where it has no contexts.
+/// Returns the only table, if it has no contexts.
 fn sole(tables: &[NamedTable]) -> Option<&NamedTable>
     ensures { option_copied result ≡ sole tables.now }
 {
@@ -192,7 +197,7 @@ fn sole(tables: &[NamedTable]) -> Option<&NamedTable>
     }
 }
 
-/// Whether a context is one of these.
+/// Returns whether a context is in a list.
 fn is_among(context: &Context, others: &[Context]) -> bool
     ensures { result ≡ list_any (bytes_eq context.now) others.now }
 {
@@ -204,7 +209,7 @@ fn is_among(context: &Context, others: &[Context]) -> bool
     false
 }
 
-/// Whether two tables have one context.
+/// Returns whether two tables have a context in common.
 fn share_context(a: &NamedTable, b: &NamedTable) -> bool
     ensures { result ≡ share_context a.now b.now }
 {
@@ -216,7 +221,7 @@ fn share_context(a: &NamedTable, b: &NamedTable) -> bool
     false
 }
 
-/// The first table behind that number that shares a context with a table.
+/// Returns the number of the first table after number `first` that shares a context with `table`.
 fn sharer(table: &NamedTable, first: usize, tables: &[NamedTable]) -> Option<usize>
     ensures { result ≡ sharer table.now first 0 tables.now }
 {
@@ -228,16 +233,16 @@ fn sharer(table: &NamedTable, first: usize, tables: &[NamedTable]) -> Option<usi
     None
 }
 
-/// What is wrong with a book of which two tables have one context, in words.
+/// The printed fault of a book with two tables that have a context in common.
 pub const CLASH: &str =
     "two tables have the same context, so which is for its dialogues is not told";
 
-/// What is wrong with a book that is ambiguous, in words.
+/// The printed fault of an ambiguous book.
 pub const AMBIGUOUS: &str =
     "more than one table is without contexts, so which is for which dialogue is not told";
 
 impl Book {
-    /// A book of no tables.
+    /// Creates an empty book.
     pub(crate) fn new(alloc: Global) -> Book
         ensures { result ≡ [] }
     {
@@ -246,7 +251,7 @@ impl Book {
         }
     }
 
-    /// One table more, behind the others.
+    /// Appends a table.
     pub(crate) fn push(&mut self, table: NamedTable) -> Result<(), AllocError>
         ensures { OnOk result (self.new ≡ self.old ++ table ∷ []) }
     {
@@ -254,14 +259,18 @@ impl Book {
         Ok(())
     }
 
-    /// The tables, in the order of the text.
+    /// Returns the tables, in the order of the text.
     pub fn tables(&self) -> &[NamedTable]
         ensures { result.now ≡ self.now }
     {
         self.tables.as_slice()
     }
 
-    /// The tables of another book too, behind its own.
+    /// Appends the tables of another book.
+    ///
+    /// # Errors
+    ///
+    /// AllocError if memory runs out. The book is unchanged then.
     pub fn add(&mut self, other: Book) -> Result<(), AllocError>
         ensures added { OnOk result (self.new ≡ self.old ++ other) }
         ensures kept { OnErr result (self.new ≡ self.old) }
@@ -270,7 +279,8 @@ impl Book {
         self.tables.append(&mut tables)
     }
 
-    /// Whether more than one table is without contexts, so that it is not told which is for a dialogue without one.
+    /// Returns whether more than one table has no contexts, so that no table is determined for a dialogue without a
+    /// context.
     pub fn is_ambiguous(&self) -> bool
         ensures { result ≡ is_ambiguous self.now }
     {
@@ -286,9 +296,11 @@ impl Book {
         false
     }
 
-    /// The numbers of the first two tables that have one context, the same octets, so that it is not told which is for a dialogue with
-    /// it: of the first table that shares one with a later table, and of the first such. `None` where no two have one. Each context is
-    /// compared with each of the other tables.
+    /// Returns the numbers of the first two tables with a context in common, octet for octet.
+    ///
+    /// The first number is that of the first table that shares a context with a later one, the second that of the
+    /// first such later table. `None` if no two tables share one. Compares each context with those of all other
+    /// tables.
     pub fn clash(&self) -> Option<(usize, usize)>
         ensures { result ≡ clash self.now }
     {
@@ -301,7 +313,7 @@ impl Book {
         None
     }
 
-    /// Appends the words for the table of that number, if there is one.
+    /// Appends the words for the table with this number, if there is one.
     fn push_at(&self, text: &mut String, number: usize) -> Result<(), AllocError>
         ensures { OnOk result (string_bytes text.new ≡ string_bytes text.old ++ words_at self.now number) }
     {
@@ -311,7 +323,11 @@ impl Book {
         }
     }
 
-    /// Appends the words for the two tables of these numbers. `AllocError` where memory ran out.
+    /// Appends the words for the two tables with these numbers.
+    ///
+    /// # Errors
+    ///
+    /// AllocError if memory runs out.
     pub fn push_pair(&self, text: &mut String, pair: (usize, usize)) -> Result<(), AllocError>
         ensures { OnOk result (string_bytes text.new ≡ string_bytes text.old ++ pair_words self.now pair) }
     {
@@ -320,8 +336,10 @@ impl Book {
         self.push_at(text, pair.1)
     }
 
-    /// The table by which a dialogue is judged whose Begin asks for that application context name, given as the octets of
-    /// the content of its OBJECT IDENTIFIER; `None` where it asks for none.
+    /// Returns the table of a dialogue whose Begin requests this application context name.
+    ///
+    /// `context` is the content octets of the name's OBJECT IDENTIFIER, or `None` if the Begin requests none. A single
+    /// table without contexts applies to all dialogues.
     pub fn table_of(&self, context: Option<&[u8]>) -> Option<&NamedTable>
         ensures { option_copied result ≡ table_of self.now (option_copied context.entry) }
     {

@@ -1,4 +1,4 @@
-//! Reading a book from a text of JSON (RFC 8259).
+//! Reads a book from a JSON text (RFC 8259).
 
 ghost use Rattle.std.specs.Prelude.{◌≡◌, ◌∷◌, ◌≢◌, ◌≤◌, ◌↔◌, [], Some, None, Ok, Err, IfOk, OnOk, codes, map, option_map, option_and_then, string_bytes};
 ghost use Rattle.hex.specs.Hex.{decode_of};
@@ -25,10 +25,10 @@ use tcap_ber::ObjectId;
 use tcap_end::{Table, TableReason};
 use tcap_parts::Code;
 
-/// The greatest count of tables.
+/// The largest number of tables.
 const TABLES_LIMIT: usize = 100;
 
-/// A name, which may be left out; `None` where it is no text.
+/// Reads a name, which may be absent. Returns `None` if it is not a string.
 fn name_in(alloc: Global, value: Option<&Value>) -> Result<Option<Option<String>>, AllocError>
     ensures { IfOk result (λ name. option_map (λ n. option_map string_bytes n) name
         ≡ name_in (option_map (λ v. view v.now) value.entry)) }
@@ -42,7 +42,7 @@ fn name_in(alloc: Global, value: Option<&Value>) -> Result<Option<Option<String>
     }
 }
 
-/// The octets of a text of hex digits.
+/// Reads octets from a string of hex digits.
 fn context_in(alloc: Global, value: &Value) -> Result<Option<Context>, AllocError>
     ensures { IfOk result (λ context. context ≡ context_in (view value.now)) }
 {
@@ -56,7 +56,7 @@ fn context_in(alloc: Global, value: &Value) -> Result<Option<Context>, AllocErro
     }
 }
 
-/// The contexts of a list.
+/// Reads the contexts in a list.
 fn contexts_with(alloc: Global, items: &[Value]) -> Result<Option<Vec<Context>>, AllocError>
     ensures { IfOk result (λ contexts. option_map (λ v. v.items) contexts
         ≡ contexts_with [] (items_view items.now)) }
@@ -71,7 +71,7 @@ fn contexts_with(alloc: Global, items: &[Value]) -> Result<Option<Vec<Context>>,
     Ok(Some(found))
 }
 
-/// The contexts of a table; none where they are left out.
+/// Reads the contexts of a table; none if the member is absent.
 fn contexts_in(alloc: Global, value: Option<&Value>) -> Result<Option<Vec<Context>>, AllocError>
     ensures { IfOk result (λ contexts. option_map (λ v. v.items) contexts
         ≡ contexts_in (option_map (λ v. view v.now) value.entry)) }
@@ -85,7 +85,7 @@ fn contexts_in(alloc: Global, value: Option<&Value>) -> Result<Option<Vec<Contex
     }
 }
 
-/// A whole number of 32 bits as a code.
+/// Reads a local code from a 32-bit whole number.
 fn local_in(value: &Value) -> Option<Code>
     ensures { result ≡ option_and_then local_of (whole_in (view value.now)) }
 {
@@ -93,7 +93,7 @@ fn local_in(value: &Value) -> Option<Code>
     Some(Code::Local(i32::try_from(whole).ok()?))
 }
 
-/// A global code, of hex digits of either case.
+/// Reads a global code from hex digits of either case.
 fn global_in(alloc: Global, digits: &str) -> Result<Option<Code>, AllocError>
     ensures { IfOk result (λ code. code ≡ global_of (decode_of digits.now)) }
 {
@@ -108,7 +108,7 @@ fn global_in(alloc: Global, digits: &str) -> Result<Option<Code>, AllocError>
     }
 }
 
-/// A code: a whole number of 32 bits, or the hex digits of a global one.
+/// Reads a code: a 32-bit whole number, or a string with the hex digits of a global code.
 fn code_in(alloc: Global, value: &Value) -> Result<Option<Code>, AllocError>
     ensures { IfOk result (λ code. code ≡ code_in (view value.now)) }
 {
@@ -118,7 +118,7 @@ fn code_in(alloc: Global, value: &Value) -> Result<Option<Code>, AllocError>
     Ok(local_in(value))
 }
 
-/// The code of a row.
+/// Reads the code of a row.
 fn row_code(alloc: Global, row: &Value) -> Result<Option<Code>, AllocError>
     ensures { IfOk result (λ code. code ≡ option_and_then code_in (get (codes "code") (view row.now))) }
 {
@@ -128,7 +128,7 @@ fn row_code(alloc: Global, row: &Value) -> Result<Option<Code>, AllocError>
     }
 }
 
-/// Adds the name of the row of that number in the table of that number, where it has one.
+/// Adds the name of row number `row` in table number `table`, if the row has a code and a name.
 fn add_name(
     alloc: Global,
     names: &mut Names,
@@ -150,7 +150,7 @@ fn add_name(
     Ok(())
 }
 
-/// The names of the operations of the rows of the table of that number.
+/// Reads the names of the operations in the rows of table number `table`.
 fn names_with(alloc: Global, table: usize, rows: &[Value]) -> Result<Names, BookFault>
     ensures { result ≢ Err BookFault.Memory
         → result ≡ names_with table 0 [] (items_view rows.now) }
@@ -162,7 +162,7 @@ fn names_with(alloc: Global, table: usize, rows: &[Value]) -> Result<Names, Book
     Ok(names)
 }
 
-/// The names of the operations of the table of that number.
+/// Reads the names of the operations of table number `table`; none if the value is not a list.
 fn names_in(alloc: Global, table: usize, value: Option<&Value>) -> Result<Names, BookFault>
     ensures { result ≢ Err BookFault.Memory
         → result ≡ names_in table (option_map (λ v. view v.now) value.entry) }
@@ -173,7 +173,7 @@ fn names_in(alloc: Global, table: usize, value: Option<&Value>) -> Result<Names,
     }
 }
 
-/// The table that a text is, or the fault of the table of that number.
+/// Reads a table from a JSON text, or returns its fault as that of table number `table`.
 fn read_table(alloc: Global, table: usize, octets: &[u8]) -> Result<Table, BookFault>
     ensures { result ≢ Err BookFault.Memory → (d : Data) → IsJson octets.now d
         → result ≡ refused_table table (table_in d) }
@@ -185,7 +185,7 @@ fn read_table(alloc: Global, table: usize, octets: &[u8]) -> Result<Table, BookF
     }
 }
 
-/// The operations of the table of that number, read without what only a book has.
+/// Reads the operations of table number `table`, from a copy without the members that only a book has.
 fn bare_read(alloc: Global, table: usize, value: &Value) -> Result<Table, BookFault>
     requires nests { depth (view value.now) ≤ max_depth }
     ensures { result ≢ Err BookFault.Memory → result ≡ refused_table table (table_in (bare_table (view value.now))) }
@@ -194,7 +194,7 @@ fn bare_read(alloc: Global, table: usize, value: &Value) -> Result<Table, BookFa
     read_table(alloc, table, &text)
 }
 
-/// The table of that number.
+/// Reads table number `place`.
 fn named_table_in(alloc: Global, place: usize, value: &Value) -> Result<NamedTable, BookFault>
     requires nests { depth (view value.now) ≤ max_depth }
     ensures { result ≢ Err BookFault.Memory → result ≡ named_table_in place (view value.now) }
@@ -215,7 +215,7 @@ fn named_table_in(alloc: Global, place: usize, value: &Value) -> Result<NamedTab
     })
 }
 
-/// The book of the tables of a list.
+/// Reads the book with the tables in a list.
 fn tables_with(alloc: Global, items: &[Value]) -> Result<Book, BookFault>
     requires nests { items_depth (items_view items.now) ≤ max_depth }
     ensures { result ≢ Err BookFault.Memory → result ≡ tables_with 0 [] (items_view items.now) }
@@ -227,7 +227,7 @@ fn tables_with(alloc: Global, items: &[Value]) -> Result<Book, BookFault>
     Ok(book)
 }
 
-/// The book of the tables of a list.
+/// Reads the book with the tables in a list, which must not be empty or beyond the limit.
 #[tactic(auto, using(crate::proofs::BookLaws::tables_within, crate::proofs::BookLaws::tables_beyond, crate::proofs::BookLaws::no_tables))]
 fn tables_of(alloc: Global, items: &[Value]) -> Result<Book, BookFault>
     requires nests { items_depth (items_view items.now) ≤ max_depth }
@@ -242,7 +242,7 @@ fn tables_of(alloc: Global, items: &[Value]) -> Result<Book, BookFault>
     tables_with(alloc, items)
 }
 
-/// The book of the tables that a value is.
+/// Reads the book with the tables of a value.
 #[tactic(auto, using(crate::proofs::BookLaws::of_array, crate::proofs::BookLaws::no_array, crate::proofs::DepthLaws::array_depth))]
 fn tables_in(alloc: Global, value: &Value) -> Result<Book, BookFault>
     requires nests { depth (view value.now) ≤ max_depth }
@@ -254,7 +254,7 @@ fn tables_in(alloc: Global, value: &Value) -> Result<Book, BookFault>
     }
 }
 
-/// Whether a value is an object of one key.
+/// Returns whether a value is an object with one key.
 #[tactic(auto, using(crate::proofs::BookLaws::one_key, crate::proofs::BookLaws::no_key))]
 fn has_one_key(value: &Value) -> bool
     ensures { result ≡ has_one_key (view value.now) }
@@ -265,7 +265,7 @@ fn has_one_key(value: &Value) -> bool
     }
 }
 
-/// The book of one table that has neither a name nor contexts.
+/// Creates the book of one table, with neither a name nor contexts.
 fn plain(alloc: Global, table: Table) -> Result<Book, AllocError>
     ensures { IfOk result (λ book. book ≡ plain table ∷ []) }
 {
@@ -279,7 +279,7 @@ fn plain(alloc: Global, table: Table) -> Result<Book, AllocError>
     Ok(book)
 }
 
-/// The book that a text is, of which this is the value.
+/// Reads the book from a text and its JSON value.
 #[tactic(auto, using(crate::proofs::DepthLaws::get_depth))]
 fn book_in(alloc: Global, octets: &[u8], value: &Value) -> Result<Book, BookFault>
     requires nests { depth (view value.now) ≤ max_depth }
@@ -293,7 +293,7 @@ fn book_in(alloc: Global, octets: &[u8], value: &Value) -> Result<Book, BookFaul
     }
 }
 
-/// The book that a text is.
+/// Reads the book from a text.
 fn read_book(alloc: Global, octets: &[u8]) -> Result<Book, BookFault>
     ensures { result ≢ Err BookFault.Memory → IsBookOf octets.now result }
 {
@@ -305,14 +305,19 @@ fn read_book(alloc: Global, octets: &[u8]) -> Result<Book, BookFault>
 }
 
 impl Book {
-    /// The book that a text of JSON is; FORMAT.md has its shape. A text without a key `"tables"` is a book of one table,
-    /// which it is as a whole. The first fault where it is none: `NotJson`, then of the book `OtherKey`, `NoTables` and
-    /// `TooManyTables`, then of one table after the other `Table`, `TableName`, `Contexts` and `RowName`. `Memory` where
-    /// memory ran out.
+    /// Reads a book from a JSON text, whose shape FORMAT.md describes.
+    ///
+    /// A text without a key `"tables"` is read as a single table.
+    ///
+    /// # Errors
+    ///
+    /// The first fault in this order: `NotJson`; `OtherKey`, `NoTables` and `TooManyTables` of the book; then table by
+    /// table `Table`, `TableName`, `Contexts` and `RowName`. `Memory` if memory runs out.
     pub fn from_json(alloc: Global, octets: &[u8]) -> Result<Book, BookFault>
-        // It is what is defined.
+        // The result is that of the specification.
         ensures book { result ≢ Err BookFault.Memory → IsBookOf octets.now result }
-        // A text without "tables" is read as a table, and has neither a name nor contexts.
+        // A text without "tables" is a book exactly if it is a table; the book has this table alone, without a name
+        // and contexts.
         ensures plain { (table : Table) → result ≢ Err BookFault.Memory → IsPlain octets.now
             → (result ≡ Ok (plain table ∷ [])) ↔ IsTableOf octets.now (Ok table) }
     {

@@ -1,4 +1,4 @@
-//! Why a text is no book.
+//! The reasons why a text is not a book.
 
 ghost use Rattle.std.specs.Prelude.{◌≡◌};
 ghost use Rattle.tcap_books.specs.declared.fault.BookFault.TheVariants as BookFault;
@@ -7,24 +7,24 @@ use std::alloc::AllocError;
 use std::fmt;
 use tcap_end::{TableFault, TableReason};
 
-/// Why a text is refused as a book. Tables, and the rows of each, are counted from 0.
+/// The reason why a text is not a book. Tables, and the rows of each, are counted from 0.
 #[derive(Clone, Copy, Debug, PartialEq, Eq)]
 pub enum BookFault {
-    /// It is no text of JSON (RFC 8259), or not UTF-8.
+    /// The text is not JSON (RFC 8259), or not UTF-8.
     NotJson,
-    /// Beside `"tables"` the book has another key.
+    /// The book has a key other than `"tables"`.
     OtherKey,
-    /// `"tables"` is no list, or an empty one.
+    /// `"tables"` is not a list, or is empty.
     NoTables,
-    /// There are over 100 tables, this profile's limit.
+    /// There are more than 100 tables, this profile's limit.
     TooManyTables,
-    /// The table of that number is refused, for this reason and in this row; a text that is no book is table 0.
+    /// The table with this number has this fault. A text without `"tables"` is table 0.
     Table(u64, TableFault),
-    /// The name of the table of that number is no text.
+    /// The name of the table with this number is not a string.
     TableName(u64),
-    /// The contexts of the table of that number are no list of texts of hex digits, two for each octet.
+    /// The contexts of the table with this number are not a list of strings of hex digits, two for each octet.
     Contexts(u64),
-    /// In the table of that number, the name of the row of that number is no text.
+    /// In the table with the first number, the name of the row with the second number is not a string.
     RowName(u64, u64),
     /// Memory ran out.
     Memory,
@@ -38,7 +38,7 @@ impl From<AllocError> for BookFault {
     }
 }
 
-/// What is wrong with a table, in words.
+/// Returns the words for a fault of a table.
 fn words_of(reason: TableReason) -> &'static str {
     match reason {
         TableReason::NotJson => "the text is no JSON",

@@ -1,4 +1,4 @@
-//! Books of operation tables: which table a dialogue is judged by, and the names of operations.
+//! Books (table sets): the operation table of each dialogue, and the names of operations.
 #![tactic(auto)]
 
 mod bare;

@@ -41,7 +41,7 @@ impl Model for Names {
     ghost view = { λ a. a.names.items };
 }
 
-/// Whether a name is that of an operation of this code.
+/// Returns whether a name belongs to the operation with this code.
 fn is_of(name: &OperationName, code: CodeView) -> bool
     ensures { result ≡ is_at (code_cmp (code_of code.entry)) name.now.0 }
 {
@@ -53,7 +53,7 @@ fn is_of(name: &OperationName, code: CodeView) -> bool
 }
 
 impl Names {
-    /// No names.
+    /// Creates an empty list of names.
     pub(crate) fn new(alloc: Global) -> Names
         ensures { result ≡ [] }
     {
@@ -62,7 +62,7 @@ impl Names {
         }
     }
 
-    /// One name more, behind the others.
+    /// Appends a name.
     pub(crate) fn push(&mut self, code: Code, name: String) -> Result<(), AllocError>
         ensures { OnOk result (self.new ≡ self.old ++ (code, string_bytes name) ∷ []) }
     {
@@ -70,7 +70,7 @@ impl Names {
         Ok(())
     }
 
-    /// The first name of an operation of that code. It goes through the names.
+    /// Returns the first name of the operation with this code. Searches all names.
     pub(crate) fn name_of(&self, code: CodeView) -> Option<&str>
         ensures { option_map (λ s. s.now) result ≡ lookup (is_at (code_cmp (code_of code.entry))) self.now }
     {

@@ -1,4 +1,4 @@
--- A half is added: the slab changes at a free number, a new place leads there, and all other halves stay.
+-- A half is added: the slab fills a free number, a new place leads to it, and all other halves stay.
 use Rattle.std.proofs.Common.{◌≡◌, ◌≢◌, ℕ, List, [], ◌∷◌, Option, Some, None, ◌⊎◌, inl, inr, refl, sym, ap, subst, ◌∙◌}
 use Rattle.std.specs.declared.cmp.Ordering.{Ordering}
 use Rattle.std.specs.declared.cmp.Ordering.TheVariants.{Less, Equal, Greater}
@@ -26,11 +26,11 @@ use Rattle.tcap_end.proofs.PlacedLaws.{elsewhere, entries_are, halves_placed, ha
 
 -- ---- the slab
 
--- What stands under a number stays there.
+-- Each filled number of the first slab has the same half in the second.
 abbrev pub Stays : Slab HalfState → Slab HalfState → Type 0
 Stays s t = (k : ℕ) (h : HalfState) → get s k ≡ Some h → get t k ≡ Some h
 
--- where the room grows
+-- growing the slab
 stays_grown : (s t : Slab HalfState) (n : ℕ) → t ≡ record s { capacity = n } → Stays s t
 stays_grown s t n grown k h is = ap (λ (slab : Slab HalfState). get slab k) grown ∙ is
 
@@ -38,17 +38,17 @@ module _ (s : Slab HalfState) (m : ℕ) (free : get s m ≡ None) where
   taken_apart : (k : ℕ) (h : HalfState) → get s k ≡ Some h → k ≢ m
   taken_apart k h is same = let bad = sym is ∙ ap (get s) same ∙ free in cc
 
-  -- where a free number is taken
+  -- filling a free number
   stays_taken : (t : Slab HalfState) (under : Option HalfState) → Updates s t m under → Stays s t
   stays_taken t under new k h is = new.others k (taken_apart k h is) ∙ is
 
-  -- where it is freed again
+  -- filling a free number, and freeing it again
   stays_freed : (t u : Slab HalfState) (under : Option HalfState) → Updates s t m under → Updates t u m None → Stays s u
   stays_freed t u under new old k h is = let apart = taken_apart k h is in old.others k apart ∙ new.others k apart ∙ is
 
 -- ---- the halves at places
 
--- A place is inserted, and its half.
+-- Inserting a place inserts its half.
 halves_inserted : (slab : Slab HalfState) (slot : Slot) (key : List ℕ) (place : Place) (es : List (List ℕ × Place))
     → halves_at slab slot (insert_entry octets_cmp es key place)
     ≡ insert_entry octets_cmp (halves_at slab slot es) key (half_at slab slot key place)
@@ -66,7 +66,7 @@ halves_inserted slab slot key place (e ∷ es) = by (octets_cmp key e.0) refl (h
     by Equal is rest = ap (λ q. (e.0, half_at slab slot q place) ∷ halves_at slab slot es) (sym (exact_bytes key e.0 is))
     by Greater is rest = ap (λ hs. (e.0, half_at slab slot e.0 e.1) ∷ hs) rest
 
--- A half that is had has a place.
+-- A half of the end has a place.
 had_at : (s : Halves) (slot : Slot) (key : List ℕ) (h : Half) → Has (end_of s) (kept_half slot key h)
     → (p : Place) × IsAt slot key p s × (half_at s.slab slot key p ≡ h)
 had_at s slot key h had = by (kept_at octets_cmp (places_of slot s) key) refl (sym (half_there s slot key) ∙ had)
@@ -76,7 +76,7 @@ had_at s slot key h had = by (kept_at octets_cmp (places_of slot s) key) refl (s
     by None is bad = cc
     by (Some p) is half = (p, is, cc)
 
--- ---- where what is open stays
+-- ---- halves at places of a slab that keeps its filled numbers
 
 module _ {s : Halves} (held : IsHeld s) (t : Slab HalfState) (stays : Stays s.slab t) where
   half_stays : (slot : Slot) (q : List ℕ) (p : Place) → IsAt slot q p s → half_at t slot q p ≡ half_at s.slab slot q p
@@ -91,7 +91,7 @@ open_stays s next slot key k stays state = (state.0, stays k state.0 state.1, st
 
 -- ---- nothing is added
 
--- Places and indexes are as they were, and what is open stays.
+-- Places and indexes are unchanged, and all filled numbers stay.
 pub record Same (s next : Halves) : Type 0 where
   pub slab : Stays s.slab next.slab
   pub places : (slot : Slot) → places_of slot next ≡ places_of slot s
@@ -150,11 +150,11 @@ module _ {s next : Halves} {key : List ℕ} {m : ℕ} {h : HalfState} (held : Is
   halves_elsewhere other apart =
       halves_placed next other ∙ ap (halves_at next.slab other) (c.there other apart) ∙ halves_stay held next.slab c.slab other
 
-  -- The half is put into the end.
+  -- Adding the half puts it into the end.
   pub end_added : end_of next ≡ put (end_of s) h.slot key (half_of h)
   end_added = put_is h.slot key (half_of h) (end_of s) (end_of next) halves_here halves_elsewhere
 
-  -- A place is the new one, or was there.
+  -- A place is the new one, or was there before.
   abbrev IsAdded : Slot → List ℕ → Type 0
   IsAdded other q = (other ≡ h.slot) × (q ≡ key)
 
@@ -172,7 +172,7 @@ module _ {s next : Halves} {key : List ℕ} {m : ℕ} {h : HalfState} (held : Is
           (subst (λ (x : Slot). IsAt x q p next) same found)))
       by (inr apart) = inr (subst (λ (es : List (List ℕ × Place)). kept_at octets_cmp es q ≡ Some p) (c.there other apart) found)
 
-  -- A place that was there is.
+  -- A place that was there before stays.
   place_is : (other : Slot) (q : List ℕ) (p : Place) → IsAt other q p s → IsAt other q p next
   place_is other q p found = by (slots_eq other h.slot)
     where
@@ -185,7 +185,7 @@ module _ {s next : Halves} {key : List ℕ} {m : ℕ} {h : HalfState} (held : Is
           (subst (λ (es : List (List ℕ × Place)). kept_at octets_cmp es q ≡ Some p) (sym c.here) now)
       by (inr apart) = subst (λ (es : List (List ℕ × Place)). kept_at octets_cmp es q ≡ Some p) (sym (c.there other apart)) found
 
-  -- A half that is had is the new one, or was had.
+  -- A half is the new one, or was there before.
   had_was : (other : Slot) (q : List ℕ) (g : Half) → Has (end_of next) (kept_half other q g)
       → (IsAdded other q × (g ≡ half_of h)) ⊎ Has (end_of s) (kept_half other q g)
   had_was other q g had = let at = had_at next other q g had in by at.0 at.2 (place_was other q at.0 at.1)
@@ -195,14 +195,14 @@ module _ {s next : Halves} {key : List ℕ} {m : ℕ} {h : HalfState} (held : Is
       by p half (inl now) = inl (now.0, sym half ∙ ap (half_at next.slab other q) now.1 ∙ ap half_in c.under)
       by p half (inr was) = inr (has_there s other q p was ∙ ap Some (sym (half_stays held next.slab c.slab other q p was) ∙ half))
 
-  -- A half that was had is.
+  -- A half that was there before stays.
   had_is : (other : Slot) (q : List ℕ) (g : Half) → Has (end_of s) (kept_half other q g) → Has (end_of next) (kept_half other q g)
   had_is other q g had =
       let at = had_at s other q g had in
       has_there next other q at.0 (place_is other q at.0 at.1)
       ∙ ap Some (half_stays held next.slab c.slab other q at.0 at.1 ∙ at.2)
 
-  -- All is kept as it should be.
+  -- The stored end is still sound.
   pub held_added : IsHeld next
   held_added = record {
     begun = rises Begun;
@@ -253,9 +253,9 @@ module _ {s next : Halves} {key : List ℕ} {m : ℕ} {h : HalfState} (held : Is
           before_it g its (inl new_one) = let bad = sym its ∙ ap of new_one.1 ∙ none new_one.0.0 in cc
           before_it g its (inr was) = (g, was, its)
 
--- ---- what the calls of the slab and of the places say together
+-- ---- what the calls on the slab and on the places do together
 
--- The slab's room grew, and it took no half.
+-- The slab grew, but did not take the half.
 pub grown : (s : Halves) (t : Slab HalfState) (n : ℕ) → t ≡ record s.slab { capacity = n } → Same s (record s { slab = t })
 grown s t n is = record { slab = stays_grown s.slab t n is; places = over_slab s t; by_own = refl; by_peer = refl }
 
@@ -263,7 +263,7 @@ module _ (s next : Halves) (t : Slab HalfState) (key : List ℕ) (m : ℕ) (h : 
     (free : get s.slab m ≡ None) (taken : Updates s.slab t m (Some h))
     (begun : h.slot ≢ Begun → next.begun ≡ s.begun) (accepted : h.slot ≢ Accepted → next.accepted ≡ s.accepted)
     (others : (next.slab ≡ t) × (next.by_own ≡ s.by_own) × (next.by_peer ≡ s.by_peer)) where
-  -- It took the half, and the place was put.
+  -- The slab took the half, and the place was put.
   pub adds : places_of h.slot next ≡ insert_entry octets_cmp (places_of h.slot (record s { slab = t })) key (Open m) → Adds key m h s next
   adds put = record {
     slab = subst (λ (x : Slab HalfState). Stays s.slab x) (sym others.0) (stays_taken s.slab m free t (Some h) taken);

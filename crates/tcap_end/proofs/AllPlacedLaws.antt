@@ -1,4 +1,4 @@
--- Every number that is taken leads from a place: behind each change of the halves, and what an empty slab says by it.
+-- After each change, every half in the slab still has a place; so an empty slab means that all halves are closed.
 use Rattle.std.proofs.Common.{◌≡◌, ◌≢◌, ℕ, ◌==◌, Bool, true, false, ◌&&◌, cond, List, [], ◌∷◌, Option, Some, None, Contains, length, ◌⊎◌, inl, inr, refl, sym, ap, ap₂, subst, ◌∙◌, arith}
 use Rattle.std.specs.BTreeMap.{BTreeMap, insert_entry, is_at}
 use Rattle.std.proofs.Math.Bool.{and-false}
@@ -26,7 +26,7 @@ use Rattle.tcap_end.proofs.ChangeLaws.{going_on}
 
 -- ---- no place changes
 
--- Each half that is under a number was there, or one in the same slot was.
+-- Each half under a number was there before, or a half of the same slot was.
 pub placed_same : (s next : Halves) → ((slot : Slot) → places_of slot next ≡ places_of slot s)
     → ((k : ℕ) (h : HalfState) → get next.slab k ≡ Some h → (was : HalfState) × (get s.slab k ≡ Some was) × (was.slot ≡ h.slot))
     → AllPlaced s → AllPlaced next
@@ -36,7 +36,7 @@ placed_same s next places before placed k h taken =
     let here = subst (λ (es : List (List ℕ × Place)). kept_at octets_cmp es there.0 ≡ Some (Open k)) (sym (places old.0.slot)) there.1 in
     (there.0, subst (λ (x : Slot). IsAt x there.0 (Open k) next) old.2 here)
 
--- A half goes on in its slot.
+-- A half changes, but not its slot.
 pub placed_on : (s : Halves) (k : ℕ) (h g : HalfState) → get s.slab k ≡ Some h → g.slot ≡ h.slot → AllPlaced s → AllPlaced (going_on s k g)
 placed_on s k h g was slots =
     placed_same s (going_on s k g) (over_slab s (with_value s.slab k g)) (λ j x taken. by j x taken (cases_eq j k))
@@ -54,12 +54,12 @@ placed_on s k h g was slots =
 
 -- ---- one place changes
 
--- No other number leads from the place; what is under the number is in the place's slot, and the place leads there.
+-- Only number `k` leads from the place; and a half under it is in the place's slot, and the place leads to it.
 record Leads (slot : Slot) (key : List ℕ) (k : ℕ) (place : Place) (under : Option HalfState) (s : Halves) : Type 0 where
   alone : (j : ℕ) → IsAt slot key (Open j) s → j ≡ k
   new : (h : HalfState) → under ≡ Some h → (h.slot ≡ slot) × (place ≡ Open k)
 
--- a place that led to the number, and is closed
+-- a place that led to the number, and is now closed
 leads_closed : (s : Halves) (slot : Slot) (key : List ℕ) (k : ℕ) (other : Option (List ℕ)) → IsAt slot key (Open k) s
     → Leads slot key k (Closed other) None s
 leads_closed s slot key k other is = record {
@@ -78,7 +78,7 @@ leads_new s key k h free = record {
 module _ {s next : Halves} {slot : Slot} {key : List ℕ} {k : ℕ} {place : Place} {under : Option HalfState}
     (slab : Updates s.slab next.slab k under) (here : places_of slot next ≡ insert_entry octets_cmp (places_of slot s) key place)
     (there : (other : Slot) → other ≢ slot → places_of other next ≡ places_of other s) (leads : Leads slot key k place under s) where
-  -- Another place stays.
+  -- Any other place stays.
   place_stays : (other : Slot) (q : List ℕ) (p : Place) → (other ≡ slot → q ≢ key) → IsAt other q p s → IsAt other q p next
   place_stays other q p apart is = by (slots_eq other slot)
     where
@@ -90,7 +90,7 @@ module _ {s next : Halves} {slot : Slot} {key : List ℕ} {k : ℕ} {place : Pla
           (subst (λ (es : List (List ℕ × Place)). kept_at octets_cmp es q ≡ Some p) (sym here) found)
       by (inr differs) = subst (λ (es : List (List ℕ × Place)). kept_at octets_cmp es q ≡ Some p) (sym (there other differs)) is
 
-  -- Every number leads from a place still.
+  -- Every half in the slab still has a place.
   placed_changed : AllPlaced s → AllPlaced next
   placed_changed placed j h taken = by (cases_eq j k)
     where
@@ -116,7 +116,7 @@ module _ {s next : Halves} {slot : Slot} {key : List ℕ} {k : ℕ} {place : Pla
 
 -- ---- an open half closes
 
--- one that began by sending
+-- a half whose end sent the Begin
 pub placed_begun : (s next : Halves) (slab : Slab HalfState) (begun : BTreeMap (List ℕ) Place) (slot : Slot) (key : List ℕ) (k : ℕ)
     (other : Option (List ℕ)) → IsAt slot key (Open k) s → Updates s.slab slab k None → slot ≡ Begun
     → begun.entries ≡ insert_entry octets_cmp s.begun.entries key (Closed other)
@@ -129,7 +129,7 @@ placed_begun s next slab begun slot key k other is freed slot_is entries next_is
     after : Halves
     after = record s { slab = slab; begun = begun }
 
--- one that began by receiving
+-- a half whose end received the Begin
 pub placed_accepted : (s next : Halves) (slab : Slab HalfState) (accepted : BTreeMap (List ℕ) Place) (slot : Slot) (key : List ℕ) (k : ℕ)
     (other : Option (List ℕ)) → IsAt slot key (Open k) s → Updates s.slab slab k None → slot ≡ Accepted
     → accepted.entries ≡ insert_entry octets_cmp s.accepted.entries key (Closed other)
@@ -144,7 +144,7 @@ placed_accepted s next slab accepted slot key k other is freed slot_is entries n
 
 -- ---- a half is added
 
--- The slab took it, and a new place leads there.
+-- The slab took the half, and a new place leads to it.
 pub placed_added : (s next : Halves) (t : Slab HalfState) (key : List ℕ) (m : ℕ) (h : HalfState) → Updates s.slab t m (Some h)
     → (h.slot ≢ Begun → next.begun ≡ s.begun) → (h.slot ≢ Accepted → next.accepted ≡ s.accepted)
     → (next.slab ≡ t) × (next.by_own ≡ s.by_own) × (next.by_peer ≡ s.by_peer)
@@ -157,21 +157,21 @@ placed_added s next t key m h taken begun accepted others unkept put =
 
 -- ---- whether all halves are closed
 
--- Where no number is taken, the half of a place is closed.
+-- If the slab is empty, the half of each place is closed.
 shut_there : (slab : Slab HalfState) → ((k : ℕ) → get slab k ≡ None) → (slot : Slot) (q : List ℕ) (p : Place)
     → is_closed (half_at slab slot q p).phase ≡ true
 shut_there slab none slot q (Open k) = ap (λ o. is_closed (half_in o).phase) (none k)
 shut_there slab none Begun q (Closed other) = refl
 shut_there slab none Accepted q (Closed other) = refl
 
--- All halves are.
+-- If the slab is empty, all halves are closed.
 all_shut : (slab : Slab HalfState) (slot : Slot) (es : List (List ℕ × Place)) → ((k : ℕ) → get slab k ≡ None)
     → all_closed (halves_at slab slot es) ≡ true
 all_shut slab slot [] none = refl
 all_shut slab slot (e ∷ es) none =
     ap (λ b. cond b (all_closed (halves_at slab slot es)) false) (shut_there slab none slot e.0 e.1) ∙ all_shut slab slot es none
 
--- Where one half is open, not all are closed.
+-- If one half is open, not all are closed.
 one_open : (key : List ℕ) (h : Half) (es : List (List ℕ × Half)) → kept_at octets_cmp es key ≡ Some h → is_closed h.phase ≡ false
     → all_closed es ≡ false
 one_open key h [] found is_open = cc
@@ -203,7 +203,7 @@ none_taken s none k = by (get s k) refl
         let listed : Contains [] (k, h) = subst (λ (es : List (ℕ × HalfState)). Contains es (k, h)) none ((Contains-entries s k h).1 is) in
         absurd (omega (arith, listed.1))
 
--- No number is taken where all halves are closed, and there alone.
+-- The slab is empty exactly if all halves are closed.
 pub closed_where_empty : (s : Halves) → IsHeld s → AllPlaced s
     → (slab_len s.slab == 0) ≡ (all_closed (end_of s).begun && all_closed (end_of s).accepted)
 closed_where_empty s held placed = by (entries s.slab) refl

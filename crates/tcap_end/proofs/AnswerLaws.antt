@@ -1,4 +1,4 @@
--- An open half goes on under its number and gets an ID, from which an index leads on to it: all is kept as it should be.
+-- An open half gets its second ID and an index entry for it; the stored end is still sound.
 use Rattle.std.proofs.Common.{◌≡◌, ◌≢◌, ℕ, false, cond, List, [], ◌∷◌, Option, Some, None, Result, Ok, Err, OnOk, ◌⊎◌, inl, inr, refl, sym, ap, subst, ◌∙◌}
 use Rattle.std.specs.declared.cmp.Ordering.{Ordering}
 use Rattle.std.specs.declared.cmp.Ordering.TheVariants.{Less, Equal, Greater}
@@ -40,12 +40,12 @@ use Rattle.tcap_end.proofs.AllPlacedLaws.{placed_same}
 
 -- ---- results and entries
 
--- what holds on the result's side
+-- what holds if the result is Ok
 pub on_ok : {T E P : Type 0} (r : Result T E) → is_err r ≡ false → OnOk r P → P
 on_ok (Ok _) is holds = holds
 on_ok (Err _) is holds = cc
 
--- What is put at a new key is taken out again.
+-- Removing an entry undoes inserting it at a new key.
 pub taken_out : {A : Type 0} (k : List ℕ) (v : A) (es : List (List ℕ × A)) → kept_at octets_cmp es k ≡ None
     → remove_entry (is_at (octets_cmp k)) (insert_entry octets_cmp es k v) ≡ es
 taken_out k v [] none = ap (λ r. cond (is_eq r) [] ((k, v) ∷ [])) (tied_itself octets_total k)
@@ -64,7 +64,7 @@ taken_out k v (e ∷ es) none = by (octets_cmp k e.0) refl none (taken_out k v e
 
 -- ---- an index
 
--- It leads on from no ID that no half has.
+-- An index has no entry for an ID that no half has.
 pub not_led : (of : Half → Option (List ℕ)) (index : List (List ℕ × List ℕ)) (e : End) (slot : Slot) (id : List ℕ)
     → ((f : KeptHalf) → Has e f → of f.half ≢ Some id) → Indexes index slot of e → kept_at octets_cmp index id ≡ None
 not_led of index e slot id unused serves = by (kept_at octets_cmp index id) refl
@@ -124,13 +124,13 @@ module _ (of : Half → Option (List ℕ)) (index : List (List ℕ × List ℕ))
           found_other octets_total exact_bytes q id key p index (λ is. unused (kept_half slot p there.0) was (there.2 ∙ ap Some is))
           ((serves q p).1 (there.0, was, there.2))
 
-  -- With an entry for the ID it serves where the half is put that gained it.
+  -- With an entry for the new ID, the index is exact after the half is put.
   index_gains : Indexes (insert_entry octets_cmp index id key) slot of (put e slot key g)
   index_gains q p = (leads q p, led q p)
 
 -- ---- components
 
--- Components that go one way leave the phase, the IDs and the dialogue.
+-- Components change neither the phase, the IDs nor the dialogue state.
 pub steps_follow : (way : Way) (table : Table) (components : List Component) (h g : Half) → components_by way table h components ≡ Ok g
     → Follows h g
 steps_follow Out table components h g made = (all_sends table components h g (sym (sends_out table h components) ∙ made)).follows
@@ -148,7 +148,7 @@ pub serves_of : (s : Halves) (slot : Slot) → IsHeld s → Indexes (index_of sl
 serves_of s Begun held = held.by_peer
 serves_of s Accepted held = held.by_own
 
--- The halves are the same, but that this is the index of those in a slot.
+-- Only the index of one slot differs.
 pub record Reindexed (slot : Slot) (index : List (List ℕ × List ℕ)) (s t : Halves) : Type 0 where
   pub halves : (t.slab ≡ s.slab) × (t.begun ≡ s.begun) × (t.accepted ≡ s.accepted)
   pub here : index_of slot t ≡ index
@@ -163,7 +163,7 @@ reindexed s t slot index here by_own by_peer halves = record { halves = halves; 
     there Begun apart = ap (λ (m : BTreeMap (List ℕ) (List ℕ)). m.entries) (by_peer (λ is. apart (sym is)))
     there Accepted apart = ap (λ (m : BTreeMap (List ℕ) (List ℕ)). m.entries) (by_own (λ is. apart (sym is)))
 
--- another index behind that one
+-- one change of an index after another
 pub reindexed_then : {s t u : Halves} {slot : Slot} {index after : List (List ℕ × List ℕ)} → Reindexed slot index s t
     → Reindexed slot after t u → Reindexed slot after s u
 reindexed_then r next = record {
@@ -186,11 +186,11 @@ module _ {slot : Slot} {index : List (List ℕ × List ℕ)} {s t : Halves} (r :
   pub under_before : (k : ℕ) (h : HalfState) → get t.slab k ≡ Some h → get s.slab k ≡ Some h
   under_before k h under = ap (λ slab. get slab k) (sym r.halves.0) ∙ under
 
-  -- Every number leads from a place still.
+  -- Every half in the slab still has a place.
   pub placed_too : AllPlaced s → AllPlaced t
   placed_too = placed_same s t same_places (λ k h taken. (h, under_before k h taken, refl))
 
-  -- So it is where a half goes on.
+  -- The same holds after a half changes.
   pub reindexed_on : (k : ℕ) (g : HalfState) → Reindexed slot index (going_on s k g) (going_on t k g)
   reindexed_on k g = record {
     halves = (ap (λ slab. with_value slab k g) r.halves.0, r.halves.1, r.halves.2);
@@ -199,7 +199,7 @@ module _ {slot : Slot} {index : List (List ℕ × List ℕ)} {s t : Halves} (r :
         over_index t (with_value t.slab k g) at ∙ r.there at apart ∙ sym (over_index s (with_value s.slab k g) at);
   }
 
-  -- With the entries that the index had, all is kept as it should be.
+  -- With its old entries in the index, the stored end is still sound.
   pub held_too : IsHeld s → index ≡ index_of slot s → IsHeld t
   held_too held same = record {
     begun = rw r.halves.1 held.begun;
@@ -220,7 +220,7 @@ module _ {slot : Slot} {index : List (List ℕ × List ℕ)} {s t : Halves} (r :
 
 -- ---- an open half gets an ID
 
--- It is open, kept by the ID that it was kept by, and has the other one.
+-- The half is still open and kept by the same ID, and now has the other ID.
 record Gains (slot : Slot) (id : List ℕ) (h g : Half) : Type 0 where
   open_half : is_closed g.phase ≡ false
   kept : (key : List ℕ) → IsKept slot key h → IsKept slot key g
@@ -232,14 +232,14 @@ active_gains Begun id h g follows =
 active_gains Accepted id h g follows =
     record { open_half = ap is_closed follows.phase; kept = λ q by_peer. follows.peer ∙ by_peer; gained = follows.own }
 
--- The ID that a half is kept by is the other one of the other slot.
+-- The ID by which a half is kept is the other ID of the other slot.
 kept_id : (at slot : Slot) (key : List ℕ) (h g : Half) → at ≢ slot → IsKept slot key h → IsKept slot key g → other_id at g ≡ other_id at h
 kept_id Begun Begun key h g apart kept too = absurd (apart refl)
 kept_id Begun Accepted key h g apart kept too = too ∙ sym kept
 kept_id Accepted Begun key h g apart kept too = too ∙ sym kept
 kept_id Accepted Accepted key h g apart kept too = absurd (apart refl)
 
--- An open half is in the slot that it is kept in.
+-- An open half is in the slot in which it is kept.
 pub slot_of : (s : Halves) (slot : Slot) (key : List ℕ) (k : ℕ) (h : HalfState) → IsHeld s → IsAt slot key (Open k) s
     → get s.slab k ≡ Some h → h.slot ≡ slot
 slot_of s slot key k h held is was = by (held.places slot key k is)
@@ -274,7 +274,7 @@ module _ (s next : Halves) (slot : Slot) (key id : List ℕ) (k : ℕ) (h g : Ha
           (subst (λ (n : ℕ). IsOpen slot key n next) (sym j_is) here))
       by (inr apart) = let old = held.places other q j there in (old.0, updates.others j apart ∙ old.1, old.2, old.3, old.4)
 
-  -- All is kept as it should be where the index has an entry for the ID, which no half had.
+  -- The stored end is still sound, if no half had the ID and the index has an entry for it.
   pub held_gains : ((x : Half) → Has (end_of s) (kept_half slot key x) → other_id slot x ≡ None)
       → ((f : KeptHalf) → Has (end_of s) f → other_id slot f.half ≢ Some id) → IsHeld next
   held_gains unknown unused = record {

@@ -1,15 +1,15 @@
--- Steps that answer what is behind them, or a reason: what is known where the answer is Ok.
+-- What follows when a chain of steps is Ok.
 use Rattle.std.proofs.Common.{◌≡◌, Bool, true, false, Option, Some, None, Result, Ok, Err, refl}
 use Rattle.std.specs.Prelude.{ok_or}
 use Rattle.tcap_end.specs.Step.{needs, ◌>>◌, ◌>>=◌}
 
--- A step that needs something is Ok where that is so and the rest is.
+-- A chain that begins with a condition is Ok only if the condition holds and the rest is Ok.
 pub needs_ok : {A F : Type 0} (so : Bool) (reason : F) (rest : Result A F) (x : A) → (needs so reason >> rest) ≡ Ok x
     → (so ≡ true) × (rest ≡ Ok x)
 needs_ok true reason rest x is = (refl, is)
 needs_ok false reason rest x is = cc
 
--- The first step is Ok, and the second from what is behind it.
+-- Both steps are Ok, the second from the result of the first.
 pub then_ok : {A B F : Type 0} (step : Result A F) (rest : A → Result B F) (y : B) → (step >>= rest) ≡ Ok y
     → (x : A) × (step ≡ Ok x) × (rest x ≡ Ok y)
 then_ok (Ok x) rest y is = (x, refl, is)

@@ -1,4 +1,4 @@
--- What was taken from places can be put back: laws of where items stand, and of changes that are taken back.
+-- Removing an item from a place can be undone: laws of places, and of changes that are undone.
 use Rattle.std.proofs.Common.{◌≡◌, ℕ, zero, suc, ◌<◌, ◌-◌, ℤ, Bool, true, false, List, [], ◌∷◌, ◌++◌, Option, Some, None, length, take, get_or, set, refl, sym, ap, ◌∙◌, arith, length-append}
 use Rattle.std.specs.Prelude.{IsSome, is_some, cond, option_and_then, option_map}
 use Rattle.std.specs.List.{list_any}
@@ -22,14 +22,14 @@ use Rattle.tcap_lists.proofs.PlaceLaws.{any_filled}
 use Rattle.tcap_lists.proofs.MapLaws.{found_new, insert_again, insert_twice, rises_inserted}
 use Rattle.tcap_end.proofs.OutLaws.{puts, stands}
 
--- ---- where the oldest item stands that fits
+-- ---- the place of the oldest item that fits
 
--- It stands nowhere: none fits.
+-- If there is no such place, no item fits.
 pub place_none : {A : Type 0} (fits : A → Bool) (places : List (Option A)) → place_of (fits_in fits) places ≡ None
     → list_any fits (filled places) ≡ false
 place_none fits places e = any_filled fits places ∙ ap is_some e
 
--- It stands there: the items without it are those of the places where its own is empty.
+-- If there is one, emptying it removes the oldest item that fits.
 pub place_some : {A : Type 0} (fits : A → Bool) (places : List (Option A)) (at : ℕ) → place_of (fits_in fits) places ≡ Some at
     → (list_any fits (filled places) ≡ true) × IsSome (get_or places at None) × (without_oldest fits (filled places) ≡ filled (set places at None))
 place_some {A} fits places at e = let there = stands places at e in (any_filled fits places ∙ ap is_some e, there.0, there.1)
@@ -58,9 +58,9 @@ place_some {A} fits places at e = let there = stands places at e in (any_filled 
         by false (Some n) (suc at) e below = let same : n ≡ at = cc in
             let rest = below at (ap Some same) in (rest.0, ap (λ more. item ∷ more) rest.1)
 
--- ---- places that are there
+-- ---- places of IDs
 
--- An ID of an invocation has a place.
+-- The ID of an own invocation has a place.
 pub has_place : (id : ℤ) (o : Outs) (i : OwnInvocation) → lookup (is_at (int_cmp id)) (kept_outs o) ≡ Some i → HasPlace id o
 has_place id o i there =
     by (lookup (is_at (int_cmp id)) o.places.items)
@@ -73,13 +73,13 @@ has_place id o i there =
 
 -- ---- items that are put back
 
--- Of two items in one place the second counts.
+-- The second of two items put in one place counts.
 set_twice : {A : Type 0} (places : List A) (at : ℕ) (first second : A) → set (set places at first) at second ≡ set places at second
 set_twice [] at first second = refl
 set_twice (place ∷ places) zero first second = refl
 set_twice (place ∷ places) (suc at) first second = ap (λ more. place ∷ more) (set_twice places at first second)
 
--- What stands in a place is put there.
+-- Putting an item where it already is changes nothing.
 set_same : {A : Type 0} (places : List A) (at : ℕ) (d : A) → set places at (get_or places at d) ≡ places
 set_same [] at d = refl
 set_same (place ∷ places) zero d = refl
@@ -95,7 +95,7 @@ some_within [] at some = absurd (let bad : false ≡ true = some in cc)
 some_within (place ∷ places) zero some = omega arith
 some_within (place ∷ places) (suc at) some = omega (arith, some_within places at some)
 
--- The item of a place is put back to it.
+-- Putting the item of an emptied place back undoes the emptying.
 pub put_again : {A : Type 0} (id : ℤ) (at : ℕ) (item : Option A) (m : List (ℤ × List (Option A))) → Whole m
     → item ≡ get_or (listed id m) at None → with_place id at item (with_place id at None m) ≡ m
 put_again {A} id at item m whole is =
@@ -106,7 +106,7 @@ put_again {A} id at item m whole is =
     ∙ ap (λ now. with_listed id now m) (set_twice places at None item ∙ ap (set places at) is ∙ set_same places at None)
     ∙ given_back id m whole
 
--- The newest item is taken away again.
+-- Removing the newest item undoes adding it.
 pub less_again : {A : Type 0} (id : ℤ) (item : A) (m : List (ℤ × List A)) → Whole m → one_less id (with_newest id item m) ≡ m
 less_again {A} id item m whole =
     let items : List A = listed id m in
@@ -122,7 +122,7 @@ less_again {A} id item m whole =
 
 -- ---- own invocations that change in turn
 
--- Of two changes of an invocation the second counts.
+-- The second of two changes of an invocation counts.
 pub out_twice : (id : ℤ) (a b : Option OwnInvocation) (o : Outs) → with_out id b (with_out id a (kept_outs o)) ≡ with_out id b (kept_outs o)
 out_twice id a b o =
     let es : List (ℤ × Option OwnInvocation) = o.places.items in
@@ -131,14 +131,14 @@ out_twice id a b o =
     ∙ ap (keep (λ place. place)) (insert_twice int_cmp_total id a b es)
     ∙ puts id b es o.ordered
 
--- what stands under an ID that was changed
+-- the invocation of an ID after it was set
 pub out_there : (id : ℤ) (x : Option OwnInvocation) (o : Outs) → lookup (is_at (int_cmp id)) (with_out id x (kept_outs o)) ≡ x
 out_there id x o =
     let es : List (ℤ × Option OwnInvocation) = o.places.items in
     ap (lookup (is_at (int_cmp id))) (sym (puts id x es o.ordered))
     ∙ stands id (insert_entry int_cmp es id x) (Some x) (rises_inserted int_cmp_total es id x o.ordered) (found_new int_cmp_total id x es)
 
--- What stood there is put there again.
+-- Putting the earlier invocation back undoes a change.
 pub out_again : (id : ℤ) (x : Option OwnInvocation) (o : Outs)
     → with_out id (lookup (is_at (int_cmp id)) (kept_outs o)) (with_out id x (kept_outs o)) ≡ kept_outs o
 out_again id x o =
@@ -155,7 +155,7 @@ out_again id x o =
         rw e (sym (puts id (Some own_invocation) o.places.items o.ordered)
         ∙ ap (keep (λ place. place)) (insert_again int_cmp_total id (Some own_invocation) o.places.items o.ordered is))
 
--- An invocation that was sent waits, and is as one that was sent again.
+-- Moving an invocation to Wait for Reject and back changes nothing.
 pub state_again : (id : ℤ) (code : Code) (o : Outs)
     → lookup (is_at (int_cmp id)) (kept_outs o) ≡ Some (record { code = code; state = states.OperationSent })
     → with_state id states.OperationSent (with_state id states.WaitForReject (kept_outs o)) ≡ kept_outs o

@@ -1,4 +1,4 @@
--- What is under a number changes, and the place that leads to it: what the end is then, and that it is kept as an end is.
+-- One number of the slab and the place that leads to it change: the end after it, and why it is still sound.
 use Rattle.std.proofs.Common.{◌≡◌, ◌≢◌, ℕ, false, List, Option, Some, None, Result, Ok, Err, ◌⊎◌, inl, inr, refl, sym, ap, subst, ◌∙◌}
 use Rattle.std.specs.BTreeMap.{BTreeMap, insert_entry}
 use Rattle.std.proofs.lemmas.Bool.{cases_eq}
@@ -28,7 +28,7 @@ use Rattle.tcap_end.proofs.PlacedLaws.{elsewhere, slots_eq, halves_same, halves_
 
 -- ---- a change
 
--- What is under a number changes, and the place that led to it.
+-- One number changes, and the place that led to it.
 pub record Changes (slot : Slot) (key : List ℕ) (k : ℕ) (place : Place) (under : Option HalfState) (s next : Halves) : Type 0 where
   pub slab : Updates s.slab next.slab k under
   pub here : places_of slot next ≡ insert_entry octets_cmp (places_of slot s) key place
@@ -36,7 +36,7 @@ pub record Changes (slot : Slot) (key : List ℕ) (k : ℕ) (place : Place) (und
   pub by_own : next.by_own.entries ≡ s.by_own.entries
   pub by_peer : next.by_peer.entries ≡ s.by_peer.entries
 
--- A place that leads elsewhere keeps its half.
+-- A place that does not lead to the number keeps its half.
 half_stays : (s t : Slab HalfState) (k : ℕ) (under : Option HalfState) (slot : Slot) (q : List ℕ) (p : Place)
     → Updates s t k under → p ≢ Open k → half_at t slot q p ≡ half_at s slot q p
 half_stays s t k under slot q (Open j) up apart = ap half_in (up.others j (λ is. apart (ap (λ n. Open n) is)))
@@ -44,7 +44,7 @@ half_stays s t k under slot q (Closed other) up apart = refl
 
 module _ {s next : Halves} {slot : Slot} {key : List ℕ} {k : ℕ} {place : Place} {under : Option HalfState}
     (held : IsHeld s) (is : IsAt slot key (Open k) s) (c : Changes slot key k place under s next) where
-  -- A place that leads to the number is the one that changes.
+  -- The place that leads to the number is the one that changes.
   leads : (other : Slot) (q : List ℕ) (p : Place) → IsAt other q p s → p ≡ Open k → (other ≡ slot) × (q ≡ key)
   leads other q p too p_is = one_place s slot other key q k held is (subst (λ (x : Place). IsAt other q x s) p_is too)
 
@@ -62,7 +62,7 @@ module _ {s next : Halves} {slot : Slot} {key : List ℕ} {k : ℕ} {place : Pla
       (λ q p too. half_stays s.slab next.slab k under other q p c.slab (λ p_is. apart (leads other q p too p_is).0))
       ∙ sym (halves_placed s other)
 
-  -- The half at the place is put into the end.
+  -- The half at the changed place is put into the end.
   pub end_changed : end_of next ≡ put (end_of s) slot key (half_at next.slab slot key place)
   end_changed = put_is slot key (half_at next.slab slot key place) (end_of s) (end_of next) halves_here halves_there
 
@@ -76,7 +76,7 @@ module _ {s next : Halves} {slot : Slot} {key : List ℕ} {k : ℕ} {place : Pla
           (subst (λ (es : List (List ℕ × Place)). Rises octets_cmp es) (sym c.here) risen)
       by (inr apart) = subst (λ (es : List (List ℕ × Place)). Rises octets_cmp es) (sym (c.there other apart)) (places_rise s other held)
 
-  -- A place behind the change is the new one, or was there elsewhere.
+  -- A place after the change is the new one, or another that was there before.
   abbrev IsNew : Slot → List ℕ → Place → Type 0
   IsNew other q p = (other ≡ slot) × (q ≡ key) × (p ≡ place)
 
@@ -113,7 +113,8 @@ module _ {s next : Halves} {slot : Slot} {key : List ℕ} {k : ℕ} {place : Pla
             λ same. absurd (apart same),
           )
 
-  -- Where the new place has the IDs of the half that was there, and leads to an open half if to any, all is kept as it should be.
+  -- The stored end is still sound, if the new place has the IDs of the old half and leads to no number or to an open
+  -- half.
   pub held_changed : (h : Half) → Has (end_of s) (kept_half slot key h)
       → (half_at next.slab slot key place).own ≡ h.own → (half_at next.slab slot key place).peer ≡ h.peer
       → ((j : ℕ) → place ≡ Open j → IsOpen slot key j next) → IsHeld next
@@ -143,7 +144,7 @@ module _ {s next : Halves} {slot : Slot} {key : List ℕ} {k : ℕ} {place : Pla
           (subst (λ (es : List (List ℕ × List ℕ)). Indexes es at of (put (end_of s) slot key (half_at next.slab slot key place)))
           (sym entries) put_so)
 
--- ---- an open half goes on
+-- ---- an open half changes
 
 -- the halves with another under a number
 abbrev pub going_on : Halves → ℕ → HalfState → Halves
@@ -164,11 +165,11 @@ module _ (s : Halves) (slot : Slot) (key : List ℕ) (k : ℕ) (h : HalfState)
     by_peer = refl;
   }
 
-  -- It is put into the end.
+  -- The changed half is put into the end.
   pub end_on : (g : HalfState) → end_of (going_on s k g) ≡ put (end_of s) slot key (half_of g)
   end_on g = end_changed held is (changes_on g) ∙ ap (λ o. put (end_of s) slot key (half_in o)) (changes_on g).slab.changed
 
-  -- The end is as it was where the half is.
+  -- If the half means what it meant, the end is unchanged.
   pub kept_on : (g : HalfState) → half_of g ≡ half_of h → end_of (going_on s k g) ≡ end_of s
   kept_on g same =
       ap (λ hs. record { begun = hs; accepted = halves_at (with_value s.slab k g) Accepted s.accepted.entries })
@@ -188,12 +189,12 @@ module _ (s : Halves) (slot : Slot) (key : List ℕ) (k : ℕ) (h : HalfState)
       stays at q (Open j) = by at q j (cases_eq j k)
       stays at q (Closed other) = refl
 
-  -- It becomes what was made of it.
+  -- The half becomes `change` of the earlier half.
   pub becomes_on : (g : HalfState) (change : Half → Half) → half_of g ≡ change (half_of h) → Becomes slot key change s (going_on s k g)
   becomes_on g change made x had =
       end_on g ∙ ap (put (end_of s) slot key) (made ∙ ap change (sym (the_open s slot key k x h is was had)))
 
-  -- A call over it answers what the step answers that makes another of it.
+  -- If the half changed as a step says, so did the end.
   pub answers_on : (g : HalfState) (step : Half → Result Half EndFault) (result : Result (Unit {0}) EndFault)
       → AnswersInMemory (step (half_of h)) result (half_of g) → AnswersOver slot key step result s (going_on s k g)
   answers_on g step result answers x had = rw (the_open s slot key k x h is was had, end_on g) (by result answers)
@@ -203,7 +204,7 @@ module _ (s : Halves) (slot : Slot) (key : List ℕ) (k : ℕ) (h : HalfState)
       by (Ok done) made = rw made refl
       by (Err reason) refused = λ apart. rw (refused apart) refl
 
-  -- All is kept as it should be.
+  -- The stored end is still sound.
   pub held_on : (g : HalfState) → g.slot ≡ h.slot → Follows (half_of h) (half_of g) → IsHeld (going_on s k g)
   held_on g slots follows =
       held_changed held is (changes_on g) (half_of h) (has_open s slot key k h is was)
@@ -233,12 +234,12 @@ module _ (s : Halves) (slot : Slot) (key : List ℕ) (k : ℕ) (h : HalfState)
 
 -- ---- an open half closes
 
--- The half closes, and all is kept as it should be.
+-- The half closes, and the stored end is still sound.
 pub record Closes (slot : Slot) (key : List ℕ) (s next : Halves) : Type 0 where
   pub closed : Becomes slot key closed_half s next
   pub held : IsHeld next
 
--- Its number is freed, and its place has its other ID.
+-- The half's number is freed, and its place keeps its other ID.
 closes : (s next : Halves) (slot : Slot) (key : List ℕ) (k : ℕ) (h : HalfState) (other : Option (List ℕ))
     → IsHeld s → IsAt slot key (Open k) s → get s.slab k ≡ Some h
     → Changes slot key k (Closed other) None s next → closed_at slot key other ≡ closed_half (half_of h) → Closes slot key s next
@@ -250,7 +251,7 @@ closes s next slot key k h other held is was c same = record {
       (ap (λ (x : Half). x.own) same) (ap (λ (x : Half). x.peer) same) (λ j is_open. cc);
 }
 
--- one that began by sending
+-- a half whose end sent the Begin
 pub closes_begun : (s next : Halves) (slab : Slab HalfState) (begun : BTreeMap (List ℕ) Place) (slot : Slot) (key : List ℕ)
     (k : ℕ) (h : HalfState)
     → IsHeld s → IsAt slot key (Open k) s → get s.slab k ≡ Some h → Updates s.slab slab k None → slot ≡ Begun
@@ -273,7 +274,7 @@ closes_begun s next slab begun slot key k h held is was freed slot_is entries ne
         (record { slab = freed; here = entries; there = there; by_own = refl; by_peer = refl })
         (ap (λ own. fresh phases.Closed own h.peer standings.Without) (sym (kept_by s Begun key k h held at_begun was)))
 
--- one that began by receiving
+-- a half whose end received the Begin
 pub closes_accepted : (s next : Halves) (slab : Slab HalfState) (accepted : BTreeMap (List ℕ) Place) (slot : Slot)
     (key : List ℕ) (k : ℕ) (h : HalfState)
     → IsHeld s → IsAt slot key (Open k) s → get s.slab k ≡ Some h → Updates s.slab slab k None → slot ≡ Accepted

@@ -1,4 +1,4 @@
--- What a component that is sent or received leaves as it is in a half.
+-- The parts of a half that sending or receiving a component does not change.
 use Rattle.std.proofs.Common.{◌≡◌, ◌≢◌, ℕ, ℤ, Bool, true, false, cond, List, [], ◌∷◌, Option, Some, None, Result, Ok, is_none, is_some, refl}
 use Rattle.std.specs.BTreeMap.{insert_entry, is_at}
 use Rattle.std.specs.Ordering.{int_cmp}
@@ -22,7 +22,7 @@ use Rattle.tcap_lists.proofs.MapLaws.{all_inserted, all_removed, rises_inserted,
 
 -- ---- lists by invoke ID
 
--- What is kept of an ID changes.
+-- Lists by invoke ID stay sorted when the list of one ID changes.
 list_kept : {A : Type 0} (id : ℤ) (list : List A) (items : List (ℤ × List A))
     → IsListed items → IsListed (with_listed id list items)
 list_kept id [] items is =
@@ -32,17 +32,17 @@ list_kept id (first ∷ more) items is = (
   all_inserted (λ v. v ≢ []) int_cmp items id (first ∷ more) (λ none. cc) is.1,
 )
 
--- What is taken leaves such a list.
+-- Lists by invoke ID stay sorted when an item is removed.
 taken_kept : {A : Type 0} (id : ℤ) (fits : A → Bool) (items : List (ℤ × List A)) → IsListed items → IsListed (without_oldest_of id fits items)
 taken_kept id fits items is = list_kept id (without_oldest fits (listed id items)) items is
 
--- Nothing fits of none.
+-- No item fits in an empty list.
 none_fits : {A : Type 0} {P : Type 0} (id : ℤ) (fits : A → Bool) (items : List (ℤ × List A)) → one_fits id fits items ≡ true → items ≡ [] → P
 none_fits id fits items one none = let bad = rw none at one in cc
 
 -- ---- sending
 
--- It leaves a half without invocations or answers that were received so.
+-- A half without received invocations or answers stays one.
 pub record Sends (h g : Half) : Type 0 where
   pub follows : Follows h g
   pub inn : h.inn ≡ [] → g.inn ≡ []
@@ -67,7 +67,7 @@ takes_grants h id fits one = record {
   grants = none_fits id fits h.grants one;
 }
 
--- It is such a half where the step was Ok.
+-- the half after a step that was Ok
 sends_this : (h x g : Half) → Sends h x → (let r : Result Half EndFault = Ok x in r) ≡ Ok g → Sends h g
 sends_this h x g sends is = let same : x ≡ g = cc in rw (← same) sends
 
@@ -116,7 +116,6 @@ component_sends table h g (ReturnResult last id body) is = answer_sends table h 
 component_sends table h g (ReturnError id code parameter) is = answer_sends table h g false true id None is
 component_sends table h g (Reject id problem) is = reject_sends h g id problem is
 
--- Components are sent.
 pub all_sends : (table : Table) (components : List Component) (h g : Half) → send_components table h components ≡ Ok g → Sends h g
 all_sends table [] h g is = sends_this h h g (sends_self h) is
 all_sends table (component ∷ more) h g is =
@@ -131,7 +130,7 @@ all_sends table (component ∷ more) h g is =
 
 -- ---- receiving
 
--- It leaves a half without own invocations so.
+-- A half without own invocations stays one.
 pub record Receives (h g : Half) : Type 0 where
   pub follows : Follows h g
   pub out : h.out ≡ [] → g.out ≡ []
@@ -155,7 +154,7 @@ answer_follows h is_result last id (Some (code, class)) =
     let reported = either_follows last h (wait_for_reject h id code) h (waits h id code) (follows_self h) in
     either_follows _ h _ _ (follows_then h _ _ reported (granted _ id is_result (answer_problems is_result))) (granted h id is_result (1 ∷ []))
 
--- An answer is for no invocation of a half that has none.
+-- An answer is for no invocation if the half has none.
 unanswered : (table : Table) (h : Half) (id : ℤ) → h.out ≡ [] → answered_operation table h id ≡ None
 unanswered table h id none = rw none refl
 
@@ -177,7 +176,6 @@ component_receives table h (Reject (Some id) (problems.Invoke n)) =
 component_receives table h (Reject (Some id) (problems.ReturnResult n)) = receives_self h
 component_receives table h (Reject (Some id) (problems.ReturnError n)) = receives_self h
 
--- Components are received.
 pub all_receives : (table : Table) (components : List Component) (h : Half) → Receives h (receive_components table h components)
 all_receives table [] h = receives_self h
 all_receives table (component ∷ more) h =

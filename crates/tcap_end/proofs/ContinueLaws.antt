@@ -1,4 +1,5 @@
--- What receiving a Begin does, and receiving a Continue, an End or an Abort over the half that was found.
+-- How the step of a received Begin is computed, and that of a Continue, an End or an Abort over the half that was
+-- found.
 use Rattle.std.proofs.Common.{◌≡◌, ◌≢◌, List, ℕ, true, false, Option, Some, None, Ok, Err, is_none, refl, subst}
 use Rattle.tcap_parts.specs.declared.component.Component.{Component}
 use Rattle.tcap_parts.specs.declared.dialogue.Dialogue.{Dialogue}
@@ -20,7 +21,7 @@ use Rattle.tcap_end.proofs.WayLaws.{receives_in}
 
 -- ---- a Begin
 
--- No half has its ID.
+-- No half has the Begin's ID.
 pub begin_comes : {half : Half} (table : Table) (e : End) (otid : List ℕ) (dialogue : Option Dialogue) (components : List Component)
     → with_peer e otid ≡ None → half ≡ fresh phases.Received None (Some otid) (first_standing dialogue)
     → receive_begin table e otid dialogue components ≡ (components_by In table half components >>= λ g. Ok (put e Accepted otid g))
@@ -28,7 +29,7 @@ begin_comes {half} table e otid dialogue components none same = rw (receives_in 
 
 -- ---- a Continue
 
--- A half whose Begin was sent knows no peer, and began by sending.
+-- A half in Sent does not know its peer's ID.
 pub sent_peer : (e : End) (f : KeptHalf) → IsEnd e → Has e f → f.half.phase ≡ phases.Sent → f.half.peer ≡ None
 sent_peer e f sound had is = (subst (λ (p : Phase). FitsPhase p f.half) is (sound.halves f had).phase).1
 
@@ -41,7 +42,7 @@ sent_begun e f sound had is = by f.slot (sound.kept f had)
 
 module _ {f : KeptHalf} (table : Table) (e : End) (otid dtid : List ℕ) (dialogue : Option Dialogue) (components : List Component)
     (is : with_own e dtid ≡ Some f) where
-  -- The half is closed, or in another phase.
+  -- The half is closed, or in Received.
   pub over_closed : is_closed f.half.phase ≡ true → receive_continue table e otid dtid dialogue components ≡ Err faults.NoTransaction
   over_closed shut = rw is (by f.half.phase shut)
     where
@@ -62,7 +63,7 @@ module _ {f : KeptHalf} (table : Table) (e : End) (otid dtid : List ℕ) (dialog
       by phases.Active not_sent not_active = absurd (not_active refl)
       by phases.Closed not_sent not_active = refl
 
-  -- The Begin is not answered, by an ID that was used, or with a dialogue portion that does not answer; else it is.
+  -- In Sent: the ID was used, the dialogue portion does not answer the request, or the half becomes active.
   pub over_used : f.half.phase ≡ phases.Sent → is_none (with_peer e otid) ≡ false
       → receive_continue table e otid dtid dialogue components ≡ Err faults.IdUsed
   over_used sent used = rw (is, sent, used) refl
@@ -77,7 +78,7 @@ module _ {f : KeptHalf} (table : Table) (e : End) (otid dtid : List ℕ) (dialog
   over_first sent none answered at =
       rw (is, at, receives_in table (active_half Begun otid f.half) components, sent, none, answered) refl
 
-  -- It comes from another peer; else the half goes on.
+  -- In Active: the Continue comes from another peer, or the half takes its components.
   pub over_another : f.half.phase ≡ phases.Active → is_id otid f.half.peer ≡ false
       → receive_continue table e otid dtid dialogue components ≡ Err faults.NoTransaction
   over_another active other = rw (is, active, other) refl

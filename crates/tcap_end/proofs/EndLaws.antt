@@ -1,4 +1,4 @@
--- A half that is put into an end keeps what holds of every end, and each closed half where it is.
+-- Putting a half into an end keeps the end sound, and changes no closed half.
 use Rattle.std.proofs.Common.{◌≡◌, ◌≢◌, ℕ, true, false, List, Option, Some, None, Ok, ◌⊎◌, inl, inr, refl, sym, ap, ◌∙◌}
 use Rattle.std.specs.List.Sorted.{IsStrictlySortedBy}
 use Rattle.std.proofs.lemmas.Map.Lookups.{exact_bytes}
@@ -15,13 +15,13 @@ use Rattle.tcap_end.proofs.AnsweringLaws.{needs_ok, ok_same}
 use Rattle.tcap_lists.proofs.MapLaws.{found_inserted, found_other, rises_inserted}
 use Rattle.tcap_end.proofs.FoundLaws.{half_at, none_own, none_peer, octets_total}
 
--- ---- where nothing went
+-- ---- an end without halves
 
 pub no_half : {P : Type 0} (slot : Slot) (key : List ℕ) (h : Half) → half_at (halves_of slot nothing) key ≡ Some h → P
 no_half Begun key h had = let bad : None ≡ Some h = had in cc
 no_half Accepted key h had = let bad : None ≡ Some h = had in cc
 
--- It holds of an end over which nothing went.
+-- An end without halves is sound.
 pub nothing_sound : IsEnd nothing
 unfolding IsStrictlySortedBy
 nothing_sound = record {
@@ -33,20 +33,20 @@ nothing_sound = record {
   one_peer = λ f g id had. no_half f.slot f.key f.half had;
 }
 
--- It holds behind a quiet mark.
+-- The end after a quiet mark is sound.
 pub quiet_sound : (e next : End) → quiet e ≡ Ok next → IsEnd next
 quiet_sound e next is =
     let step = needs_ok _ faults.StillOpen _ next is in
     let same = ok_same {F = EndFault} nothing next step.1 in
     rw (← same) nothing_sound
 
--- ---- which halves a put leaves
+-- ---- the halves after a put
 
 -- the half is that one, kept there
 abbrev pub IsThere : Slot → List ℕ → Half → KeptHalf → Type 0
 IsThere slot key h f = (f.slot ≡ slot) × (f.key ≡ key) × (f.half ≡ h)
 
--- A half behind a put is the new one, or was had.
+-- A half after a put is the new one, or was there before.
 pub put_has : (e : End) (slot : Slot) (key : List ℕ) (h : Half) (f : KeptHalf)
     → Has (put e slot key h) f → IsThere slot key h f ⊎ Has e f
 put_has e slot key h f had = at slot f.slot f.key f.half had
@@ -63,7 +63,7 @@ put_has e slot key h f had = at slot f.slot f.key f.half had
     at Accepted Begun q w found = inr found
     at Accepted Accepted q w found = by Accepted e.accepted q w (found_inserted octets_total exact_bytes q key h w e.accepted found)
 
--- A half that was had elsewhere still is.
+-- A half that is kept elsewhere stays.
 pub put_other : (e : End) (slot : Slot) (key : List ℕ) (h : Half) (f : KeptHalf)
     → (f.slot ≡ slot → f.key ≢ key) → Has e f → Has (put e slot key h) f
 put_other e slot key h f apart had = at slot f.slot apart had
@@ -85,11 +85,11 @@ put_accepted e Accepted key h sound = rises_inserted octets_total e.accepted key
 
 -- ---- IDs
 
--- No two halves have one ID of this kind.
+-- No two halves have the same ID of this kind.
 abbrev AreAlone : (Half → Option (List ℕ)) → End → Type 0
 AreAlone of e = (f g : KeptHalf) (id : List ℕ) → Has e f → Has e g → of f.half ≡ Some id → of g.half ≡ Some id → IsSame f g
 
--- No half but the one at that place has the new one's.
+-- No half kept elsewhere has this half's ID.
 abbrev IsAlone : (Half → Option (List ℕ)) → End → Slot → List ℕ → Half → Type 0
 IsAlone of e slot key h =
     (g : KeptHalf) (id : List ℕ) → Has e g → of h ≡ Some id → of g.half ≡ Some id → (g.slot ≡ slot) × (g.key ≡ key)
@@ -104,12 +104,12 @@ put_alone of e slot key h old alone f g id in_f in_g of_f of_g = by (put_has e s
     by (inr a) (inl b) = let r = alone f id a (ap of (sym b.2) ∙ of_g) of_f in (r.0 ∙ sym b.0, r.1 ∙ sym b.1)
     by (inr a) (inr b) = old f g id a b of_f of_g
 
--- a half that keeps the ID of the one at its place
+-- a half with the ID of the half in its place
 alone_kept : (of : Half → Option (List ℕ)) (e : End) (f : KeptHalf) (h : Half)
     → AreAlone of e → Has e f → of h ≡ of f.half → IsAlone of e f.slot f.key h
 alone_kept of e f h old had same g id in_g of_h of_g = let r = old g f id in_g had of_g (sym same ∙ of_h) in (r.0, r.1)
 
--- one that has an ID by which no half was found
+-- a half with an ID that no half had
 alone_own : (e : End) (slot : Slot) (key id : List ℕ) (h : Half)
     → with_own e id ≡ None → h.own ≡ Some id → IsAlone (λ h. h.own) e slot key h
 alone_own e slot key id h none own g other in_g of_h of_g = none_own e id g none in_g (of_g ∙ sym of_h ∙ own)
@@ -118,12 +118,12 @@ alone_peer : (e : End) (slot : Slot) (key id : List ℕ) (h : Half)
     → with_peer e id ≡ None → h.peer ≡ Some id → IsAlone (λ h. h.peer) e slot key h
 alone_peer e slot key id h none peer g other in_g of_h of_g = none_peer e id g none in_g (of_g ∙ sym of_h ∙ peer)
 
--- one that has none
+-- a half without such an ID
 alone_without : (of : Half → Option (List ℕ)) (e : End) (slot : Slot) (key : List ℕ) (h : Half)
     → of h ≡ None → IsAlone of e slot key h
 alone_without of e slot key h none g id in_g of_h of_g = cc
 
--- ---- what holds of every end
+-- ---- soundness
 
 put_sound : (e : End) (slot : Slot) (key : List ℕ) (h : Half) → IsEnd e → IsHalf h → IsKept slot key h
     → IsAlone (λ h. h.own) e slot key h → IsAlone (λ h. h.peer) e slot key h → IsEnd (put e slot key h)
@@ -144,7 +144,7 @@ put_sound e slot key h sound half kept own peer = record {
     is_kept f (inl new) = rw (new.0, new.1, new.2) kept
     is_kept f (inr old) = sound.kept f old
 
--- What holds of every end holds behind the step, and a closed half stays as it is.
+-- After a step the end is sound, and each closed half is still there.
 pub record Goes (e next : End) : Type 0 where
   pub sound : IsEnd next
   pub stays : (f : KeptHalf) → Has e f → f.half.phase ≡ phases.Closed → Has next f
@@ -152,7 +152,7 @@ pub record Goes (e next : End) : Type 0 where
 pub goes_nowhere : (e : End) → IsEnd e → Goes e e
 goes_nowhere e sound = record { sound = sound; stays = λ f had is. had }
 
--- A half is put where no closed one is.
+-- A half is put where no closed half is kept.
 put_goes : (e : End) (slot : Slot) (key : List ℕ) (h : Half) → IsEnd e → IsHalf h → IsKept slot key h
     → IsAlone (λ h. h.own) e slot key h → IsAlone (λ h. h.peer) e slot key h
     → ((g : KeptHalf) → Has e g → g.half.phase ≡ phases.Closed → g.slot ≡ slot → g.key ≢ key) → Goes e (put e slot key h)
@@ -161,9 +161,9 @@ put_goes e slot key h sound half kept own peer apart = record {
   stays = λ g in_g closed. put_other e slot key h g (apart g in_g closed) in_g;
 }
 
--- ---- an open half is put back
+-- ---- an open half is replaced
 
--- Where an open half is kept no closed one is.
+-- No closed half is kept where an open one is.
 open_apart : (e : End) (f g : KeptHalf) → Has e f → is_closed f.half.phase ≡ false
     → Has e g → g.half.phase ≡ phases.Closed → g.slot ≡ f.slot → g.key ≢ f.key
 open_apart e f g in_f is_open in_g closed slots keys =
@@ -176,7 +176,7 @@ put_back : (e : End) (f : KeptHalf) (h : Half) → IsEnd e → Has e f → is_cl
 put_back e f h sound had is_open half kept own peer =
     put_goes e f.slot f.key h sound half kept own peer (λ g in_g closed. open_apart e f g had is_open in_g closed)
 
--- with the IDs that it had
+-- by a half with the same IDs
 pub put_open : (e : End) (f : KeptHalf) (h : Half) → IsEnd e → Has e f → is_closed f.half.phase ≡ false → IsHalf h
     → h.own ≡ f.half.own → h.peer ≡ f.half.peer → Goes e (put e f.slot f.key h)
 put_open e f h sound had is_open half own peer = put_back e f h sound had is_open half
@@ -187,7 +187,7 @@ put_open e f h sound had is_open half own peer = put_back e f h sound had is_ope
     kept Begun by_own = own ∙ by_own
     kept Accepted by_peer = peer ∙ by_peer
 
--- with an own ID that no half had
+-- by a half with an own ID that no half had
 pub put_answered : (e : End) (f : KeptHalf) (id : List ℕ) (h : Half) → IsEnd e → Has e f → is_closed f.half.phase ≡ false → IsHalf h
     → with_own e id ≡ None → f.half.own ≡ None → h.own ≡ Some id → h.peer ≡ f.half.peer → Goes e (put e f.slot f.key h)
 put_answered e f id h sound had is_open half none was own peer = put_back e f h sound had is_open half
@@ -198,7 +198,7 @@ put_answered e f id h sound had is_open half none was own peer = put_back e f h 
     kept Begun by_own = cc
     kept Accepted by_peer = peer ∙ by_peer
 
--- with a peer's ID that no half had
+-- by a half with a peer's ID that no half had
 pub put_learned : (e : End) (f : KeptHalf) (id : List ℕ) (h : Half) → IsEnd e → Has e f → is_closed f.half.phase ≡ false → IsHalf h
     → with_peer e id ≡ None → f.half.peer ≡ None → h.peer ≡ Some id → h.own ≡ f.half.own → Goes e (put e f.slot f.key h)
 put_learned e f id h sound had is_open half none was peer own = put_back e f h sound had is_open half
@@ -211,14 +211,14 @@ put_learned e f id h sound had is_open half none was peer own = put_back e f h s
 
 -- ---- a half begins
 
--- by sending, with an own ID that no half had
+-- by sending a Begin, with an own ID that no half had
 pub put_sent : (e : End) (id : List ℕ) (h : Half) → IsEnd e → IsHalf h
     → with_own e id ≡ None → h.own ≡ Some id → h.peer ≡ None → Goes e (put e Begun id h)
 put_sent e id h sound half none own peer = put_goes e Begun id h sound half own
     (alone_own e Begun id id h none own) (alone_without (λ h. h.peer) e Begun id h peer)
     (λ g in_g closed slots keys. none_own e id g none in_g (rw (slots, keys) at (sound.kept g in_g)))
 
--- by receiving, with a peer's ID that no half had
+-- by receiving a Begin, with a peer's ID that no half had
 pub put_received : (e : End) (id : List ℕ) (h : Half) → IsEnd e → IsHalf h
     → with_peer e id ≡ None → h.peer ≡ Some id → h.own ≡ None → Goes e (put e Accepted id h)
 put_received e id h sound half none peer own = put_goes e Accepted id h sound half peer

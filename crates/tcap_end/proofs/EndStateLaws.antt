@@ -1,4 +1,4 @@
--- What a call leaves of an end: what holds of every end holds of what a step makes of it, and of it as it was.
+-- The end that a call leaves is sound, after a step and after a fault.
 use Rattle.std.proofs.Common.{◌≡◌, Result, Ok, Err, OnErr}
 use Rattle.tcap_end.specs.declared.fault.EndFault.{EndFault}
 use Rattle.tcap_end.specs.End.{End}
@@ -10,7 +10,7 @@ pub sound_after : (step : Result End EndFault) (answer : Result (Unit {0}) EndFa
 sound_after step (Ok _) e next sound goes answers kept = goes next answers
 sound_after step (Err _) e next sound goes answers kept = rw kept sound
 
--- A call that takes no memory answers so too.
+-- A call that never runs out of memory also meets the contract that allows it to.
 pub in_memory : (step : Result End EndFault) (answer : Result (Unit {0}) EndFault) (left : End) → Answers step answer left
     → AnswersInMemory step answer left
 in_memory step (Ok _) left answers = answers

@@ -1,4 +1,4 @@
--- The places at which halves are kept lead to the halves of an end, and each ID to the one half that has it.
+-- The stored places lead to the halves of an end, and each ID leads to the one half that has it.
 use Rattle.std.proofs.Common.{◌≡◌, ℕ, Bool, true, false, cond, List, [], ◌∷◌, Option, Some, None, is_some, ◌⊎◌, inl, inr, refl, sym, ap, subst, ◌∙◌}
 use Rattle.std.specs.Borrow.{Bor}
 use Rattle.std.specs.Option.{MatchOption, option_copied, option_map}
@@ -25,7 +25,7 @@ use Rattle.tcap_end.proofs.FoundLaws.{none_own, none_peer, own_has, peer_has}
 
 -- ---- places
 
--- The half that is kept at a key is that of its place.
+-- The half that is kept by a key is that of the key's place.
 halves_there : (slab : Slab HalfState) (slot : Slot) (key : List ℕ) (es : List (List ℕ × Place))
     → kept_at octets_cmp (halves_at slab slot es) key ≡ option_map (half_at slab slot key) (kept_at octets_cmp es key)
 halves_there slab slot key [] = refl
@@ -43,23 +43,23 @@ pub half_there : (s : Halves) (slot : Slot) (key : List ℕ)
 half_there s Begun key = halves_there s.slab Begun key s.begun.entries
 half_there s Accepted key = halves_there s.slab Accepted key s.accepted.entries
 
--- A place has its half.
+-- The half of each place is kept by the end.
 pub has_there : (s : Halves) (slot : Slot) (key : List ℕ) (place : Place)
     → IsAt slot key place s → Has (end_of s) (kept_half slot key (half_at s.slab slot key place))
 has_there s slot key place there = half_there s slot key ∙ ap (option_map (half_at s.slab slot key)) there
 
--- A half that is had is that of its place.
+-- A half that the end keeps is that of its place.
 pub had_there : (s : Halves) (slot : Slot) (key : List ℕ) (place : Place) (h : Half)
     → IsAt slot key place s → Has (end_of s) (kept_half slot key h) → h ≡ half_at s.slab slot key place
 had_there s slot key place h there had = let one = sym had ∙ has_there s slot key place there in cc
 
--- Where there is no place no half is had.
+-- Without a place, the end keeps no half.
 pub none_there : {P : Type 0} (s : Halves) (slot : Slot) (key : List ℕ) (h : Half)
     → kept_at octets_cmp (places_of slot s) key ≡ None → Has (end_of s) (kept_half slot key h) → P
 none_there s slot key h none had =
     let bad = sym had ∙ half_there s slot key ∙ ap (option_map (half_at s.slab slot key)) none in cc
 
--- what is kept at a place that was found
+-- a found place is in the map
 pub found_open : (s : Halves) (found : HalfKey) (k : ℕ) → found.number ≡ Some k → IsAt found.slot found.key (Open k) s → IsNumbered found s
 unfolding IsNumbered
 found_open s found k is there = rw is there
@@ -78,7 +78,7 @@ pub is_closed_there : (s : Halves) (found : HalfKey) → found.number ≡ None �
 unfolding IsNumbered
 is_closed_there s found is there = rw is at there
 
--- Places that stay lead to what was found.
+-- A found place stays found if the maps do not change.
 pub still_numbered : (s t : Halves) (found : HalfKey) → t.begun ≡ s.begun → t.accepted ≡ s.accepted → IsNumbered found s → IsNumbered found t
 unfolding IsNumbered
 still_numbered s t found begun accepted is = subst kept (sym (same found.slot)) is
@@ -91,7 +91,7 @@ still_numbered s t found begun accepted is = subst kept (sym (same found.slot)) 
     same Begun = ap (λ m. m.entries) begun
     same Accepted = ap (λ m. m.entries) accepted
 
--- what stands under the number of a place, of the half that is had there
+-- the state under the number of an open place
 pub open_there : (s : Halves) (slot : Slot) (key : List ℕ) (k : ℕ) (h : Half) (r : Option (Bor HalfState)) → IsHeld s
     → IsAt slot key (Open k) s → option_copied r ≡ get s.slab k → Has (end_of s) (kept_half slot key h)
     → MatchOption r (is_closed h.phase ≡ true) (λ half. (half_of half.now ≡ h) × (is_closed h.phase ≡ false))
@@ -116,7 +116,7 @@ pub closed_there : (s : Halves) (slot : Slot) (key : List ℕ) (other : Option (
     → IsAt slot key (Closed other) s → Has (end_of s) (kept_half slot key h) → is_closed h.phase ≡ true
 closed_there s slot key other h there had = rw (had_there s slot key (Closed other) h there had) (closed_is slot key other)
 
--- what stands at a place, of the half that is had there
+-- the state at a place, open or closed
 pub shown_there : (s : Halves) (slot : Slot) (key : List ℕ) (place : Place) (h : Half) (r : Option (Bor HalfState))
     → IsHeld s → IsAt slot key place s → option_copied r ≡ open_at s.slab place → Has (end_of s) (kept_half slot key h)
     → MatchOption r (is_closed h.phase ≡ true) (λ half. (half_of half.now ≡ h) × (is_closed h.phase ≡ false))
@@ -124,7 +124,7 @@ shown_there s slot key (Open k) h r held there is had = open_there s slot key k 
 shown_there s slot key (Closed other) h None held there is had = closed_there s slot key other h there had
 shown_there s slot key (Closed other) h (Some half) held there is had = cc
 
--- ---- what is found passes
+-- ---- the half that is found passes the test
 
 first_passes : (passes : Half → Bool) (slot : Slot) (es : List (List ℕ × Half)) (f : KeptHalf)
     → first_half passes slot es ≡ Some f → passes f.half ≡ true
@@ -152,7 +152,7 @@ same_id id (Some other) is = ap Some (sym ((bytes_eq-Decides id other).0 is))
 
 -- ---- the half that has an ID
 
--- Of an ID that one half has at most, what is found: the half that has it, or none.
+-- At most one half has the ID, and the search finds it.
 pub record Finds (id_in : Half → Option (List ℕ)) (e : End) (id : List ℕ) (found : Option KeptHalf) : Type 0 where
   pub had : (g : KeptHalf) → found ≡ Some g → Has e g × (id_in g.half ≡ Some id)
   pub one : (f : KeptHalf) → Has e f → id_in f.half ≡ Some id → (h : Half) × (found ≡ Some (kept_half f.slot f.key h))
@@ -182,9 +182,9 @@ own_finds e id sound = finds (λ h. h.own) e id (own_has e id sound) (λ f. none
 pub peer_finds : (e : End) (id : List ℕ) → IsEnd e → Finds (λ h. h.peer) e id (with_peer e id)
 peer_finds e id sound = finds (λ h. h.peer) e id (peer_has e id sound) (λ f. none_peer e id f) sound.one_peer
 
--- ---- what the places and the indexes say
+-- ---- places and indexes agree with the search
 
--- A place by that ID: its half is found.
+-- If a place has this ID, its half is found.
 pub at_place : (id_in : Half → Option (List ℕ)) (s : Halves) (slot : Slot) (id : List ℕ) (o : Option KeptHalf)
     → Finds id_in (end_of s) id o → ((h : Half) → Has (end_of s) (kept_half slot id h) → id_in h ≡ Some id)
     → is_some (kept_at octets_cmp (places_of slot s) id) ≡ true → (h : Half) × (o ≡ Some (kept_half slot id h))
@@ -197,13 +197,13 @@ at_place id_in s slot id o law kept some = by (kept_at octets_cmp (places_of slo
         let had = has_there s slot id place there in
         law.one (kept_half slot id (half_at s.slab slot id place)) had (kept (half_at s.slab slot id place) had)
 
--- An index leads on from that ID: the half there is found.
+-- If the index has this ID, the half that it leads to is found.
 pub led_on : (id_in : Half → Option (List ℕ)) (e : End) (slot : Slot) (id key : List ℕ) (o : Option KeptHalf)
     (index : List (List ℕ × List ℕ)) → Finds id_in e id o → Indexes index slot id_in e → kept_at octets_cmp index id ≡ Some key
     → (h : Half) × (o ≡ Some (kept_half slot key h))
 led_on id_in e slot id key o index law leads is = let it = (leads id key).0 is in law.one (kept_half slot key it.0) it.1 it.2
 
--- No place by that ID, and no index leads on from it: none is found.
+-- If neither the places nor the index have this ID, no half is found.
 pub nowhere : (id_in : Half → Option (List ℕ)) (s : Halves) (slot other : Slot) (id : List ℕ) (o : Option KeptHalf)
     (index : List (List ℕ × List ℕ))
     → Finds id_in (end_of s) id o → Indexes index other id_in (end_of s)
@@ -224,7 +224,7 @@ nowhere id_in s slot other id o index law leads parts unkept unled = by o refl
     by None is = is
     by (Some f) is = let it = law.had f is in no_half f it.0 it.1 (parts f it.0 it.1)
 
--- A place that was found is there.
+-- A found place is in the map.
 pub found_some : (s : Halves) (slot : Slot) (key : List ℕ) (f : HalfKey) → (f.slot ≡ slot) × (f.key ≡ key) × IsNumbered f s
     → is_some (kept_at octets_cmp (places_of slot s) key) ≡ true
 unfolding IsNumbered
@@ -235,7 +235,7 @@ found_some s slot key f told = rw (told.0, told.1) at (by f.number told.2)
     by None it = ap is_some it.1
     by (Some k) it = ap is_some it
 
--- Where an index leads on, a place is found.
+-- If the index has the ID, a place is found.
 pub led_found : (id_in : Half → Option (List ℕ)) (s : Halves) (slot : Slot) (id key : List ℕ) (o : Option KeptHalf) (r : Option HalfKey)
     → Finds id_in (end_of s) id o → (h : Half) × (o ≡ Some (kept_half slot key h))
     → MatchOption r (kept_at octets_cmp (places_of slot s) key ≡ None) (λ f. (f.slot ≡ slot) × (f.key ≡ key) × IsNumbered f s)
@@ -243,7 +243,7 @@ pub led_found : (id_in : Half → Option (List ℕ)) (s : Halves) (slot : Slot) 
 led_found id_in s slot id key o None law led none = none_there s slot key led.0 none (law.had (kept_half slot key led.0) led.1).0
 led_found id_in s slot id key o (Some f) law led told = rw (told.0, told.1) led
 
--- A half that has that own transaction ID is kept by it, or was accepted; one that has that peer's is kept by it, or began.
+-- A half with this own ID is kept by it or was accepted; a half with this peer's ID is kept by it or was begun.
 pub own_parts : (e : End) (id : List ℕ) → IsEnd e → (f : KeptHalf) → Has e f → f.half.own ≡ Some id
     → ((f.slot ≡ Begun) × (f.key ≡ id)) ⊎ (f.slot ≡ Accepted)
 own_parts e id sound f had own = by f.slot (sound.kept f had)

@@ -1,4 +1,4 @@
--- Where an ID stands among entries in the order of their IDs, or would: what is looked up, and what putting it makes.
+-- The index of an ID in a sorted list, or the index at which it would be inserted; lookups and insertions there.
 use Rattle.std.proofs.Common.{◌≡◌, false, ℕ, zero, suc, ◌+◌, ◌<◌, ◌≤◌, ℤ, length, List, [], ◌∷◌, Some, None, Result, Ok, Err, slice_index_or, slice_set, refl, sym, ap, subst, ◌∙◌, arith}
 use Rattle.std.specs.declared.cmp.Ordering.{Ordering}
 use Rattle.std.specs.declared.cmp.Ordering.TheVariants.{Less, Equal, Greater}
@@ -15,7 +15,7 @@ use Rattle.tcap_end.specs.Outs.{found_at, one_on}
 use Rattle.tcap_lists.proofs.KeepLaws.{lookup_above}
 use Rattle.tcap_lists.proofs.MapLaws.{below_all, turned, turned_less}
 
--- What stands at a place is what is looked up, and putting something there changes it alone.
+-- The entry at the index is what a lookup returns, and setting it is an insertion.
 pub record IsThere {A : Type 0} (id : ℤ) (es : List (ℤ × A)) (at : ℕ) : Type 0 where
   pub stands : (x : ℤ × A) → x ≡ slice_index_or es at x → lookup (is_at (int_cmp id)) es ≡ Some x.1
   pub changes : (x : ℤ × A) (v : A) → x ≡ slice_index_or es at x → insert_entry int_cmp es id v ≡ slice_set es at (x.0, v)
@@ -43,7 +43,7 @@ found_there {A} id (e ∷ es) at found = by (int_cmp id e.0) refl (found_at id e
         }
     by Greater is (Err n) rest at same more = absurd cc
 
--- Where an ID is not found, a look-up has nothing, and putting it inserts it between the others.
+-- The ID is absent: a lookup returns None, and an insertion goes to the index.
 pub record IsAbsent {A : Type 0} (id : ℤ) (es : List (ℤ × A)) (at : ℕ) : Type 0 where
   pub nothing : Rises int_cmp es → lookup (is_at (int_cmp id)) es ≡ None
   pub adds : (v : A) → insert_entry int_cmp es id v ≡ insert es at (id, v)
@@ -73,16 +73,16 @@ found_absent {A} id (e ∷ es) at found = by (int_cmp id e.0) refl (found_at id 
           adds = λ v. rw is (ap (λ others. e ∷ others) (absent.adds v));
         }
 
--- ---- what a search answers
+-- ---- the result of a search
 
--- what stands at a place is above a key that all are above
+-- any entry is above a key that all entries are above
 above_at : {A : Type 0} (key : ℤ) (es : List (ℤ × A)) (at : ℕ) (d : ℤ × A) → at < length es
     → AllByRecursion (λ y. int_cmp key y ≡ Less) (keys_of es) → int_cmp key (slice_index_or es at d).0 ≡ Less
 above_at key [] at d within all = absurd (omega arith)
 above_at key (e ∷ es) zero d within all = all.0
 above_at key (e ∷ es) (suc at) d within all = above_at key es at d (omega arith) all.1
 
--- an entry that is of that ID is where it is found
+-- an entry with the ID is found at its index
 found_equal : {A : Type 0} (id : ℤ) (es : List (ℤ × A)) (at : ℕ) → Rises int_cmp es → at < length es
     → HoldsAt (λ e. int_cmp e.0 id ≡ Equal) es at → found_at id es ≡ Ok at
 unfolding IsStrictlySortedBy
@@ -95,7 +95,7 @@ found_equal id (e ∷ es) (suc at) rises within equal =
     let below : int_cmp e.0 id ≡ Less = ap (λ x. int_cmp e.0 x) (sym same) ∙ above_at e.0 es at e (omega arith) rises.0 in
     rw (turned_less int_cmp_total e.0 id below, found_equal id es at rises.1 (omega arith) (λ d. equal d)) refl
 
--- where those before it are less and the others are greater, it would stand between them
+-- the ID belongs between the lesser and the greater entries
 found_between : {A : Type 0} (id : ℤ) (es : List (ℤ × A)) (at : ℕ) → at ≤ length es
     → AllWithin (λ e. int_cmp e.0 id ≡ Less) es 0 at → AllWithin (λ e. int_cmp e.0 id ≡ Greater) es at (length es)
     → found_at id es ≡ Err at
@@ -110,7 +110,7 @@ found_between id (e ∷ es) (suc at) within less greater =
           (λ k d low high. greater (suc k) d (omega arith) (omega arith)),
     ) refl
 
--- none is below the one before it
+-- no entry is below the entry before it
 sorted : {A : Type 0} (es : List (ℤ × A)) → Rises int_cmp es → (k : ℕ) (d : ℤ × A) → suc k < length es
     → is_lt (int_cmp (slice_index_or es (suc k) d).0 (slice_index_or es k d).0) ≡ false
 unfolding IsStrictlySortedBy
@@ -119,7 +119,7 @@ sorted (e ∷ es) rises zero d within =
     rw (turned_less int_cmp_total e.0 (slice_index_or es 0 d).0 (above_at e.0 es 0 d (omega arith) rises.0)) refl
 sorted (e ∷ es) rises (suc k) d within = sorted es rises.1 k d (omega arith)
 
--- what a binary search by the IDs answers
+-- the result of a binary search by the IDs
 pub searched : {A : Type 0} (id : ℤ) (es : List (ℤ × A)) (r : Result ℕ ℕ) → Rises int_cmp es → IsSearchInRange r (length es)
     → IsBinarySearchResult (λ e. int_cmp e.0 id) es r → r ≡ found_at id es
 searched id es (Ok at) rises within equal = sym (found_equal id es at rises within equal)

@@ -1,4 +1,4 @@
--- Halves that are found are had and pass; where none is found, none passes.
+-- A search for a half returns a kept half that passes the test, or shows that no half passes.
 use Rattle.std.proofs.Common.{◌≡◌, ℕ, Bool, true, false, cond, List, [], ◌∷◌, Option, Some, None, refl, ap, subst, ◌∙◌}
 use Rattle.std.specs.List.Sorted.{IsStrictlySortedBy}
 use Rattle.std.specs.Map.{lookup}
@@ -20,13 +20,13 @@ use Rattle.tcap_lists.proofs.MapLaws.{behind_first, kept_at}
 pub octets_total : IsTotalOrder octets_cmp
 octets_total = nat_list_cmp_total
 
--- the half that is kept by this key
+-- the half that is kept by a key in a list
 abbrev pub half_at : List (List ℕ × Half) → List ℕ → Option Half
 half_at es key = kept_at octets_cmp es key
 
 -- ---- among halves
 
--- A half that is found is kept there, and passes.
+-- A found half is in the list, and passes.
 abbrev IsIn : (Half → Bool) → Slot → List (List ℕ × Half) → KeptHalf → Type 0
 IsIn passes slot es f = (f.slot ≡ slot) × (half_at es f.key ≡ Some f.half) × (passes f.half ≡ true)
 
@@ -50,7 +50,7 @@ first_in passes slot ((key, half) ∷ es) f rises is = by (passes half) refl is 
         let other = behind_first octets_total f.key (key, half) es f.half rises later.1 in
         (later.0, ap (λ b. cond b (Some half) (half_at es f.key)) other ∙ later.1, later.2)
 
--- Where none is found none passes.
+-- If no half is found, none passes.
 first_none : (passes : Half → Bool) (slot : Slot) (es : List (List ℕ × Half)) (test : List ℕ → Bool) (h : Half)
     → first_half passes slot es ≡ None → lookup test es ≡ Some h → passes h ≡ false
 first_none passes slot [] test h none found = cc
@@ -69,7 +69,7 @@ first_none passes slot ((key, half) ∷ es) test h none found =
 
 -- ---- in an end
 
--- A half that is found is had, and passes.
+-- A found half is kept by the end, and passes.
 found_has : (passes : Half → Bool) (e : End) → IsEnd e → (f : KeptHalf) → half_where passes e ≡ Some f → Has e f
 found_has passes e sound f is = by (first_half passes Begun e.begun) refl
   where
@@ -80,7 +80,7 @@ found_has passes e sound f is = by (first_half passes Begun e.begun) refl
     by None none = had Accepted (first_in passes Accepted e.accepted f sound.accepted (rw none at is))
     by (Some g) some = had Begun (first_in passes Begun e.begun f sound.begun (let same = rw some at is in some ∙ same))
 
--- Where none is found no half passes.
+-- If no half is found, none passes.
 found_none : (passes : Half → Bool) (e : End) (g : KeptHalf) → half_where passes e ≡ None → Has e g → passes g.half ≡ false
 found_none passes e g is had = by (first_half passes Begun e.begun) refl
   where
@@ -93,9 +93,9 @@ found_none passes e g is had = by (first_half passes Begun e.begun) refl
     by None none = at g.slot none (rw none at is) had
     by (Some f) some = let bad = rw some at is in cc
 
--- ---- by their IDs
+-- ---- searches by ID
 
--- A half that is found by its own transaction ID, by its peer's or by its name is had.
+-- A half found by its own ID, its peer's ID or its name is kept by the end.
 pub own_has : (e : End) (id : List ℕ) → IsEnd e → (f : KeptHalf) → with_own e id ≡ Some f → Has e f
 own_has e id = found_has (λ h. is_id id h.own) e
 
@@ -109,7 +109,7 @@ named_has e (names.Peer id) = peer_has e id
 is_same_id : (id : List ℕ) (o : Option (List ℕ)) → o ≡ Some id → is_id id o ≡ true
 is_same_id id o is = rw is ((bytes_eq-Decides id id).1 refl)
 
--- No half has an own transaction ID by which none is found, nor such a peer's.
+-- If no half is found by an own ID or a peer's ID, no half has it.
 pub none_own : {P : Type 0} (e : End) (id : List ℕ) (g : KeptHalf) → with_own e id ≡ None → Has e g → g.half.own ≡ Some id → P
 none_own e id g none had own =
     let fails = found_none (λ h. is_id id h.own) e g none had in

@@ -1,4 +1,4 @@
--- What holds of every half holds behind a step that leaves its phase, and of halves that begin, are answered or close.
+-- A half stays sound after each step, and is sound when it begins, is answered, or closes.
 use Rattle.std.proofs.Common.{◌≡◌, ◌≢◌, ℕ, ℤ, Bool, true, false, cond, List, [], Option, Some, None, refl, sym, subst, ◌∙◌}
 use Rattle.std.specs.List.Sorted.{IsStrictlySortedBy}
 use Rattle.std.specs.Map.{remove_entry}
@@ -19,11 +19,11 @@ use Rattle.tcap_lists.proofs.MapLaws.{rises_removed}
 
 -- ---- a step from one half to another
 
--- Each invoke ID stands once, with some items.
+-- The list is sorted by invoke ID, and no ID has an empty list.
 abbrev pub IsListed : {A : Type 0} → List (ℤ × List A) → Type 0
 IsListed items = Rises int_cmp items × HasItems items
 
--- It leaves the phase, the IDs and the dialogue, and lists by invoke ID stay such.
+-- The step keeps the phase, the IDs, the dialogue state, and the order of the lists.
 pub record Follows (h g : Half) : Type 0 where
   pub phase : g.phase ≡ h.phase
   pub own : g.own ≡ h.own
@@ -33,7 +33,7 @@ pub record Follows (h g : Half) : Type 0 where
   pub inn : IsListed h.inn → IsListed g.inn
   pub grants : IsListed h.grants → IsListed g.grants
 
--- a step that changes the lists alone
+-- a step that changes only the lists
 follows_lists : (h : Half) (out : List (ℤ × OwnInvocation)) (inn : List (ℤ × List Invocation)) (grants : List (ℤ × List Answer))
     → (Rises int_cmp h.out → Rises int_cmp out) → (IsListed h.inn → IsListed inn) → (IsListed h.grants → IsListed grants)
     → Follows h (record h { out = out; inn = inn; grants = grants })
@@ -66,15 +66,15 @@ follows_then h g k first second = record {
   grants = λ is. second.grants (first.grants is);
 }
 
--- ---- what holds of every half
+-- ---- soundness of a half
 
--- A half has no own invocations in these phases, and the step leaves it so.
+-- A half without own invocations stays one, in Received and Closed.
 abbrev pub StaysOut : Phase → Half → Half → Type 0
 StaysOut phases.Received h g = h.out ≡ [] → g.out ≡ []
 StaysOut phases.Closed h g = h.out ≡ [] → g.out ≡ []
 StaysOut _ h g = Unit {0}
 
--- It has no others in these.
+-- A half without received invocations and answers stays one, in Sent and Closed.
 abbrev pub StaysInn : Phase → Half → Half → Type 0
 StaysInn phases.Sent h g = (h.inn ≡ [] → g.inn ≡ []) × (h.grants ≡ [] → g.grants ≡ [])
 StaysInn phases.Closed h g = (h.inn ≡ [] → g.inn ≡ []) × (h.grants ≡ [] → g.grants ≡ [])
@@ -87,7 +87,7 @@ fits_follows phases.Received h g f out inn fits = (f.own ∙ fits.0, rw (f.peer)
 fits_follows phases.Active h g f out inn fits = (rw (f.own) (fits.0), rw (f.peer) (fits.1), rw (f.standing) (fits.2))
 fits_follows phases.Closed h g f out inn fits = (f.standing ∙ fits.0, out fits.1, inn.0 fits.2, inn.1 fits.3)
 
--- It holds behind a step of a half in that phase.
+-- A half is sound after a step that keeps its phase.
 pub half_follows : (p : Phase) (h g : Half) → h.phase ≡ p → IsHalf h → Follows h g → StaysOut p h g → StaysInn p h g → IsHalf g
 half_follows p h g is half f out inn =
     let fits = subst (λ (q : Phase). FitsPhase q h) is half.phase in
@@ -125,7 +125,7 @@ half_received peer dialogue = fresh_half _ _ _ _ (refl, refl, asked_not_confirme
 pub half_closed : (h : Half) → IsHalf (closed_half h)
 half_closed h = fresh_half _ _ _ _ (refl, refl, refl, refl)
 
--- Its Begin is answered by this end, or by its peer.
+-- Its Begin is answered, by this end or by its peer.
 pub half_answered : (own : List ℕ) (h : Half) → h.phase ≡ phases.Received → IsHalf h → IsHalf (active_half Accepted own h)
 half_answered own h is half =
     let fits = rw is at half.phase in

@@ -1,4 +1,4 @@
--- What happens unseen to the half that was found.
+-- How the hidden steps of the half that was found are computed.
 use Rattle.std.proofs.Common.{◌≡◌, ℤ, true, false, Option, Some, None, Ok, Err, IsSome, refl, sym, subst}
 use Rattle.std.specs.Ordering.{int_cmp}
 use Rattle.std.specs.Map.{lookup, remove_entry}
@@ -20,7 +20,7 @@ use Rattle.tcap_end.proofs.BackLaws.{has_place}
 use Rattle.tcap_lists.proofs.MapLaws.{rises_removed}
 use Rattle.tcap_end.proofs.HalfLaws.{Follows, follows_out}
 
--- ---- closing unseen
+-- ---- a half closes without a message
 
 closed_never : (table : Table) (p : Phase) → is_closed p ≡ true → may_close table p ≡ false
 closed_never table phases.Sent is = cc
@@ -28,7 +28,7 @@ closed_never table phases.Received is = cc
 closed_never table phases.Active is = cc
 closed_never table phases.Closed is = refl
 
--- The half may not close, as one that is closed already; else it does.
+-- A half that may not close is refused, and so is a closed one; any other half closes.
 module _ {f : KeptHalf} (table : Table) (e : End) (name : HalfName) (is : named e name ≡ Some f) where
   pub stays_open : may_close table f.half.phase ≡ false → close table e name ≡ Err faults.CannotClose
   stays_open may_not = rw (is, may_not) refl
@@ -39,7 +39,7 @@ module _ {f : KeptHalf} (table : Table) (e : End) (name : HalfName) (is : named 
   pub half_closes : may_close table f.half.phase ≡ true → close table e name ≡ Ok (put e f.slot f.key (closed_half f.half))
   half_closes may = rw (is, may) refl
 
--- What is known of the half of that name where it is open, and where it is closed.
+-- the view of the half with a name, if it is open and if it is closed
 module _ {f : KeptHalf} (e : End) (name : HalfName) (is : named e name ≡ Some f) where
   pub knows_open : is_closed f.half.phase ≡ false → open_named e name ≡ Some f.half
   knows_open open_half = rw (is, open_half) refl
@@ -47,9 +47,9 @@ module _ {f : KeptHalf} (e : End) (name : HalfName) (is : named e name ≡ Some 
   pub knows_closed : is_closed f.half.phase ≡ true → open_named e name ≡ None
   knows_closed shut = rw (is, shut) refl
 
--- ---- an own invocation ends unseen
+-- ---- an own invocation expires
 
--- There is a place for an invocation that stands.
+-- An own invocation has a place.
 pub some_place : (id : ℤ) (o : Outs) → IsSome (lookup (is_at (int_cmp id)) (kept_outs o)) → HasPlace id o
 some_place id o there = by (lookup (is_at (int_cmp id)) (kept_outs o)) refl there
   where
@@ -57,13 +57,13 @@ some_place id o there = by (lookup (is_at (int_cmp id)) (kept_outs o)) refl ther
     by None is some = cc
     by (Some i) is some = has_place id o i is
 
--- A half without it follows.
+-- The half without an invocation keeps its phase, IDs and dialogue state.
 pub forgets : (id : ℤ) (h g : Half) → g ≡ record h { out = remove_entry (is_at (int_cmp id)) h.out } → Follows h g
 forgets id h g is =
     subst (λ (x : Half). Follows h x) (sym is)
     (follows_out h (remove_entry (is_at (int_cmp id)) h.out) (rises_removed int_cmp (is_at (int_cmp id)) h.out))
 
--- One that may end stands.
+-- An invocation that may expire exists.
 pub expires_some : (table : Table) (i : Option OwnInvocation) → may_expire table i ≡ true → IsSome i
 expires_some table None may = cc
 expires_some table (Some i) may = refl
@@ -74,7 +74,7 @@ waits_may table i is = rw is refl
 pub sent_may : (table : Table) (i : OwnInvocation) → i.state ≡ states.OperationSent → may_expire table (Some i) ≡ expires_of table i.code
 sent_may table i is = rw is refl
 
--- It does not end where the half is closed, or where it may not; else it does.
+-- The step is refused if the half is closed or the invocation may not expire; else the invocation ends.
 module _ {f : KeptHalf} (table : Table) (e : End) (name : HalfName) (id : ℤ) (is : named e name ≡ Some f) where
   pub closed_stays : is_closed f.half.phase ≡ true → expire table e name id ≡ Err faults.CannotExpire
   closed_stays shut = rw (is, shut) refl

@@ -1,4 +1,4 @@
--- A Unidirectional is sent by its parts.
+-- How the step of a sent Unidirectional is computed from its parts.
 use Rattle.std.proofs.Common.{◌≡◌, true, false, [], Result, Ok, Err, refl}
 use Rattle.tcap_msg.specs.declared.kind.Kind.TheVariants as kinds
 use Rattle.tcap_msg.specs.declared.message.Message.{Message}
@@ -21,11 +21,11 @@ by_components table e (End to dialogue components) kind = cc
 by_components table e (Abort to reason) kind = cc
 
 module _ (table : Table) (e : Ends) (m : Message) (kind : kind_in m ≡ kinds.Unidirectional) where
-  -- Its dialogue portion is none that it may carry.
+  -- The Unidirectional may not carry its dialogue portion.
   pub uni_wrong : may_be_uni (dialogue_in m) ≡ false → send table e m ≡ Err faults.WrongDialogue
   uni_wrong not = rw (by_components table e m kind, not) refl
 
-  -- It answers what its components do, over any end.
+  -- The step's result is that of its components, for any end.
   pub uni_sent : (result : Result (Unit {0}) EndFault) → may_be_uni (dialogue_in m) ≡ true
       → AnswersInMemory (send_uni_components table [] (components_in m)) result tt → AnswersInMemory (send table e m) result e
   uni_sent (Ok _) may step = rw (by_components table e m kind, may, step) refl

@@ -1,4 +1,4 @@
--- A change that was made is noted, or taken back.
+-- A change is noted, or undone at once.
 use Rattle.std.proofs.Common.{◌≡◌, ℤ, List, ◌∷◌, Option, Result, Ok, Err, OnOk, OnErr, refl, ap, ◌∙◌}
 use Rattle.tcap_end.specs.declared.half_state.HalfState.{HalfState}
 use Rattle.tcap_end.specs.declared.half_state.Change.{Change}
@@ -13,7 +13,7 @@ use Rattle.tcap_end.proofs.BackLaws.{less_again}
 use Rattle.tcap_lists.proofs.ListLaws.{whole_rows}
 use Rattle.tcap_end.proofs.UndoLaws.{keeps_then, undoes_more, undoes_too}
 
--- one part changes, and what it has it still has
+-- rows keep what they have
 pub keeps_all : {K : Type 0} (l : Lists K) → KeepsRows l l
 keeps_all l = record { rows = λ id has. has; kinds = λ id number some. refl }
 
@@ -26,7 +26,7 @@ keeps_inn h inn has = record { slot = refl; out = λ id there. there; inn = has;
 pub keeps_grants : (h : HalfState) (grants : Lists Answer) → KeepsRows h.grants grants → Keeps h (record h { grants = grants })
 keeps_grants h grants has = record { slot = refl; out = λ id there. there; inn = keeps_all h.inn; grants = has }
 
--- Whether it was noted or taken back, the changes undo what they undid.
+-- Whether a change was noted or undone, the changes still undo what they undid.
 pub still_noted : {A E : Type 0} (r : Result A E) (change : Change) (changes more : List Change) (h mid next : HalfState)
     → undone change mid ≡ kept_of h → Keeps h mid → CanUndo change mid
     → OnOk r ((next ≡ mid) × (more ≡ change ∷ changes)) → OnErr r (IsUndone change mid next × (more ≡ changes))
@@ -36,17 +36,17 @@ still_noted (Ok _) change changes more h mid next back keeps can ok err =
 still_noted (Err _) change changes more h mid next back keeps can ok err =
     λ start u. rw (err.1) (undoes_too changes h next start (err.0.0 ∙ back) (keeps_then h mid next keeps err.0.1) u)
 
--- What is read of the half where it was noted
+-- a value read from the half after the change was noted
 pub read_noted : {A E B : Type 0} (r : Result A E) (changes more : List Change) (mid next : HalfState) (read : HalfState → B) (b : B)
     → OnOk r ((next ≡ mid) × (more ≡ changes)) → read mid ≡ b → OnOk r (read next ≡ b)
 read_noted (Ok _) changes more mid next read b ok same = ap read ok.0 ∙ same
 read_noted (Err _) changes more mid next read b ok same = tt
 
--- Nothing changed that is kept.
+-- The stored parts did not change.
 pub still_same : (changes : List Change) (h next : HalfState) → kept_of next ≡ kept_of h → Keeps h next → StillUndoes changes h changes next
 still_same changes h next same keeps = λ start u. undoes_too changes h next start same keeps u
 
--- ---- a change of one part, that was noted or taken back
+-- ---- a change of one part, noted or undone
 
 module _ {A E : Type 0} (r : Result A E) (changes more : List Change) (h next : HalfState) where
   pub out_noted : (change : Change) (out : Outs) → undone change (record h { out = out }) ≡ kept_of h
@@ -56,7 +56,7 @@ module _ {A E : Type 0} (r : Result A E) (changes more : List Change) (h next : 
   out_noted change out back has can ok err =
       still_noted r change changes more h (record h { out = out }) next back (keeps_out h out has) can ok err
 
-  -- an invocation joined those of an ID
+  -- an invocation was added
   pub inn_noted : (id : ℤ) (item : Option Invocation) (inn : Lists Invocation) → rows_of inn ≡ with_newest id item (rows_of h.inn)
       → KeepsRows h.inn inn → HasRow id inn
       → OnOk r ((next ≡ record h { inn = inn }) × (more ≡ InnJoined id ∷ changes))
@@ -66,7 +66,7 @@ module _ {A E : Type 0} (r : Result A E) (changes more : List Change) (h next : 
       (ap (λ inn. record (kept_of h) { inn = inn }) (ap (one_less id) joined ∙ less_again id item (rows_of h.inn) (whole_rows h.inn)))
       (keeps_inn h inn has) can ok err
 
-  -- an answer did
+  -- an answer was added
   pub grant_noted : (id : ℤ) (item : Option Answer) (grants : Lists Answer) → rows_of grants ≡ with_newest id item (rows_of h.grants)
       → KeepsRows h.grants grants → HasRow id grants
       → OnOk r ((next ≡ record h { grants = grants }) × (more ≡ GrantJoined id ∷ changes))

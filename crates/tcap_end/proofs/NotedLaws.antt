@@ -1,21 +1,21 @@
--- Changes that are noted, the last one first, over those that were made, from the first one on.
+-- The list of changes, latest first, is the stored list in reverse.
 use Rattle.std.proofs.Common.{◌≡◌, Bool, true, false, List, [], ◌∷◌, ◌++◌, length, Option, Some, None, MatchOption, refl, ap, ◌∙◌}
 use Rattle.std.specs.Prelude.{if◌then◌else◌, reverse}
 use Rattle.std.specs.Option.{option_to_list}
 use Rattle.std.proofs.lemmas.List.{reverse-append}
 
--- One more was made, unless there was no memory,
+-- A change was added, unless memory ran out.
 pub pushed : {A : Type 0} (done : Bool) (made : List A) (change : A)
     → reverse (if done then made ++ change ∷ [] else made) ≡ (if done then change ∷ reverse made else reverse made)
 pushed true made change = reverse-append made (change ∷ [])
 pushed false made change = refl
 
--- none is left where there are none,
+-- A stored list of length 0 is empty.
 pub none_left : {A : Type 0} (made : List A) → length made ≡ 0 → made ≡ []
 none_left [] is = refl
 none_left (first ∷ more) is = cc
 
--- and the last one was taken away.
+-- The latest change was removed.
 pub popped : {A : Type 0} (last : Option A) (made left : List A) → made ≡ left ++ option_to_list last
     → (last ≡ None → (made ≡ []) × (left ≡ []))
     → MatchOption last ((reverse made ≡ []) × (reverse left ≡ [])) (λ change. reverse made ≡ change ∷ reverse left)

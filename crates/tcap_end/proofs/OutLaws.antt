@@ -1,4 +1,4 @@
--- Own invocations by their invoke IDs: what stands in a place, and changing it.
+-- Own invocations by invoke ID: reading and changing the place of an ID.
 use Rattle.std.proofs.Common.{◌≡◌, ℕ, ℤ, List, [], Option, Some, None, IsSome, Result, Ok, Err, OnOk, OnErr, slice_index_or, slice_set, refl, sym, ap, subst, ◌∙◌}
 use Rattle.std.specs.Prelude.{option_and_then}
 use Rattle.std.proofs.lemmas.Cmp.{int_cmp_total}
@@ -15,31 +15,30 @@ use Rattle.tcap_lists.proofs.KeepLaws.{insert_dropped, insert_keep, lookup_keep}
 use Rattle.tcap_lists.proofs.MapLaws.{found_new, rises_inserted, still_found}
 use Rattle.tcap_end.proofs.FoundAtLaws.{found_absent, found_there}
 
--- where there are no places, they rise
+-- an empty list is sorted
 pub none_rise : (A : Type 0) → Rises {A = A} int_cmp []
 unfolding IsStrictlySortedBy
 none_rise A = tt
 
--- what stands in the place of an ID, from what was looked up
+-- the invocation of an ID, from the lookup of its place
 pub stands : (id : ℤ) (places : List (ℤ × Option OwnInvocation)) (found : Option (Option OwnInvocation)) → Rises int_cmp places
     → lookup (is_at (int_cmp id)) places ≡ found
     → lookup (is_at (int_cmp id)) (keep (λ place. place) places) ≡ option_and_then (λ place. place) found
 stands id places found rises e = lookup_keep (λ place. place) id places rises ∙ ap (option_and_then (λ place. place)) e
 
--- something, or nothing, is put there
+-- setting the place of an ID sets its invocation
 pub puts : (id : ℤ) (own_invocation : Option OwnInvocation) (places : List (ℤ × Option OwnInvocation)) → Rises int_cmp places
     → keep (λ place. place) (insert_entry int_cmp places id own_invocation) ≡ with_out id own_invocation (keep (λ place. place) places)
 puts id None places rises = insert_dropped (λ place. place) id None places rises refl
 puts id (Some own_invocation) places rises = insert_keep (λ place. place) id (Some own_invocation) own_invocation places rises refl
 
--- What places are after something, or nothing, was put in the place of an ID.
+-- The places after the place of an ID was set.
 pub record Put (id : ℤ) (own_invocation : Option OwnInvocation) (places after : List (ℤ × Option OwnInvocation)) : Type 0 where
   pub rises : Rises int_cmp after
   pub kept : keep (λ place. place) after ≡ with_out id own_invocation (keep (λ place. place) places)
   pub made : IsSome (lookup (is_at (int_cmp id)) after)
   pub others : (other : ℤ) → IsSome (lookup (is_at (int_cmp other)) places) → IsSome (lookup (is_at (int_cmp other)) after)
 
--- so they are where that is inserted
 put_is : (id : ℤ) (own_invocation : Option OwnInvocation) (places after : List (ℤ × Option OwnInvocation)) → Rises int_cmp places
     → insert_entry int_cmp places id own_invocation ≡ after → Put id own_invocation places after
 put_is id own_invocation places after rises is = subst (Put id own_invocation places) is (record {
@@ -49,7 +48,7 @@ put_is id own_invocation places after rises is = subst (Put id own_invocation pl
   others = λ other there. still_found int_cmp_total other id own_invocation places there;
 })
 
--- what is changed where the place of an ID is
+-- setting the place at the index of an ID
 pub put_there : (id : ℤ) (own_invocation : Option OwnInvocation) (places : List (ℤ × Option OwnInvocation)) (at : ℕ)
     → Rises int_cmp places → found_at id places ≡ Ok at → (x : ℤ × Option OwnInvocation) → x ≡ slice_index_or places at x
     → (next : Option OwnInvocation) → next ≡ own_invocation
@@ -58,32 +57,32 @@ put_there id own_invocation places at rises found x here next is =
     rw is (put_is id own_invocation places (slice_set places at (x.0, own_invocation)) rises
     ((found_there id places at found).changes x own_invocation here))
 
--- what stood there
+-- the earlier invocation at the index of an ID
 pub was_there : (id : ℤ) (places : List (ℤ × Option OwnInvocation)) (at : ℕ) → Rises int_cmp places → found_at id places ≡ Ok at
     → (x : ℤ × Option OwnInvocation) → x ≡ slice_index_or places at x
     → x.1 ≡ lookup (is_at (int_cmp id)) (keep (λ place. place) places)
 was_there id places at rises found x here =
     sym (stands id places (Some x.1) rises ((found_there id places at found).stands x here))
 
--- nothing stands where an ID has no place
+-- an ID without a place has no invocation
 pub was_absent : (id : ℤ) (places : List (ℤ × Option OwnInvocation)) (at : ℕ) → Rises int_cmp places → found_at id places ≡ Err at
     → None ≡ lookup (is_at (int_cmp id)) (keep (λ place. place) places)
 was_absent id places at rises found = sym (stands id places None rises ((found_absent id places at found).nothing rises))
 
--- a place that is there is found
+-- an ID with a place is found
 pub not_absent : (id : ℤ) (places : List (ℤ × Option OwnInvocation)) (at : ℕ) → Rises int_cmp places → found_at id places ≡ Err at
     → IsSome (lookup (is_at (int_cmp id)) places) → ⊥
 not_absent id places at rises found made =
     let none : IsSome {T = Option OwnInvocation} None = subst IsSome ((found_absent id places at found).nothing rises) made in cc
 
--- what is put between the others, where the ID had no place
+-- inserting a place for an ID without one
 pub put_between : (id : ℤ) (own_invocation : Option OwnInvocation) (places after : List (ℤ × Option OwnInvocation)) (at : ℕ)
     → Rises int_cmp places → found_at id places ≡ Err at → after ≡ insert places at (id, own_invocation)
     → Put id own_invocation places after
 put_between id own_invocation places after at rises found is =
     put_is id own_invocation places after rises ((found_absent id places at found).adds own_invocation ∙ sym is)
 
--- the places rise where it was put, and where there was no memory for it
+-- the places are sorted whether the place was inserted or memory ran out
 pub rises_either : {U E : Type 0} (r : Result U E) (id : ℤ) (own_invocation : Option OwnInvocation)
     (places after : List (ℤ × Option OwnInvocation)) (at : ℕ) → Rises int_cmp places → found_at id places ≡ Err at
     → OnOk r (after ≡ insert places at (id, own_invocation)) → OnErr r (after ≡ places) → Rises int_cmp after

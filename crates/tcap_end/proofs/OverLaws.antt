@@ -1,4 +1,4 @@
--- A half that was found: whether it is open, and what is kept of it; a new half.
+-- A half that was found: whether it is open, and its state; and new halves.
 use Rattle.std.proofs.Common.{◌≡◌, List, ℕ, true, false, Option, Some, None, is_none, is_some, refl, sym, ap, subst, ◌∙◌}
 use Rattle.std.specs.Borrow.{Bor}
 use Rattle.std.specs.Option.{MatchOption}
@@ -25,7 +25,7 @@ use Rattle.tcap_end.proofs.HalfLaws.{Follows}
 
 -- ---- whether a half is open
 
--- Where an open half is had an open one is kept.
+-- If the end keeps an open half, its place is open.
 pub open_where : (s : Halves) (slot : Slot) (key : List ℕ) (h : Half) → Has (end_of s) (kept_half slot key h) → is_closed h.phase ≡ false
     → HasOpen slot key s
 open_where s slot key h had is_open = by (kept_at octets_cmp (places_of slot s) key) refl
@@ -35,7 +35,7 @@ open_where s slot key h had is_open = by (kept_at octets_cmp (places_of slot s) 
     by (Some (Open k)) there = (k, there)
     by (Some (Closed other)) there = let shut = closed_there s slot key other h there had in cc
 
--- what is kept of a half, of which this was looked up
+-- what a lookup of the state of a half shows
 abbrev pub Shows : Half → Option (Bor HalfState) → Type 0
 Shows h r = MatchOption r (is_closed h.phase ≡ true) (λ half. (half_of half.now ≡ h) × (is_closed h.phase ≡ false))
 
@@ -49,11 +49,11 @@ shown_closed h (Some half) none shown = cc
 
 -- ---- whether a half was found
 
--- a half was found there
+-- a half was found at this place
 abbrev pub IsFound : Option KeptHalf → HalfKey → Type 0
 IsFound o found = (h : Half) × (o ≡ Some (kept_half found.slot found.key h))
 
--- what a search says of the half that is found
+-- what a search for a half shows
 abbrev pub Tells : Option KeptHalf → Option HalfKey → Type 0
 Tells o r = MatchOption r (o ≡ None) (IsFound o)
 
@@ -65,7 +65,7 @@ pub told_some : (o : Option KeptHalf) (r : Option HalfKey) → is_some r ≡ tru
 told_some o None some told = cc
 told_some o (Some found) some told = rw (told.1) refl
 
--- The end has a half that was found by its own ID, by its peer's or by its name.
+-- A half found by its own ID, its peer's ID or its name is kept by the end.
 pub own_there : (e : End) (id : List ℕ) (found : HalfKey) → IsEnd e → (it : IsFound (with_own e id) found)
     → Has e (kept_half found.slot found.key it.0)
 own_there e id found sound it = own_has e id sound (kept_half found.slot found.key it.0) it.1
@@ -83,14 +83,14 @@ named_there e name found sound it = named_has e name sound (kept_half found.slot
 abbrev pub over_half : HalfKey → HalfState → KeptHalf
 over_half found half = kept_half found.slot found.key (half_of half)
 
--- It is open, and this is kept of it.
+-- The half that was found is open, with this state.
 pub record Over (o : Option KeptHalf) (s : Halves) (found : HalfKey) (half : HalfState) : Type 0 where
   pub is : o ≡ Some (over_half found half)
   pub had : Has (end_of s) (over_half found half)
   pub is_open : is_closed half.phase ≡ false
   pub there : HasOpen found.slot found.key s
 
--- what is kept of the half that is had there
+-- the state of the half that is kept there
 abbrev pub IsShown : Halves → HalfKey → HalfState → Type 0
 IsShown s found half =
     (h : Half) → Has (end_of s) (kept_half found.slot found.key h) → (half_of half ≡ h) × (is_closed h.phase ≡ false)
@@ -119,7 +119,7 @@ over_named s name found half sound it shown =
 
 -- ---- a new half
 
--- Where no half is had none is kept.
+-- If the end keeps no half by an ID, no place has the ID.
 none_placed : (s : Halves) (slot : Slot) (key : List ℕ) → ((h : Half) → Has (end_of s) (kept_half slot key h) → true ≡ false)
     → kept_at octets_cmp (places_of slot s) key ≡ None
 none_placed s slot key none = by (kept_at octets_cmp (places_of slot s) key) refl
@@ -129,7 +129,7 @@ none_placed s slot key none = by (kept_at octets_cmp (places_of slot s) key) ref
     by (Some place) is =
         let bad = none (half_at s.slab slot key place) (has_there s slot key place is) in cc
 
--- It has what it began with.
+-- A half that follows from a fresh one is new.
 new_half : (s : Halves) (slot : Slot) (key : List ℕ) (h : HalfState) (start : Half) → Follows start (half_of h) → h.slot ≡ slot
     → is_closed start.phase ≡ false → IsKept slot key start → other_id slot start ≡ None
     → kept_at octets_cmp (places_of slot s) key ≡ None → IsNew key h s
@@ -148,14 +148,14 @@ new_half s slot key h start follows slot_is is_open kept alone free = record {
     is_alone Begun peer = follows.peer ∙ peer
     is_alone Accepted own = follows.own ∙ own
 
--- It began by sending, with an own ID that no half has.
+-- Its end sends the Begin, with an own ID that no half has.
 pub new_begun : (s : Halves) (key : List ℕ) (h : HalfState) (standing : Standing) → IsEnd (end_of s) → with_own (end_of s) key ≡ None
     → h.slot ≡ Begun → Follows (fresh phases.Sent (Some key) None standing) (half_of h) → IsNew key h s
 new_begun s key h standing sound none slot_is follows =
     new_half s Begun key h (fresh phases.Sent (Some key) None standing) follows slot_is refl refl refl
     (none_placed s Begun key (λ x had. none_own (end_of s) key (kept_half Begun key x) none had (sound.kept (kept_half Begun key x) had)))
 
--- It began by receiving, with a peer's ID that no half has.
+-- Its end receives the Begin, with a peer's ID that no half has.
 pub new_accepted : (s : Halves) (key : List ℕ) (h : HalfState) (standing : Standing) → IsEnd (end_of s) → with_peer (end_of s) key ≡ None
     → h.slot ≡ Accepted → Follows (fresh phases.Received None (Some key) standing) (half_of h) → IsNew key h s
 new_accepted s key h standing sound none slot_is follows =

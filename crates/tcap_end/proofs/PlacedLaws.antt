@@ -1,4 +1,4 @@
--- Places lead to the halves of an end: which half a place has, what one place changes, and that indexes serve behind a put.
+-- Places and the halves that they lead to: changing one place, and indexes after a half is put.
 use Rattle.std.proofs.Common.{◌≡◌, ◌≢◌, ℕ, cond, List, [], ◌∷◌, Option, Some, ◌⊎◌, inl, inr, refl, sym, ap, subst, ◌∙◌}
 use Rattle.std.specs.declared.cmp.Ordering.{Ordering}
 use Rattle.std.specs.declared.cmp.Ordering.TheVariants.{Less, Equal, Greater}
@@ -23,7 +23,7 @@ use Rattle.tcap_lists.proofs.MapLaws.{behind_first, below_first, found_first, fo
 use Rattle.tcap_end.proofs.FoundLaws.{octets_total}
 use Rattle.tcap_end.proofs.FindLaws.{had_there, has_there}
 
--- Two slots are one or are not.
+-- Two slots are equal or not.
 pub slots_eq : (a b : Slot) → (a ≡ b) ⊎ (a ≢ b)
 slots_eq Begun Begun = inl refl
 slots_eq Begun Accepted = inr (λ is. cc)
@@ -32,7 +32,7 @@ slots_eq Accepted Accepted = inl refl
 
 -- ---- the halves at places
 
--- The places have the same halves over both slabs.
+-- The places have the same halves in two slabs.
 pub halves_same : (s t : Slab HalfState) (slot : Slot) (es : List (List ℕ × Place)) → Rises octets_cmp es
     → ((q : List ℕ) (p : Place) → kept_at octets_cmp es q ≡ Some p → half_at t slot q p ≡ half_at s slot q p)
     → halves_at t slot es ≡ halves_at s slot es
@@ -43,7 +43,7 @@ halves_same s t slot (e ∷ es) rises same =
     ap (λ h. (e.0, h) ∷ halves_at t slot es) (same e.0 e.1 (found_first octets_total e es))
     ∙ ap (λ hs. (e.0, half_at s slot e.0 e.1) ∷ hs) more
 
--- One place changed, and the others have the same halves.
+-- One place changes, and the others keep their halves.
 pub halves_put : (s t : Slab HalfState) (slot : Slot) (key : List ℕ) (old place : Place) (es : List (List ℕ × Place))
     → Rises octets_cmp es → kept_at octets_cmp es key ≡ Some old
     → ((q : List ℕ) (p : Place) → q ≢ key → kept_at octets_cmp es q ≡ Some p → half_at t slot q p ≡ half_at s slot q p)
@@ -84,7 +84,7 @@ halves_put s t slot key old place (e ∷ es) rises there same =
         (same e.0 e.1 (first_apart is) (found_first octets_total e es))
         ∙ ap (λ hs. (e.0, half_at s slot e.0 e.1) ∷ hs) (rest found)
 
--- ---- an end as it is kept
+-- ---- a stored end
 
 pub halves_placed : (s : Halves) (slot : Slot) → halves_of slot (end_of s) ≡ halves_at s.slab slot (places_of slot s)
 halves_placed s Begun = refl
@@ -94,16 +94,16 @@ pub places_rise : (s : Halves) (slot : Slot) → IsHeld s → Rises octets_cmp (
 places_rise s Begun held = held.begun
 places_rise s Accepted held = held.accepted
 
--- The places are the same over any slab.
+-- The places do not depend on the slab.
 pub over_slab : (s : Halves) (t : Slab HalfState) (slot : Slot) → places_of slot (record s { slab = t }) ≡ places_of slot s
 over_slab s t Begun = refl
 over_slab s t Accepted = refl
 
--- the entries of one and the same map
+-- equal maps have equal entries
 pub entries_are : {a b : BTreeMap (List ℕ) Place} → a ≡ b → a.entries ≡ b.entries
 entries_are is = ap (λ (places : BTreeMap (List ℕ) Place). places.entries) is
 
--- The places of the other slot stay.
+-- The places of the other slot do not change.
 pub elsewhere : (s next : Halves) (slot : Slot)
     → (slot ≢ Begun → next.begun ≡ s.begun) → (slot ≢ Accepted → next.accepted ≡ s.accepted)
     → (other : Slot) → other ≢ slot → places_of other next ≡ places_of other s
@@ -120,7 +120,7 @@ pub has_open : (s : Halves) (slot : Slot) (key : List ℕ) (k : ℕ) (was : Half
 has_open s slot key k was is under =
     subst (λ (o : Option HalfState). Has (end_of s) (kept_half slot key (half_in o))) under (has_there s slot key (Open k) is)
 
--- It is kept by its ID.
+-- The half is kept by its ID.
 pub kept_by : (s : Halves) (slot : Slot) (key : List ℕ) (k : ℕ) (h : HalfState) → IsHeld s → IsAt slot key (Open k) s
     → get s.slab k ≡ Some h → IsKept slot key (half_of h)
 kept_by s slot key k h held is was = by (held.places slot key k is)
@@ -140,14 +140,14 @@ one_open s slot other key q k first second =
     let kept = subst (λ (h : HalfState). IsKept other q (half_of h)) same second.4 in
     (slots, one_key slot key q (half_of first.0) first.4 (subst (λ (x : Slot). IsKept x q (half_of first.0)) slots kept))
 
--- A number is at one place.
+-- A number has only one place.
 pub one_place : (s : Halves) (slot other : Slot) (key q : List ℕ) (k : ℕ) → IsHeld s → IsAt slot key (Open k) s
     → IsAt other q (Open k) s → (other ≡ slot) × (q ≡ key)
 one_place s slot other key q k held is too = one_open s slot other key q k (held.places slot key k is) (held.places other q k too)
 
 -- ---- putting a half
 
--- an end whose halves are those of another, but for one
+-- an end that differs in one half
 pub put_is : (slot : Slot) (key : List ℕ) (g : Half) (e next : End) → halves_of slot next ≡ insert_entry octets_cmp (halves_of slot e) key g
     → ((other : Slot) → other ≢ slot → halves_of other next ≡ halves_of other e) → next ≡ put e slot key g
 put_is Begun key g e next here there =
@@ -157,7 +157,7 @@ put_is Accepted key g e next here there =
     ap (λ es. record next { accepted = es }) here
     ∙ ap (λ es. record next { begun = es; accepted = insert_entry octets_cmp e.accepted key g }) (there Begun (λ is. cc))
 
--- Where an end has a half with an ID, the other has one there.
+-- Each half with an ID has a counterpart in the other end, with the same ID.
 abbrev Alike : Slot → (Half → Option (List ℕ)) → End → End → Type 0
 Alike place of e next = (q : List ℕ) (x : Half) → Has e (kept_half place q x) → (y : Half) × Has next (kept_half place q y) × (of y ≡ of x)
 
@@ -199,7 +199,7 @@ alike_before of e Begun Accepted key h g had same q x found = (x, found, refl)
 alike_before of e Accepted Begun key h g had same q x found = (x, found, refl)
 alike_before of e Accepted Accepted key h g had same q x found = alike_back of e.accepted key h g had same q x found
 
--- An index serves where a half is put that has the ID of the one at its place.
+-- The index is exact after a half is put that has the ID of the half in its place.
 pub indexes_put : (of : Half → Option (List ℕ)) (index : List (List ℕ × List ℕ)) (e : End) (slot place : Slot) (key : List ℕ) (h g : Half)
     → Has e (kept_half slot key h) → of g ≡ of h → Indexes index place of e → Indexes index place of (put e slot key g)
 indexes_put of index e slot place key h g had same serves id q = (

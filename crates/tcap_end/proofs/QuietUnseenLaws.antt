@@ -1,4 +1,4 @@
--- A quiet mark before which the open halves close unseen: where each may, none is left and it is Ok.
+-- A quiet mark before which the open halves close: if each may close, none is left and the mark is possible.
 use Rattle.std.proofs.Common.{◌≡◌, ℕ, suc, ◌+◌, Bool, true, false, cond, List, [], ◌∷◌, ◌++◌, Option, Some, None, Result, Ok, Err, length, refl, sym, ap, ap₂, subst, ◌∙◌, arith, add-one}
 use Rattle.std.specs.Prelude.{map, option_map}
 use Rattle.std.specs.declared.cmp.Ordering.{Ordering}
@@ -29,7 +29,7 @@ use Rattle.tcap_end.proofs.StepLaws.{closes}
 
 -- ---- open halves
 
--- the open halves among these
+-- the open halves of a list
 abbrev open_of : Slot → List (List ℕ × Half) → List KeptHalf
 open_of slot [] = []
 open_of slot ((key, half) ∷ es) =
@@ -38,7 +38,7 @@ open_of slot ((key, half) ∷ es) =
 abbrev all_open : End → List KeptHalf
 all_open e = open_of Begun e.begun ++ open_of Accepted e.accepted
 
--- the name of a half, by the ID by which it is kept
+-- the name of a half by the ID by which it is kept
 abbrev name_of : KeptHalf → HalfName
 name_of f = name_in f.slot f.key
 
@@ -56,7 +56,7 @@ open_are : (e : End) → open_halves e ≡ map name_of (all_open e)
 open_are e = ap₂ ◌++◌ (names_are Begun e.begun) (names_are Accepted e.accepted)
     ∙ sym (map-append name_of (open_of Begun e.begun) (open_of Accepted e.accepted))
 
--- The half that is kept by an ID is found by its name.
+-- A half is found by its name.
 named_is : (e : End) (f : KeptHalf) → IsEnd e → Has e f → named e (name_of f) ≡ Some f
 named_is e f sound had = by f.slot (sound.kept f had)
   where
@@ -74,7 +74,7 @@ named_is e f sound had = by f.slot (sound.kept f had)
 
 -- ---- the first open half closes
 
--- A key that is found among later ones is above the first.
+-- A key that is found after the first is above it.
 above_first : (q : List ℕ) (e : List ℕ × Half) (es : List (List ℕ × Half)) (h : Half) → Rises octets_cmp (e ∷ es)
     → half_at es q ≡ Some h → octets_cmp q e.0 ≡ Greater
 above_first q e es h rises found = by (octets_cmp q e.0) refl
@@ -84,7 +84,7 @@ above_first q e es h rises found = by (octets_cmp q e.0) refl
     by Equal is = let apart = behind_first octets_total q e es h rises found in let same = rw is at apart in cc
     by Greater is = is
 
--- That half is the first open one of these: it is kept there, and the others are open behind its closing.
+-- The half is the first open one of a list; closing it leaves the others open.
 record IsFirst (slot : Slot) (es : List (List ℕ × Half)) (f : KeptHalf) (more : List KeptHalf) : Type 0 where
   at : f.slot ≡ slot
   found : half_at es f.key ≡ Some f.half
@@ -120,7 +120,7 @@ is_first slot ((key, half) ∷ es) f more rises is = by (is_closed half.phase) r
           left = ap (put_at key (closed_half half)) (tied_itself octets_total key) ∙ others;
         })
 
--- The same of an end.
+-- The half is the first open one of an end.
 record IsFirstOf (e : End) (f : KeptHalf) (more : List KeptHalf) : Type 0 where
   had : Has e f
   left : all_open (put e f.slot f.key (closed_half f.half)) ≡ more
@@ -170,14 +170,14 @@ quiet_none e none = by (open_of Begun e.begun) refl none
     by [] begun accepted = rw (none_open Begun e.begun begun, none_open Accepted e.accepted accepted) refl
     by (f ∷ fs) begun accepted = cc
 
--- ---- each open half closes
+-- ---- all open halves close
 
--- how many these are; none where one of them may not close
+-- the number of halves, or None if one may not close
 abbrev count : Table → List KeptHalf → Option ℕ
 count table [] = Some 0
 count table (f ∷ fs) = cond (may_close table f.half.phase) (option_map suc (count table fs)) None
 
--- what a quiet mark answers behind the closing of so many
+-- the result of a quiet mark, from that number
 abbrev Marks : Result End EndFault → Option ℕ → Type 0
 Marks answer None = answer ≡ Err faults.CannotClose
 Marks answer (Some n) = answer ≡ Ok nothing
@@ -214,7 +214,7 @@ each_closes table (f ∷ fs) e sound is = by (may_close table f.half.phase) refl
         (marks_next (goes_on (Ok next)) (count table fs)
         (rest (closes table e next (name_of f) sound closed).sound first.left))
 
--- ---- how many there are
+-- ---- the number of open halves
 
 count_is : (table : Table) (slot : Slot) (es : List (List ℕ × Half)) → closing table es ≡ count table (open_of slot es)
 count_is table slot [] = refl
@@ -226,7 +226,7 @@ count_is table slot ((key, half) ∷ es) = by (is_closed half.phase) (count_is t
     by true rest = rest
     by false rest = ap (λ o. cond (may_close table half.phase) (option_map suc o) None) rest
 
--- the numbers of two lists, taken together
+-- the sum of two such numbers
 abbrev joined : Option ℕ → Option ℕ → Option ℕ
 joined None o = None
 joined (Some n) o = shifted n o
@@ -261,7 +261,7 @@ count_length table (f ∷ fs) n is = by (may_close table f.half.phase) (count ta
         let same : suc m ≡ n = cc in omega (arith, same, rest m refl, add-one (length fs), add-one m)
     by false o is rest = cc
 
--- ---- what a quiet mark answers
+-- ---- the result of a quiet mark
 
 module _ (table : Table) (e : End) (sound : IsEnd e) where
   counted : joined (closing table e.begun) (closing table e.accepted) ≡ count table (all_open e)
@@ -275,16 +275,16 @@ module _ (table : Table) (e : End) (sound : IsEnd e) where
       (subst (λ (ns : List HalfName). Marks (close_each table ns e >>= quiet) (count table (all_open e)))
       (sym (open_are e)) (each_closes table (all_open e) e sound refl))
 
-  -- One that began by sending may not close.
+  -- A half whose Begin this end sent may not close.
   pub begun_stays : None ≡ closing table e.begun → quiet_unseen table e ≡ Err faults.CannotClose
   begun_stays begun = marked None (closing table e.accepted) begun refl
 
-  -- One that began by receiving may not.
+  -- A half whose Begin this end received may not close.
   pub accepted_stays : (n : ℕ) → Some n ≡ closing table e.begun → None ≡ closing table e.accepted
       → quiet_unseen table e ≡ Err faults.CannotClose
   accepted_stays n begun accepted = marked (Some n) None begun accepted
 
-  -- Each closes.
+  -- All halves may close.
   pub all_close : (n m : ℕ) → Some n ≡ closing table e.begun → Some m ≡ closing table e.accepted
       → (quiet_unseen table e ≡ Ok nothing) × (n + m ≡ length (open_halves e))
   all_close n m begun accepted = (

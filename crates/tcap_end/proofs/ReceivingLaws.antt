@@ -1,4 +1,4 @@
--- What an ID that was received is for, and what an answer does.
+-- What a received answer is for, and what it does.
 use Rattle.std.proofs.Common.{◌≡◌, ℕ, ℤ, Bool, true, false, cond, List, [], ◌∷◌, ◌++◌, Option, Some, None, is_some, refl, sym, ap, ◌∙◌}
 use Rattle.std.specs.Prelude.{IsSome, option_map}
 use Rattle.std.specs.Borrow.{Bor}
@@ -25,7 +25,7 @@ use Rattle.tcap_end.specs.Outs.{HasPlace, kept_outs, with_state}
 use Rattle.tcap_end.proofs.BackLaws.{has_place, state_again}
 use Rattle.tcap_lists.proofs.KeepLaws.{remove_absent}
 
--- ---- own invocations that wait for their last answer
+-- ---- own invocations in Operation Sent
 
 pub sent : (o : Option OwnInvocation) (code : Code) → operation_sent_by o ≡ Some code
     → o ≡ Some (record { code = code; state = states.OperationSent })
@@ -43,7 +43,7 @@ is_sent i is = rw is refl
 pub is_waiting : (i : OwnInvocation) → i.state ≡ states.WaitForReject → None ≡ operation_sent_by (Some i)
 is_waiting i is = rw is refl
 
--- One that is there has a place.
+-- An own invocation in Operation Sent has a place.
 pub sent_place : (id : ℤ) (o : Outs) → IsSome (operation_sent_by (lookup (is_at (int_cmp id)) (kept_outs o))) → HasPlace id o
 sent_place id o there = by (lookup (is_at (int_cmp id)) (kept_outs o)) refl there
   where
@@ -51,7 +51,7 @@ sent_place id o there = by (lookup (is_at (int_cmp id)) (kept_outs o)) refl ther
     by None is there = cc
     by (Some i) is there = has_place id o i is
 
--- It may be put in the state of one whose last answer came, and back.
+-- Moving it to Wait for Reject and back changes nothing.
 pub waits_back : (id : ℤ) (o : Outs) → IsSome (operation_sent_by (lookup (is_at (int_cmp id)) (kept_outs o)))
     → with_state id states.OperationSent (with_state id states.WaitForReject (kept_outs o)) ≡ kept_outs o
 waits_back id o there = by (operation_sent_by (lookup (is_at (int_cmp id)) (kept_outs o))) refl there
@@ -61,15 +61,15 @@ waits_back id o there = by (operation_sent_by (lookup (is_at (int_cmp id)) (kept
     by None is there = cc
     by (Some code) is there = state_again id code o (sent (lookup (is_at (int_cmp id)) (kept_outs o)) code is)
 
--- ---- what was got of own invocations
+-- ---- lookups of own invocations
 
--- One that was got has a place.
+-- An own invocation that a lookup returns has a place.
 pub got_place : (id : ℤ) (o : Outs) (got : Option (Bor OwnInvocation)) → option_copied got ≡ lookup (is_at (int_cmp id)) (kept_outs o)
     → is_some got ≡ true → HasPlace id o
 got_place id o None is some = cc
 got_place id o (Some i) is some = has_place id o i.now (sym is)
 
--- None is removed where none was got.
+-- If the lookup returns None, removing the ID changes nothing.
 pub got_none : (id : ℤ) (o : Outs) (got : Option (Bor OwnInvocation)) → option_copied got ≡ lookup (is_at (int_cmp id)) (kept_outs o)
     → is_some got ≡ false → remove_entry (is_at (int_cmp id)) (kept_outs o) ≡ kept_outs o
 got_none id o None is none = remove_absent id (kept_outs o) (sym is)
@@ -84,7 +84,7 @@ pub are_some : (items : List Invocation) → cond (list_any (λ item. true) item
 are_some [] = refl
 are_some (item ∷ items) = refl
 
--- an invocation as it is kept
+-- the stored form of a received invocation
 pub kept_item : (code meant : Code) (duplicate : Bool) (link : Link) (ids links : List ℕ) → code ≡ meant → cond duplicate (0 ∷ []) [] ≡ ids
     → link_numbers link ≡ links
     → the_item code (invoke_problems duplicate link) ≡ the_item meant (ids ++ 1 ∷ 2 ∷ 3 ∷ 4 ∷ [] ++ links)
@@ -135,7 +135,7 @@ chosen_first : {A : Type 0} (b : Bool) (x y : A) → cond b targets.Invocation t
 chosen_first true x y is = refl
 chosen_first false x y is = cc
 
--- It is for an invocation, and the last one to it.
+-- The last answer that its invocation allows.
 answered_last : (table : Table) (h : Half) (is_result : Bool) (id : ℤ)
     → target_of is_result (answered_operation table h id) ≡ targets.Invocation
     → (code : Code) × (operation_sent h id ≡ Some code)
@@ -157,7 +157,7 @@ answered_last table h is_result id is = by (operation_sent h id) refl is
     by None e is = let bad = rw e at is in cc
     by (Some code) e is = (code, e, by_class code (class_of table code) refl e (rw e at is))
 
--- It is not the last one, or is for none that it may answer.
+-- Not the last answer, or an answer that its invocation does not allow.
 not_last : {A : Type 0} (b : Bool) (x : A) (y : Target → A) → x ≡ y targets.Invocation
     → cond b x (y targets.OtherClass) ≡ y (cond b targets.Invocation targets.OtherClass)
 not_last true x y same = same
@@ -180,12 +180,12 @@ answered_none h is_result last id None other = refl
 answered_none h is_result last id (Some (code, class)) other =
     not_found (reports is_result class) _ (λ target. with_grant h id is_result (target_problems is_result target)) other
 
--- ---- an answer joined those of its ID
+-- ---- the answer was added
 
 module _ (table : Table) (h now : Half) (is_result last : Bool) (id : ℤ) (target : Target)
     (is_target : target ≡ target_of is_result (answered_operation table h id))
     (joined : now ≡ with_grant h id is_result (target_problems is_result target)) where
-  -- It is the last one to an invocation, which then waits for a Reject.
+  -- It is the last one, and its invocation moves to Wait for Reject.
   pub then_waits : (next : Half) → last ≡ true → target ≡ targets.Invocation
       → ((code : Code) → operation_sent now id ≡ Some code → next ≡ wait_for_reject now id code)
       → next ≡ receive_answer h is_result last id (answered_operation table h id)
@@ -202,7 +202,7 @@ module _ (table : Table) (h now : Half) (is_result last : Bool) (id : ℤ) (targ
       joined ∙ ap (λ target. with_grant h id is_result (target_problems is_result target)) is_target
       ∙ rw more (sym (answered_not_last h is_result id (answered_operation table h id)))
 
-  -- It is for no invocation that it may answer.
+  -- No invocation allows it.
   pub then_none : (target ≡ targets.Invocation → ⊥) → now ≡ receive_answer h is_result last id (answered_operation table h id)
   then_none other =
       joined ∙ ap (λ target. with_grant h id is_result (target_problems is_result target)) is_target

@@ -1,4 +1,4 @@
--- The components of a message, one after the other: what is left, and what it does to the half as it is now, tell of all.
+-- The loop over the components of a message: the step of all is that of the rest from the half as it is now.
 use Rattle.std.proofs.Common.{◌≡◌, List, [], ◌∷◌, Result, Ok, Err, refl, ap, ◌∙◌}
 use Rattle.tcap_parts.specs.declared.component.Component.{Component}
 use Rattle.tcap_end.specs.declared.fault.EndFault.{EndFault}
@@ -11,7 +11,7 @@ use Rattle.tcap_end.specs.Half.{Half}
 use Rattle.tcap_end.specs.Ways.{component_by, components_by}
 use Rattle.tcap_end.specs.HalfState.{StillUndoes}
 
--- what the changes take back, and the slot, stay
+-- the changes still undo what they undid, and the slot stays
 pub record Keeps (first : HalfState) (at_first : List Change) (h : HalfState) (changes : List Change) : Type 0 where
   pub undoes : StillUndoes at_first first changes h
   pub slot : h.slot ≡ first.slot
@@ -23,7 +23,7 @@ pub keeps_more : {first h next : HalfState} {at_first changes more : List Change
     → Keeps first at_first h changes → StillUndoes changes h more next → next.slot ≡ h.slot → Keeps first at_first next more
 keeps_more k u slot = record { undoes = λ start v. u start (k.undoes start v); slot = slot ∙ k.slot }
 
--- What is left does to the half as it is what all did to the first one.
+-- The step of all components from the first half is that of the rest from the current half.
 pub record Going (way : Way) (table : Table) (first : Half) (all : List Component) (h : Half) (left : List Component) : Type 0 where
   pub same : components_by way table first all ≡ components_by way table h left
 
@@ -31,22 +31,22 @@ pub goes_all : (way : Way) (table : Table) (h : Half) (all : List Component) →
 goes_all way table h all = record { same = refl }
 
 module _ {way : Way} {table : Table} {first h : Half} {all left : List Component} (going : Going way table first all h left) where
-  -- the first that is left, and those behind it
+  -- the next component and the rest
   stepped : (c : Component) (more : List Component) (step : Result Half EndFault) → left ≡ c ∷ more → component_by way table h c ≡ step
       → components_by way table first all ≡ (step >>= (λ next. components_by way table next more))
   stepped c more step is same =
       going.same ∙ (ap (components_by way table h) is ∙ ap (λ step. step >>= (λ next. components_by way table next more)) same)
 
-  -- one more went
+  -- the next component was taken
   pub goes_more : {c : Component} {more : List Component} {next : Half} → left ≡ c ∷ more → component_by way table h c ≡ Ok next
       → Going way table first all next more
   goes_more {c} {more} {next} is step = record { same = stepped c more (Ok next) is step }
 
-  -- one may not go
+  -- the next component is refused
   pub goes_not : {c : Component} {more : List Component} {fault : EndFault} → left ≡ c ∷ more → component_by way table h c ≡ Err fault
       → components_by way table first all ≡ Err fault
   goes_not {c} {more} {fault} is step = stepped c more (Err fault) is step
 
-  -- all went
+  -- no component is left
   pub all_went : left ≡ [] → components_by way table first all ≡ Ok h
   all_went is = going.same ∙ ap (components_by way table h) is

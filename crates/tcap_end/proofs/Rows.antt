@@ -1,4 +1,4 @@
--- The worked lists of calls, computed on the definitions: what each call answers, 0 where it is Ok.
+-- Test vectors, computed on the definitions: the number that each call of a list returns, 0 for Ok.
 use Rattle.std.proofs.Common.{◌≡◌, ℕ, ℤ, pos, Bool, true, false, List, [], ◌∷◌, Option, Some, None, Result, Ok, Err, length, refl}
 use Rattle.tcap_parts.specs.declared.code.Code.TheVariants.{Local}
 use Rattle.tcap_parts.specs.declared.problem.Problem.TheVariants as problems
@@ -25,7 +25,7 @@ use Rattle.tcap_end.specs.Fault.{fault_number}
 abbrev operation : ℕ → Bool → Operation
 operation class expires = record { class = class; linked = []; expires = expires }
 
--- 45 to 48 of class 1 to 4, and 50 of class 1, to which 48 may be linked
+-- operations 45 to 48, of class 1 to 4, and 50, of class 1, to which 48 may be linked
 abbrev table_with : Bool → Bool → Table
 table_with expires prearranged = record {
   operations = (Local (pos 45), operation 1 expires) ∷ (Local (pos 46), operation 2 true) ∷ (Local (pos 47), operation 3 true)
@@ -37,7 +37,7 @@ table_with expires prearranged = record {
 abbrev table : Table
 table = table_with true false
 
--- what a call does to an end: the one behind it, or the reason
+-- a call: the end after it, or the reason
 abbrev Call : Type 0
 Call = End → Result End EndFault
 
@@ -53,7 +53,7 @@ expire_with t name id e = expire t e name id
 abbrev close_with : Table → HalfName → Call
 close_with t name e = close t e name
 
--- No end changes by a reply of its provider.
+-- A reply of the provider changes no end.
 abbrev replies : (End → Message → Message → Result (Unit {0}) EndFault) → Message → Message → Call
 replies refuse m abort e = refuse e m abort >> Ok e
 
@@ -69,7 +69,7 @@ own id = names.Own (id ∷ [])
 abbrev peer : ℕ → HalfName
 peer id = names.Peer (id ∷ [])
 
--- what the calls answer, one after the other
+-- the results of calls, one by one
 abbrev play : End → List Call → List ℕ
 play e [] = []
 play e (call ∷ calls) = by (call e) (play e calls) (λ next. play next calls)
@@ -216,7 +216,7 @@ provider_refuses_begin = refl
 pub quiet_frees : play nothing (send v7 ∷ quiet ∷ receive (abort_to 1 1) ∷ quiet ∷ send v7 ∷ []) ≡ 0 ∷ 54 ∷ 0 ∷ 0 ∷ 0 ∷ []
 quiet_frees = refl
 
--- A Continue is no Begin: its provider may not answer it as one.
+-- The provider may not answer a Continue as if it were a Begin.
 pub no_begin_to_refuse : play nothing (refuse_begin v8 (abort_to 2 4) ∷ []) ≡ 40 ∷ []
 no_begin_to_refuse = refl
 
@@ -234,13 +234,13 @@ rejects id n = Reject (Some id) (problems.Invoke n)
 abbrev error : ℤ → Component
 error id = ReturnError id (Local (pos 1)) None
 
--- The second Invoke of one ID may be rejected as a duplicate; the first, which is older, may not.
+-- The second Invoke with an ID may be rejected as a duplicate, but not the first, older one.
 pub rejects_the_duplicate : play nothing (receive v1 ∷ send v8 ∷ receive (from_1 (invoke (pos 1) (pos 45))) ∷ send v10
     ∷ send (from_2 (rejects (pos 1) 0)) ∷ [])
     ≡ 0 ∷ 0 ∷ 0 ∷ 0 ∷ 0 ∷ []
 rejects_the_duplicate = refl
 
--- An answer to an ID in Wait for Reject may be rejected as one to no invocation.
+-- An answer to an ID in Wait for Reject may be rejected with unrecognizedInvokeID.
 pub answers_in_wait : play nothing (send v1 ∷ receive v10 ∷ receive v10 ∷ send v11 ∷ []) ≡ 0 ∷ 0 ∷ 0 ∷ 0 ∷ []
 answers_in_wait = refl
 
@@ -305,9 +305,9 @@ pub unidirectional_components :
     ∷ send (Unidirectional aarq (invoke (pos 1) (pos 99) ∷ [])) ∷ []) ≡ 45 ∷ 53 ∷ 49 ∷ 46 ∷ 43 ∷ []
 unidirectional_components = refl
 
--- ---- quiet marks before which open halves close unseen
+-- ---- quiet marks before which open halves close
 
--- how many halves close so behind these calls, or the first reason
+-- the number of halves that close at a quiet mark after these calls, or the first reason
 abbrev mark : Table → List Call → End → Result ℕ EndFault
 mark t [] e = quiet_unseen t e >>= λ left. Ok (length (open_halves e))
 mark t (call ∷ calls) e = call e >>= mark t calls

@@ -1,4 +1,4 @@
--- Changes that sending makes to a half can be taken back; what answers and Rejects take.
+-- Changes made by sending can be undone; the items that answers and Rejects remove.
 use Rattle.std.proofs.Common.{◌≡◌, ℕ, ℤ, Bool, true, false, List, [], ◌∷◌, Option, Some, None, Result, Ok, Err, get_or, set, refl, sym, ap, ◌∙◌}
 use Rattle.std.proofs.Math.ListN.{length-set}
 use Rattle.std.specs.Prelude.{IsSome, ◌&&◌, ◌||◌, cond, is_none, is_some, not}
@@ -33,14 +33,14 @@ use Rattle.tcap_lists.proofs.ListLaws.{items_with, listed_items, whole_rows}
 use Rattle.tcap_lists.proofs.PlaceLaws.{any_filled}
 use Rattle.tcap_lists.proofs.KeepLaws.{Whole, listed_with}
 
--- An item was taken from a place of an ID's row.
+-- An item was removed from a place of an ID's row.
 module _ {K : Type 0} (id : ℤ) (at kind : ℕ) (l m : Lists K) (there : IsSome (get_or (listed id (rows_of l)) at None))
     (is_kind : get_or (listed id (rows_of l)) at None ≡ kind_of id kind l) (is : rows_of m ≡ with_place id at None (rows_of l))
     (keeps : KeepsRows l m) where
   kind_there : IsSome (kind_of id kind l)
   kind_there = rw (sym is_kind) there
 
-  -- It can go back there.
+  -- The item can go back.
   pub goes_back : GoesBack id at kind m
   goes_back = record {
     within = rw (is, listed_with id (rows_of l) (whole_rows l) (set (listed id (rows_of l)) at None), length-set (listed id (rows_of l)) at None)
@@ -49,18 +49,18 @@ module _ {K : Type 0} (id : ℤ) (at kind : ℕ) (l m : Lists K) (there : IsSome
     there = rw (keeps.kinds id kind kind_there) kind_there;
   }
 
-  -- That leads to what was before.
+  -- Putting it back restores the rows.
   pub is_back : with_place id at (kind_of id kind m) (rows_of m) ≡ rows_of l
   is_back = rw (is, keeps.kinds id kind kind_there, sym is_kind) (put_again id at (get_or (listed id (rows_of l)) at None) (rows_of l) (whole_rows l) refl)
 
--- ---- what is kept of an ID, from its row
+-- ---- the items of an ID, from its row
 
--- whether one fits
+-- whether an item fits
 pub one_in : {A : Type 0} (id : ℤ) (fits : A → Bool) (m : List (ℤ × List (Option A))) → Whole m
     → one_fits id fits (items_of m) ≡ is_some (place_of (fits_in fits) (listed id m))
 one_in id fits m whole = ap (list_any fits) (listed_items id m whole.rises) ∙ any_filled fits (listed id m)
 
--- The oldest that fits stands there.
+-- The oldest item that fits is in that place.
 pub taken_some : {A : Type 0} (id : ℤ) (fits : A → Bool) (m : List (ℤ × List (Option A))) (at : ℕ) → Whole m
     → place_of (fits_in fits) (listed id m) ≡ Some at
     → (one_fits id fits (items_of m) ≡ true) × IsSome (get_or (listed id m) at None)
@@ -74,13 +74,13 @@ taken_some id fits m at whole e =
           ∙ sym (items_with id m whole.rises (set (listed id m) at None)),
     )
 
--- ---- why an answer may not be sent
+-- ---- why an answer is refused
 
 or_true : (b : Bool) → (b || true) ≡ true
 or_true true = refl
 or_true false = refl
 
--- What fits so fits otherwise too.
+-- If one test implies another, an item that passes the first passes the second.
 any_too : {A : Type 0} (fits other : A → Bool) (items : List A) → ((item : A) → fits item ≡ true → other item ≡ true)
     → list_any fits items ≡ true → list_any other items ≡ true
 any_too fits other [] so e = e
@@ -95,7 +95,7 @@ any_of : {A : Type 0} (fits : A → Bool) (items : List A) → list_any fits ite
 any_of fits items = any_too fits (λ item. true) items (λ item is. refl)
 
 module _ (table : Table) (k : Kept) (whole : Whole k.inn) (is_result : Bool) (id : ℤ) (last : Bool) (named : Option Code) where
-  -- Another operation would be answered.
+  -- The answer is for another operation.
   pub is_wrong : is_some (place_of (fits_in (may_answer table is_result None)) (listed id k.inn)) ≡ true
       → place_of (fits_in (may_answer table is_result named)) (listed id k.inn) ≡ None
       → send_answer table (half_in k) is_result last id named ≡ Err faults.WrongOperation
@@ -103,20 +103,20 @@ module _ (table : Table) (k : Kept) (whole : Whole k.inn) (is_result : Bool) (id
       let some = one_in id (may_answer table is_result None) k.inn whole ∙ is in
       rw (any_of (may_answer table is_result None) (listed id (half_in k).inn) some, some, one_in id (may_answer table is_result named) k.inn whole ∙ ap is_some none) refl
 
-  -- The classes of all invocations forbid it.
+  -- The classes of all invocations forbid the answer.
   pub is_forbidden : is_some (place_of (fits_in (may_answer table is_result None)) (listed id k.inn)) ≡ false
       → one_fits id (λ item. true) (half_in k).inn ≡ true
       → send_answer table (half_in k) is_result last id named ≡ Err faults.ClassForbids
   is_forbidden none some = rw (some, one_in id (may_answer table is_result None) k.inn whole ∙ none) refl
 
-  -- There is no invocation.
+  -- There is no invocation with the ID.
   pub is_nothing : one_fits id (λ item. true) (half_in k).inn ≡ false
       → send_answer table (half_in k) is_result last id named ≡ Err faults.NothingToAnswer
   is_nothing none = rw none refl
 
--- ---- answers that may be sent
+-- ---- answers that are allowed
 
--- What names no operation may answer what one that names it may.
+-- An answer that carries no operation may answer whatever one that carries it may.
 named_too : (table : Table) (is_result : Bool) (named : Option Code) (item : Invocation) → may_answer table is_result named item ≡ true
     → may_answer table is_result None item ≡ true
 named_too table is_result named item = by (class_reports table is_result item.code) (names named item.code)
@@ -135,7 +135,7 @@ answers_one table k whole is_result last id named at is =
     rw (any_of (may_answer table is_result named) (listed id (half_in k).inn) there.0, of_class, there.0)
     (ap (λ inn. let r : Result Half EndFault = Ok (cond last (record (half_in k) { inn = inn }) (half_in k)) in r) there.2)
 
--- ---- what a Reject takes
+-- ---- the item that a Reject removes
 
 module _ (k : Kept) (inn : Whole k.inn) (grants : Whole k.grants) (id : ℤ) where
   none_in : {A : Type 0} (fits : A → Bool) (m : List (ℤ × List (Option A))) → Whole m → place_of (fits_in fits) (listed id m) ≡ None
@@ -172,13 +172,13 @@ module _ (k : Kept) (inn : Whole k.inn) (grants : Whole k.grants) (id : ℤ) whe
 
 -- ---- an own invocation
 
--- What stood in its place is put back.
+-- Putting the earlier invocation back undoes the change.
 pub out_back : (id : ℤ) (was x : Option OwnInvocation) (o made put : Outs) → kept_outs made ≡ kept_outs o
     → was ≡ lookup (is_at (int_cmp id)) (kept_outs made) → kept_outs put ≡ with_out id x (kept_outs made)
     → with_out id was (kept_outs put) ≡ kept_outs o
 out_back id was x o made put same stood is = rw (is, stood) (out_again id x made) ∙ same
 
--- Whether there is none, from what was got
+-- whether there is none, from a lookup
 pub none_there : {A : Type 0} (found : Option (Bor A)) (o : Option A) (some : Bool) → option_copied found ≡ o
     → is_some found ≡ some → is_none o ≡ not some
 none_there None o some e s = ap is_none (sym e) ∙ ap not s

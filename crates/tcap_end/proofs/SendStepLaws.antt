@@ -1,4 +1,4 @@
--- What sending a Begin does, and sending a Continue, an End or an Abort over the half that was found.
+-- How the step of a sent Begin is computed, and that of a Continue, an End or an Abort over the half that was found.
 use Rattle.std.proofs.Common.{◌≡◌, List, ℕ, true, false, Option, Some, None, Result, Ok, Err, refl, sym, ap, subst, ◌∙◌}
 use Rattle.tcap_parts.specs.declared.component.Component.{Component}
 use Rattle.tcap_parts.specs.declared.dialogue.Dialogue.{Dialogue}
@@ -32,12 +32,12 @@ put_twice : (e : End) (slot : Slot) (key : List ℕ) (h g : Half) → put (put e
 put_twice e Begun key h g = ap (λ es. record e { begun = es }) (insert_twice octets_total key h g e.begun)
 put_twice e Accepted key h g = ap (λ es. record e { accepted = es }) (insert_twice octets_total key h g e.accepted)
 
--- A half that was put is had.
+-- The end keeps a half that was put.
 put_had : (e : End) (slot : Slot) (key : List ℕ) (h : Half) → Has (put e slot key h) (kept_half slot key h)
 put_had e Begun key h = found_new octets_total key h e.begun
 put_had e Accepted key h = found_new octets_total key h e.accepted
 
--- A half closes behind a step that was Ok; one that was not is as it was.
+-- If the step was Ok, its half closes; if not, the end is unchanged.
 module _ (s mid next : Halves) (slot : Slot) (key : List ℕ) where
   pub becomes_closed : (step : Result Half EndFault) → (step >>= λ g. Ok (put (end_of s) slot key g)) ≡ Ok (end_of mid)
       → Becomes slot key closed_half mid next → (step >>= λ g. Ok (put (end_of s) slot key (closed_half g))) ≡ Ok (end_of next)
@@ -67,7 +67,7 @@ closed_unreceived phases.Received is = cc
 closed_unreceived phases.Active is = cc
 closed_unreceived phases.Closed is = refl
 
--- A half whose Begin was received has no own ID, and began by receiving.
+-- A half in Received has no own ID.
 pub received_own : (e : End) (f : KeptHalf) → IsEnd e → Has e f → is_received f.half.phase ≡ true → f.half.own ≡ None
 received_own e f sound had is =
     (subst (λ (p : Phase). FitsPhase p f.half) (received_is f.half.phase is) (sound.halves f had).phase).0
@@ -81,7 +81,7 @@ received_accepted e f sound had is = by f.slot (sound.kept f had)
 
 -- ---- a Begin
 
--- No half has its ID, and it may carry that dialogue portion.
+-- No half has the Begin's ID, and the Begin may carry the dialogue portion.
 pub begins : {half : Half} (table : Table) (e : End) (otid : List ℕ) (dialogue : Option Dialogue) (components : List Component)
     → with_own e otid ≡ None → may_begin dialogue ≡ true → half ≡ fresh phases.Sent (Some otid) None (first_standing dialogue)
     → send_begin table e otid dialogue components ≡ (components_by Out table half components >>= λ g. Ok (put e Begun otid g))
@@ -91,7 +91,7 @@ begins {half} table e otid dialogue components none may same = rw (sends_out tab
 
 module _ {x h : Half} (table : Table) (e : End) (slot : Slot) (key dtid : List ℕ) (dialogue : Option Dialogue)
     (components : List Component) (same : x ≡ h) where
-  -- It is not active, has another peer's ID, or may not carry that dialogue portion; else it goes on.
+  -- The half is not active, has another peer's ID, or may not send the dialogue portion; else the Continue is sent.
   pub next_inactive : is_active x.phase ≡ false
       → send_next_continue table e dtid dialogue components (kept_half slot key h) ≡ Err faults.WrongPhase
   next_inactive inactive = rw (← same, inactive) refl
@@ -113,7 +113,7 @@ module _ {x h : Half} (table : Table) (e : End) (slot : Slot) (key dtid : List �
 
 module _ {f : KeptHalf} (table : Table) (e : End) (otid dtid : List ℕ) (dialogue : Option Dialogue) (components : List Component)
     (is : with_peer e dtid ≡ Some f) where
-  -- No Begin waits for it, or it may not carry that dialogue portion; else the half is active.
+  -- The half is not in Received, or may not send the dialogue portion; else it becomes active.
   pub first_none : is_received f.half.phase ≡ false → send_first_continue table e otid dtid dialogue components ≡ Err faults.WrongPhase
   first_none unreceived = rw (is, unreceived) refl
 
@@ -130,7 +130,7 @@ module _ {f : KeptHalf} (table : Table) (e : End) (otid dtid : List ℕ) (dialog
 
 module _ {f : KeptHalf} (table : Table) (e : End) (dtid : List ℕ) (dialogue : Option Dialogue) (components : List Component)
     (is : with_peer e dtid ≡ Some f) where
-  -- The half is closed, or the End may not carry that dialogue portion; else the half closes.
+  -- The half is closed, or may not send the dialogue portion; else it closes.
   pub ends_closed : is_closed f.half.phase ≡ true → send_end table e dtid dialogue components ≡ Err faults.WrongPhase
   ends_closed shut = rw (is, shut) refl
 
@@ -158,7 +158,7 @@ pub aborts_nothing : (e : End) (dtid : List ℕ) (d : Option Dialogue) → with_
 aborts_nothing e dtid d is = rw (no_cause d, is) refl
 
 module _ {f : KeptHalf} (e : End) (dtid : List ℕ) (d : Option Dialogue) (is : with_peer e dtid ≡ Some f) where
-  -- The half is closed, or the Abort may not carry that dialogue portion; else the half closes.
+  -- The half is closed, or may not send the dialogue portion; else it closes.
   pub aborts_closed : is_closed f.half.phase ≡ true → send_abort e dtid (reason_of_dialogue d) ≡ Err faults.WrongPhase
   aborts_closed shut = rw (no_cause d, is, shut) refl
 

@@ -1,4 +1,4 @@
--- What holds of every end holds behind each step, and a closed half stays as it is.
+-- Each step keeps an end sound, and changes no closed half.
 use Rattle.std.proofs.Common.{◌≡◌, ℕ, ℤ, Bool, true, false, cond, List, [], Option, Some, None, Result, Ok, Err, is_none, refl}
 use Rattle.std.specs.Prelude.{ok_or}
 use Rattle.std.proofs.lemmas.Bool.{not-true}
@@ -28,7 +28,7 @@ use Rattle.tcap_end.proofs.ComponentLaws.{Receives, all_receives, all_sends}
 use Rattle.tcap_end.proofs.FoundLaws.{named_has, own_has, peer_has}
 use Rattle.tcap_end.proofs.EndLaws.{Goes, goes_nowhere, put_answered, put_learned, put_open, put_received, put_sent}
 
--- ---- tests
+-- ---- conditions
 
 pub none_is : {A : Type 0} (o : Option A) → is_none o ≡ true → o ≡ None
 none_is None is = refl
@@ -40,13 +40,13 @@ closes_open table phases.Received is = refl
 closes_open table phases.Active is = refl
 closes_open table phases.Closed is = cc
 
--- The end goes to that one, where the step was Ok with it.
+-- the end after a step that was Ok
 goes_this : (e x next : End) → Goes e x → (let r : Result End EndFault = Ok x in r) ≡ Ok next → Goes e next
 goes_this e x next goes is = let same = ok_same {F = EndFault} x next is in rw (← same) goes
 
--- ---- unseen
+-- ---- hidden steps
 
--- An invocation ends.
+-- An invocation expires.
 pub expires : (table : Table) (e next : End) (name : HalfName) (id : ℤ) → IsEnd e → expire table e name id ≡ Ok next → Goes e next
 expires table e next name id sound is =
     let (f, ok, step) = then_ok (ok_or (named e name) faults.CannotExpire) _ next is in
@@ -56,7 +56,7 @@ expires table e next name id sound is =
     goes_this e _ next
     (put_open e f (without_invocation id f.half) sound had (not-true _ open_one.0) (half_without f.half id (sound.halves f had)) refl refl) may.1
 
--- A half closes.
+-- A half closes without a message.
 pub closes : (table : Table) (e next : End) (name : HalfName) → IsEnd e → close table e name ≡ Ok next → Goes e next
 closes table e next name sound is =
     let (f, ok, step) = then_ok (ok_or (named e name) faults.CannotClose) _ next is in
@@ -81,7 +81,7 @@ begin_comes table e next otid dialogue components sound is =
     comes : Receives start (receive_components table start components)
     comes = all_receives table components start
 
--- A Continue answers a Begin, or goes on with an active half.
+-- A Continue answers a Begin, or is received over an active half.
 half_comes : (table : Table) (e next : End) (otid : List ℕ) (dialogue : Option Dialogue) (components : List Component) (f : KeptHalf)
     → IsEnd e → Has e f → receive_over table e otid dialogue components f f.half.phase ≡ Ok next → Goes e next
 half_comes table e next otid dialogue components f sound had is = by f.half.phase refl is
@@ -122,7 +122,6 @@ end_comes e (Some f) had sound = by (is_closed f.half.phase) refl
     by true is = goes_nowhere e sound
     by false is = put_open e f (closed_half f.half) sound (had f refl) is (half_closed f.half) refl refl
 
--- A message is received.
 pub receives : (table : Table) (e next : End) (m : Message) → IsEnd e → receive table e m ≡ Ok next → Goes e next
 receives table e next m sound is = by m is
   where
@@ -220,7 +219,6 @@ uni_goes table e next dialogue components sound is =
     by (Ok done) is = goes_this e e next (goes_nowhere e sound) is
     by (Err reason) is = cc
 
--- A message is sent.
 pub sends : (table : Table) (e next : End) (m : Message) → IsEnd e → send table e m ≡ Ok next → Goes e next
 sends table e next m sound is = by m is
   where

@@ -1,4 +1,4 @@
--- Reading the data of a table, part by part.
+-- How each part of a table is read from JSON data.
 use Rattle.std.proofs.Common.{suc, unwrap_or, le-leb, ◌≡◌, ℕ, ◌<◌, ◌≤◌, Bool, true, false, ◌↔◌, ◌&&◌, cond, List, [], ◌∷◌, map, length, Option, Some, None, is_some, IsSome, Result, Ok, Err, String, Global as Alloc, Bor, string_bytes, bytes_eq, true≢false, refl, sym, ap, ◌∙◌}
 use Rattle.std.specs.List.{list_any}
 use Rattle.std.proofs.lemmas.Bool.{lt-leb}
@@ -32,7 +32,7 @@ pub one_of : (key : List ℕ) (ks : List (Bor (List ℕ)))
 one_of key [] = refl
 one_of key (k ∷ ks) = rw (bytes_eq_flip k.now key, one_of key ks) refl
 
--- whether each of these is one of the keys
+-- whether each key of an object is in a list
 abbrev pub are_keys : List (List ℕ) → List (String Alloc) → Bool
 are_keys keys [] = true
 are_keys keys (k ∷ ks) = list_any (bytes_eq (string_bytes k)) keys && are_keys keys ks
@@ -58,7 +58,7 @@ count_view (v ∷ vs) = ap suc (count_view vs)
 
 -- ---- codes
 
--- octets that are no object identifier are no code
+-- octets that are not an object identifier are not a code
 pub no_global : {A : Type 0} (octets lent : List ℕ) (r : Result (List ℕ) FromHexError) (found : Option A)
     → r ≡ Ok octets → lent ≡ octets → (IsSome found ↔ IsObjectId lent) → is_some found ≡ false → None ≡ global_of r
 no_global octets lent r found is same iff none = rw is (by (is_object_id octets) refl)
@@ -67,7 +67,7 @@ no_global octets lent r found is same iff none = rw is (by (is_object_id octets)
     by false e = refl
     by true e = absurd (true≢false (sym (iff.1 (rw same (is_object_id_sound octets e))) ∙ none))
 
--- a list of codes within the limit, and one beyond it
+-- a list of codes within the limit, or beyond it
 pub linked_array : (d : Data) (vs : List Value) → Some (items_view vs) ≡ as_array d → length vs ≤ 1000
     → linked_in (Some d) ≡ codes_in [] (items_view vs)
 linked_array d vs e few = rw (is_array d (items_view vs) e, count_view vs, le-leb _ _ few) refl
@@ -77,7 +77,7 @@ linked_long d vs e many = rw (is_array d (items_view vs) e, count_view vs, lt-le
 
 -- ---- tables
 
--- rows within the limit, and beyond it
+-- rows within the limit, or beyond it
 pub rows_within : (vs : List Value) (prearranged : Bool) → length vs ≤ 1000
     → table_by (Some (array (items_view vs))) (Some prearranged)
     ≡ then_ok (operations_in 0 [] (items_view vs)) (λ operations. Ok (record { operations = operations; prearranged = prearranged }))

@@ -1,4 +1,4 @@
--- Worked tables, computed on the definitions: what data is a table, and the first fault where it is none.
+-- Test vectors, computed on the definitions: data that is a table, and the first fault of other data.
 use Rattle.std.proofs.Common.{◌≡◌, ℕ, pos, negsuc, Bool, true, false, List, [], ◌∷◌, codes, Result, Ok, Err, refl}
 use Rattle.hex.proofs.OnLiterals.{hex_on_literals}
 use Rattle.serde_json.specs.Data.{Data, null, boolean, number, unsigned, negative, string, array, object, Items, no_items, item, Members, no_members, member}
@@ -13,7 +13,7 @@ use Rattle.tcap_end.specs.TableText.{table_fault, table_in}
 abbrev whole : ℕ → Data
 whole n = number (unsigned n)
 
--- a row of this class and code, and what else it has behind them
+-- a row with this class and code, and the other members `more`
 abbrev row_with : Data → Data → Members → Data
 row_with class code more = object (member (codes "class") class (member (codes "code") code more))
 
@@ -24,7 +24,7 @@ abbrev rows : List Data → Items
 rows [] = no_items
 rows (d ∷ ds) = item d (rows ds)
 
--- what a table of these rows is
+-- the table with these rows, or its fault
 abbrev table : List Data → Result Table TableFault
 table ds = table_in (object (member (codes "operations") (array (rows ds)) no_members))
 
@@ -70,7 +70,7 @@ code_of_33_bits = refl
 pub double_code : table (row 1 1 ∷ row 2 1 ∷ []) ≡ refused DoubleCode 1
 double_code = refl
 
--- a row's shape comes before its class, and its class before its code
+-- a row's shape is checked before its class, and its class before its code
 pub shape_first : table (row 1 1 ∷ row_with (whole 5) (boolean true) no_members ∷ row 5 2 ∷ []) ≡ refused TableShape 1
 shape_first = refl
 
@@ -80,14 +80,14 @@ class_before_code = refl
 pub other_key : table (row_with (whole 1) (whole 1) (member (codes "name") (whole 1) no_members) ∷ []) ≡ refused TableShape 0
 other_key = refl
 
--- a global code, in digits of either case
+-- a global code, with digits in either case
 pub double_global :
     table (row_with (whole 1) (string (codes "2A0304")) no_members ∷ row_with (whole 1) (string (codes "2a0304")) no_members ∷ [])
     ≡ refused DoubleCode 1
 unfolding hex_on_literals
 double_global = refl
 
--- digits whose last subidentifier is not whole
+-- digits whose last subidentifier is incomplete
 pub no_object_id : table (row_with (whole 1) (string (codes "2a80")) no_members ∷ []) ≡ refused TableShape 0
 unfolding hex_on_literals
 no_object_id = refl

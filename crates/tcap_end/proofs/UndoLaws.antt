@@ -1,4 +1,4 @@
--- Changes that were noted can be taken back.
+-- Changes that were noted can be undone.
 use Rattle.std.proofs.Common.{◌≡◌, List, [], ◌∷◌, ap, ◌∙◌}
 use Rattle.tcap_end.specs.declared.half_state.HalfState.{HalfState}
 use Rattle.tcap_end.specs.declared.half_state.Change.{Change}
@@ -33,7 +33,7 @@ back_too id at kind l next same keeps back = record {
   there = rw (keeps.kinds id kind back.there) back.there;
 }
 
--- what can be taken back can be where the same is kept
+-- a change can also be undone in a state with the same stored parts
 pub can_too : (change : Change) (h next : HalfState) → kept_of next ≡ kept_of h → Keeps h next → CanUndo change h → CanUndo change next
 can_too (Out id was) h next same keeps can = keeps.out id can
 can_too (Waits id) h next same keeps can = keeps.out id can
@@ -42,7 +42,7 @@ can_too (GrantTaken id at kind) h next same keeps can = back_too id at kind h.gr
 can_too (InnJoined id) h next same keeps can = keeps.inn.rows id can
 can_too (GrantJoined id) h next same keeps can = keeps.grants.rows id can
 
--- and it leads to the same
+-- undoing it there gives the same parts
 undone_same : (change : Change) (h next : HalfState) → kept_of next ≡ kept_of h → Keeps h next → CanUndo change h
     → undone change next ≡ undone change h
 undone_same (Out id was) h next same keeps can = ap (λ (k : Kept). record k { out = with_out id was k.out }) same
@@ -56,7 +56,7 @@ undone_same (GrantTaken id at kind) h next same keeps can =
 undone_same (InnJoined id) h next same keeps can = ap (λ (k : Kept). record k { inn = one_less id k.inn }) same
 undone_same (GrantJoined id) h next same keeps can = ap (λ (k : Kept). record k { grants = one_less id k.grants }) same
 
--- all changes can
+-- all changes can be undone there
 pub undoes_too : (changes : List Change) (h next : HalfState) (start : Half) → kept_of next ≡ kept_of h → Keeps h next
     → Undoes changes h start → Undoes changes next start
 undoes_too [] h next start same keeps e = ap half_in same ∙ e
@@ -65,7 +65,7 @@ undoes_too (change ∷ changes) h next start same keeps u = (
   λ last is. u.1 last (is.0 ∙ undone_same change h next same keeps u.0, keeps_then h next last keeps is.1),
 )
 
--- one change more
+-- one more change
 pub undoes_more : (change : Change) (changes : List Change) (h next : HalfState) (start : Half)
     → undone change next ≡ kept_of h → Keeps h next
     → CanUndo change next → Undoes changes h start → Undoes (change ∷ changes) next start

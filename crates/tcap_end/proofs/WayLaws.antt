@@ -1,4 +1,4 @@
--- Components that go out are sent, those that come in received.
+-- Components in direction Out are sent, those in direction In are received.
 use Rattle.std.proofs.Common.{◌≡◌, List, [], ◌∷◌, Result, Ok, Err, refl}
 use Rattle.tcap_parts.specs.declared.component.Component.{Component}
 use Rattle.tcap_end.specs.declared.fault.EndFault.{EndFault}

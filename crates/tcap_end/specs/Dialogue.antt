@@ -1,4 +1,4 @@
--- Which dialogue portion a message may carry (Q.774 3.2, dialogues).
+-- Which dialogue portions a message may carry (Q.774 3.2, dialogues).
 use Rattle.std.specs.Prelude.{Bool, true, false, Option, Some, is_none, ◌==◌, ◌&&◌, ◌||◌, cond, nat_lt}
 use Rattle.tcap_parts.specs.declared.dialogue.Dialogue.{Dialogue}
 use Rattle.tcap_parts.specs.declared.dialogue.Dialogue.TheVariants.{Request, Response, Abort, Uni}
@@ -8,68 +8,69 @@ use Rattle.tcap_end.specs.declared.half.Phase.TheVariants as phases
 use Rattle.tcap_end.specs.declared.half.Standing.{Standing}
 use Rattle.tcap_end.specs.declared.half.Standing.TheVariants as standings
 
--- a dialogue request, AARQ
+-- whether the portion is a dialogue request, AARQ
 abbrev pub is_request : Option Dialogue → Bool
 is_request (Some (Request context info)) = true
 is_request _ = false
 
--- a dialogue response, AARE
+-- whether the portion is a dialogue response, AARE
 abbrev pub is_response : Option Dialogue → Bool
 is_response (Some (Response context result diagnostic info)) = true
 is_response _ = false
 
--- an AARE that takes the dialogue: result 0, accepted, and diagnostic 0 of either source
+-- whether the portion is an AARE that accepts the dialogue: result 0, accepted, and diagnostic 0 from either source
 abbrev pub accepts_dialogue : Option Dialogue → Bool
 accepts_dialogue (Some (Response context result (User n) info)) = (result == 0) && (n == 0)
 accepts_dialogue (Some (Response context result (Provider n) info)) = (result == 0) && (n == 0)
 accepts_dialogue _ = false
 
--- an AARE that refuses it: result 1, reject-permanent, and a diagnostic of the user from 0 to 2
+-- whether the portion is an AARE that refuses the dialogue: result 1, reject-permanent, and a user diagnostic from 0
+-- to 2
 abbrev pub refuses_dialogue : Option Dialogue → Bool
 refuses_dialogue (Some (Response context result (User n) info)) = (result == 1) && nat_lt n 3
 refuses_dialogue _ = false
 
--- a dialogue abort, ABRT, of the user: source 0
+-- whether the portion is a dialogue abort, ABRT, by the user: source 0
 abbrev pub is_user_abort : Option Dialogue → Bool
 is_user_abort (Some (Abort source info)) = source == 0
 is_user_abort _ = false
 
--- a Unidirectional's dialogue portion, AUDT
+-- whether the portion is that of a Unidirectional, AUDT
 abbrev pub is_uni : Option Dialogue → Bool
 is_uni (Some (Uni context info)) = true
 is_uni _ = false
 
--- how a dialogue stands that begins with this portion
+-- the dialogue state after a Begin with this portion
 abbrev pub first_standing : Option Dialogue → Standing
 first_standing dialogue = cond (is_request dialogue) standings.Asked standings.Without
 
--- and once its request was answered
+-- the dialogue state after the Continue that answers the Begin
 abbrev pub confirm : Standing → Standing
 confirm standings.Asked = standings.Confirmed
 confirm standing = standing
 
--- whether a Begin may carry it
+-- whether a Begin may carry this portion
 abbrev pub may_begin : Option Dialogue → Bool
 may_begin dialogue = is_none dialogue || is_request dialogue
 
--- whether a Unidirectional may
+-- whether a Unidirectional may carry this portion
 abbrev pub may_be_uni : Option Dialogue → Bool
 may_be_uni dialogue = is_none dialogue || is_uni dialogue
 
--- whether a Continue or an End of a half in that phase may
+-- whether a Continue or an End may carry this portion, sent by a half in this phase and dialogue state
 abbrev pub may_go_on : Phase → Standing → Option Dialogue → Bool
 may_go_on phases.Received standings.Asked dialogue = accepts_dialogue dialogue
 may_go_on phase standing dialogue = is_none dialogue
 
--- whether an Abort without a cause may
+-- whether an Abort without a cause may carry this portion, sent by a half in this phase and dialogue state
 abbrev pub may_abort : Phase → Standing → Option Dialogue → Bool
 may_abort phases.Received standings.Asked dialogue = is_none dialogue || refuses_dialogue dialogue
     || is_user_abort dialogue
 may_abort phase standings.Confirmed dialogue = is_none dialogue || is_user_abort dialogue
 may_abort phase standing dialogue = is_none dialogue
 
--- whether a Continue with it can be received that answers a Begin: behind a request it has to carry a response,
--- whatever that says. What an end does about a missing one, by the abnormal procedures, is left out.
+-- whether a half that sent a Begin can receive a Continue with this portion: after a request, the Continue must carry
+-- a response of any content. The abnormal procedures for a missing response are left out.
 abbrev pub answers_request : Standing → Option Dialogue → Bool
 answers_request standings.Asked dialogue = is_response dialogue
 answers_request _ dialogue = true

@@ -1,4 +1,4 @@
--- One end: its halves (Q.774 3.3 transaction sub-layer).
+-- What one end is: the halves of its transactions (Q.774 3.3, transaction sub-layer).
 use Rattle.std.specs.Prelude.{ℕ, Bool, true, false, List, [], ◌∷◌, Option, Some, None, Result, Ok, ◌&&◌, cond}
 use Rattle.std.specs.Str.{bytes_eq}
 use Rattle.std.specs.BTreeMap.{insert_entry}
@@ -12,34 +12,34 @@ use Rattle.tcap_end.specs.Step.{needs, ◌>>◌}
 use Rattle.tcap_end.specs.Table.{octets_cmp}
 use Rattle.tcap_end.specs.Half.{Half, is_closed}
 
--- The halves that began by sending a Begin, by their own transaction IDs, and those that began by receiving one, by
--- their peers'. The own IDs that were used are those of the halves, the closed ones too: an ID is used once, and so is
--- a peer's: this profile's choice.
+-- The halves whose Begin this end sent, by their own transaction IDs, and those whose Begin it received, by the peer's
+-- IDs. Closed halves are kept, because no transaction ID of either side is used twice: this profile's choice.
 pub record End : Type 0 where
   pub begun : List (List ℕ × Half)
   pub accepted : List (List ℕ × Half)
 
--- an end over which nothing went yet
+-- an end without halves, as before its first message
 abbrev pub nothing : End
 nothing = record { begun = []; accepted = [] }
 
--- a half, and where it is kept
+-- a half, with the list and the ID by which the end keeps it
 pub record KeptHalf : Type 0 where
   pub slot : Slot
   pub key : List ℕ
   pub half : Half
 
--- whether it is that transaction ID
+-- whether `other` is this transaction ID
 abbrev pub is_id : List ℕ → Option (List ℕ) → Bool
 is_id id None = false
 is_id id (Some other) = bytes_eq id other
 
--- the first half that passes a test, with its key
+-- the first half in a list that passes a test, with its ID there
 abbrev pub first_half : (Half → Bool) → Slot → List (List ℕ × Half) → Option KeptHalf
 first_half passes slot [] = None
 first_half passes slot ((key, half) ∷ more) =
     cond (passes half) (Some (record { slot = slot; key = key; half = half })) (first_half passes slot more)
 
+-- the first half of an end that passes a test, with the place where it is kept
 abbrev pub half_where : (Half → Bool) → End → Option KeptHalf
 half_where passes e = by_begun (first_half passes Begun e.begun)
   where
@@ -55,21 +55,22 @@ with_own e id = half_where (λ h. is_id id h.own) e
 abbrev pub with_peer : End → List ℕ → Option KeptHalf
 with_peer e id = half_where (λ h. is_id id h.peer) e
 
--- the half of that name
+-- the half with that name
 abbrev pub named : End → HalfName → Option KeptHalf
 named e (names.Own id) = with_own e id
 named e (names.Peer id) = with_peer e id
 
--- the end with a half put where it is kept
+-- the end with this half added, or put in the place of the half with this ID
 abbrev pub put : End → Slot → List ℕ → Half → End
 put e Begun key half = record e { begun = insert_entry octets_cmp e.begun key half }
 put e Accepted key half = record e { accepted = insert_entry octets_cmp e.accepted key half }
 
+-- whether all halves of a list are closed
 abbrev pub all_closed : List (List ℕ × Half) → Bool
 all_closed [] = true
 all_closed ((key, half) ∷ more) = cond (is_closed half.phase) (all_closed more) false
 
--- A quiet mark: all halves have to be closed; then no half and no used ID is left.
+-- A quiet mark requires that all halves are closed. After it there are no halves and no used IDs.
 abbrev pub quiet : End → Result End EndFault
 quiet e = do
   needs (all_closed e.begun && all_closed e.accepted) faults.StillOpen

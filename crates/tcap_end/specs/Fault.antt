@@ -1,10 +1,11 @@
--- The numbers of the reasons why an end refuses.
+-- The numbers that are printed for the reasons of an end and of a table.
 use Rattle.std.specs.Prelude.{ℕ}
 use Rattle.tcap_end.specs.declared.fault.EndFault.{EndFault}
 use Rattle.tcap_end.specs.declared.fault.EndFault.TheVariants as faults
 use Rattle.tcap_end.specs.declared.table.TableReason.{TableReason}
 use Rattle.tcap_end.specs.declared.table.TableReason.TheVariants as reasons
 
+-- the numbers of the reasons why an end refuses a step
 abbrev pub fault_number : EndFault → ℕ
 fault_number faults.NoTransaction = 40
 fault_number faults.IdUsed = 41
@@ -23,7 +24,7 @@ fault_number faults.UniNotClass4 = 53
 fault_number faults.StillOpen = 54
 fault_number faults.Memory = 99
 
--- the numbers of the reasons why a text is no table
+-- the numbers of the reasons why a text is not a table
 abbrev pub table_number_of : TableReason → ℕ
 table_number_of reasons.NotJson = 30
 table_number_of reasons.TableShape = 31

@@ -1,4 +1,4 @@
--- What an end is, as it is kept: open halves under numbers, closed ones by their IDs alone.
+-- How an end is stored: open halves in a slab under numbers, closed halves as their IDs only.
 use Rattle.std.specs.Prelude.{◌≡◌, ◌↔◌, ℕ, suc, false, List, [], ◌∷◌, Option, Some, None, MatchOption, Result, Ok, cond, option_map}
 use Rattle.std.specs.Map.{lookup}
 use Rattle.std.specs.BTreeMap.{is_at}
@@ -23,56 +23,63 @@ use Rattle.tcap_end.specs.End.{End, KeptHalf, put}
 use Rattle.tcap_end.specs.Hidden.{may_close}
 use Rattle.tcap_end.specs.Sound.{Has, IsKept, Rises}
 
--- the half under a number; where none is, a closed one without IDs stands for it
+-- the half in an entry of the slab; an empty entry reads as a closed half without IDs
 abbrev pub half_in : Option HalfState → Half
 half_in None = fresh phases.Closed None None standings.Without
 half_in (Some h) = half_of h
 
--- what stands under the number of a place; a closed one has none
+-- the entry of the slab for a place, or None if the place is that of a closed half
 abbrev pub open_at : Slab HalfState → Place → Option HalfState
 open_at slab (Open k) = get slab k
 open_at slab (Closed other) = None
 
--- a closed half that is kept by this ID, with its other one
+-- a closed half that is kept by this ID, with its other ID
 abbrev pub closed_at : Slot → List ℕ → Option (List ℕ) → Half
 closed_at Begun key other = fresh phases.Closed (Some key) other standings.Without
 closed_at Accepted key other = fresh phases.Closed other (Some key) standings.Without
 
+-- the half at a place
 abbrev pub half_at : Slab HalfState → Slot → List ℕ → Place → Half
 half_at slab slot key (Open k) = half_in (get slab k)
 half_at slab slot key (Closed other) = closed_at slot key other
 
+-- the halves at the places of a slot, by the IDs by which they are kept
 abbrev pub halves_at : Slab HalfState → Slot → List (List ℕ × Place) → List (List ℕ × Half)
 halves_at slab slot [] = []
 halves_at slab slot (e ∷ more) = (e.0, half_at slab slot e.0 e.1) ∷ halves_at slab slot more
 
+-- the end that is stored
 abbrev pub end_of : Halves → End
 end_of s = record { begun = halves_at s.slab Begun s.begun.entries; accepted = halves_at s.slab Accepted s.accepted.entries }
 
+-- the places of a slot
 abbrev pub places_of : Slot → Halves → List (List ℕ × Place)
 places_of Begun s = s.begun.entries
 places_of Accepted s = s.accepted.entries
 
--- the half that is kept by this ID is at that place
+-- the half that is kept by this ID is at this place
 abbrev pub IsAt : Slot → List ℕ → Place → Halves → Type 0
 IsAt slot key place s = lookup (is_at (octets_cmp key)) (places_of slot s) ≡ Some place
 
--- There is an open half under that number, which is kept there.
+-- The slab has an open half under this number, and this ID is the one by which it is kept.
 abbrev pub IsOpen : Slot → List ℕ → ℕ → Halves → Type 0
 IsOpen slot key k s =
     (h : HalfState) × (get s.slab k ≡ Some h) × (h.slot ≡ slot) × (is_closed h.phase ≡ false)
     × IsKept slot key (half_of h)
 
+-- a half with the slot and the ID by which it is kept
 abbrev pub kept_half : Slot → List ℕ → Half → KeptHalf
 kept_half slot key h = record { slot = slot; key = key; half = h }
 
--- An index leads from an ID to where a half with that ID is kept, from each such ID, and from no other.
+-- An index maps each ID that `id_in` finds in a half of this slot to the ID by which that half is kept. It maps no
+-- other ID.
 abbrev pub Indexes : List (List ℕ × List ℕ) → Slot → (Half → Option (List ℕ)) → End → Type 0
 Indexes index slot id_in e = (id key : List ℕ)
     → (lookup (is_at (octets_cmp id)) index ≡ Some key)
     ↔ ((h : Half) × Has e (kept_half slot key h) × (id_in h ≡ Some id))
 
--- What holds of an end as it is kept.
+-- What holds for each stored end: the maps are sorted, each open place leads to an open half, and the indexes are
+-- exact.
 pub record IsHeld (s : Halves) : Type 0 where
   pub begun : Rises octets_cmp s.begun.entries
   pub accepted : Rises octets_cmp s.accepted.entries
@@ -80,49 +87,50 @@ pub record IsHeld (s : Halves) : Type 0 where
   pub by_own : Indexes s.by_own.entries Accepted (λ h. h.own) (end_of s)
   pub by_peer : Indexes s.by_peer.entries Begun (λ h. h.peer) (end_of s)
 
--- An open half is kept there.
+-- The half that is kept by this ID is open.
 abbrev pub HasOpen : Slot → List ℕ → Halves → Type 0
 HasOpen slot key s = (k : ℕ) × IsAt slot key (Open k) s
 
--- The half that was kept there was made into this one of it; nothing else changed.
+-- The half that is kept by this ID was changed as `change` says. Nothing else changed.
 abbrev pub Becomes : Slot → List ℕ → (Half → Half) → Halves → Halves → Type 0
 Becomes slot key change s next = (h : Half) → Has (end_of s) (kept_half slot key h)
     → end_of next ≡ put (end_of s) slot key (change h)
 
--- A call over the half that is kept there answers what the step answers that makes another of it, unless memory ran
--- out; on Ok that one is kept there, and nothing else changed.
+-- A call over the half that is kept by this ID returns what the step on that half gives, unless memory ran out. On Ok
+-- the half after the step is stored there, and nothing else changed.
 abbrev pub AnswersOver : Slot → List ℕ → (Half → Result Half EndFault) → Result (Unit {0}) EndFault → Halves → Halves
     → Type 0
 AnswersOver slot key step result s next = (h : Half) → Has (end_of s) (kept_half slot key h)
     → AnswersInMemory (step h >>= λ g. Ok (put (end_of s) slot key g)) result (end_of next)
 
--- What was found is kept there: open, under the number, or closed, where there is none.
+-- A found half is at its place: open under its number, or closed if it has none.
 unfoldable pub IsNumbered : HalfKey → Halves → Type 0
 IsNumbered found s = MatchOption found.number ((other : Option (List ℕ)) × IsAt found.slot found.key (Closed other) s)
     (λ k. IsAt found.slot found.key (Open k) s)
 
--- the name of a half in a slot, by the ID by which it is kept
+-- the name of a half by the ID by which it is kept
 abbrev pub name_in : Slot → List ℕ → HalfName
 name_in Begun = names.Own
 name_in Accepted = names.Peer
 
--- the index of the halves in a slot, from the IDs that they are not kept by
+-- the index of a slot: from the IDs by which its halves are not kept
 abbrev pub index_of : Slot → Halves → List (List ℕ × List ℕ)
 index_of Begun s = s.by_peer.entries
 index_of Accepted s = s.by_own.entries
 
--- A half that is not kept yet: it is open, knows the ID alone by which it is to be kept, and none is kept by it there.
+-- A half that is not yet kept. It is open and knows only the ID by which it will be kept. No half of its slot is kept
+-- by this ID.
 pub record IsNew (key : List ℕ) (h : HalfState) (s : Halves) : Type 0 where
   pub free : lookup (is_at (octets_cmp key)) (places_of h.slot s) ≡ None
   pub open_half : is_closed h.phase ≡ false
   pub kept : IsKept h.slot key (half_of h)
   pub alone : other_id h.slot (half_of h) ≡ None
 
--- Every number that is taken leads from a place.
+-- Each half in the slab has a place that leads to it.
 abbrev pub AllPlaced : Halves → Type 0
 AllPlaced s = (k : ℕ) (h : HalfState) → get s.slab k ≡ Some h → (key : List ℕ) × IsAt h.slot key (Open k) s
 
--- How many of these halves are open; none where one of those may not close unseen.
+-- the number of open halves, or None if one of them may not close without a message
 abbrev pub closing : Table → List (List ℕ × Half) → Option ℕ
 closing table [] = Some 0
 closing table ((key, half) ∷ more) = cond (is_closed half.phase) (closing table more)

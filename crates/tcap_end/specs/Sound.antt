@@ -1,4 +1,4 @@
--- What holds of every end, whatever went over it.
+-- What holds for every end that steps can reach.
 use Rattle.std.specs.Prelude.{◌≡◌, ◌≢◌, ℕ, ℤ, List, [], Some, None, IsSome}
 use Rattle.std.specs.List.{AllByRecursion}
 use Rattle.std.specs.Map.{lookup}
@@ -14,7 +14,7 @@ use Rattle.tcap_end.specs.Table.{octets_cmp}
 use Rattle.tcap_end.specs.Half.{Half}
 use Rattle.tcap_end.specs.End.{End, KeptHalf}
 
--- No invoke ID stands with an empty list.
+-- No invoke ID has an empty list.
 abbrev pub HasItems : {A : Type 0} → List (ℤ × List A) → Type 0
 HasItems items = AllByRecursion (λ e. e.1 ≢ []) items
 
@@ -26,34 +26,38 @@ FitsPhase phases.Received h = (h.own ≡ None) × IsSome h.peer × (h.standing �
 FitsPhase phases.Active h = IsSome h.own × IsSome h.peer × (h.standing ≢ standings.Asked)
 FitsPhase phases.Closed h = (h.standing ≡ standings.Without) × (h.out ≡ []) × (h.inn ≡ []) × (h.grants ≡ [])
 
+-- What holds for a half: its state fits its phase, and its lists are sorted and without empty entries.
 pub record IsHalf (h : Half) : Type 0 where
   pub phase : FitsPhase h.phase h
   pub out : Rises int_cmp h.out
   pub inn : Rises int_cmp h.inn × HasItems h.inn
   pub grants : Rises int_cmp h.grants × HasItems h.grants
 
+-- the halves of a slot
 abbrev pub halves_of : Slot → End → List (List ℕ × Half)
 halves_of Begun e = e.begun
 halves_of Accepted e = e.accepted
 
--- The end has that half, kept there.
+-- The end keeps that half in that slot by that ID.
 abbrev pub Has : End → KeptHalf → Type 0
 Has e found = lookup (is_at (octets_cmp found.key)) (halves_of found.slot e) ≡ Some found.half
 
--- A half is kept by its own transaction ID, or by its peer's.
+-- A half whose end sent the Begin is kept by its own transaction ID, any other half by the peer's.
 abbrev pub IsKept : Slot → List ℕ → Half → Type 0
 IsKept Begun key h = h.own ≡ Some key
 IsKept Accepted key h = h.peer ≡ Some key
 
+-- Two halves are kept in the same slot by the same ID.
 abbrev pub IsSame : KeptHalf → KeptHalf → Type 0
 IsSame f g = (f.slot ≡ g.slot) × (f.key ≡ g.key)
 
+-- What holds for an end: its halves are sorted, sound, and kept by their IDs.
 pub record IsEnd (e : End) : Type 0 where
   pub begun : Rises octets_cmp e.begun
   pub accepted : Rises octets_cmp e.accepted
   pub halves : (f : KeptHalf) → Has e f → IsHalf f.half
   pub kept : (f : KeptHalf) → Has e f → IsKept f.slot f.key f.half
-  -- No two halves have one own transaction ID, nor one peer's.
+  -- No two halves have the same own transaction ID, and no two the same peer's ID.
   pub one_own : (f g : KeptHalf) (id : List ℕ) → Has e f → Has e g
       → f.half.own ≡ Some id → g.half.own ≡ Some id → IsSame f g
   pub one_peer : (f g : KeptHalf) (id : List ℕ) → Has e f → Has e g

@@ -1,4 +1,4 @@
--- Components of a message, which go out or come in.
+-- How a half changes when it sends or receives components.
 use Rattle.std.specs.Prelude.{List, [], ◌∷◌, Result, Ok}
 use Rattle.tcap_parts.specs.declared.component.Component.{Component}
 use Rattle.tcap_end.specs.declared.fault.EndFault.{EndFault}
@@ -11,19 +11,20 @@ use Rattle.tcap_end.specs.Table.{Table}
 use Rattle.tcap_end.specs.Half.{Half}
 use Rattle.tcap_end.specs.Component.{send_component, receive_component}
 
--- what a component does to a half; one that comes in is never refused
+-- A half sends (Out) or receives (In) a component. A received component is never refused.
 abbrev pub component_by : Way → Table → Half → Component → Result Half EndFault
 component_by Out table h component = send_component table h component
 component_by In table h component = Ok (receive_component table h component)
 
--- one after the other
+-- A half sends or receives components, one by one.
 abbrev pub components_by : Way → Table → Half → List Component → Result Half EndFault
 components_by way table h [] = Ok h
 components_by way table h (component ∷ more) = do
   next ← component_by way table h component
   components_by way table next more
 
--- which way the Continue goes that answers the Begin of a half: to the one that sent it, from the one that received it
+-- the direction of the Continue that answers a half's Begin: received if the half sent the Begin, sent if it received
+-- it
 abbrev pub way_of : Slot → Way
 way_of Begun = In
 way_of Accepted = Out

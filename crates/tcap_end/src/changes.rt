@@ -1,4 +1,4 @@
-//! What the components of a message changed in a half, so that it can be taken back.
+//! The changes that the components of a message made in a half, kept so that they can be undone.
 
 ghost use Rattle.std.specs.Prelude.{◌≡◌, ◌∷◌, [], IfErr, MatchOption, if◌then◌else◌, is_ok, length};
 
@@ -6,13 +6,13 @@ use crate::half_state::Change;
 use std::alloc::{AllocFailed, Global};
 use std::marker::Model;
 
-/// How many changes the list keeps memory for between two messages.
+/// The most changes for which the list keeps memory between two messages.
 const CHANGES_KEPT: usize = 32;
 
-/// Changes of a half, the last one first. What held those of one message holds those of the next, where they are few.
+/// The changes of a half, the latest first. The memory of a short list is used again for the next message.
 #[derive(Drop)]
 pub(crate) struct Changes {
-    /// From the first one on.
+    /// The changes in the order in which they were made.
     made: Vec<Change>,
 }
 
@@ -26,7 +26,7 @@ impl Model for Changes {
 }
 
 impl Changes {
-    /// No changes.
+    /// Creates an empty list.
     pub(crate) fn new(alloc: Global) -> Changes
         ensures { result ≡ [] }
     {
@@ -35,24 +35,24 @@ impl Changes {
         }
     }
 
-    /// Where its memory comes from.
+    /// Returns the allocator of the list.
     pub(crate) fn alloc(&self) -> Global {
         *self.made.allocator()
     }
 
-    /// How many there are.
+    /// Returns the number of changes.
     pub(crate) fn len(&self) -> usize
         ensures { result ≡ length self.now }
     {
         self.made.len()
     }
 
-    /// All of them, from the first one on.
+    /// Returns all changes, in the order in which they were made.
     pub(crate) fn as_slice(&self) -> &[Change] {
         self.made.as_slice()
     }
 
-    /// One more, the last one; it is handed back where there is no memory.
+    /// Adds a change as the latest, or returns it if memory runs out.
     pub(crate) fn push(&mut self, change: Change) -> Result<(), AllocFailed<Change>>
         ensures items { self.new ≡ (if is_ok result then change ∷ self.old else self.old) }
         ensures value_returned { IfErr result (λ failed. failed.value ≡ change) }
@@ -60,14 +60,14 @@ impl Changes {
         self.made.push(change)
     }
 
-    /// Takes the last one away.
+    /// Removes and returns the latest change.
     pub(crate) fn pop(&mut self) -> Option<Change>
         ensures items { MatchOption result ((self.old ≡ []) × (self.new ≡ [])) (λ change. self.old ≡ change ∷ self.new) }
     {
         self.made.pop()
     }
 
-    /// None any more. Memory for many is given back.
+    /// Removes all changes, and frees the memory of a long list.
     pub(crate) fn clear(&mut self)
         ensures { self.new ≡ [] }
     {

@@ -1,10 +1,10 @@
-//! Which answers operations of a class have (Q.771).
+//! The answers that operations of a class have (Q.771).
 
 ghost use Rattle.std.specs.Prelude.{◌≡◌};
 ghost use Rattle.tcap_end.specs.Class.{reports, reports_neither};
 
-/// Whether operations of a class report success, by a Return Result (`is_result`), or failure, by a Return Error: 1 reports
-/// both, 2 failure alone, 3 success alone, 4 neither, and another number is no class (Q.771 3.1).
+/// Returns whether operations of a class report success, by a Return Result (`is_result`), or failure, by a Return
+/// Error. Class 1 reports both, 2 failure only, 3 success only, 4 neither; other numbers report nothing (Q.771 3.1).
 pub fn reports(is_result: bool, class: u8) -> bool
     ensures { result ≡ reports is_result class }
 {
@@ -16,7 +16,7 @@ pub fn reports(is_result: bool, class: u8) -> bool
     }
 }
 
-/// Whether operations of a class report neither: class 4 (Q.771 3.1).
+/// Returns whether operations of a class report neither success nor failure: class 4 (Q.771 3.1).
 pub fn reports_neither(class: u8) -> bool
     ensures { result ≡ reports_neither class }
 {

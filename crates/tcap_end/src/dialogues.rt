@@ -1,4 +1,4 @@
-//! Which dialogue portion a message may carry (Q.774 3.2, dialogues).
+//! The dialogue portions that a message may carry (Q.774 3.2, dialogues).
 
 ghost use Rattle.std.specs.Prelude.{◌≡◌, option_map};
 ghost use Rattle.tcap_parts.specs.DialogueMeaning.{dialogue_of};
@@ -21,21 +21,21 @@ ghost use Rattle.tcap_end.specs.Dialogue.{
 use crate::half::{Phase, Standing};
 use tcap_parts::{DialogueView, SourceView};
 
-/// Whether it is a dialogue request.
+/// Returns whether the portion is a dialogue request.
 fn is_request(dialogue: Option<DialogueView>) -> bool
     ensures { result ≡ is_request (option_map dialogue_of dialogue.entry) }
 {
     matches!(dialogue, Some(DialogueView::Request { .. }))
 }
 
-/// Whether it is a dialogue response.
+/// Returns whether the portion is a dialogue response.
 fn is_response(dialogue: Option<DialogueView>) -> bool
     ensures { result ≡ is_response (option_map dialogue_of dialogue.entry) }
 {
     matches!(dialogue, Some(DialogueView::Response { .. }))
 }
 
-/// Whether it is a response that takes the dialogue.
+/// Returns whether the portion is a response that accepts the dialogue.
 fn accepts_dialogue(dialogue: Option<DialogueView>) -> bool
     ensures { result ≡ accepts_dialogue (option_map dialogue_of dialogue.entry) }
 {
@@ -53,7 +53,7 @@ fn accepts_dialogue(dialogue: Option<DialogueView>) -> bool
     }
 }
 
-/// Whether it is a response that refuses it, by the user.
+/// Returns whether the portion is a response by which the user refuses the dialogue.
 fn refuses_dialogue(dialogue: Option<DialogueView>) -> bool
     ensures { result ≡ refuses_dialogue (option_map dialogue_of dialogue.entry) }
 {
@@ -69,7 +69,7 @@ fn refuses_dialogue(dialogue: Option<DialogueView>) -> bool
     }
 }
 
-/// Whether it is a dialogue abort of the user.
+/// Returns whether the portion is a dialogue abort by the user.
 fn is_user_abort(dialogue: Option<DialogueView>) -> bool
     ensures { result ≡ is_user_abort (option_map dialogue_of dialogue.entry) }
 {
@@ -79,21 +79,21 @@ fn is_user_abort(dialogue: Option<DialogueView>) -> bool
     }
 }
 
-/// Whether a Begin may carry this dialogue portion (Q.774 3.2).
+/// Returns whether a Begin may carry this dialogue portion (Q.774 3.2).
 pub(crate) fn may_begin(dialogue: Option<DialogueView>) -> bool
     ensures { result ≡ may_begin (option_map dialogue_of dialogue.entry) }
 {
     dialogue.is_none() || is_request(dialogue)
 }
 
-/// Whether a Unidirectional may carry this dialogue portion.
+/// Returns whether a Unidirectional may carry this dialogue portion.
 pub(crate) fn may_be_uni(dialogue: Option<DialogueView>) -> bool
     ensures { result ≡ may_be_uni (option_map dialogue_of dialogue.entry) }
 {
     matches!(dialogue, None | Some(DialogueView::Uni { .. }))
 }
 
-/// How the dialogue of a half stands that begins with this portion.
+/// Returns the dialogue state after a Begin with this portion.
 pub(crate) fn first_standing(dialogue: Option<DialogueView>) -> Standing
     ensures { result ≡ first_standing (option_map dialogue_of dialogue.entry) }
 {
@@ -104,7 +104,7 @@ pub(crate) fn first_standing(dialogue: Option<DialogueView>) -> Standing
     }
 }
 
-/// Whether a Continue or an End of a half in that phase may carry this dialogue portion.
+/// Returns whether a half in this phase and dialogue state may send a Continue or an End with this portion.
 pub(crate) fn may_go_on(phase: Phase, standing: Standing, dialogue: Option<DialogueView>) -> bool
     ensures { result ≡ may_go_on phase standing (option_map dialogue_of dialogue.entry) }
 {
@@ -114,7 +114,7 @@ pub(crate) fn may_go_on(phase: Phase, standing: Standing, dialogue: Option<Dialo
     }
 }
 
-/// Whether an Abort without a cause may carry it.
+/// Returns whether a half in this phase and dialogue state may send an Abort without a cause with this portion.
 pub(crate) fn may_abort(phase: Phase, standing: Standing, dialogue: Option<DialogueView>) -> bool
     ensures { result ≡ may_abort phase standing (option_map dialogue_of dialogue.entry) }
 {
@@ -127,7 +127,7 @@ pub(crate) fn may_abort(phase: Phase, standing: Standing, dialogue: Option<Dialo
         }
 }
 
-/// Whether a Continue with it answers a dialogue that stands so.
+/// Returns whether a half in this dialogue state can receive a Continue with this portion as the answer to its Begin.
 pub(crate) fn answers_request(standing: Standing, dialogue: Option<DialogueView>) -> bool
     ensures { result ≡ answers_request standing (option_map dialogue_of dialogue.entry) }
 {
@@ -135,7 +135,7 @@ pub(crate) fn answers_request(standing: Standing, dialogue: Option<DialogueView>
 }
 
 impl Standing {
-    /// How a dialogue stands once its request was answered.
+    /// Returns the dialogue state after the Continue that answers the Begin.
     pub(crate) fn confirm(self) -> Standing
         ensures { result ≡ confirm self }
     {

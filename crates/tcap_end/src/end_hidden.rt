@@ -1,4 +1,4 @@
-//! What happens to an end unseen (Q.774 3.2 and 3.3): an invocation ends, a half closes, all do.
+//! The hidden steps of an end (Q.774 3.2 and 3.3): an invocation expires, one half closes, or all halves close.
 
 ghost use Rattle.std.specs.Prelude.{◌≡◌, ◌<◌, ◌^◌, ◌++◌, Some, None, Ok, Err, IfSome, MatchOption, OnErr, OnOk, length};
 ghost use Rattle.tcap_end.specs.declared.fault.EndFault.TheVariants as EndFault;
@@ -16,7 +16,7 @@ use crate::table::Table;
 use std::alloc::AllocError;
 use tcap_msg::TransactionId;
 
-/// The name of a half that began so, by the ID by which it is kept.
+/// Returns the name of a half of this slot, by the ID by which it is kept.
 fn name_of(slot: Slot, key: &TransactionId) -> HalfName
     ensures { result ≡ name_in slot key.now }
 {
@@ -27,7 +27,7 @@ fn name_of(slot: Slot, key: &TransactionId) -> HalfName
     }
 }
 
-/// Whether a half in that phase may close unseen.
+/// Returns whether a half in this phase may close without a message.
 fn may_close(table: &Table, phase: Phase) -> bool
     ensures { result ≡ may_close table.now phase }
 {
@@ -39,7 +39,7 @@ fn may_close(table: &Table, phase: Phase) -> bool
 }
 
 impl Halves {
-    /// The half of that name.
+    /// Finds the half with this name.
     fn named(&self, name: HalfName) -> Option<HalfKey>
         requires held { IsHeld self.now }
         requires sound { IsEnd (end_of self.now) }
@@ -53,7 +53,7 @@ impl Halves {
         }
     }
 
-    /// Ends the own invocation of that ID unseen.
+    /// Lets the own invocation of an ID expire.
     pub(crate) fn expire(&mut self, table: &Table, name: HalfName, id: i8) -> Result<(), EndFault>
         requires held { IsHeld self.old }
         requires sound { IsEnd (end_of self.old) }
@@ -75,7 +75,7 @@ impl Halves {
         Ok(())
     }
 
-    /// Closes a half unseen.
+    /// Closes a half without a message.
     pub(crate) fn close_named(&mut self, table: &Table, name: HalfName) -> Result<(), EndFault>
         requires held { IsHeld self.old }
         requires sound { IsEnd (end_of self.old) }
@@ -97,7 +97,7 @@ impl Halves {
         Ok(())
     }
 
-    /// How many of the halves that began so are open; `None` where one of those may not close unseen.
+    /// Counts the open halves of a slot, or returns `None` if one of them may not close without a message.
     fn closing_of(&self, table: &Table, slot: Slot) -> Option<usize>
         requires held { IsHeld self.now }
         requires placed { AllPlaced self.now }
@@ -116,7 +116,7 @@ impl Halves {
         Some(count)
     }
 
-    /// How many halves close unseen at a quiet mark: all that are open; `None` where one of those may not.
+    /// Counts the open halves, all of which close at a quiet mark, or returns `None` if one of them may not.
     pub(crate) fn closing(&self, table: &Table) -> Option<usize>
         requires held { IsHeld self.now }
         requires placed { AllPlaced self.now }
@@ -130,7 +130,7 @@ impl Halves {
         Some(begun + accepted)
     }
 
-    /// The names of the open halves that began so go behind these, in the order of the IDs by which they are kept.
+    /// Appends the names of the open halves of a slot, in the order of the IDs by which they are kept.
     pub(crate) fn push_open(&self, slot: Slot, names: &mut Vec<HalfName>) -> Result<(), AllocError>
         requires held { IsHeld self.now }
         requires placed { AllPlaced self.now }

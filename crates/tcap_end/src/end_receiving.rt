@@ -1,4 +1,4 @@
-//! What an end does with a message that it receives (Q.774 3.2 and 3.3).
+//! How an end receives a message (Q.774 3.2 and 3.3).
 
 ghost use Rattle.std.specs.Prelude.{◌≡◌, ◌≢◌, IsSome, Some, None, OnErr, option_map};
 ghost use Rattle.tcap_parts.specs.DialogueMeaning.{dialogue_of};
@@ -52,7 +52,7 @@ impl Halves {
                 self.receive_end(dtid);
                 Ok(())
             }
-            // Each kind has its transaction IDs.
+            // Each kind of message has its transaction IDs.
             _ => unreachable!(),
         }
     }
@@ -138,7 +138,7 @@ impl Halves {
         }
     }
 
-    /// Receives an End or an Abort: the open half that has its destination ID is closed.
+    /// Receives an End or an Abort: closes the open half with this own ID, if there is one.
     fn receive_end(&mut self, dtid: TransactionIdView)
         requires held { IsHeld self.old }
         requires sound { IsEnd (end_of self.old) }

@@ -1,4 +1,4 @@
-//! What a provider replies to a message that it cannot deliver (Q.774 3.3, abnormal procedures).
+//! The replies of a provider to a message that it cannot deliver (Q.774 3.3, abnormal procedures).
 
 ghost use Rattle.std.specs.Prelude.{◌≡◌};
 ghost use Rattle.tcap_end.specs.declared.fault.EndFault.TheVariants as EndFault;
@@ -12,13 +12,13 @@ use crate::fault::EndFault;
 use crate::halves::Halves;
 use tcap_msg::{Kind, MessageParts, TransactionIdView};
 
-/// The P-Abort cause by which a Continue is answered where no transaction has its destination ID (Q.773 4.2.1).
+/// The P-Abort cause that answers a Continue if no transaction has its destination ID (Q.773 4.2.1).
 const UNRECOGNIZED_TRANSACTION_ID: u8 = 1;
 
-/// The P-Abort cause by which a Begin is answered where resources are short (Q.773 4.2.1).
+/// The P-Abort cause that answers a Begin if resources are short (Q.773 4.2.1).
 const RESOURCE_LIMITATION: u8 = 4;
 
-/// Whether it is an Abort with that cause to that transaction ID.
+/// Returns whether a message is an Abort with this cause to this transaction ID.
 fn aborts<A: MessageParts>(cause: u8, id: TransactionIdView, abort: &A) -> bool
     ensures { result ≡ aborts cause id.entry.octets.now (A.meaning abort.now) }
 {
@@ -28,7 +28,7 @@ fn aborts<A: MessageParts>(cause: u8, id: TransactionIdView, abort: &A) -> bool
     }
 }
 
-/// Ok where it is so, else the reason why a provider does not reply so.
+/// Returns Ok if the condition holds, else the reason why a provider may not send the reply.
 fn needs(so: bool) -> Result<(), EndFault>
     ensures { result ≡ needs so EndFault.NoTransaction }
 {
@@ -39,7 +39,7 @@ fn needs(so: bool) -> Result<(), EndFault>
     }
 }
 
-/// Whether the provider may answer a Begin so.
+/// Checks whether the provider may answer a Begin with this Abort.
 pub(crate) fn refuse_begin<B: MessageParts, A: MessageParts>(
     halves: &Halves,
     begin: &B,
@@ -58,7 +58,7 @@ pub(crate) fn refuse_begin<B: MessageParts, A: MessageParts>(
     }
 }
 
-/// Whether the provider may answer a Continue so.
+/// Checks whether the provider may answer a Continue with this Abort.
 pub(crate) fn refuse_continue<C: MessageParts, A: MessageParts>(
     halves: &Halves,
     continued: &C,
@@ -77,7 +77,7 @@ pub(crate) fn refuse_continue<C: MessageParts, A: MessageParts>(
     }
 }
 
-/// Whether an open half has that own transaction ID.
+/// Returns whether an open half has this own transaction ID.
 fn has_open(halves: &Halves, id: TransactionIdView) -> bool
     requires held { IsHeld halves.now }
     requires sound { IsEnd (end_of halves.now) }

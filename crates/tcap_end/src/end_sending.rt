@@ -1,4 +1,4 @@
-//! What an end does to send a message (Q.774 3.2 and 3.3).
+//! How an end sends a message (Q.774 3.2 and 3.3).
 
 ghost use Rattle.std.specs.Prelude.{◌≡◌, ◌≢◌, Some, None, Ok, Err, OnErr, IfErr, OnOk, [], option_map};
 ghost use Rattle.tcap_parts.specs.DialogueMeaning.{dialogue_of};
@@ -37,21 +37,21 @@ use std::alloc::Global;
 use tcap_msg::{Kind, MessageParts, TransactionIdView};
 use tcap_parts::{Components, DialogueView};
 
-/// Whether a half in that phase is active.
+/// Returns whether a phase is Active.
 fn is_active(phase: Phase) -> bool
     ensures { result ≡ is_active phase }
 {
     matches!(phase, Phase::Active)
 }
 
-/// Whether a half in that phase received a Begin that this end did not yet answer.
+/// Returns whether a phase is Received: this end received a Begin and did not yet answer it.
 fn is_received(phase: Phase) -> bool
     ensures { result ≡ is_received phase }
 {
     matches!(phase, Phase::Received)
 }
 
-/// Checks a Unidirectional that is sent. It belongs to no half, and no end changes.
+/// Checks a Unidirectional that is sent. It belongs to no half, and changes no end.
 fn check_unidirectional<M: MessageParts>(
     alloc: Global,
     table: &Table,
@@ -98,7 +98,7 @@ impl Halves {
                 self.send_abort(dtid, dialogue)
             }
             (Kind::Abort, _, _) => Err(EndFault::WrongPhase),
-            // Each kind has its transaction IDs.
+            // Each kind of message has its transaction IDs.
             _ => unreachable!(),
         }
     }
@@ -141,7 +141,7 @@ impl Halves {
         Ok(())
     }
 
-    /// Sends a Continue.
+    /// Sends a Continue, by the half with its originating ID if there is one.
     fn send_continue(
         &mut self,
         changes: &mut Changes,
@@ -169,7 +169,7 @@ impl Halves {
         }
     }
 
-    /// Sends a Continue over a half that has its originating ID.
+    /// Sends a Continue over the half that has its originating ID.
     fn send_next_continue(
         &mut self,
         changes: &mut Changes,
@@ -205,7 +205,7 @@ impl Halves {
         self.step_over(changes, table, found, Way::Out, components)
     }
 
-    /// Sends a Continue that answers a Begin: no half has its originating ID.
+    /// Sends a Continue that answers a Begin. No half has its originating ID.
     fn send_first_continue(
         &mut self,
         changes: &mut Changes,

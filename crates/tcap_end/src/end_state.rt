@@ -1,4 +1,4 @@
-//! One end, as it runs.
+//! One end of TCAP dialogues, as a state that steps change.
 
 ghost use Rattle.std.specs.Prelude.{◌≡◌, ◌≢◌, Err, IfOk, IsSome, MatchOption, None, OnErr, Some, is_ok, is_some, length};
 ghost use Rattle.tcap_msg.specs.declared.kind.Kind.TheVariants as Kind;
@@ -23,18 +23,19 @@ use std::fmt;
 use std::marker::Model;
 use tcap_msg::MessageParts;
 
-/// One end of TCAP dialogues: the halves of its transactions (Q.774 3.3) with their invocations (Q.774 3.2). It says of
-/// each message whether a lawful end may send it there, and takes what the peer sent. What it stands for is an end of
-/// which the laws speak (`laws::is_end`).
+/// One end of TCAP dialogues: the halves of its transactions (Q.774 3.3) with their invocations (Q.774 3.2).
+///
+/// The end checks whether it may send a message, and receives the peer's messages. Its value is an end for which the
+/// laws hold (`laws::is_end`).
 #[derive(Drop)]
 pub struct EndState {
     alloc: Global,
     halves: Halves,
-    /// What a message changed, while it is taken. The memory of a short list serves the next message.
+    /// The changes of the message that is being taken. The memory of a short list is used again for the next message.
     changes: Changes,
 }
 
-// What a message changed is not printed: between two messages there is nothing of it.
+// The changes are not printed: the list is empty between two messages.
 impl fmt::Debug for EndState {
     fn fmt<W: fmt::Write>(&self, f: &mut fmt::Formatter<W>) -> fmt::Result {
         f.debug_struct("EndState")
@@ -57,7 +58,7 @@ impl Model for EndState {
 }
 
 impl EndState {
-    /// An end over which nothing went yet.
+    /// Creates an end without halves.
     pub fn new(alloc: Global) -> EndState
         ensures { result ≡ nothing }
     {
@@ -68,11 +69,15 @@ impl EndState {
         }
     }
 
-    /// Sends a message (Q.774 3.2 and 3.3), by the table of operations. On Ok the end is as it is once the message was
-    /// sent. Else it is as it was, and the answer is the first fault in the order of the half (one of `IdUsed`,
-    /// `NoTransaction`, `WrongPhase`), the dialogue portion (`WrongDialogue`), and the components one after the other
-    /// (`UnknownOperation` to `RejectNotAllowed`, and `UniNotClass4`); or `Memory`, which an Abort never meets. An
-    /// Abort with a cause is the provider's: `WrongPhase`.
+    /// Sends a message (Q.774 3.2 and 3.3), by the operations of `table`.
+    ///
+    /// # Errors
+    ///
+    /// The first fault in this order. Of the half: `IdUsed`, `NoTransaction` or `WrongPhase`. Of the dialogue portion:
+    /// `WrongDialogue`. Of the components, one by one: `UnknownOperation` to `RejectNotAllowed`, and `UniNotClass4`.
+    ///
+    /// An Abort with a cause is `WrongPhase`, because only a provider sends it. `Memory` if memory runs out, which an
+    /// Abort never returns. After an error the end is unchanged.
     pub fn send<M: MessageParts>(&mut self, table: &Table, message: &M) -> Result<(), EndFault>
         ensures step { AnswersInMemory (send table.now self.old (M.meaning message.now)) result self.new }
         ensures kept { OnErr result (self.new ≡ self.old) }
@@ -81,10 +86,14 @@ impl EndState {
         self.halves.send(&mut self.changes, table, message)
     }
 
-    /// Receives a message (Q.774 3.2 and 3.3), by the table of operations. On Ok the end is as it is once the message
-    /// was received. Else it is as it was, and the answer is `NoTransaction`, `IdUsed` or `WrongDialogue`, where the
-    /// message cannot be received; or `Memory`. What has no originating ID, an End, an Abort or a Unidirectional, is
-    /// never refused and takes no memory.
+    /// Receives a message (Q.774 3.2 and 3.3), by the operations of `table`.
+    ///
+    /// An End, an Abort or a Unidirectional, which have no originating ID, never fails and allocates nothing.
+    ///
+    /// # Errors
+    ///
+    /// `NoTransaction`, `IdUsed` or `WrongDialogue` if the end cannot receive the message; `Memory` if memory runs
+    /// out. After an error the end is unchanged.
     pub fn receive<M: MessageParts>(&mut self, table: &Table, message: &M) -> Result<(), EndFault>
         ensures step { AnswersInMemory (receive table.now self.old (M.meaning message.now)) result self.new }
         ensures kept { OnErr result (self.new ≡ self.old) }
@@ -93,8 +102,13 @@ impl EndState {
         self.halves.receive(&mut self.changes, table, message)
     }
 
-    /// Whether the provider may answer a Begin by this Abort in place of the end (Q.774 3.3): cause 4, to its
-    /// originating ID, where no half has that ID as its peer's. `NoTransaction` where it may not.
+    /// Checks whether the provider may answer a Begin with this Abort in place of the end (Q.774 3.3).
+    ///
+    /// The Abort must have cause 4 and the Begin's originating ID, and no half may have that ID as the peer's.
+    ///
+    /// # Errors
+    ///
+    /// `NoTransaction` if the provider may not.
     pub fn refuse_begin<B: MessageParts, A: MessageParts>(
         &self,
         begin: &B,
@@ -105,8 +119,14 @@ impl EndState {
         refuse_begin(&self.halves, begin, abort)
     }
 
-    /// Whether the provider may answer a Continue by this Abort (Q.774 3.3): cause 1, to its originating ID, where no
-    /// open half has its destination ID as its own. `NoTransaction` where it may not.
+    /// Checks whether the provider may answer a Continue with this Abort in place of the end (Q.774 3.3).
+    ///
+    /// The Abort must have cause 1 and the Continue's originating ID, and no open half may have the Continue's
+    /// destination ID as its own.
+    ///
+    /// # Errors
+    ///
+    /// `NoTransaction` if the provider may not.
     pub fn refuse_continue<C: MessageParts, A: MessageParts>(
         &self,
         continued: &C,
@@ -117,9 +137,14 @@ impl EndState {
         refuse_continue(&self.halves, continued, abort)
     }
 
-    /// Ends an own invocation unseen (Q.774 3.2): its timer ran out or the user cancelled it, where the table says that
-    /// this may be; or its last answer came, and its ID is free again. `CannotExpire` where none of this may be: the
-    /// end is as it was then. It takes no memory.
+    /// Lets an own invocation expire (Q.774 3.2), without allocating.
+    ///
+    /// Its timer ran out or the user cancelled it, which the table must allow; or its last answer was received, and
+    /// its ID becomes free again.
+    ///
+    /// # Errors
+    ///
+    /// `CannotExpire` if the invocation may not expire. The end is unchanged then.
     pub fn expire(&mut self, table: &Table, name: HalfName, invoke: i8) -> Result<(), EndFault>
         ensures step { Answers (expire table.now self.old name invoke) result self.new }
         ensures kept { OnErr result (self.new ≡ self.old) }
@@ -127,8 +152,13 @@ impl EndState {
         self.halves.expire(table, name, invoke)
     }
 
-    /// Closes a half unseen (Q.774 3.3): its Begin is given up, or it ends by prearrangement, where the table says that
-    /// this may be. `CannotClose` where it may not: the end is as it was then. It takes no memory.
+    /// Closes a half without a message (Q.774 3.3), and without allocating.
+    ///
+    /// Its Begin is given up, or it ends by prearrangement, which the table must allow.
+    ///
+    /// # Errors
+    ///
+    /// `CannotClose` if the half may not close. The end is unchanged then.
     pub fn close(&mut self, table: &Table, name: HalfName) -> Result<(), EndFault>
         ensures step { Answers (close table.now self.old name) result self.new }
         ensures kept { OnErr result (self.new ≡ self.old) }
@@ -136,16 +166,21 @@ impl EndState {
         self.halves.close_named(table, name)
     }
 
-    /// Whether all halves are closed, so that a quiet mark may come.
+    /// Returns whether all halves are closed, so that a quiet mark may come.
     pub fn is_quiet(&self) -> bool
         ensures { result ≡ is_ok (quiet self.now) }
     {
         self.halves.all_closed()
     }
 
-    /// The names of the open halves: by their own transaction IDs those that began by sending a Begin, and behind them by
-    /// their peers' those that began by receiving one; each of the two in the order of these IDs. Fails where memory runs
-    /// out.
+    /// Returns the names of the open halves.
+    ///
+    /// Halves whose Begin this end sent come first, by their own transaction IDs; then the others, by the peer's IDs.
+    /// Both are in the order of these IDs.
+    ///
+    /// # Errors
+    ///
+    /// AllocError if memory runs out.
     pub fn open_halves(&self, alloc: Global) -> Result<Vec<HalfName>, AllocError>
         ensures { IfOk result (λ names. names.items ≡ open_halves self.now) }
     {
@@ -155,14 +190,14 @@ impl EndState {
         Ok(names)
     }
 
-    /// Whether there is a half of that name, open or closed (Q.774 3.3).
+    /// Returns whether there is a half with this name, open or closed (Q.774 3.3).
     pub fn knows(&self, name: &HalfName) -> bool
         ensures { result ≡ is_some (named self.now name.now) }
     {
         self.halves.knows(name)
     }
 
-    /// What is known of the open half of that name (Q.774 3.2 and 3.3); `None` where there is none, or it is closed.
+    /// Returns a view of the open half with this name (Q.774 3.2 and 3.3), or `None` if there is none or it is closed.
     pub fn open_half(&self, name: &HalfName) -> Option<OpenHalf<'_>>
         ensures { MatchOption result (open_named self.now name.now ≡ None)
             (λ half. open_named self.now name.now ≡ Some half) }
@@ -170,15 +205,19 @@ impl EndState {
         Some(OpenHalf::of(self.halves.open_named(name)?))
     }
 
-    /// Shows that what it stands for is an end of which the laws speak.
+    /// Shows that the value of this state is an end for which the laws hold.
     pub(crate) fn is_end(&self)
         ensures { IsEnd self.now }
     {
         let _ = self.halves.all_closed();
     }
 
-    /// A quiet mark: where all halves are closed, no half and no used ID is left. `StillOpen` where one is open: the
-    /// end is as it was then. It takes no memory, and gives back all that the end has.
+    /// Takes a quiet mark, after which there are no halves and no used IDs. Allocates nothing, and frees all memory of
+    /// the halves.
+    ///
+    /// # Errors
+    ///
+    /// `StillOpen` if a half is open. The end is unchanged then.
     pub fn quiet(&mut self) -> Result<(), EndFault>
         ensures step { Answers (quiet self.old) result self.new }
         ensures kept { OnErr result (self.new ≡ self.old) }
@@ -190,10 +229,15 @@ impl EndState {
         Ok(())
     }
 
-    /// A quiet mark before which each half that is still open closes unseen (Q.774 3.3): its Begin is given up, or it
-    /// ends by prearrangement, where the table says that this may be. On Ok no half and no used ID is left, and the
-    /// answer is how many halves closed so. `CannotClose` where one may not: the end is as it was then. It takes no
-    /// memory.
+    /// Takes a quiet mark before which each open half closes without a message (Q.774 3.3), and returns how many
+    /// closed.
+    ///
+    /// Each gives up its Begin, or ends by prearrangement, which the table must allow. Afterwards there are no halves
+    /// and no used IDs. Allocates nothing.
+    ///
+    /// # Errors
+    ///
+    /// `CannotClose` if a half may not close. The end is unchanged then.
     pub fn quiet_unseen(&mut self, table: &Table) -> Result<usize, EndFault>
         ensures step { AnswersNumber (quiet_unseen table.now self.old) (length (open_halves self.old)) result
             self.new }

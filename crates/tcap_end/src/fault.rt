@@ -1,4 +1,4 @@
-//! Why an end refuses.
+//! The reasons why an end refuses a step.
 
 ghost use Rattle.std.specs.Prelude.{◌≡◌};
 ghost use Rattle.tcap_end.specs.declared.fault.EndFault.TheVariants as EndFault;
@@ -6,30 +6,30 @@ ghost use Rattle.tcap_end.specs.Fault.{fault_number};
 
 use std::alloc::AllocError;
 
-/// Why an end does not take a step.
+/// The reason why an end refuses a step.
 #[derive(Clone, Copy, Debug, PartialEq, Eq)]
 pub enum EndFault {
-    /// No half fits, or the provider may not reply so.
+    /// No half has these transaction IDs; or the provider may not send this reply.
     NoTransaction,
-    /// The transaction ID is used.
+    /// The transaction ID was used before.
     IdUsed,
-    /// The half is not in a phase for it; so it is with each Abort with a cause, which the provider sends.
+    /// The half's phase does not allow the message; or the Abort has a cause, so that only a provider sends it.
     WrongPhase,
-    /// The dialogue portion may not stand there.
+    /// The message may not carry this dialogue portion, or lacks one.
     WrongDialogue,
-    /// The table lacks the operation.
+    /// The table does not have the operation.
     UnknownOperation,
     /// The invoke ID is in use.
     InvokeIdBusy,
-    /// There is no such invocation to answer, or a Unidirectional carries something else than Invokes.
+    /// No invocation with this ID was received; or a Unidirectional carries a component other than an Invoke.
     NothingToAnswer,
-    /// The operation's class does not allow that answer, or the table lacks the operation.
+    /// The operation's class does not allow this answer, or the table does not have the operation.
     ClassForbids,
     /// The answer is for another operation.
     WrongOperation,
-    /// The linked ID names no invocation that was received to which this operation may be linked.
+    /// No received invocation with the linked ID allows this linked operation.
     BadLink,
-    /// Nothing that was received may be rejected so.
+    /// No received component may be rejected with this ID and problem.
     RejectNotAllowed,
     /// The invocation may not expire.
     CannotExpire,
@@ -37,14 +37,14 @@ pub enum EndFault {
     CannotClose,
     /// An operation in a Unidirectional is not of class 4.
     UniNotClass4,
-    /// A half is open.
+    /// A half is still open.
     StillOpen,
     /// Memory ran out.
     Memory,
 }
 
 impl EndFault {
-    /// The number that a line of output gives for this reason.
+    /// Returns the number that the output prints for this reason.
     pub fn number(self) -> u8
         ensures { result ≡ fault_number self }
     {

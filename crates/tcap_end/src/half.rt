@@ -1,54 +1,54 @@
-//! What is known of a half of a transaction.
+//! The state of a half of a transaction.
 
 use tcap_msg::TransactionId;
 
-/// How far a half is (Q.774 3.3).
+/// The phase of a half (Q.774 3.3).
 #[derive(Clone, Copy, Debug, PartialEq, Eq)]
 pub enum Phase {
-    /// It sent a Begin.
+    /// This end sent a Begin.
     Sent,
-    /// It received a Begin.
+    /// This end received a Begin.
     Received,
-    /// Its Begin was answered by a Continue.
+    /// A Continue answered the Begin.
     Active,
-    /// It is over.
+    /// The transaction is over.
     Closed,
 }
 
-/// How far the dialogue of a half is (Q.774 3.2).
+/// The dialogue state of a half (Q.774 3.2).
 #[derive(Clone, Copy, Debug, PartialEq, Eq)]
 pub enum Standing {
-    /// There is none.
+    /// There is no dialogue.
     Without,
     /// A dialogue request was sent or received.
     Asked,
-    /// It was answered by a dialogue response.
+    /// A dialogue response answered the request.
     Confirmed,
 }
 
 /// The state of an own invocation (Q.774 3.2).
 #[derive(Clone, Copy, Debug, PartialEq, Eq)]
 pub enum InvocationState {
-    /// It was sent, and its last answer did not come.
+    /// The Invoke was sent, and its last answer was not yet received.
     OperationSent,
-    /// Its last answer came: its invoke ID is kept until it may be used again.
+    /// The last answer was received. The invoke ID is not free until the invocation ends.
     WaitForReject,
 }
 
-/// By what a half began; it is kept with those that began so.
+/// The list in which an end keeps a half.
 #[derive(Clone, Copy, Debug, PartialEq, Eq)]
 pub enum Slot {
-    /// By sending a Begin: it is kept by its own transaction ID.
+    /// The halves whose Begin this end sent, by their own transaction IDs.
     Begun,
-    /// By receiving one: it is kept by its peer's.
+    /// The halves whose Begin this end received, by the peer's transaction IDs.
     Accepted,
 }
 
-/// The name of a half: by its own transaction ID, or by its peer's.
+/// The name of a half: its own transaction ID, or the peer's.
 #[derive(Debug, Drop)]
 pub enum HalfName {
-    /// The half with that own transaction ID.
+    /// The half with this own transaction ID.
     Own(TransactionId),
-    /// The half with that peer's transaction ID.
+    /// The half with this transaction ID of the peer.
     Peer(TransactionId),
 }

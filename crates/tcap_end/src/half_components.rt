@@ -1,5 +1,5 @@
-//! What the components of a message do to a half, one after the other; where one may not be sent, or memory ran out,
-//! the half is as it was.
+//! How the components of a message change a half, one by one. If one may not be sent, or memory runs out, the half is
+//! unchanged.
 
 ghost use Rattle.std.specs.Prelude.{◌≡◌, OnErr};
 ghost use Rattle.tcap_parts.specs.Meaning.{component_of, components_left};
@@ -17,7 +17,7 @@ use std::alloc::Global;
 use tcap_msg::TransactionId;
 use tcap_parts::{ComponentView, Components};
 
-/// Whether components go out or come in.
+/// Whether components are sent or received.
 #[derive(Clone, Copy, Debug, PartialEq, Eq)]
 pub(crate) enum Way {
     Out,
@@ -25,8 +25,8 @@ pub(crate) enum Way {
 }
 
 impl Slot {
-    /// Which way the Continue goes that answers the Begin of a half: to the one that sent it, from the one that
-    /// received it.
+    /// Returns the direction of the Continue that answers a half's Begin: received if the half sent the Begin, sent if
+    /// it received it.
     fn way(self) -> Way
         ensures { result ≡ way_of self }
     {
@@ -82,8 +82,7 @@ impl HalfState {
         Ok(())
     }
 
-    /// Sends or receives components. The first fault where one may not be sent; the half is as it was then, and where
-    /// memory ran out.
+    /// Sends or receives components. On a fault, or if memory runs out, the half is unchanged.
     pub(crate) fn step_components(
         &mut self,
         changes: &mut Changes,
@@ -113,7 +112,7 @@ impl HalfState {
         }
     }
 
-    /// Gives the half the ID that it is not kept by, or takes it away; what it was.
+    /// Sets the transaction ID by which the half is not kept, and returns its earlier value.
     fn put_other_id(&mut self, id: Option<TransactionId>) -> Option<TransactionId>
         ensures put { half_of self.new ≡ with_other_id self.old.slot id (half_of self.old) }
         ensures was { result ≡ other_id self.old.slot (half_of self.old) }
@@ -125,8 +124,8 @@ impl HalfState {
         }
     }
 
-    /// Sends or receives the components of the Continue that answers the half's Begin: the half is active then, with
-    /// this ID.
+    /// Sends or receives the components of the Continue that answers the half's Begin. The half becomes active and
+    /// gets this ID.
     pub(crate) fn activate(
         &mut self,
         changes: &mut Changes,

@@ -1,4 +1,4 @@
-//! What receiving a component does to a half (Q.774 3.2, component sub-layer; Q.771, operation classes).
+//! How receiving a component changes a half (Q.774 3.2, component sub-layer; Q.771, operation classes).
 
 ghost use Rattle.std.specs.Prelude.{◌≡◌, Some, OnOk, IsSome, true, false, option_map};
 ghost use Rattle.tcap_parts.specs.declared.code.Code.{Code};
@@ -28,7 +28,7 @@ use std::alloc::{AllocError, Global};
 use tcap_parts::{CodeView, ComponentView, ProblemView};
 
 impl HalfState {
-    /// The operation of an own invocation whose last answer did not come.
+    /// Returns the operation of an own invocation in Operation Sent.
     fn operation_sent(&self, id: i8) -> Option<CodeView<'_>>
         ensures { option_map code_of result ≡ operation_sent (half_of self.now) id }
     {
@@ -39,7 +39,7 @@ impl HalfState {
         }
     }
 
-    /// What is wrong with the link of an Invoke.
+    /// Returns the fault of an Invoke's link.
     fn link(&self, table: &Table, linked: Option<i8>, code: CodeView) -> Link
         ensures { link_numbers result ≡ link_problems table.now (half_of self.now) linked (code_of code.entry) }
     {
@@ -58,7 +58,7 @@ impl HalfState {
         }
     }
 
-    /// What a Return Result, or a Return Error, is for.
+    /// Returns what a Return Result (`is_result`) or Return Error is for.
     fn target(&self, table: &Table, is_result: bool, id: i8) -> Target
         ensures { result ≡ target_of is_result (answered_operation table.now (half_of self.now) id) }
     {
@@ -93,7 +93,7 @@ impl HalfState {
         self.note(changes, Change::InnJoined(id))
     }
 
-    /// An answer joins those of its ID.
+    /// Adds an answer to those of its ID.
     fn join_answer(
         &mut self,
         changes: &mut Changes,
@@ -110,7 +110,7 @@ impl HalfState {
         self.note(changes, Change::GrantJoined(id))
     }
 
-    /// Receives a Return Result, or a Return Error.
+    /// Receives a Return Result (`is_result`) or Return Error.
     fn receive_answer(
         &mut self,
         changes: &mut Changes,
@@ -133,7 +133,7 @@ impl HalfState {
         Ok(())
     }
 
-    /// The last answer to an own invocation, which is there, came.
+    /// Moves an own invocation, which must be in Operation Sent, to Wait for Reject.
     fn wait(&mut self, changes: &mut Changes, id: i8) -> Result<(), AllocError>
         requires there { IsSome (operation_sent (half_of self.old) id) }
         ensures waits { (code : Code) → operation_sent (half_of self.old) id ≡ Some code
@@ -166,7 +166,7 @@ impl HalfState {
         self.note(changes, Change::Out { id, was })
     }
 
-    /// Receives a component. Where memory ran out the changes lead back to what was before it.
+    /// Receives a component. If memory runs out, undoing the changes restores the half as it was before.
     pub(crate) fn receive_component(
         &mut self,
         alloc: Global,

@@ -1,4 +1,4 @@
-//! What sending a component does to a half (Q.774 3.2, component sub-layer; Q.771, operation classes).
+//! How sending a component changes a half (Q.774 3.2, component sub-layer; Q.771, operation classes).
 
 ghost use Rattle.std.specs.Prelude.{◌≡◌, Bool, true, Option, Some, None, Err, IsSome, OnOk, option_map, slice_index_or};
 ghost use Rattle.tcap_parts.specs.declared.code.Code.{Code};
@@ -22,7 +22,8 @@ use std::alloc::{AllocError, Global};
 use tcap_parts::{CodeView, ComponentView, ProblemView};
 
 impl HalfState {
-    /// Whether a linked ID names an invocation that was received, to which the operation may be linked.
+    /// Returns whether the operation may be linked to a received invocation with this linked ID; true without a linked
+    /// ID.
     fn may_link(&self, table: &Table, linked: Option<i8>, code: CodeView) -> bool
         ensures { result ≡ may_link table.now (half_of self.now) linked (code_of code.entry) }
     {
@@ -66,7 +67,7 @@ impl HalfState {
         Ok(())
     }
 
-    /// Where the oldest invocation of that ID stands that a Return Result, or a Return Error, may answer.
+    /// Finds the place of the oldest invocation of an ID that this answer may answer.
     fn answerable_place(
         &self,
         table: &Table,
@@ -80,7 +81,7 @@ impl HalfState {
         first_answerable(self.inn.get(id)?, table, is_result, named)
     }
 
-    /// Whether an invocation of that ID is kept.
+    /// Returns whether a received invocation has this ID.
     pub(crate) fn has_invocation(&self, id: i8) -> bool
         ensures { result ≡ one_fits id (λ item. true) (half_of self.now).inn }
     {
@@ -90,7 +91,7 @@ impl HalfState {
         }
     }
 
-    /// Why no invocation of that ID may be answered so.
+    /// Returns the reason why this answer may answer no invocation of the ID.
     fn why_no_answer(&self, table: &Table, is_result: bool, id: i8) -> EndFault
         ensures { (last : Bool) (named : Option Code)
             → place_of (fits_in (may_answer table.now is_result named)) (listed id (rows_of self.now.inn)) ≡ None
@@ -106,8 +107,8 @@ impl HalfState {
         }
     }
 
-    /// Sends a Return Result, or a Return Error, which names this operation or none. One that is not the last takes
-    /// nothing.
+    /// Sends a Return Result (`is_result`) or Return Error, which carries the operation `named` or none. Only a last
+    /// answer removes the invocation.
     fn send_answer(
         &mut self,
         changes: &mut Changes,
@@ -132,7 +133,7 @@ impl HalfState {
         Ok(())
     }
 
-    /// Takes the invocation in that place of an ID's row.
+    /// Removes the invocation in a place of an ID's row.
     fn take_inn(&mut self, changes: &mut Changes, id: i8, at: usize) -> Result<(), AllocError>
         requires there { IsSome (slice_index_or (listed id (rows_of self.old.inn)) at None) }
         ensures taken { OnOk result (kept_of self.new ≡ without_inn id at (kept_of self.old)) }
@@ -143,7 +144,7 @@ impl HalfState {
         self.note(changes, Change::InnTaken { id, at, kind })
     }
 
-    /// Takes the answer in that place of an ID's row.
+    /// Removes the answer in a place of an ID's row.
     fn take_grant(&mut self, changes: &mut Changes, id: i8, at: usize) -> Result<(), AllocError>
         requires there { IsSome (slice_index_or (listed id (rows_of self.old.grants)) at None) }
         ensures taken { OnOk result (kept_of self.new ≡ without_grant id at (kept_of self.old)) }
@@ -154,7 +155,7 @@ impl HalfState {
         self.note(changes, Change::GrantTaken { id, at, kind })
     }
 
-    /// Where the oldest item stands that a Reject of this problem rejects.
+    /// Finds the place of the oldest item that a Reject with this problem rejects.
     fn rejected_place(&self, id: i8, problem: ProblemView) -> Option<usize>
         ensures { result ≡ rejected_place (rows_of self.now.inn) (rows_of self.now.grants) id (problem_of problem) }
     {
@@ -195,7 +196,7 @@ impl HalfState {
         Ok(())
     }
 
-    /// Sends a component. Where it may not be sent, or memory ran out, the changes lead back to what was before it.
+    /// Sends a component. On a fault, or if memory runs out, undoing the changes restores the half as it was before.
     pub(crate) fn send_component(
         &mut self,
         alloc: Global,

@@ -1,4 +1,4 @@
-//! What is kept of an open half, what of it may end unseen, and taking back what changed in it.
+//! The state of an open half, and undoing its changes.
 
 ghost use Rattle.std.specs.Prelude.{◌≡◌, ◌∷◌, OnErr, OnOk};
 ghost use Rattle.tcap_end.specs.Half.{Half, fresh};
@@ -15,7 +15,7 @@ use std::alloc::{AllocError, Global};
 use tcap_lists::Lists;
 use tcap_msg::TransactionId;
 
-/// What is kept of an open half.
+/// The state of an open half.
 #[derive(Debug, Drop)]
 pub(crate) struct HalfState {
     pub(crate) slot: Slot,
@@ -28,25 +28,25 @@ pub(crate) struct HalfState {
     pub(crate) grants: Lists<Answer>,
 }
 
-/// What a component changed in a half, so that it can be taken back.
+/// A change that a component made in a half, with what is needed to undo it.
 #[derive(Debug, Drop)]
 pub(crate) enum Change {
-    /// Another own invocation, or none, stood under an ID.
+    /// The own invocation of an ID was replaced; `was` is the earlier one, if any.
     Out { id: i8, was: Option<OwnInvocation> },
-    /// An invocation that was received was taken from a place of an ID's row.
+    /// A received invocation was removed from place `at` of an ID's row.
     InnTaken { id: i8, at: usize, kind: usize },
-    /// An answer was taken from a place of an ID's row.
+    /// A received answer was removed from place `at` of an ID's row.
     GrantTaken { id: i8, at: usize, kind: usize },
-    /// The last answer to an own invocation came: it waits for a Reject.
+    /// The own invocation of an ID moved to Wait for Reject, after its last answer.
     Waits(i8),
-    /// An invocation joined an ID's row.
+    /// An invocation was added to an ID's row.
     InnJoined(i8),
-    /// An answer joined an ID's row.
+    /// An answer was added to an ID's row.
     GrantJoined(i8),
 }
 
 impl HalfState {
-    /// A half over which nothing went yet.
+    /// Creates a half with no invocations and no answers.
     pub(crate) fn new(
         alloc: Global,
         slot: Slot,
@@ -70,7 +70,7 @@ impl HalfState {
         }
     }
 
-    /// Whether the own invocation of that ID may end unseen.
+    /// Returns whether the own invocation of an ID may expire.
     pub(crate) fn may_expire(&self, table: &Table, id: i8) -> bool
         ensures { result ≡ may_expire table.now (own_invocation (half_of self.now) id) }
     {
@@ -83,7 +83,7 @@ impl HalfState {
         }
     }
 
-    /// Takes back a change, the last one.
+    /// Undoes the latest change.
     fn undo(&mut self, change: Change)
         requires can { CanUndo change self.old }
         ensures { IsUndone change self.old self.new }
@@ -100,7 +100,7 @@ impl HalfState {
         }
     }
 
-    /// Takes back all changes, the last one first.
+    /// Undoes all changes, the latest first.
     pub(crate) fn undo_all(&mut self, changes: &mut Changes)
         requires can { (start : Half) × Undoes changes.old self.old start }
         ensures undone { (start : Half) → Undoes changes.old self.old start → half_of self.new ≡ start }
@@ -113,7 +113,7 @@ impl HalfState {
         }
     }
 
-    /// Notes a change that was made, or takes it back where there is no memory to note it.
+    /// Notes a change that was made, or undoes it if there is no memory to note it.
     pub(crate) fn note(&mut self, changes: &mut Changes, change: Change) -> Result<(), AllocError>
         requires can { CanUndo change self.old }
         ensures noted { OnOk result ((self.new ≡ self.old) × (changes.new ≡ change ∷ changes.old)) }
@@ -128,7 +128,7 @@ impl HalfState {
         }
     }
 
-    /// What was changed stays: places that nothing will be put back to may go.
+    /// Makes the changes final: empty places to which nothing can return may be removed.
     pub(crate) fn settle(&mut self, changes: &Changes)
         ensures half { half_of self.new ≡ half_of self.old }
         ensures slot { self.new.slot ≡ self.old.slot }

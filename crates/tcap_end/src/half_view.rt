@@ -1,4 +1,4 @@
-//! What can be seen of a half from outside.
+//! A read-only view of an open half.
 
 ghost use Rattle.std.specs.Prelude.{◌≡◌, MatchOption, None, Some, IfSome, is_some, option_copied, option_map};
 ghost use Rattle.std.specs.Ordering.{int_cmp};
@@ -21,7 +21,7 @@ use std::marker::Model;
 use tcap_msg::TransactionId;
 use tcap_parts::CodeView;
 
-/// An open half, lent: what its end knows of the transaction (Q.774 3.2 and 3.3).
+/// A view of an open half: what its end knows of the transaction (Q.774 3.2 and 3.3).
 #[derive(Debug, Drop)]
 pub struct OpenHalf<'a> {
     state: &'a HalfState,
@@ -37,42 +37,42 @@ impl<'a> Model for OpenHalf<'a> {
 }
 
 impl<'a> OpenHalf<'a> {
-    /// The half that has this state.
+    /// Creates a view of a state.
     pub(crate) fn of(state: &'a HalfState) -> OpenHalf<'a>
         ensures { result ≡ half_of state.now }
     {
         OpenHalf { state }
     }
 
-    /// How far it is.
+    /// Returns the phase.
     pub fn phase(&self) -> Phase
         ensures { result ≡ self.now.phase }
     {
         self.state.phase
     }
 
-    /// Its own transaction ID, where it has one.
+    /// Returns the own transaction ID, if the half has one.
     pub fn own(&self) -> Option<&TransactionId>
         ensures { option_copied result ≡ self.now.own }
     {
         self.state.own.as_ref()
     }
 
-    /// Its peer's transaction ID, where it is known.
+    /// Returns the peer's transaction ID, if it is known.
     pub fn peer(&self) -> Option<&TransactionId>
         ensures { option_copied result ≡ self.now.peer }
     {
         self.state.peer.as_ref()
     }
 
-    /// How far its dialogue is.
+    /// Returns the dialogue state.
     pub fn standing(&self) -> Standing
         ensures { result ≡ self.now.standing }
     {
         self.state.standing
     }
 
-    /// The operation of the own invocation of that invoke ID, where there is one.
+    /// Returns the operation of the own invocation with this invoke ID, if there is one.
     pub fn own_operation(&self, id: i8) -> Option<CodeView<'_>>
         ensures { MatchOption result (own_invocation self.now id ≡ None)
             (λ code. option_map (λ own. own.code) (own_invocation self.now id) ≡ Some (code_of code)) }
@@ -83,7 +83,7 @@ impl<'a> OpenHalf<'a> {
         }
     }
 
-    /// What the own invocation of that invoke ID waits for, where there is one.
+    /// Returns the state of the own invocation with this invoke ID, if there is one.
     pub fn own_state(&self, id: i8) -> Option<InvocationState>
         ensures { result ≡ option_map (λ own. own.state) (own_invocation self.now id) }
     {
@@ -93,7 +93,12 @@ impl<'a> OpenHalf<'a> {
         }
     }
 
-    /// The operations of the invocations of that invoke ID that were received and are not answered, from the oldest on.
+    /// Returns the operations of the received invocations with this invoke ID that were neither answered nor rejected,
+    /// oldest first.
+    ///
+    /// # Errors
+    ///
+    /// AllocError if memory runs out.
     pub fn received(&self, alloc: Global, id: i8) -> Result<Vec<CodeView<'a>>, AllocError> {
         let mut codes = Vec::new(alloc);
         if let Some(row) = self.state.inn.get(id) {
@@ -106,8 +111,12 @@ impl<'a> OpenHalf<'a> {
         Ok(codes)
     }
 
-    /// The answers to own invocations of that invoke ID that were received and may be rejected, from the oldest on: whether
-    /// each is a Return Result.
+    /// Returns whether each received answer with this invoke ID that was not rejected is a Return Result, oldest
+    /// first.
+    ///
+    /// # Errors
+    ///
+    /// AllocError if memory runs out.
     pub fn answers(&self, alloc: Global, id: i8) -> Result<Vec<bool>, AllocError> {
         let mut are_results = Vec::new(alloc);
         if let Some(row) = self.state.grants.get(id) {
@@ -122,7 +131,7 @@ impl<'a> OpenHalf<'a> {
 }
 
 impl Halves {
-    /// Where the half of that name is kept.
+    /// Finds the half with this name.
     fn kept(&self, name: &HalfName) -> Option<HalfKey>
         requires held { IsHeld self.now }
         requires sound { IsEnd (end_of self.now) }
@@ -136,7 +145,7 @@ impl Halves {
         }
     }
 
-    /// Whether there is a half of that name, open or closed.
+    /// Returns whether there is a half with this name, open or closed.
     pub(crate) fn knows(&self, name: &HalfName) -> bool
         requires held { IsHeld self.now }
         requires sound { IsEnd (end_of self.now) }
@@ -145,7 +154,7 @@ impl Halves {
         self.kept(name).is_some()
     }
 
-    /// The open half of that name.
+    /// Returns the open half with this name.
     pub(crate) fn open_named(&self, name: &HalfName) -> Option<&HalfState>
         requires held { IsHeld self.now }
         requires sound { IsEnd (end_of self.now) }

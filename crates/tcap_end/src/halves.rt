@@ -1,4 +1,4 @@
-//! The halves of an end, found by their transaction IDs.
+//! The halves of an end, by their transaction IDs.
 
 ghost use Rattle.std.specs.Prelude.{◌≡◌, ◌≢◌, ◌&&◌, false, true, Some, None, IsSome, IfSome, MatchOption, OnOk, OnErr};
 ghost use Rattle.std.specs.Option.{option_copied};
@@ -30,31 +30,31 @@ use std::collections::BTreeMap;
 use tcap_msg::{TransactionId, TransactionIdView};
 use tcap_parts::Components;
 
-/// Where a half is kept.
+/// The place of a half.
 #[derive(Debug, Drop)]
 pub(crate) enum Place {
-    /// It is open, under that number.
+    /// An open half, by its number in the slab.
     Open(usize),
-    /// It is closed; its other ID, where it has one.
+    /// A closed half, with its other ID if it has one.
     Closed(Option<TransactionId>),
 }
 
-/// The halves of an end. Closing one takes no memory.
+/// The halves of an end. Closing a half does not allocate.
 #[derive(Debug, Drop)]
 pub(crate) struct Halves {
     /// The open halves.
     pub(crate) slab: Slab<HalfState>,
-    /// Those that began by sending a Begin, by their own IDs.
+    /// The halves whose Begin this end sent, by their own IDs.
     pub(crate) begun: BTreeMap<TransactionId, Place>,
-    /// Those that began by receiving one, by their peers'.
+    /// The halves whose Begin this end received, by the peer's IDs.
     pub(crate) accepted: BTreeMap<TransactionId, Place>,
-    /// From the own IDs of accepted halves to their peers'.
+    /// The own IDs of accepted halves, each mapped to the peer's ID.
     pub(crate) by_own: BTreeMap<TransactionId, TransactionId>,
-    /// From the peers' IDs of begun halves to their own.
+    /// The peer's IDs of begun halves, each mapped to the own ID.
     pub(crate) by_peer: BTreeMap<TransactionId, TransactionId>,
 }
 
-/// By what a half is kept: how it began, and its ID of that time; and its number, where it is open.
+/// The place at which a half was found: its slot, the ID by which it is kept, and its number if it is open.
 #[derive(Debug, Drop)]
 pub(crate) struct HalfKey {
     pub(crate) slot: Slot,
@@ -62,7 +62,7 @@ pub(crate) struct HalfKey {
     pub(crate) number: Option<usize>,
 }
 
-/// Whether it is that transaction ID.
+/// Returns whether `other` is this transaction ID.
 pub(crate) fn is_id(id: TransactionIdView, other: &Option<TransactionId>) -> bool
     ensures { result ≡ is_id id.entry.octets.now other.now }
 {
@@ -73,7 +73,7 @@ pub(crate) fn is_id(id: TransactionIdView, other: &Option<TransactionId>) -> boo
 }
 
 impl Halves {
-    /// No halves.
+    /// Creates an end without halves.
     pub(crate) fn new(alloc: Global) -> Halves
         ensures nothing { end_of result ≡ nothing }
         ensures held { IsHeld result }
@@ -88,7 +88,7 @@ impl Halves {
         }
     }
 
-    /// The places of the halves that began so.
+    /// Returns the places of the halves of a slot.
     pub(crate) fn places(&self, slot: Slot) -> &BTreeMap<TransactionId, Place>
         ensures { result.now.entries ≡ places_of slot self.now }
     {
@@ -98,7 +98,7 @@ impl Halves {
         }
     }
 
-    /// The open half at that place; `None` where it is closed.
+    /// Returns the open half at a place, or `None` if the half is closed.
     pub(crate) fn open_half(&self, place: &Place) -> Option<&HalfState>
         ensures { option_copied result ≡ open_at self.now.slab place.now }
     {
@@ -108,7 +108,7 @@ impl Halves {
         }
     }
 
-    /// The half that began so and is kept by that ID.
+    /// Finds the half of a slot that is kept by this ID.
     fn find(&self, slot: Slot, key: &TransactionId) -> Option<HalfKey>
         ensures { MatchOption result (lookup (is_at (octets_cmp key.now)) (places_of slot self.now) ≡ None)
             (λ found. (found.slot ≡ slot) × (found.key ≡ key.now) × IsNumbered found self.now) }
@@ -124,7 +124,7 @@ impl Halves {
         })
     }
 
-    /// Where the half with that own transaction ID is kept.
+    /// Finds the half with this own transaction ID.
     pub(crate) fn with_own(&self, id: TransactionIdView) -> Option<HalfKey>
         requires held { IsHeld self.now }
         requires sound { IsEnd (end_of self.now) }
@@ -140,7 +140,7 @@ impl Halves {
         }
     }
 
-    /// Where the half with that peer's transaction ID is kept.
+    /// Finds the half with this transaction ID of the peer.
     pub(crate) fn with_peer(&self, id: TransactionIdView) -> Option<HalfKey>
         requires held { IsHeld self.now }
         requires sound { IsEnd (end_of self.now) }
@@ -156,7 +156,7 @@ impl Halves {
         }
     }
 
-    /// The open half that is kept there; `None` where it is closed.
+    /// Returns the state of a found half, or `None` if the half is closed.
     pub(crate) fn half(&self, found: &HalfKey) -> Option<&HalfState>
         requires held { IsHeld self.now }
         requires found { IsNumbered found.now self.now }
@@ -167,7 +167,7 @@ impl Halves {
         self.slab.get(found.number?)
     }
 
-    /// The number of the open half that is kept there.
+    /// Returns the number of a found half that is open.
     fn number(&self, found: &HalfKey) -> usize
         requires open { HasOpen found.now.slot found.now.key self.now }
         requires found { IsNumbered found.now self.now }
@@ -179,7 +179,7 @@ impl Halves {
         }
     }
 
-    /// Sends or receives components over the open half that is kept there.
+    /// Sends or receives components over a found half that is open.
     pub(crate) fn step_over(
         &mut self,
         changes: &mut Changes,
@@ -206,7 +206,7 @@ impl Halves {
         }
     }
 
-    /// Ends the own invocation of that ID in the open half that is kept there, which has one.
+    /// Ends the own invocation of an ID, which must exist, in a found half that is open.
     pub(crate) fn forget_over(&mut self, found: &HalfKey, id: i8)
         requires held { IsHeld self.old }
         requires open { HasOpen found.now.slot found.now.key self.old }
@@ -226,7 +226,7 @@ impl Halves {
         }
     }
 
-    /// Closes the open half that is kept there. It takes no memory.
+    /// Closes a found half that is open, without allocating.
     pub(crate) fn close(&mut self, found: HalfKey)
         requires held { IsHeld self.old }
         requires open { HasOpen found.slot found.key self.old }
@@ -250,7 +250,7 @@ impl Halves {
         }
     }
 
-    /// Puts a place by that ID.
+    /// Puts a place by an ID.
     fn put_place(&mut self, slot: Slot, key: TransactionId, place: Place) -> Result<(), AllocError>
         ensures put { OnOk result (places_of slot self.new
             ≡ insert_entry octets_cmp (places_of slot self.old) key place) }
@@ -267,7 +267,7 @@ impl Halves {
         Ok(())
     }
 
-    /// Keeps a new half by that ID, by which none is kept there.
+    /// Keeps a new half by an ID by which no half of its slot is kept.
     pub(crate) fn add(&mut self, key: TransactionId, half: HalfState) -> Result<(), AllocError>
         requires held { IsHeld self.old }
         requires new { IsNew key half self.old }
@@ -287,7 +287,7 @@ impl Halves {
         }
     }
 
-    /// Leads from the ID that a half is not kept by to the one that it is kept by.
+    /// Maps the ID by which a half is not kept to the ID by which it is kept.
     fn put_index(
         &mut self,
         slot: Slot,
@@ -308,7 +308,7 @@ impl Halves {
         Ok(())
     }
 
-    /// Leads on from that ID no more.
+    /// Removes an ID from the index of a slot.
     fn remove_index(&mut self, slot: Slot, id: &TransactionId)
         ensures removed { index_of slot self.new ≡ remove_entry (is_at (octets_cmp id.now)) (index_of slot self.old) }
         ensures by_own { slot ≢ Slot.Accepted → self.new.by_own ≡ self.old.by_own }
@@ -322,8 +322,10 @@ impl Halves {
         };
     }
 
-    /// Sends or receives the components of the Continue that answers the Begin of the open half that is kept there,
-    /// which gets this ID: one that began by sending its peer's, one that began by receiving an own. No half has it.
+    /// Sends or receives the components of the Continue that answers the Begin of a found half that is open.
+    ///
+    /// The half gets this ID: the peer's if this end sent the Begin, its own if this end received it. No half has the
+    /// ID yet.
     pub(crate) fn activate_over(
         &mut self,
         changes: &mut Changes,
@@ -363,7 +365,7 @@ impl Halves {
         }
     }
 
-    /// Whether no half is open.
+    /// Returns whether no half is open.
     pub(crate) fn all_closed(&self) -> bool
         requires held { IsHeld self.now }
         requires placed { AllPlaced self.now }

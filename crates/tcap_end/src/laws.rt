@@ -1,4 +1,4 @@
-//! Laws of one end. Each function says, by its contract alone, what holds of the steps.
+//! Laws of one end. The contract of each function is a theorem about the steps.
 
 ghost use Rattle.std.specs.Prelude.{◌≡◌, ℤ, Ok};
 ghost use Rattle.tcap_msg.specs.declared.message.Message.{Message};
@@ -12,67 +12,67 @@ ghost use Rattle.tcap_end.specs.Sound.{Has, IsEnd};
 
 use crate::end_state::EndState;
 
-/// What an `EndState` stands for is such an end: the laws below speak of it.
+/// Shows that the value of an `EndState` is an end for which the laws below hold.
 pub fn is_end(end: &EndState)
     ensures { IsEnd end.now }
 {
     end.is_end();
 }
 
-/// What holds of every end holds of one over which nothing went.
+/// Shows that an end without halves is sound.
 pub fn nothing_is_sound()
     ensures { IsEnd nothing }
 {}
 
-/// What holds of every end holds behind a message that was sent: no two halves have one own transaction ID, nor one
-/// peer's.
+/// Shows that an end is still sound after it sends a message: no two halves have the same own transaction ID, and no
+/// two the same peer's ID.
 pub fn sent_is_sound()
     ensures { (table : Table) (e next : End) (m : Message) → IsEnd e → send table e m ≡ Ok next → IsEnd next }
 {}
 
-/// What holds of every end holds behind a message that was received.
+/// Shows that an end is still sound after it receives a message.
 pub fn received_is_sound()
     ensures { (table : Table) (e next : End) (m : Message) → IsEnd e → receive table e m ≡ Ok next → IsEnd next }
 {}
 
-/// What holds of every end holds where an invocation ended unseen.
+/// Shows that an end is still sound after an invocation expires.
 pub fn expired_is_sound()
     ensures { (table : Table) (e next : End) (name : HalfName) (id : ℤ) → IsEnd e → expire table e name id ≡ Ok next
         → IsEnd next }
 {}
 
-/// What holds of every end holds where a half closed unseen.
+/// Shows that an end is still sound after a half closes without a message.
 pub fn closed_is_sound()
     ensures { (table : Table) (e next : End) (name : HalfName) → IsEnd e → close table e name ≡ Ok next → IsEnd next }
 {}
 
-/// What holds of every end holds behind a quiet mark.
+/// Shows that an end is still sound after a quiet mark.
 pub fn quieted_is_sound()
     ensures { (e next : End) → quiet e ≡ Ok next → IsEnd next }
 {}
 
-/// A closed half stays as it is, whatever the end sends.
+/// Shows that no message that the end sends changes a closed half.
 pub fn closed_while_sending()
     ensures { (table : Table) (e next : End) (m : Message) (f : KeptHalf) → IsEnd e → Has e f
         → f.half.phase ≡ Phase.Closed
         → send table e m ≡ Ok next → Has next f }
 {}
 
-/// A closed half stays as it is, whatever the end receives.
+/// Shows that no message that the end receives changes a closed half.
 pub fn closed_while_receiving()
     ensures { (table : Table) (e next : End) (m : Message) (f : KeptHalf) → IsEnd e → Has e f
         → f.half.phase ≡ Phase.Closed
         → receive table e m ≡ Ok next → Has next f }
 {}
 
-/// A closed half stays as it is where an invocation ends unseen.
+/// Shows that the expiry of an invocation changes no closed half.
 pub fn closed_while_expiring()
     ensures { (table : Table) (e next : End) (name : HalfName) (id : ℤ) (f : KeptHalf) → IsEnd e → Has e f
         → f.half.phase ≡ Phase.Closed
         → expire table e name id ≡ Ok next → Has next f }
 {}
 
-/// A closed half stays as it is where another closes unseen.
+/// Shows that closing a half without a message changes no closed half.
 pub fn closed_while_closing()
     ensures { (table : Table) (e next : End) (name : HalfName) (f : KeptHalf) → IsEnd e → Has e f
         → f.half.phase ≡ Phase.Closed

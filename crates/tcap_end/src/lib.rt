@@ -1,4 +1,5 @@
-//! One end of TCAP dialogues: what it may send, and what it does with what it receives (Q.771, Q.774).
+//! One end of TCAP dialogues: which messages it may send, and how the messages that it receives change it (Q.771,
+//! Q.774).
 #![tactic(auto)]
 
 mod changes;

@@ -13,15 +13,14 @@ use std::cmp::Ordering;
 use std::mem;
 use tcap_parts::Code;
 
-/// An own invocation: its operation, and what it waits for.
+/// An own invocation: its operation, and its state.
 #[derive(Debug, Drop)]
 pub(crate) struct OwnInvocation {
     pub(crate) code: Code,
     pub(crate) state: InvocationState,
 }
 
-/// Own invocations by their invoke IDs. Once there is a place for an ID, what stands there can be changed without
-/// memory.
+/// Own invocations by their invoke IDs. Once an ID has a place, changing the invocation there does not allocate.
 #[derive(Debug, Drop)]
 pub(crate) struct Outs {
     // In the order of the IDs: at most 256.
@@ -30,7 +29,7 @@ pub(crate) struct Outs {
         (keys_of places.items) },
 }
 
-/// Puts one more place between the others. The first one takes memory for itself alone: many halves have no other.
+/// Inserts a place. The first place reserves memory for itself alone, because many halves have only one.
 fn insert_at(
     places: &mut Vec<(i8, Option<OwnInvocation>)>,
     at: usize,
@@ -54,7 +53,7 @@ impl Outs {
     ghost use Rattle.std.specs.BTreeMap.{is_at};
     ghost use Rattle.tcap_end.specs.Outs.{HasPlace, found_at, kept_outs, with_state, with_out};
 
-    /// No invocations.
+    /// Creates a list without invocations.
     pub(crate) fn new(alloc: Global) -> Outs
         ensures { kept_outs result ≡ [] }
     {
@@ -63,7 +62,7 @@ impl Outs {
         }
     }
 
-    /// Where the place of an ID is; or, as an error, where it would be.
+    /// Returns the index of an ID's place, or as an error the index at which it would be inserted.
     fn find(&self, id: i8) -> Result<usize, usize>
         ensures value { result ≡ found_at id self.now.places.items }
         ensures range { IsSearchInRange result (vec_len self.now.places) }
@@ -75,7 +74,7 @@ impl Outs {
         )
     }
 
-    /// The invocation of an ID.
+    /// Returns the invocation of an ID.
     pub(crate) fn get(&self, id: i8) -> Option<&OwnInvocation>
         ensures { option_copied result ≡ lookup (is_at (int_cmp id)) (kept_outs self.now) }
     {
@@ -85,7 +84,8 @@ impl Outs {
         }
     }
 
-    /// Puts an invocation under an ID, in a place that is made where there is none, and answers what stood there.
+    /// Puts an invocation in the place of an ID, which is made if there is none, and returns the invocation that was
+    /// there.
     pub(crate) fn join(
         &mut self,
         id: i8,
@@ -106,7 +106,7 @@ impl Outs {
         }
     }
 
-    /// Puts an invocation, or none, in the place of an ID, and answers what stood there.
+    /// Puts an invocation, or none, in the place of an ID, and returns the invocation that was there.
     pub(crate) fn put(&mut self, id: i8, invocation: Option<OwnInvocation>) -> Option<OwnInvocation>
         requires made { HasPlace id self.old }
         ensures was { result ≡ lookup (is_at (int_cmp id)) (kept_outs self.old) }
@@ -119,7 +119,7 @@ impl Outs {
         }
     }
 
-    /// Gives the invocation of an ID, where there is one, that state.
+    /// Sets the state of the invocation of an ID, if there is one.
     pub(crate) fn set_state(&mut self, id: i8, state: InvocationState)
         requires made { HasPlace id self.old }
         ensures in_state { kept_outs self.new ≡ with_state id state (kept_outs self.old) }

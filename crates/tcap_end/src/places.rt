@@ -1,4 +1,4 @@
-//! Where the oldest item stands that fits, and items that join others.
+//! The oldest item of a row that a component can answer, reject or link to, and items that are added to rows.
 
 ghost use Rattle.std.specs.Prelude.{◌≡◌, ◌<◌, ◌++◌, ◌∷◌, [], IsSome, Some, None, OnErr, OnOk, is_some, option_map, slice_index_or, true, ℕ};
 ghost use Rattle.std.specs.List.{slice_get};
@@ -17,7 +17,7 @@ use std::alloc::{AllocError, Global};
 use tcap_lists::{FEW_KINDS, Lists, Row, SORTS};
 use tcap_parts::CodeView;
 
-/// Whether two codes are one.
+/// Returns whether two codes are equal.
 pub(crate) fn is_code(code: CodeView, other: CodeView) -> bool
     ensures { result ≡ is_code (code_of code.entry) (code_of other.entry) }
 {
@@ -28,7 +28,7 @@ pub(crate) fn is_code(code: CodeView, other: CodeView) -> bool
     }
 }
 
-/// The lesser of two places, where they are there.
+/// Returns the lesser of two places, or the only one.
 fn earlier(a: Option<usize>, b: Option<usize>) -> Option<usize>
     ensures { result ≡ earlier a b }
 {
@@ -39,7 +39,7 @@ fn earlier(a: Option<usize>, b: Option<usize>) -> Option<usize>
     }
 }
 
-/// Whether the class of an operation reports by a Return Result, or by a Return Error.
+/// Returns whether the operation's class reports success (`is_result`) or failure.
 fn reports_by(table: &Table, is_result: bool, code: CodeView) -> bool
     ensures { result ≡ class_reports table.now is_result (code_of code.entry) }
 {
@@ -49,7 +49,8 @@ fn reports_by(table: &Table, is_result: bool, code: CodeView) -> bool
     }
 }
 
-/// Whether a Return Result, or a Return Error, that names this operation may answer an invocation.
+/// Returns whether a Return Result (`is_result`) or Return Error that carries the operation `named`, or none, may
+/// answer an invocation.
 fn may_answer(item: &Invocation, table: &Table, is_result: bool, named: Option<CodeView>) -> bool
     ensures { result ≡ may_answer table.now is_result (option_map code_of named.entry) item.now }
 {
@@ -61,7 +62,7 @@ fn may_answer(item: &Invocation, table: &Table, is_result: bool, named: Option<C
     is_named && reports_by(table, is_result, code)
 }
 
-/// Where the oldest invocation stands, over all kinds, that a Return Result, or a Return Error, may answer.
+/// Finds the place of the oldest invocation that this answer may answer, by a look at all kinds.
 fn answerable_of_all(
     row: &Row<Invocation>,
     table: &Table,
@@ -81,7 +82,7 @@ fn answerable_of_all(
     found
 }
 
-/// Where the oldest invocation stands that a Return Result, or a Return Error, may answer.
+/// Finds the place of the oldest invocation that this answer may answer.
 pub(crate) fn first_answerable(
     row: &Row<Invocation>,
     table: &Table,
@@ -98,7 +99,7 @@ pub(crate) fn first_answerable(
     }
 }
 
-/// Where the oldest invocation stands, over all kinds, that may be rejected by an invoke problem.
+/// Finds the place of the oldest invocation that may be rejected with this invoke problem, by a look at all kinds.
 fn rejectable_of_all(row: &Row<Invocation>, problem: u8) -> Option<usize>
     ensures { result ≡ place_of (fits_in (allows problem)) (row_of row.now) }
 {
@@ -112,7 +113,7 @@ fn rejectable_of_all(row: &Row<Invocation>, problem: u8) -> Option<usize>
     found
 }
 
-/// Whether the invocation in a place may be rejected by an invoke problem.
+/// Returns whether the invocation in a place may be rejected with this invoke problem.
 fn allows_at(row: &Row<Invocation>, problem: u8, at: usize) -> bool
     ensures { result ≡ fits_in (allows problem) (slice_index_or (row_of row.now) at None) }
 {
@@ -122,7 +123,7 @@ fn allows_at(row: &Row<Invocation>, problem: u8, at: usize) -> bool
     }
 }
 
-/// Where the oldest invocation stands that may be rejected by an invoke problem, if that is one of the first: it looks at
+/// Looks among the oldest places for the oldest invocation that may be rejected with this invoke problem. It looks at
 /// no more places than there are kinds.
 fn rejectable_nearby(row: &Row<Invocation>, problem: u8) -> Option<usize>
     ensures { (at : ℕ) → result ≡ Some at → place_of (fits_in (allows problem)) (row_of row.now) ≡ Some at }
@@ -140,7 +141,7 @@ fn rejectable_nearby(row: &Row<Invocation>, problem: u8) -> Option<usize>
     None
 }
 
-/// Where the oldest invocation stands that may be rejected by an invoke problem.
+/// Finds the place of the oldest invocation that may be rejected with this invoke problem.
 pub(crate) fn first_rejectable(row: &Row<Invocation>, problem: u8) -> Option<usize>
     ensures { result ≡ place_of (fits_in (allows problem)) (row_of row.now) }
 {
@@ -150,7 +151,8 @@ pub(crate) fn first_rejectable(row: &Row<Invocation>, problem: u8) -> Option<usi
     }
 }
 
-/// Where the oldest answer stands that may be rejected by a problem of a Return Result, or of a Return Error.
+/// Finds the place of the oldest answer that may be rejected with this problem of a Return Result (`is_result`) or
+/// Return Error.
 pub(crate) fn first_rejectable_answer(
     row: &Row<Answer>,
     is_result: bool,
@@ -168,7 +170,7 @@ pub(crate) fn first_rejectable_answer(
     found
 }
 
-/// Whether there is an invocation of that kind, and an operation may be linked to it.
+/// Returns whether there is an invocation of this kind to which the operation may be linked.
 fn links_to_kind(row: &Row<Invocation>, table: &Table, code: CodeView, kind: usize) -> bool
     ensures { result ≡ true
         → is_some (place_of (fits_in (λ item. links table.now item.code (code_of code.entry))) (row_of row.now)) ≡ true }
@@ -179,7 +181,8 @@ fn links_to_kind(row: &Row<Invocation>, table: &Table, code: CodeView, kind: usi
     }
 }
 
-/// Whether there is an invocation to which an operation may be linked: one of the kind that was found last is looked for first.
+/// Returns whether there is an invocation to which the operation may be linked. It tries the kind that was found last
+/// first.
 pub(crate) fn links_one(row: &Row<Invocation>, table: &Table, code: CodeView) -> bool
     ensures { result
         ≡ is_some (place_of (fits_in (λ item. links table.now item.code (code_of code.entry))) (row_of row.now)) }
@@ -188,14 +191,14 @@ pub(crate) fn links_one(row: &Row<Invocation>, table: &Table, code: CodeView) ->
         || first_linking(row, table, code).is_some()
 }
 
-/// Keeps the number of a kind of which there is an item.
+/// Remembers a kind of which there is an item, for the next `links_one`.
 fn keep_linking(row: &Row<Invocation>, kind: usize, oldest: Option<usize>) {
     if oldest.is_some() {
         row.linking().set(kind);
     }
 }
 
-/// Where the oldest invocation stands to which an operation may be linked. The number of a kind that lists it is kept.
+/// Finds the place of the oldest invocation to which the operation may be linked, and remembers such a kind.
 fn first_linking(row: &Row<Invocation>, table: &Table, code: CodeView) -> Option<usize>
     ensures { result ≡ place_of (fits_in (λ item. links table.now item.code (code_of code.entry))) (row_of row.now) }
 {
@@ -212,7 +215,7 @@ fn first_linking(row: &Row<Invocation>, table: &Table, code: CodeView) -> Option
     found
 }
 
-/// The sort of a kind of invocations: all but its operation code.
+/// Returns the number for all of an invocation's kind except its operation code.
 fn sort_of(duplicate: bool, link: Link) -> usize
     ensures { result < SORTS }
 {
@@ -225,7 +228,7 @@ fn sort_of(duplicate: bool, link: Link) -> usize
     if duplicate { first + 4 } else { first }
 }
 
-/// The number of a kind of invocations, looked for among all.
+/// Finds the number of an invocation's kind, by a look at all kinds.
 fn some_invocations(
     kinds: &[Invocation],
     code: CodeView,
@@ -244,7 +247,7 @@ fn some_invocations(
     None
 }
 
-/// The number of a kind of invocations, by what is guessed for its code.
+/// Finds the number of an invocation's kind, from the guess for its code.
 fn guessed_invocations(
     row: &Row<Invocation>,
     code: CodeView,
@@ -267,7 +270,7 @@ fn guessed_invocations(
     }
 }
 
-/// The number of a kind of invocations.
+/// Finds the number of an invocation's kind, or None if it is not known.
 fn invocations(row: &Row<Invocation>, code: CodeView, duplicate: bool, link: Link) -> Option<usize>
     ensures { (number : ℕ) → result ≡ Some number → slice_get (row_kinds row.now) number
         ≡ Some (record { code = code_of code.entry; problems = invoke_problems duplicate link }) }
@@ -279,7 +282,7 @@ fn invocations(row: &Row<Invocation>, code: CodeView, duplicate: bool, link: Lin
     }
 }
 
-/// One invocation more in a row.
+/// Adds an invocation to a row.
 fn join_invocation(
     row: &mut Row<Invocation>,
     alloc: Global,
@@ -306,7 +309,7 @@ fn join_invocation(
     }
 }
 
-/// The number of a kind of answers.
+/// Finds the number of an answer's kind.
 fn answers(kinds: &[Answer], is_result: bool, target: Target) -> Option<usize>
     ensures { (number : ℕ) → result ≡ Some number → slice_get kinds.now number
         ≡ Some (record { is_result = is_result; problems = target_problems is_result target }) }
@@ -320,7 +323,7 @@ fn answers(kinds: &[Answer], is_result: bool, target: Target) -> Option<usize>
     None
 }
 
-/// One answer more in a row.
+/// Adds an answer to a row.
 fn join_answer(row: &mut Row<Answer>, is_result: bool, target: Target) -> Result<(), AllocError>
     ensures joined { OnOk result (row_of row.new
         ≡ row_of row.old ++ Some (record { is_result = is_result; problems = target_problems is_result target }) ∷ []) }
@@ -333,7 +336,7 @@ fn join_answer(row: &mut Row<Answer>, is_result: bool, target: Target) -> Result
     }
 }
 
-/// One invocation more of an ID.
+/// Adds a received invocation to the row of its ID.
 pub(crate) fn keep_invocation(
     lists: &mut Lists<Invocation>,
     alloc: Global,
@@ -355,7 +358,7 @@ pub(crate) fn keep_invocation(
     }
 }
 
-/// One answer more of an ID.
+/// Adds a received answer to the row of its ID.
 pub(crate) fn keep_answer(
     lists: &mut Lists<Answer>,
     id: i8,

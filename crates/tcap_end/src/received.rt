@@ -1,29 +1,29 @@
-//! What a half received: invocations, and answers to its own.
+//! The components that a half received: invocations, and answers to its own invocations.
 
 use std::marker::Model;
 use tcap_parts::Code;
 
-/// By which problem of a link an Invoke may be rejected (Q.773 4.2.2).
+/// The link problem with which an Invoke may be rejected (Q.773 4.2.2).
 #[derive(Clone, Copy, Debug, PartialEq, Eq)]
 pub(crate) enum Link {
-    /// By none.
+    /// The link is correct, or there is none.
     Fine,
-    /// unrecognizedLinkedID.
+    /// unrecognizedLinkedID (5).
     Unrecognized,
-    /// linkedResponseUnexpected.
+    /// linkedResponseUnexpected (6).
     Unexpected,
-    /// unexpectedLinkedOperation.
+    /// unexpectedLinkedOperation (7).
     Other,
 }
 
-/// An invocation that was received.
+/// A received invocation.
 #[derive(Debug, Drop)]
 pub(crate) struct Invocation {
-    /// Its operation.
+    /// The operation.
     pub(crate) code: Code,
-    /// Whether another with its invoke ID was there.
+    /// Whether an earlier received invocation had the same invoke ID.
     pub(crate) duplicate: bool,
-    /// What is wrong with its link.
+    /// The fault of the link.
     pub(crate) link: Link,
 }
 
@@ -39,20 +39,20 @@ impl Model for Invocation {
 /// What an answer is for.
 #[derive(Clone, Copy, Debug, PartialEq, Eq)]
 pub(crate) enum Target {
-    /// No own invocation that waits for its last answer, or one whose operation the table lacks.
+    /// No own invocation still waits for its last answer, or the table does not have its operation.
     Nothing,
-    /// One of an operation whose class does not report so.
+    /// An own invocation of an operation whose class does not report this kind of answer.
     OtherClass,
-    /// One that it may answer.
+    /// An own invocation that the answer may answer.
     Invocation,
 }
 
-/// An answer that was received.
+/// A received answer.
 #[derive(Debug, Drop)]
 pub(crate) struct Answer {
-    /// Whether it was a Return Result.
+    /// Whether the answer is a Return Result.
     pub(crate) is_result: bool,
-    /// What it is for.
+    /// What the answer is for.
     pub(crate) target: Target,
 }
 
@@ -69,7 +69,7 @@ impl Invocation {
     ghost use Rattle.std.specs.Prelude.{◌≡◌};
     ghost use Rattle.tcap_end.specs.Half.{is_one_of};
 
-    /// Whether it may be rejected by that invoke problem.
+    /// Returns whether the invocation may be rejected with this invoke problem.
     pub(crate) fn allows(&self, problem: u8) -> bool
         ensures { result ≡ is_one_of problem self.now.problems }
     {
@@ -88,7 +88,7 @@ impl Answer {
     ghost use Rattle.std.specs.Prelude.{◌≡◌};
     ghost use Rattle.tcap_end.specs.Component.{allows_for};
 
-    /// Whether it may be rejected by that problem of a Return Result, or of a Return Error.
+    /// Returns whether the answer may be rejected with this problem of a Return Result (`is_result`) or Return Error.
     pub(crate) fn allows(&self, is_result: bool, problem: u8) -> bool
         ensures { result ≡ allows_for is_result problem self.now }
     {

@@ -15,30 +15,29 @@ use std::marker::Model;
 use tcap_lists::CodeMap;
 use tcap_parts::CodeView;
 
-/// Why a text is refused as an operation table.
+/// The reason why a text is not an operation table.
 #[derive(Clone, Copy, Debug, PartialEq, Eq)]
 pub enum TableReason {
-    /// It is no text of JSON (RFC 8259).
+    /// The text is not JSON (RFC 8259).
     NotJson,
-    /// It has not the shape of a table, or a row has not that of a row.
+    /// The object does not have the shape of a table, or a row does not have the shape of a row.
     TableShape,
-    /// An earlier row has the code.
+    /// An earlier row has the same code.
     DoubleCode,
-    /// A row's class is a whole number outside 1 to 4.
+    /// A row's class is a whole number, but not 1 to 4.
     BadClass,
-    /// There are over 1,000 rows, this profile's limit.
+    /// The table has more than 1,000 rows, this profile's limit.
     TooManyRows,
     /// Memory ran out.
     Memory,
 }
 
-/// A refusal of a table: the reason, and the number of the row in which it stands, from 0. For `NotJson`,
-/// `TooManyRows`, `Memory`, and `TableShape` of the whole the place is 0.
+/// A fault of a table: the reason and its place.
 #[derive(Clone, Copy, Debug, PartialEq, Eq)]
 pub struct TableFault {
-    /// Why the table is refused.
+    /// The reason.
     pub reason: TableReason,
-    /// The number of the row, from 0.
+    /// The number of the faulty row, from 0; or 0 for a fault of the whole text.
     pub place: u64,
 }
 
@@ -54,7 +53,7 @@ impl From<AllocError> for TableFault {
 }
 
 impl TableReason {
-    /// The number that a line of output gives for this reason.
+    /// Returns the number that the output prints for this reason.
     pub fn number(self) -> u8
         ensures { result ≡ table_number_of self }
     {
@@ -69,8 +68,8 @@ impl TableReason {
     }
 }
 
-/// An operation: its class, the operations that may be linked to it, and whether an invocation of it may end in the
-/// record by its timer or by the user's cancelling.
+/// An operation: its class, its linked operations, and whether its invocations may expire in the record, by timer or
+/// by the user's cancel.
 #[derive(Debug, Drop)]
 pub(crate) struct Operation {
     pub(crate) class: u8,
@@ -90,9 +89,11 @@ impl Model for Operation {
     ghost invariant = { λ a. (0 < a.class) × (a.class ≤ 4) };
 }
 
-/// The operations that a test bench knows, each with its class (Q.771), the operations that may be linked to it, and
-/// whether an invocation of it may end in the record by its timer or by the user's cancelling; and whether transactions
-/// may end by prearrangement (Q.774 3.3). A lookup takes the logarithm of their count.
+/// An operation table.
+///
+/// For each operation it has the class (Q.771), the linked operations, and whether invocations may expire in the
+/// record, by timer or by the user's cancel. It also says whether transactions may end by prearrangement (Q.774 3.3).
+/// A lookup takes time logarithmic in the number of operations.
 #[derive(Debug, Drop)]
 pub struct Table {
     pub(crate) operations: CodeMap<Operation>,
@@ -109,16 +110,19 @@ impl Model for Table {
 }
 
 impl Table {
-    /// The table that a text of JSON is; FORMAT.md has its shape. The first fault where it is none: `NotJson`, then
-    /// `TableShape` of the whole, `TooManyRows`, and row by row `TableShape`, `BadClass`, `DoubleCode`. `Memory` where
-    /// memory ran out.
+    /// Reads a table from a JSON text, whose shape FORMAT.md describes.
+    ///
+    /// # Errors
+    ///
+    /// The first fault in this order: `NotJson`, `TableShape` of the whole, `TooManyRows`, and then row by row
+    /// `TableShape`, `BadClass`, `DoubleCode`. `Memory` if memory runs out.
     pub fn from_json(alloc: Global, octets: &[u8]) -> Result<Table, TableFault>
         ensures { result ≢ Err (table_fault TableReason.Memory 0) → IsTableOf octets.now result }
     {
         read_table(alloc, octets)
     }
 
-    /// The class of an operation, from 1 to 4; `None` where the table lacks it.
+    /// Returns the class of an operation, 1 to 4, or `None` if the table does not have it.
     pub fn class_of(&self, code: CodeView) -> Option<u8>
         ensures exact { result ≡ class_of self.now (code_of code.entry) }
         ensures range { IfSome result (λ class. (0 < class) × (class ≤ 4)) }
@@ -126,21 +130,21 @@ impl Table {
         Some(self.operations.get(code)?.class)
     }
 
-    /// An operation.
+    /// Returns the entry of an operation.
     fn operation(&self, code: CodeView) -> Option<&Operation>
         ensures { option_copied result ≡ operation_of self.now (code_of code.entry) }
     {
         self.operations.get(code)
     }
 
-    /// Whether the table has the operation.
+    /// Returns whether the table has the operation.
     pub(crate) fn has(&self, code: CodeView) -> bool
         ensures { result ≡ is_some (operation_of self.now (code_of code.entry)) }
     {
         self.operation(code).is_some()
     }
 
-    /// Whether the second operation may be linked to the first (Q.771 3.1); to one that the table lacks none may.
+    /// Returns whether `linked` may be linked to `code` (Q.771 3.1); false if the table does not have `code`.
     pub fn links(&self, code: CodeView, linked: CodeView) -> bool
         ensures { result ≡ links self.now (code_of code.entry) (code_of linked.entry) }
     {
@@ -150,7 +154,7 @@ impl Table {
         }
     }
 
-    /// Whether any operation may be linked to this one (Q.771 3.1).
+    /// Returns whether any operation may be linked to this one (Q.771 3.1).
     pub fn links_some(&self, code: CodeView) -> bool
         ensures { result ≡ is_linked (linked_of self.now (code_of code.entry)) }
     {
@@ -160,7 +164,7 @@ impl Table {
         }
     }
 
-    /// Whether an invocation of the operation may end unseen: by its timer, or as its user cancels it (Q.774 3.2).
+    /// Returns whether an invocation of the operation may expire, by timer or by the user's cancel (Q.774 3.2).
     pub fn expires(&self, code: CodeView) -> bool
         ensures { result ≡ expires_of self.now (code_of code.entry) }
     {
@@ -170,7 +174,7 @@ impl Table {
         }
     }
 
-    /// Whether transactions may end by prearrangement, unseen (Q.774 3.3).
+    /// Returns whether transactions may end by prearrangement, without a message (Q.774 3.3).
     pub fn prearranged(&self) -> bool
         ensures { result ≡ self.now.prearranged }
     {

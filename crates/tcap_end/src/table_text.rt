@@ -1,4 +1,4 @@
-//! Reading an operation table from a text of JSON (RFC 8259).
+//! Reads an operation table from a JSON text (RFC 8259).
 
 ghost use Rattle.std.specs.Prelude.{◌≡◌, ◌≢◌, [], Some, Ok, Err, IfOk, OnOk, map, option_map, option_and_then};
 ghost use Rattle.std.specs.List.{list_any};
@@ -20,13 +20,13 @@ use std::alloc::{AllocError, Global};
 use tcap_ber::ObjectIdView;
 use tcap_lists::{CodeKey, CodeMap};
 
-/// The greatest count of rows.
+/// The largest number of rows.
 const ROWS_LIMIT: usize = 1000;
 
-/// The greatest count of codes in a row's list of linked operations.
+/// The largest number of codes in a row's list of linked operations.
 const LINKED_LIMIT: usize = 1000;
 
-/// A row as it stands: its class may be any whole number yet.
+/// A row whose class is not yet checked.
 #[derive(Debug, Drop)]
 struct Row {
     key: CodeKey,
@@ -35,14 +35,14 @@ struct Row {
     expires: bool,
 }
 
-/// Whether a key is one of these.
+/// Returns whether a key is in a list.
 fn is_one_of(keys: &[&str], key: &str) -> bool
     ensures { result ≡ list_any (bytes_eq key.now) (map (λ k. k.now) keys.now) }
 {
     keys.contains(&key)
 }
 
-/// Whether each key of an object is one of these.
+/// Returns whether each key of an object is in a list.
 fn has_only(keys: &[&str], members: &Map<String, Value>) -> bool
     ensures { result ≡ has_only (map (λ k. k.now) keys.now) (members_view members.now.entries) }
 {
@@ -54,14 +54,14 @@ fn has_only(keys: &[&str], members: &Map<String, Value>) -> bool
     true
 }
 
-/// A whole number, written without point and exponent.
+/// Reads a whole number, written without a fraction or exponent.
 fn whole_in(value: &Value) -> Option<i128>
     ensures { result ≡ whole_in (view value.now) }
 {
     value.as_number()?.as_i128()
 }
 
-/// A truth value, or `default` where it is left out.
+/// Reads a Boolean, or returns `default` if the member is absent.
 fn flag_in(default: bool, value: Option<&Value>) -> Option<bool>
     ensures { result ≡ flag_in default (option_map (λ v. view v.now) value.entry) }
 {
@@ -71,7 +71,8 @@ fn flag_in(default: bool, value: Option<&Value>) -> Option<bool>
     }
 }
 
-/// The octets of a global code, of hex digits of either case.
+/// Reads a global code from hex digits of either case. Returns None if they are not the content of an object
+/// identifier.
 fn global_in(alloc: Global, digits: &str) -> Result<Option<CodeKey>, AllocError>
     ensures { IfOk result (λ key. option_map key_code key ≡ global_of (decode_of digits.now)) }
 {
@@ -86,7 +87,7 @@ fn global_in(alloc: Global, digits: &str) -> Result<Option<CodeKey>, AllocError>
     Ok(Some(CodeKey::Global(octets)))
 }
 
-/// A code: a whole number of 32 bits, or the hex digits of a global one.
+/// Reads a code: a 32-bit whole number, or a string with the hex digits of a global code.
 fn code_in(alloc: Global, value: &Value) -> Result<Option<CodeKey>, AllocError>
     ensures { IfOk result (λ key. option_map key_code key ≡ code_in (view value.now)) }
 {
@@ -96,7 +97,7 @@ fn code_in(alloc: Global, value: &Value) -> Result<Option<CodeKey>, AllocError>
     Ok(local_in(value))
 }
 
-/// A whole number of 32 bits as a code.
+/// Reads a local code from a 32-bit whole number.
 fn local_in(value: &Value) -> Option<CodeKey>
     ensures { option_map key_code result ≡ option_and_then local_of (whole_in (view value.now)) }
 {
@@ -104,7 +105,7 @@ fn local_in(value: &Value) -> Option<CodeKey>
     Some(CodeKey::Local(local))
 }
 
-/// The set of the codes of a list.
+/// Reads the set of the codes in a list.
 fn codes_in(alloc: Global, items: &[Value]) -> Result<Option<CodeMap<()>>, AllocError>
     ensures { IfOk result (λ set. option_map coded set ≡ codes_in [] (items_view items.now)) }
 {
@@ -118,7 +119,7 @@ fn codes_in(alloc: Global, items: &[Value]) -> Result<Option<CodeMap<()>>, Alloc
     Ok(Some(found))
 }
 
-/// The linked operations of a row; none where they are left out.
+/// Reads the linked operations of a row; none if the member is absent.
 fn linked_in(alloc: Global, value: Option<&Value>) -> Result<Option<CodeMap<()>>, AllocError>
     ensures { IfOk result (λ set. option_map coded set ≡ linked_in (option_map (λ v. view v.now) value.entry)) }
 {
@@ -134,7 +135,7 @@ fn linked_in(alloc: Global, value: Option<&Value>) -> Result<Option<CodeMap<()>>
     codes_in(alloc, items)
 }
 
-/// A row, where the value has its shape.
+/// Reads a row, or returns None if the value has another shape.
 fn row_in(alloc: Global, value: &Value) -> Result<Option<Row>, AllocError>
     ensures { IfOk result (λ row. option_map row_of row ≡ row_in (view value.now)) }
 {
@@ -164,7 +165,7 @@ fn row_in(alloc: Global, value: &Value) -> Result<Option<Row>, AllocError>
     }))
 }
 
-/// A class: 1 to 4.
+/// Reads a class, 1 to 4.
 fn class_in(class: i128) -> Option<u8>
     ensures { result ≡ class_in class }
 {
@@ -174,7 +175,7 @@ fn class_in(class: i128) -> Option<u8>
     }
 }
 
-/// The fault of the row of that number.
+/// Returns a fault of the row with that number.
 fn refused(reason: TableReason, place: usize) -> TableFault
     ensures { result ≡ table_fault reason place }
 {
@@ -184,7 +185,8 @@ fn refused(reason: TableReason, place: usize) -> TableFault
     }
 }
 
-/// Adds the operation of the row of that number.
+/// Adds the operation of a row, or returns the fault of row number `place`. If memory runs out, the fault is `Memory`
+/// at 0.
 fn add_row(
     operations: &mut CodeMap<Operation>,
     place: usize,
@@ -213,7 +215,7 @@ fn add_row(
     Ok(())
 }
 
-/// The operations of the rows.
+/// Reads the operations of the rows, or returns the first fault.
 fn operations_in(alloc: Global, rows: &[Value]) -> Result<CodeMap<Operation>, TableFault>
     ensures { result ≢ Err (table_fault TableReason.Memory 0)
         → operations_of result ≡ operations_in 0 [] (items_view rows.now) }
@@ -226,7 +228,7 @@ fn operations_in(alloc: Global, rows: &[Value]) -> Result<CodeMap<Operation>, Ta
     Ok(operations)
 }
 
-/// The table of these rows.
+/// Reads the table with these rows, or returns the first fault.
 #[tactic(auto, using(crate::proofs::TableLaws::rows_within, crate::proofs::TableLaws::rows_beyond))]
 fn table_of(alloc: Global, rows: &[Value], prearranged: bool) -> Result<Table, TableFault>
     ensures { result ≢ Err (table_fault TableReason.Memory 0)
@@ -241,7 +243,7 @@ fn table_of(alloc: Global, rows: &[Value], prearranged: bool) -> Result<Table, T
     })
 }
 
-/// The table that a value of JSON is.
+/// Reads the table from a JSON value, or returns the first fault.
 fn table_in(alloc: Global, value: &Value) -> Result<Table, TableFault>
     ensures { result ≢ Err (table_fault TableReason.Memory 0) → result ≡ table_in (view value.now) }
 {
@@ -259,7 +261,7 @@ fn table_in(alloc: Global, value: &Value) -> Result<Table, TableFault>
     table_of(alloc, rows, prearranged)
 }
 
-/// The table that a text of JSON is.
+/// Reads the table from a JSON text, or returns the first fault.
 pub(crate) fn read_table(alloc: Global, octets: &[u8]) -> Result<Table, TableFault>
     ensures { result ≢ Err (table_fault TableReason.Memory 0) → IsTableOf octets.now result }
 {

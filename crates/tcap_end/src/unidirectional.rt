@@ -1,4 +1,4 @@
-//! What a Unidirectional may carry (Q.774 3.2, component sub-layer).
+//! The components that a Unidirectional may carry (Q.774 3.2, component sub-layer).
 
 ghost use Rattle.std.specs.Prelude.{◌≡◌, []};
 ghost use Rattle.tcap_parts.specs.Meaning.{component_of, components_left};
@@ -12,8 +12,8 @@ use std::alloc::Global;
 use std::collections::BTreeMap;
 use tcap_parts::{ComponentView, Components};
 
-/// Checks the components of a Unidirectional that is sent: Invokes of operations of class 4 (Q.771), each with an ID
-/// that none before it has, and without linked IDs. The first fault, or `Memory`.
+/// Checks the components of a Unidirectional that is sent: only Invokes without linked IDs, of operations of class 4
+/// (Q.771), each with a new invoke ID. Returns the first fault, or `Memory`.
 pub(crate) fn check_components(
     alloc: Global,
     table: &Table,

@@ -1,4 +1,4 @@
--- What is asked of a message is never asked of a quiet mark alone.
+-- The things that show a message's kind never include one that is for quiet marks only.
 use Rattle.std.proofs.Common.{◌≡◌, ◌==◌, ◌<◌, length, get_or, ℕ, Bool, true, false, cond, List, [], ◌∷◌, Option, Some, None, refl}
 use Rattle.std.specs.List.{list_any}
 use Rattle.std.proofs.lemmas.List.Folds.{list_any_at}
@@ -16,7 +16,7 @@ use Rattle.tcap_evidence.specs.declared.what.What.TheVariants as whats
 use Rattle.tcap_evidence.specs.Evidence.{allowed_by, answered_by, dialogue_of, problem_of_invoke, rejected_by, shows, shows_alone, shows_to}
 use Rattle.tcap_evidence.specs.Marked.{is_of_mark}
 
--- Of these none passes a test: so that of that place does not.
+-- If no item of a list passes a test, the item at an index does not.
 pub fails_at : {A : Type 0} (p : A → Bool) (xs : List A) (i : ℕ) (d : A) → i < length xs → list_any p xs ≡ false
     → p (get_or xs i d) ≡ false
 fails_at p xs i d within none = by (p (get_or xs i d)) refl

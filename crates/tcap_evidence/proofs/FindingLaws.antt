@@ -1,4 +1,4 @@
--- What is found of an entry.
+-- The evidence that is found for an entry is the evidence that is defined.
 use Rattle.std.proofs.Common.{◌≡◌, ℕ, ℤ, List, [], ◌∷◌, map, take, Bool, Option, Some, None, Ok, Err, refl, sym, ap, ◌∙◌}
 use Rattle.std.proofs.lemmas.Option.{slice_get-map}
 use Rattle.std.specs.Prelude.{slice_get}
@@ -30,8 +30,8 @@ use Rattle.tcap_evidence.specs.Evidence.{component_at, components_before, ground
 use Rattle.tcap_evidence.specs.Kept.{IsScene, scene_by}
 use Rattle.tcap_evidence.specs.Numbered.{numbered_of, sent_before}
 
--- What is kept of a message is what is known of it, if what each end sent before it is kept, and the components before the one at
--- fault and the invoke ID are those.
+-- The stored scene is the message's scene, if the messages before it, the components before the one at fault and the
+-- invoke ID are stored correctly.
 pub scene_is : (table : Table) (side : Side) (entries : List Entry) (number : ℕ) (m : Message) (kind : Kind) (about : Subject)
     (sent : Stretch) (all earlier : List Component) (id : Option ℤ) (kept : SceneKept)
     → IsScene (scene_by table side (since_quiet (items_among (map item_of (take number entries)))) sent m number about all earlier id) kept
@@ -43,14 +43,14 @@ pub scene_is : (table : Table) (side : Side) (entries : List Entry) (number : �
 scene_is table side entries number m kind about sent all earlier id kept is own peer whole before asked =
     rw (← own, ← peer, ← before, ← asked, ← whole) is
 
--- ---- of an entry
+-- ---- the entry
 
--- the item of that number is that of its entry
+-- the item with a number is that of the entry with this number
 item_at : (entries : List Entry) (number : ℕ) (e : Entry) → slice_get entries number ≡ Some e
     → slice_get (map item_of entries) number ≡ Some (item_of e)
 item_at entries number e is = rw (slice_get-map item_of entries number, is) refl
 
--- what an end sent that is no message is no item, nor is what no end sent and is no quiet mark
+-- an entry that is neither a message nor a quiet mark is not an item
 odd_message : (body : Body) (sender : Side) → ((m : Message) → body ≡ Good m → ⊥)
     → (reason : Reason) × (item_by (Some sender) body ≡ Err reason)
 odd_message (Good m) sender n = absurd (n m refl)
@@ -63,7 +63,7 @@ odd_mark (Bad fault) n = (BadMessage fault, refl)
 odd_mark Quiet n = absurd (n refl)
 
 module _ (of_one : Bool) (table : Table) (side : Side) (entries : List Entry) (r : Refutation) where
-  -- of a message, of which a fault is about that
+  -- the things that show the kind of a message, with their entries
   abbrev pub good_grounds_by : Message → Subject → List (What × List ℕ)
   good_grounds_by m about =
       grounds_in (scene_of table side entries r.entry m r.kind about)
@@ -116,7 +116,7 @@ module _ (of_one : Bool) (table : Table) (side : Side) (entries : List Entry) (r
   good_invocations e sender m about a is s b =
       ap (good_invocations_by m) a ∙ sym (good_invocations_of sender m (good_item e sender m is s b))
 
-  -- of a quiet mark
+  -- the item of a quiet mark
   mark_item : (e : Entry) → slice_get entries r.entry ≡ Some e → e.side ≡ None → e.body ≡ Quiet
       → slice_get (map item_of entries) r.entry ≡ Some (Ok Item.Quiet)
   mark_item e is s b = item_at entries r.entry e is ∙ ap (λ i. Some i) (rw (s, b) refl)
@@ -133,7 +133,7 @@ module _ (of_one : Bool) (table : Table) (side : Side) (entries : List Entry) (r
       → [] ≡ invocations_at of_one table side entries r
   mark_invocations e is s b = rw (mark_item e is s b) refl
 
-  -- of what is no item, and where no entry is
+  -- no evidence, for an entry that is not an item or does not exist
   abbrev pub NoneOf : Type 0
   NoneOf = ([] ≡ grounds_of of_one table side entries r) × ([] ≡ invocations_at of_one table side entries r)
       × (None ≡ invoke_id_at of_one table side entries r)

@@ -1,4 +1,4 @@
--- Halves that are open at a quiet mark, by what is kept of both ends.
+-- The halves that are open at a quiet mark, from the stored facts on both ends.
 use Rattle.std.proofs.Common.{◌≡◌, ℕ, ◌+◌, ◌<◌, Bool, true, false, cond, not, ◌&&◌, ◌||◌, List, [], ◌∷◌, Option, Some, None, bytes_eq, drop, get_or, is_some, length, map, refl, sym, ap, ap₂, ◌∙◌}
 use Rattle.std.specs.BTreeMap.{is_at}
 use Rattle.std.specs.BTreeSet as set
@@ -27,21 +27,21 @@ use Rattle.tcap_evidence.specs.Numbered.{Numbered, entries_where, numbered_of}
 use Rattle.tcap_evidence.specs.Scene.{Scene, is_open_continue}
 use Rattle.tcap_evidence.proofs.ListingLaws.{left_is}
 
--- ---- the messages that are kept
+-- ---- the stored messages
 
 messages_are : (sent : List SentEntry) → map (λ n. n.1) (numbered_of sent) ≡ messages_of sent
 messages_are [] = refl
 messages_are (s ∷ more) = ap (λ ms. s.message.now ∷ ms) (messages_are more)
 
--- They are what was sent of the items.
+-- The stored messages are those that were sent among the items.
 pub all_sent : (sent : List SentEntry) (its : List Numbered) (ms : List Message) → numbered_of sent ≡ its
     → map (λ n. n.1) its ≡ ms
     → messages_of sent ≡ ms
 all_sent sent its ms are sent_is = sym (messages_are sent) ∙ ap (map (λ n. n.1)) are ∙ sent_is
 
--- ---- where a Continue goes
+-- ---- the destination of a Continue
 
--- Where the first one from an ID goes.
+-- the destination of the first Continue from an ID
 first_goes : (id : List ℕ) (ms : List Message)
     → first_to id ms ≡ then_so (find (λ m. is_a forms.Continue m && is_id id (otid_in m)) ms) dtid_in
 first_goes id [] = refl
@@ -63,7 +63,7 @@ or_else_none None = refl
 or_else_none (Some a) = refl
 
 module _ (old : List (List ℕ × List ℕ)) (otid dtid : List ℕ) where
-  -- One that goes from an ID from which none went before is noted.
+  -- The destination of a Continue is noted if none went from the same ID before.
   pub first_noted : (new : List (List ℕ × List ℕ)) → is_some (lookup (is_at (octets_cmp otid)) old) ≡ false
       → Puts old new otid dtid
       → (id : List ℕ) → lookup (is_at (octets_cmp id)) new
@@ -84,7 +84,7 @@ module _ (old : List (List ℕ × List ℕ)) (otid dtid : List ℕ) where
           rw (gone, ← at_other otid id, same) refl
       by false apart = rw (← at_other otid id, apart) (or_else_none _)
 
--- ---- what is ended
+-- ---- ended IDs
 
 or_assoc : (a b c : Bool) → ((a || b) || c) ≡ (a || (b || c))
 or_assoc true b c = refl
@@ -92,11 +92,11 @@ or_assoc false b c = refl
 
 module _ (by_provider : Bool) (sent : List SentEntry) (i : ℕ) (x : SentEntry) (within : i < length sent)
     (here : x ≡ get_or sent i x) (id : List ℕ) where
-  -- whether one of those from that number on is an End or an Abort to the ID
+  -- whether a message from number `i` on is an End or an Abort to the ID
   abbrev left_ended : ℕ → Bool
   left_ended i = list_any (λ m. is_id id (ended_to by_provider m)) (messages_of (drop i sent))
 
-  -- With the next message those that are left are all.
+  -- The next message is taken.
   pub ended_more : {all : Bool} (was now : Bool) → now ≡ (was || is_id id (ended_to by_provider x.message.now))
       → (was || left_ended i) ≡ all → (now || left_ended (i + 1)) ≡ all
   ended_more was now is so_far =
@@ -106,7 +106,7 @@ module _ (by_provider : Bool) (sent : List SentEntry) (i : ℕ) (x : SentEntry) 
       (sym (left_is (λ xs. list_any (λ m. is_id id (ended_to by_provider m)) (messages_of xs)) sent i x within here))
       ∙ so_far
 
--- An End or an Abort to an ID.
+-- an End or an Abort to an ID
 ends_is : (id : List ℕ) (m : Message) → is_id id (ended_to true m) ≡ ends_to id m
 ends_is id (Unidirectional dialogue components) = refl
 ends_is id (Begin otid dialogue components) = refl
@@ -114,19 +114,19 @@ ends_is id (Continue otid dtid dialogue components) = refl
 ends_is id (EndMessage dtid dialogue components) = refl
 ends_is id (Abort dtid reason) = refl
 
--- ---- a half that is surely open
+-- ---- a half that is certainly open
 
 module _ (s : Scene) (kept : Halves) (are : AreHalves s kept) (unarranged : s.table.prearranged ≡ false) (own : List ℕ) where
   goes : (to : Option (List ℕ)) → to ≡ lookup (is_at (octets_cmp own)) kept.first.entries
       → then_so (find (λ m. is_a forms.Continue m && is_id own (otid_in m)) (sent_by s.side s.items)) dtid_in ≡ to
   goes to is = sym (first_goes own (sent_by s.side s.items)) ∙ sym (are.first own) ∙ sym is
 
-  -- It is not where no Continue went from there;
+  -- The half is not open if no Continue went from its ID.
   pub open_nowhere : None ≡ lookup (is_at (octets_cmp own)) kept.first.entries
       → false ≡ is_surely_open s.table s.side s.items own
   open_nowhere none = let none_goes = goes None none in rw (unarranged, none_goes) refl
 
-  -- else it is where neither end ended it.
+  -- If one did, the half is open exactly if neither end ended it.
   pub open_there : (to : List ℕ) → Some to ≡ lookup (is_at (octets_cmp own)) kept.first.entries
       → (not (set.contains octets_cmp kept.ended to) && not (set.contains octets_cmp kept.ended_by_peer own))
       ≡ is_surely_open s.table s.side s.items own
@@ -136,7 +136,7 @@ module _ (s : Scene) (kept : Halves) (are : AreHalves s kept) (unarranged : s.ta
       (are.ended_by_peer own ∙ any_agree _ _ (sent_by (other s.side) s.items) (ends_is own))
       ∙ rw (unarranged, it_goes) refl
 
--- Where transactions may end by prearrangement none is.
+-- If the table allows prearranged ends, no half is certainly open.
 not_open : (s : Scene) → s.table.prearranged ≡ true → (m : Message) → is_open_continue s m ≡ false
 not_open s arranged (Unidirectional dialogue components) = refl
 not_open s arranged (Begin otid dialogue components) = refl

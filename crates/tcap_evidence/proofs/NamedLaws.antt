@@ -1,4 +1,4 @@
--- An entry that is blamed on an end is that end's, or a quiet mark.
+-- An entry that is blamed on an end is that end's or a quiet mark.
 use Rattle.std.proofs.Common.{◌≡◌, inl, inr, ℕ, zero, suc, Bool, true, ◌||◌, List, [], ◌∷◌, ◌++◌, length, map, Option, Some, None, is_none, Result, Ok, Err, refl, ap}
 use Rattle.std.specs.Prelude.{slice_get}
 use Rattle.tcap_msg.specs.declared.message.Message.{Message}
@@ -17,7 +17,7 @@ use Rattle.tcap_faults.specs.Fault.{blamed, is_entry_of}
 use Rattle.tcap_faults.proofs.BlamedLaws.{blamed_at_fault}
 use Rattle.tcap_evidence.specs.Words.{is_for}
 
--- ---- what an entry is
+-- ---- the kinds of entries
 
 pub entry_at : (entries : List Entry) (n : ℕ) (x : Result Item Reason) → slice_get (map item_of entries) n ≡ Some x
     → (e : Entry) × (slice_get entries n ≡ Some e) × (item_of e ≡ x)
@@ -46,7 +46,7 @@ mark_side None (Good message) is = cc
 mark_side (Some s) Quiet is = cc
 mark_side None Quiet is = refl
 
--- ---- what is blamed
+-- ---- blame
 
 pub blamed_for : (table : Table) (side : Side) (entries : List Entry) (r : Refutation) → blamed table side entries ≡ Some r
     → is_for side (slice_get entries r.entry) ≡ true

@@ -1,4 +1,4 @@
--- The entries that show with which IDs a transaction ID stands, entry by entry.
+-- The loop over the entries for the partners of a transaction ID.
 use Rattle.std.proofs.Common.{◌≡◌, ◌⊎◌, inl, inr, ℕ, ◌+◌, ◌<◌, ◌≤◌, arith, List, map, take, drop, get_or, length, length-take, sym, ap, ◌∙◌}
 use Rattle.std.proofs.lemmas.List.{drop_all, drop_more, get_or-take}
 use Rattle.tcap_record.specs.declared.entry.End.{End as Side}
@@ -7,11 +7,11 @@ use Rattle.tcap_model.specs.Entries.{item_of}
 use Rattle.tcap_evidence.specs.Pairing.{Pairing, paired_before, with_pair, with_pairs}
 
 module _ (of : Side) (id : List ℕ) (entries : List Entry) (number : ℕ) where
-  -- these, and those from that entry on
+  -- the entries so far, and those found from entry `at` on
   abbrev pub pairs_from : ℕ → Pairing → List ℕ
   pairs_from at pairing = (with_pairs of id at (map item_of (drop at (take number entries))) pairing).0
 
-  -- With the next entry they are what they were;
+  -- The next entry is taken.
   pub pairs_next : (at : ℕ) (e : Entry) → at < length entries → e ≡ get_or entries at e → at < number
       → (pairing more : Pairing) → more ≡ with_pair of id at (item_of e) pairing
       → pairs_from at pairing ≡ paired_before of id entries number
@@ -31,7 +31,7 @@ module _ (of : Side) (id : List ℕ) (entries : List Entry) (number : ℕ) where
       it : get_or xs at e ≡ e
       it = get_or-take number entries at e below ∙ sym here
 
-  -- and where there is none they are all.
+  -- No entries remain.
   pub pairs_all : (at : ℕ) → (length entries ≤ at) ⊎ (number ≤ at) → (pairing : Pairing)
       → pairs_from at pairing ≡ paired_before of id entries number → pairing.0 ≡ paired_before of id entries number
   pairs_all at past pairing so_far =

@@ -1,4 +1,4 @@
--- What a scene says, by what is kept of it.
+-- The parts of a scene, from the stored scene.
 use Rattle.std.proofs.Common.{◌≡◌, ℕ, Bool, true, false, ◌&&◌, List, [], ◌∷◌, Option, Some, None, filter, refl, ap}
 use Rattle.tcap_msg.specs.declared.kind.Kind.TheVariants as forms
 use Rattle.tcap_msg.specs.declared.message.Message.{Message}
@@ -18,7 +18,7 @@ pub none_kept : {A : Type 0} (p : A → Bool) → ((x : A) → p x ≡ false) �
 none_kept p none [] = refl
 none_kept p none (x ∷ xs) = rw (none x) (none_kept p none xs)
 
--- ---- what was heard
+-- ---- the messages that a half heard
 
 -- The Continues to the half's own ID.
 pub to_half_is : (s : Scene) (half : Option (List ℕ)) → half ≡ s.half → (sent : List Numbered) → sent ≡ there s
@@ -26,10 +26,10 @@ pub to_half_is : (s : Scene) (half : Option (List ℕ)) → half ≡ s.half → 
 to_half_is s None is sent are = rw (← is) (none_kept _ (λ n. and_false _) sent)
 to_half_is s (Some own) is sent are = rw (← is, are) refl
 
--- ---- what went elsewhere
+-- ---- Continues to another ID
 
 module _ (s : Scene) where
-  -- Where the message has no destination ID there is none.
+  -- There are none if the message has no destination ID.
   went_not : (from : Option (List ℕ)) → from ≡ s.from → None ≡ s.to → (m : Message) → went_elsewhere s m ≡ false
   went_not None from_is to_is m = rw (← from_is) refl
   went_not (Some from) from_is to_is m = rw (← from_is, ← to_is) refl

@@ -1,4 +1,4 @@
--- What each end sent before an entry, entry by entry; and that it is what it sent since the last quiet mark.
+-- The loop over the entries for the messages of each end, which are those since the last quiet mark.
 use Rattle.std.proofs.Common.{◌≡◌, ◌⊎◌, inl, inr, ℕ, ◌+◌, ◌<◌, ◌≤◌, arith, Bool, true, false, cond, List, [], ◌∷◌, ◌++◌, Result, Ok, Err, append_assoc, map, take, drop, get_or, length, length-take, refl, sym, ap, ◌∙◌}
 use Rattle.std.proofs.lemmas.List.{append-nil, drop_all, drop_more, get_or-take, map-append}
 use Rattle.tcap_msg.specs.declared.message.Message.{Message}
@@ -23,11 +23,11 @@ use Rattle.tcap_evidence.specs.Numbered.{Numbered, numbered_of, sent_before, wit
 -- ---- entry by entry
 
 module _ (side : Side) (entries : List Entry) (number : ℕ) where
-  -- these, and what was sent from that entry on
+  -- these messages, and those sent from entry `at` on
   abbrev pub sent_from : ℕ → List Numbered → List Numbered
   sent_from at sent = with_entries side at (map item_of (drop at (take number entries))) sent
 
-  -- With the next entry it is what it was;
+  -- The next entry is taken.
   pub sent_next : (at : ℕ) (e : Entry) → at < length entries → e ≡ get_or entries at e → at < number
       → (sent more : List Numbered) → more ≡ with_entry side at (item_of e) sent
       → sent_from at sent ≡ sent_before side entries number → sent_from (at + 1) more ≡ sent_before side entries number
@@ -46,7 +46,7 @@ module _ (side : Side) (entries : List Entry) (number : ℕ) where
       it : get_or xs at e ≡ e
       it = get_or-take number entries at e below ∙ sym here
 
-  -- and where there is none it is all.
+  -- No entries remain.
   pub sent_all : (at : ℕ) → (length entries ≤ at) ⊎ (number ≤ at) → (sent : List Numbered)
       → sent_from at sent ≡ sent_before side entries number → sent ≡ sent_before side entries number
   sent_all at past sent so_far =
@@ -63,7 +63,7 @@ since_none [] none = refl
 since_none (item ∷ items) none = rw none refl
 
 module _ (side : Side) where
-  -- what was sent in these, behind that
+  -- the messages sent among these items, after the earlier ones
   abbrev behind : List Numbered → List Item → List Message
   behind sent items =
       cond (has_quiet items) (sent_by side (since_quiet items)) (map (λ n. n.1) sent ++ sent_by side items)
@@ -100,7 +100,7 @@ module _ (side : Side) where
   sent_behind number (Ok Item.Quiet ∷ more) sent =
       sent_behind (number + 1) more [] ∙ behind_none (items_among more)
 
-  -- What an end sent before an entry is what it sent of the items before it since the last quiet mark.
+  -- The messages of an end before an entry are those among the items since the last quiet mark.
   pub sent_since : (entries : List Entry) (number : ℕ)
       → map (λ n. n.1) (sent_before side entries number)
       ≡ sent_by side (since_quiet (items_among (map item_of (take number entries))))
@@ -111,7 +111,7 @@ module _ (side : Side) where
 -- ---- scenes
 
 module _ (table : Table) (side : Side) (entries : List Entry) (number : ℕ) where
-  -- What each end sent before a message, as it is kept, makes the message's scene.
+  -- The stored messages of each end before a message give the message's scene.
   pub scene_at_message : (m : Message) (kind : Kind) (about : Subject) (stretch : Stretch) (kept : SceneKept)
       → (numbered_of stretch.own.items ≡ sent_before side entries number)
       × (numbered_of stretch.peer.items ≡ sent_before (other side) entries number)
@@ -121,7 +121,7 @@ module _ (table : Table) (side : Side) (entries : List Entry) (number : ℕ) whe
       → IsScene (scene_of table side entries number m kind about) kept
   scene_at_message m kind about stretch kept are is = rw (are.0, are.1) at is
 
--- What each end sent before a quiet mark is that of its scene.
+-- The stored messages of each end before a quiet mark give the mark's scene.
 pub stretch_at_mark : (table : Table) (side : Side) (entries : List Entry) (number : ℕ) (kept : Stretch)
     → (numbered_of kept.own.items ≡ sent_before side entries number)
     × (numbered_of kept.peer.items ≡ sent_before (other side) entries number)

@@ -1,4 +1,4 @@
--- What the fault of an end rests on: for each kind the entries that show it (Q.771, Q.773, Q.774).
+-- Which entries show the fault of an end: for each kind, the entries that it compares (Q.771, Q.773, Q.774).
 use Rattle.std.specs.Prelude.{ℕ, ℤ, Bool, List, [], ◌∷◌, ◌++◌, map, take, slice_get, Option, Some, None, Result, Ok, Err, ◌==◌, cond}
 use Rattle.tcap_parts.specs.declared.component.Component.{Component}
 use Rattle.tcap_parts.specs.declared.component.Component.TheVariants.{Invoke, ReturnResult, ReturnError, Reject}
@@ -30,18 +30,19 @@ use Rattle.tcap_evidence.specs.declared.what.What.TheVariants as whats
 use Rattle.tcap_evidence.specs.Numbered.{sent_before}
 use Rattle.tcap_evidence.specs.Scene.{Scene, shown}
 
--- ---- what shows a kind
+-- ---- the things that show a kind
 
--- Invokes in such a place, and those of class 1, 2 and 3
+-- Invokes in such a place: all, and those of class 1, 2 and 3
 abbrev pub by_class : (Sort → What) → List What
 by_class at =
     at (sorts.Invokes Any) ∷ at (sorts.Invokes One) ∷ at (sorts.Invokes Two) ∷ at (sorts.Invokes Three) ∷ []
 
--- what takes invocations: last Return Results, Return Errors and Rejects with an invoke problem
+-- components that end invocations: last Return Results, Return Errors, and Rejects with an invoke problem
 abbrev pub takings : (Sort → What) → List What
 takings at = at sorts.LastResults ∷ at sorts.Errors ∷ at sorts.InvokeRejects ∷ []
 
--- F5: what a component answers or rejects; a Reject without ID, or with a general problem, is of nothing that could be read
+-- F5: the components that could be answered or rejected. There is no list for a Reject without ID or with a general
+-- problem, which may reject something that could not be read.
 abbrev pub answered_by : Option Component → List What
 answered_by (Some (Reject (Some id) (problems.ReturnResult n))) = whats.There sorts.Results ∷ []
 answered_by (Some (Reject (Some id) (problems.ReturnError n))) = whats.There sorts.Errors ∷ []
@@ -50,18 +51,18 @@ answered_by (Some (ReturnResult last id body)) = whats.There (sorts.Invokes Any)
 answered_by (Some (ReturnError id code parameter)) = whats.There (sorts.Invokes Any) ∷ []
 answered_by c = []
 
--- F6
+-- F6: the Invokes that would have to allow an answer
 abbrev pub allowed_by : Option Component → List What
 allowed_by (Some (ReturnResult last id body)) = by_class whats.There
 allowed_by (Some (ReturnError id code parameter)) = by_class whats.There
 allowed_by c = []
 
--- F9
+-- F9: the Begins and Continues that determine the dialogue state
 abbrev pub dialogue_of : How → List What
 dialogue_of hows.Begun = whats.Begun ∷ whats.OwnRequests ∷ []
 dialogue_of how = whats.BeginsThere ∷ whats.RequestsThere ∷ whats.ContinuesTold ∷ []
 
--- F10
+-- F10: the own invocations of the ID, and the components that may have ended them
 abbrev pub in_use : List What
 in_use =
     whats.Whole (sorts.Invokes Any) ∷ whats.Invoked (sorts.Lasting Any) ∷ whats.Invoked (sorts.Lasting One)
@@ -69,13 +70,13 @@ in_use =
     ∷ whats.Heard sorts.Errors ∷ whats.Heard sorts.InvokeRejects ∷ whats.Heard sorts.GeneralRejects
     ∷ whats.Whole sorts.ResultRejects ∷ whats.Whole sorts.GeneralRejects ∷ []
 
--- F13, of a Reject with that invoke problem: duplicateInvokeID (0), or one of a link (5 to 7)
+-- F13 of a Reject with an invoke problem: duplicateInvokeID (0), or a link problem (5 to 7)
 abbrev pub problem_of_invoke : ℕ → List What
 problem_of_invoke n =
     cond (n == 0) (whats.Heard (sorts.Invokes Any) ∷ whats.Before sorts.DuplicateRejects ∷ [])
     (cond (is_of_link n) (whats.Heard sorts.Linked ∷ whats.Before sorts.LinkRejects ∷ []) [])
 
--- F13
+-- F13: the components that could be rejected, and those by which the problem is judged
 abbrev pub rejected_by : Option Component → List What
 rejected_by (Some (Reject id (problems.ReturnResult n))) =
     (whats.Heard sorts.Results ∷ whats.Heard sorts.Errors ∷ whats.Before sorts.ResultRejects ∷ []) ++ by_class whats.Invoked
@@ -84,7 +85,7 @@ rejected_by (Some (Reject id (problems.ReturnError n))) =
 rejected_by (Some (Reject id (problems.Invoke n))) = problem_of_invoke n
 rejected_by c = []
 
--- of a message with destination ID
+-- the things that show a kind, for a message with a destination ID
 abbrev pub shows_to : How → Option Component → Kind → List What
 shows_to how c kinds.BadMessage = []
 shows_to how c kinds.UnknownTransaction = whats.BeginsThere ∷ whats.ContinuesThere ∷ []
@@ -104,19 +105,20 @@ shows_to how c kinds.WrongReply =
     whats.BeginsThere ∷ whats.ContinuesThere ∷ whats.Refused ∷ whats.Unknown ∷ whats.Told ∷ []
 shows_to how c kinds.OpenAtMark = []
 
--- of a message without one
+-- the things that show a kind, for a message without a destination ID
 abbrev pub shows_alone : Kind → List What
 shows_alone kinds.ReusedId = whats.Used ∷ []
 shows_alone kinds.InvokeIdBusy = whats.Before (sorts.Invokes Any) ∷ []
 shows_alone kind = []
 
+-- the things that show a kind, with or without a destination ID
 abbrev pub shows : Option (List ℕ) → How → Option Component → Kind → List What
 shows None how c kind = shows_alone kind
 shows (Some id) how c kind = shows_to how c kind
 
--- ---- of an entry
+-- ---- the evidence for an entry
 
--- the invoke ID that is asked about: of a linked Invoke the linked ID, of another component its own
+-- the invoke ID in question: for F11 (BadLink) the linked ID of the Invoke, else the ID of the component
 abbrev pub invoke_id_of : Kind → Component → Option ℤ
 invoke_id_of kinds.BadLink (Invoke id linked code parameter) = linked
 invoke_id_of kind (Invoke id linked code parameter) = Some id
@@ -124,20 +126,22 @@ invoke_id_of kind (ReturnResult last id body) = Some id
 invoke_id_of kind (ReturnError id code parameter) = Some id
 invoke_id_of kind (Reject id problem) = id
 
+-- the invoke ID in question, or None without a component
 abbrev pub invoke_id_in : Kind → Option Component → Option ℤ
 invoke_id_in kind None = None
 invoke_id_in kind (Some c) = invoke_id_of kind c
 
--- the component of that number, and those before it
+-- the component with this number, and the components before it
 abbrev pub component_at : Option ℕ → List Component → Option Component
 component_at None cs = None
 component_at (Some n) cs = slice_get cs n
 
+-- the components before the one with this number; none without a number
 abbrev pub components_before : Option ℕ → List Component → List Component
 components_before None cs = []
 components_before (Some n) cs = take n cs
 
--- what is known of a message of that number, of which a fault is about that
+-- what is known of message `m` of entry `number`, from the subject of its fault
 abbrev pub scene_of : Table → Side → List Entry → ℕ → Message → Kind → Subject → Scene
 scene_of table side entries number m kind about = record {
   table = table;
@@ -155,11 +159,12 @@ scene_of table side entries number m kind about = record {
   id = invoke_id_in kind (component_at about.component (components_in m));
 }
 
--- each of these, with the entries that show it
+-- each of these things, with the entries that show it
 abbrev pub grounds_in : Scene → List What → List (What × List ℕ)
 grounds_in s ws = map (λ w. (w, shown s w)) ws
 
--- the same of the message of an entry, whatever its fault is about; of another entry nothing
+-- each of these things about the message of an entry, with the entries that show it, without a subject; empty if the
+-- entry is not a message
 abbrev pub grounds_at : Table → Side → List Entry → ℕ → List What → List (What × List ℕ)
 grounds_at table side entries number ws = by (slice_get (map item_of entries) number)
   where
@@ -167,7 +172,7 @@ grounds_at table side entries number ws = by (slice_get (map item_of entries) nu
     by (Some (Ok (Sent sender m))) = grounds_in (scene_of table side entries number m kinds.BadMessage no_subject) ws
     by entry = []
 
--- at a quiet mark nothing is known but what was sent
+-- what is known of a quiet mark: only the messages that were sent
 abbrev pub mark_scene : Table → Side → List Entry → ℕ → Scene
 mark_scene table side entries number = record {
   table = table;
@@ -185,8 +190,8 @@ mark_scene table side entries number = record {
   id = None;
 }
 
--- What shows the kind of an entry for that end: of a message by what it is about; of a quiet mark the Continues from IDs whose
--- halves are open. Octets that are no message show it themselves.
+-- The things that show the kind of an entry for that end, each with its entries. For a quiet mark, these are the
+-- Continues from IDs whose halves are open. Octets that are not a message need no evidence.
 abbrev pub grounds_of : Bool → Table → Side → List Entry → Refutation → List (What × List ℕ)
 grounds_of of_one table side entries r = by (slice_get (map item_of entries) r.entry)
   where
@@ -200,7 +205,7 @@ grounds_of of_one table side entries r = by (slice_get (map item_of entries) r.e
     by (Some (Ok Item.Quiet)) = grounds_in (mark_scene table side entries r.entry) (whats.Open ∷ [])
     by entry = []
 
--- the invoke ID that the components of an entry are counted of
+-- the invoke ID whose components are counted for an entry
 abbrev pub invoke_id_at : Bool → Table → Side → List Entry → Refutation → Option ℤ
 invoke_id_at of_one table side entries r = by (slice_get (map item_of entries) r.entry)
   where

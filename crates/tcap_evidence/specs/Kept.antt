@@ -1,4 +1,4 @@
--- What is kept of a message at fault, or of a quiet mark: what it is of.
+-- Which scene a stored scene means, and which messages a stored segment between quiet marks means.
 use Rattle.std.specs.Prelude.{◌≡◌, ℕ, ℤ, List, map, Option}
 use Rattle.tcap_parts.specs.declared.component.Component.{Component}
 use Rattle.tcap_parts.specs.Meaning.{component_of}
@@ -15,6 +15,7 @@ use Rattle.tcap_evidence.specs.declared.sent.Stretch.{Stretch}
 use Rattle.tcap_evidence.specs.Numbered.{numbered_of}
 use Rattle.tcap_evidence.specs.Scene.{Scene, there, told_there}
 
+-- Each stored part is that part of the scene.
 pub record IsScene (s : Scene) (kept : SceneKept) : Type 0 where
   pub table : kept.table.now ≡ s.table
   pub number : kept.number ≡ s.number
@@ -29,8 +30,8 @@ pub record IsScene (s : Scene) (kept : SceneKept) : Type 0 where
   pub there : numbered_of kept.there.items ≡ there s
   pub told : numbered_of kept.told.items ≡ told_there s
 
--- the scene of a message of which a fault is about that, by what is kept of what each end sent before it; what stands before it is
--- given
+-- the scene of a message, from the subject of its fault, the stored messages of each end before it, and the given
+-- items
 abbrev pub scene_by : Table → Side → List Item → Stretch → Message → ℕ → Subject → List Component → List Component → Option ℤ → Scene
 scene_by table side items stretch m number about all earlier id = record {
   table = table;
@@ -48,7 +49,7 @@ scene_by table side items stretch m number about all earlier id = record {
   id = id;
 }
 
--- What is kept of what each end sent is what a scene says of it, and that is what they sent of its items.
+-- The stored messages of each end are those of the scene, and these are what each end sent among the scene's items.
 pub record IsStretch (s : Scene) (kept : Stretch) : Type 0 where
   pub own : numbered_of kept.own.items ≡ s.own
   pub peer : numbered_of kept.peer.items ≡ s.peer

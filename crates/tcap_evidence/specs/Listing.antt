@@ -1,4 +1,4 @@
--- Tests of messages, by which entries are listed.
+-- Which messages pass a test by which entries are listed.
 use Rattle.std.specs.Prelude.{ℕ, Bool, true, List, Option, is_none, option_map, ◌&&◌, not}
 use Rattle.tcap_msg.specs.declared.kind.Kind.TheVariants as forms
 use Rattle.tcap_msg.specs.declared.message.Message.{Message}
@@ -11,6 +11,7 @@ use Rattle.tcap_evidence.specs.declared.listing.Test.{Test}
 use Rattle.tcap_evidence.specs.declared.listing.Test.TheVariants as tests
 use Rattle.tcap_evidence.specs.Scene.{is_that}
 
+-- whether a message passes a test
 abbrev pub passes : Test → Message → Bool
 passes tests.Any m = true
 passes tests.Begin m = is_a forms.Begin m

@@ -1,4 +1,4 @@
--- What is kept of what both ends sent before a quiet mark: where the halves of an end went on to, and what is ended (Q.774 3.3).
+-- Which halves of an end are open at a quiet mark, from the messages of both ends before it (Q.774 3.3).
 use Rattle.std.specs.Prelude.{◌≡◌, ℕ, Bool, true, false, List, [], ◌∷◌, map, Option, None, ◌&&◌, ◌||◌}
 use Rattle.std.specs.BTreeMap.{is_at}
 use Rattle.std.specs.BTreeSet as set
@@ -20,30 +20,31 @@ use Rattle.tcap_evidence.specs.declared.what.What.{What}
 use Rattle.tcap_evidence.specs.declared.what.What.TheVariants as whats
 use Rattle.tcap_evidence.specs.Scene.{Scene}
 
--- the messages that are kept
+-- the stored messages
 abbrev pub messages_of : List SentEntry → List Message
 messages_of sent = map (λ s. s.message.now) sent
 
--- the ID to which a message is an End or an Abort; whether Aborts of the provider count is given
+-- the ID to which a message is an End or an Abort; `true` counts Aborts of the provider, `false` does not
 abbrev pub ended_to : Bool → Message → Option (List ℕ)
 ended_to true m = where_so (is_a forms.End m || is_a forms.Abort m) (dtid_in m)
 ended_to false m = ended_by m
 
--- the ID to which a message is a Continue from that ID
+-- the ID to which a message is a Continue from this ID
 abbrev pub goes_first : List ℕ → Message → Option (List ℕ)
 goes_first id m = where_so (is_a forms.Continue m && is_id id (otid_in m)) (dtid_in m)
 
--- that of the first of these messages
+-- the ID to which the first Continue from this ID goes
 abbrev pub first_to : List ℕ → List Message → Option (List ℕ)
 first_to id [] = None
 first_to id (m ∷ more) = or_else (goes_first id m) (first_to id more)
 
--- whether it is asked of a quiet mark, and of no message
+-- whether this thing is shown for a quiet mark only
 abbrev pub is_of_mark : What → Bool
 is_of_mark whats.Open = true
 is_of_mark what = false
 
--- What is kept of the halves of an end: where its first Continue from an ID goes, and which IDs it and its peer ended.
+-- The stored facts about the halves of an end: for each own ID, the destination of the first Continue from it; and the
+-- IDs that the end and its peer ended.
 pub record AreHalves (s : Scene) (kept : Halves) : Type 0 where
   pub first : (id : List ℕ) → lookup (is_at (octets_cmp id)) kept.first.entries ≡ first_to id (sent_by s.side s.items)
   pub ended : (id : List ℕ)

@@ -1,5 +1,5 @@
--- The invocations whose operations and links a fault rests on: the Invokes of the invoke ID that is asked about, in the messages that
--- the kind compares (Q.771 3.1, Q.774 3.2).
+-- On which invocations' operations and links a fault depends: the Invokes of the invoke ID in question, in the
+-- messages that the kind compares (Q.771 3.1, Q.774 3.2).
 use Rattle.std.specs.Prelude.{ℕ, ℤ, Bool, true, false, List, [], ◌∷◌, slice_get, map, Option, Some, None, Result, Ok, cond}
 use Rattle.std.specs.List.{flat_map}
 use Rattle.tcap_parts.specs.declared.component.Component.{Component}
@@ -25,18 +25,18 @@ use Rattle.tcap_evidence.specs.Evidence.{component_at, scene_of}
 
 -- ---- the Invokes of an ID
 
--- of a component of that entry: an Invoke of that ID, with its operation and what it is linked to
+-- the component of entry `number`, if it is an Invoke of this ID
 abbrev pub invocation_in : ℤ → ℕ → Component → List Invocation
 invocation_in id number (Invoke other linked code parameter) =
     cond (is_invoke_id id other) (record { entry = number; code = code; linked = linked } ∷ []) []
 invocation_in id number c = []
 
--- of messages, in order
+-- the Invokes of this ID in messages, in order
 abbrev pub invocations_in : Option ℤ → List Numbered → List Invocation
 invocations_in None sent = []
 invocations_in (Some id) sent = flat_map (λ n. flat_map (invocation_in id n.0) (components_in n.1)) sent
 
--- ---- what a kind compares
+-- ---- the messages that a kind compares
 
 -- whether a component is an answer
 abbrev pub answers : Option Component → Bool
@@ -44,15 +44,15 @@ answers (Some (ReturnResult last id body)) = true
 answers (Some (ReturnError id code parameter)) = true
 answers c = false
 
--- whether it rejects one
+-- whether a component is a Reject of an answer
 abbrev pub rejects_answer : Option Component → Bool
 rejects_answer (Some (Reject id (problems.ReturnResult n))) = true
 rejects_answer (Some (Reject id (problems.ReturnError n))) = true
 rejects_answer c = false
 
--- The messages, in order, whose Invokes a kind compares by their operations or their links. F6 of an answer: those of the peer from there; F11,
--- F12, and F13 of a Reject of an Invoke: those that the half heard; F10, and F13 of a Reject of an answer: those that have the
--- half's own invocations.
+-- The messages, in order, whose Invokes a kind compares by operation or link. F6 of an answer: the peer's messages
+-- from the destination ID. F11, F12, and F13 of a Reject of an Invoke: the messages that the half heard. F10, and F13
+-- of a Reject of an answer: the messages that carry the half's own invocations.
 abbrev pub compared : Scene → Kind → Option Component → List Numbered
 compared s kinds.WrongOperation c = cond (answers c) (there s) []
 compared s kinds.InvokeIdBusy c = in_order (invoked_by s s.how)
@@ -61,10 +61,11 @@ compared s kinds.AnsweredAlready c = in_order (heard_by s s.how)
 compared s kinds.RejectNotAllowed c = in_order (cond (rejects_answer c) (invoked_by s s.how) (heard_by s s.how))
 compared s kind c = []
 
+-- the invocations on which the fault of a message depends
 abbrev pub invocations_of : Scene → Kind → Option Component → List Invocation
 invocations_of s kind c = invocations_in s.id (compared s kind c)
 
--- Those of an entry for that end: of a message by the kind and the component that its fault is about; of another entry none.
+-- The invocations for an entry at fault, by its kind and the component at fault; none if the entry is not a message.
 abbrev pub invocations_at : Bool → Table → Side → List Entry → Refutation → List Invocation
 invocations_at of_one table side entries r = by (slice_get (map item_of entries) r.entry)
   where

@@ -1,5 +1,5 @@
--- What is known of a message at fault, and the entries that show it: what each end sent since the last quiet mark, the half over
--- which the message would go, and the component at fault (Q.774 3.2, 3.3).
+-- What is known of a message at fault, and which entries show its fault. Known are the messages of each end since the
+-- last quiet mark, the half over which the message would go, and the component at fault (Q.774 3.2, 3.3).
 use Rattle.std.specs.Prelude.{◌≡◌, ℕ, ℤ, Bool, true, false, List, [], ◌∷◌, ◌++◌, filter, map, option_to_list, take, slice_get, length, Option, Some, None, is_none, ◌&&◌, ◌||◌, cond}
 use Rattle.std.specs.List.{find}
 use Rattle.tcap_parts.specs.declared.component.Component.{Component}
@@ -34,47 +34,47 @@ use Rattle.tcap_evidence.specs.Numbered.{Numbered, entries_where, entries_with, 
 pub record Scene : Type 0 where
   pub table : Table
   pub side : Side
-  -- what stands before it since the last quiet mark, and what its end and the peer sent of that
+  -- the items before the message since the last quiet mark, and the messages of its end and of the peer among them
   pub items : List Item
   pub own : List Numbered
   pub peer : List Numbered
-  -- the number of its entry, its destination ID and its originating ID
+  -- the number of the message's entry, its destination ID and its originating ID
   pub number : ℕ
   pub to : Option (List ℕ)
   pub from : Option (List ℕ)
-  -- the half over which it would go, and its own ID
+  -- how the half began over which the message would go, and the half's own ID
   pub how : How
   pub half : Option (List ℕ)
-  -- the components of the message, those before the one at fault, and the invoke ID that is asked about
+  -- the components of the message, those before the component at fault, and the invoke ID in question
   pub all : List Component
   pub earlier : List Component
   pub id : Option ℤ
 
--- whether an ID is there, and is that of a message
+-- whether there is an ID, and it is the same as the message's
 abbrev pub is_that : Option (List ℕ) → Option (List ℕ) → Bool
 is_that None other = false
 is_that (Some id) other = is_id id other
 
--- ---- what was sent
+-- ---- messages that were sent
 
 -- the peer's messages from the destination ID
 abbrev pub there : Scene → List Numbered
 there s = filter (λ n. is_that s.to (otid_in n.1)) s.peer
 
--- the end's messages to it, without the Aborts of its provider
+-- the end's messages to the destination ID, without its provider's Aborts
 abbrev pub told_there : Scene → List Numbered
 told_there s = filter (λ n. is_that s.to (dtid_in n.1) && is_none (cause_in n.1)) s.own
 
--- the own ID that is asked about: that of the half; else that of the message
+-- the own ID in question: that of the half or, if it is unknown, the message's originating ID
 abbrev pub own_id : Scene → Option (List ℕ)
 own_id s = or_else s.half s.from
 
--- these from the first on that passes
+-- the items from the first one on that passes a test
 abbrev pub since_first : {A : Type 0} → (A → Bool) → List A → List A
 since_first passes [] = []
 since_first passes (a ∷ more) = cond (passes a) (a ∷ more) (since_first passes more)
 
--- the Continues from there to the half's own ID, if that is known
+-- the peer's Continues from the destination ID to the half's own ID, if that is known
 abbrev pub to_half : Scene → List Numbered
 to_half s = by s.half
   where
@@ -86,12 +86,14 @@ to_half s = by s.half
 abbrev pub own_begin : Scene → Option Numbered
 own_begin s = find (λ n. is_a forms.Begin n.1 && is_that s.half (otid_in n.1)) s.own
 
+-- whether there is a message, and it is a Begin with a dialogue request
 abbrev pub has_request : Option Numbered → Bool
 has_request None = false
 has_request (Some n) = is_begin_with_request n.1
 
--- What a half heard that began so: the peer's Begin, and all Continues to its own ID; or these Continues, where its own Begin asks
--- for a dialogue only from the first on that answers the request.
+-- The messages that a half heard, by how it began. If the peer sent the Begin: this Begin, and all Continues to the
+-- half's own ID. If the end sent it: these Continues; but if the Begin requested a dialogue, only from the first one
+-- on that carries a response.
 abbrev pub heard_by : Scene → How → List Numbered
 heard_by s Accepted = option_to_list (find (λ n. is_a forms.Begin n.1) (there s)) ++ to_half s
 heard_by s Refused = option_to_list (find (λ n. is_a forms.Begin n.1) (there s)) ++ to_half s
@@ -100,15 +102,16 @@ heard_by s Begun =
 heard_by s Unanswered = []
 heard_by s Nowhere = []
 
--- What has the own invocations of a half that began so: what the end told there, and its own Begin.
+-- The messages that carry a half's own invocations, by how it began: its own Begin, if it sent one, and the end's
+-- messages to the destination ID.
 abbrev pub invoked_by : Scene → How → List Numbered
 invoked_by s Begun = option_to_list (own_begin s) ++ told_there s
 invoked_by s Unanswered = option_to_list (own_begin s) ++ told_there s
 invoked_by s how = told_there s
 
--- ---- the entries that show it, in order
+-- ---- the entries that show a fault, in order
 
--- the entries of the components of the invoke ID, of that sort
+-- the entries of the components of the invoke ID in question that are of a sort
 abbrev pub with_sort : Scene → Sort → List Numbered → List ℕ
 with_sort s sort sent = by s.id
   where
@@ -116,7 +119,7 @@ with_sort s sort sent = by s.id
     by None = []
     by (Some id) = entries_with (is_sort s.table id sort) sent
 
--- the same of these components of the message itself
+-- the same entry once for each of these components of the message itself that is of the sort
 abbrev pub with_sort_in : Scene → Sort → List Component → List ℕ
 with_sort_in s sort cs = by s.id
   where
@@ -124,7 +127,7 @@ with_sort_in s sort cs = by s.id
     by None = []
     by (Some id) = map (λ c. s.number) (filter (is_sort s.table id sort) cs)
 
--- a Continue from the message's originating ID to another destination ID
+-- whether a message is a Continue from the message's originating ID to another destination ID
 abbrev pub went_elsewhere : Scene → Message → Bool
 went_elsewhere s m = by s.from s.to
   where
@@ -132,7 +135,7 @@ went_elsewhere s m = by s.from s.to
     by (Some otid) (Some dtid) = goes_elsewhere otid dtid m
     by from to = false
 
--- a Continue from an ID whose half is open for certain
+-- whether a message is a Continue from an ID whose half is certainly open
 abbrev pub is_open_continue : Scene → Message → Bool
 is_open_continue s m = is_a forms.Continue m && by (otid_in m)
   where
@@ -140,6 +143,7 @@ is_open_continue s m = is_a forms.Continue m && by (otid_in m)
     by None = false
     by (Some own) = is_surely_open s.table s.side s.items own
 
+-- the entries that show one thing about a message at fault
 abbrev pub shown : Scene → What → List ℕ
 shown s whats.BeginsThere = entries_where (is_a forms.Begin) (there s)
 shown s whats.RequestsThere = entries_where is_begin_with_request (there s)

@@ -1,4 +1,4 @@
--- Words for what a fault rests on: the lines that `explain` prints behind REFUTED and BLAMED.
+-- Which lines `explain` prints after REFUTED and BLAMED. They say what the fault depends on.
 use Rattle.std.specs.Prelude.{ℕ, ℤ, ◌-◌, Bool, true, false, List, [], ◌∷◌, ◌++◌, slice_get, take, length, Option, Some, None, is_none, ◌&&◌, ◌||◌, not, cond, nat_lt, codes}
 use Rattle.std.specs.List.{flat_map}
 use Rattle.std.specs.Fmt.{decimal, signed_decimal}
@@ -33,8 +33,9 @@ use Rattle.tcap_faults.specs.Subject.{subject_of}
 use Rattle.tcap_evidence.specs.Evidence.{component_at, grounds_of, invoke_id_at}
 use Rattle.tcap_evidence.specs.Operations.{invocations_at}
 
--- ---- what a kind says
+-- ---- the words for a kind
 
+-- the words for what a kind says of a message or a quiet mark
 unfoldable pub kind_words : Kind → List ℕ
 kind_words kinds.BadMessage = codes "its octets are no message"
 kind_words kinds.UnknownTransaction = codes "its peer sent nothing from the destination ID that it could answer"
@@ -54,37 +55,40 @@ kind_words kinds.OpenAtMark = codes "a transaction of its end is open at this qu
 
 -- ---- the entry
 
--- whether an entry is that end's; a quiet mark, which no end sends, may be of either
+-- whether an entry is that end's; a quiet mark, which no end sends, counts for both
 abbrev pub is_for : Side → Option Entry → Bool
 is_for side None = false
 is_for side (Some e) = is_none e.side || is_entry_of side e.side
 
--- a number of a component, if there is one
+-- the number of a component, if there is one
 abbrev pub component_words : Option ℕ → List ℕ
 component_words None = []
 component_words (Some n) = codes ", component " ++ decimal n
 
+-- the line of an entry at fault, with its component if one is at fault
 abbrev pub entry_line : Side → Refutation → Option ℕ → List ℕ
 entry_line side r component =
     codes "  entry " ++ decimal r.entry ++ codes " of " ++ letter side ++ component_words component ++ codes ": "
     ++ kind_words r.kind ++ line_end
 
--- a quiet mark is of no end: it is said whose transaction is open
+-- the line of a quiet mark, which names the end whose transaction is open
 abbrev pub mark_line : Side → Refutation → List ℕ
 mark_line side r =
     codes "  entry " ++ decimal r.entry ++ codes ": a transaction of " ++ letter side ++ codes " is open at this quiet mark" ++ line_end
 
--- a message, and its component, if that is there
+-- the line of a component, if there is one
 abbrev pub component_shown : Option Component → List ℕ
 component_shown None = []
 component_shown (Some c) = codes "    " ++ component_line c
 
+-- the lines of a message and its component at fault
 abbrev pub message_lines : Message → Option ℕ → List ℕ
 message_lines m component =
     codes "    " ++ head_text m ++ line_end ++ component_shown (component_at component (components_in m))
 
 -- ---- the half
 
+-- the words for how a half began
 unfoldable pub how_words : How → List ℕ
 how_words Accepted = codes "began by the peer's Begin"
 how_words Refused = codes "the peer's Begin was refused"
@@ -96,7 +100,7 @@ abbrev pub own_words : Option (List ℕ) → List ℕ
 own_words None = []
 own_words (Some id) = codes ", own ID " ++ encode_lower id
 
--- whether a kind is asked of the half over which a message would go
+-- whether a kind compares the half over which a message would go
 abbrev pub is_of_half : Kind → Bool
 is_of_half kinds.WrongHalf = true
 is_of_half kinds.WrongDialogue = true
@@ -106,12 +110,13 @@ is_of_half kinds.AnsweredAlready = true
 is_of_half kinds.RejectNotAllowed = true
 is_of_half kind = false
 
+-- the line of the half over which a message would go, if the kind compares it
 abbrev pub half_line : Side → Kind → Option (List ℕ) → Subject → List ℕ
 half_line side kind None about = []
 half_line side kind (Some id) about = cond (is_of_half kind)
     (codes "  the transaction of " ++ letter side ++ codes ": " ++ how_words about.how ++ own_words about.own ++ line_end) []
 
--- ---- what entries show
+-- ---- the things that entries show
 
 unfoldable pub class_words : Class → List ℕ
 class_words Any = []
@@ -119,6 +124,7 @@ class_words One = codes " of class 1"
 class_words Two = codes " of class 2"
 class_words Three = codes " of class 3"
 
+-- the words for a sort of components
 unfoldable pub sort_words : Sort → List ℕ
 sort_words (sorts.Invokes class) = codes "Invokes"
 sort_words (sorts.Lasting class) = codes "not expiring Invokes"
@@ -146,7 +152,7 @@ id_words (Some id) = codes " of " ++ signed_decimal id
 abbrev pub sorted : Sort → Option ℤ → List ℕ
 sorted sort id = sort_words sort ++ id_words id ++ class_words (class_of_sort sort)
 
--- whose entries they are
+-- the end that sent the entries
 abbrev pub sender_of : Side → What → Side
 sender_of side whats.BeginsThere = other side
 sender_of side whats.RequestsThere = other side
@@ -155,7 +161,7 @@ sender_of side (whats.There sort) = other side
 sender_of side (whats.Heard sort) = other side
 sender_of side what = side
 
--- where messages were sent, or components stood
+-- the words for messages and their IDs, or for the place of components
 unfoldable pub place_words : What → List ℕ
 place_words whats.BeginsThere = codes "Begins from its destination ID"
 place_words whats.RequestsThere = codes "Begins with AARQ from its destination ID"
@@ -176,7 +182,7 @@ place_words (whats.Whole sort) = codes " in its messages to there and in this on
 place_words (whats.Invoked sort) = codes " in this transaction"
 place_words whats.Open = codes "Continues of transactions that are open"
 
--- the sort of components that is counted
+-- the sort of components that is counted, if any
 abbrev pub sort_in : What → Option Sort
 sort_in (whats.There sort) = Some sort
 sort_in (whats.Heard sort) = Some sort
@@ -191,25 +197,26 @@ sorted_in (Some sort) id = sorted sort id
 
 -- ---- entries
 
--- how many are named at most
+-- the most entries that a line names
 abbrev pub most : ℕ
 most = 8
 
--- behind a comma and a blank
+-- a number after a comma and a space
 abbrev pub number_behind : ℕ → List ℕ
 number_behind n = codes ", " ++ decimal n
 
--- those that are not named
+-- the number of entries that are not named, if any
 abbrev pub more_words : ℕ → List ℕ
 more_words n = cond (nat_lt most n) (codes " and " ++ decimal (n - most) ++ codes " more") []
 
+-- the words for a list of entries
 abbrev pub entries_words : List ℕ → List ℕ
 entries_words [] = codes "none"
 entries_words (n ∷ []) = codes "entry " ++ decimal n
 entries_words (n ∷ more) =
     codes "entries " ++ decimal n ++ flat_map number_behind (take (most - 1) more) ++ more_words (length (n ∷ more))
 
--- whether there being none is told
+-- whether a line is printed even if there are no entries
 abbrev pub is_told_empty : What → Bool
 is_told_empty whats.BeginsThere = true
 is_told_empty whats.RequestsThere = true
@@ -229,11 +236,12 @@ abbrev pub is_empty : {A : Type 0} → List A → Bool
 is_empty [] = true
 is_empty (a ∷ more) = false
 
--- what entries show, of which end
+-- the words for what entries show, with the end that sent them
 abbrev pub what_words : Side → Option ℤ → What → List ℕ
 what_words side id what =
     letter (sender_of side what) ++ codes ": " ++ sorted_in (sort_in what) id ++ place_words what
 
+-- the line for a thing and the entries that show it
 abbrev pub ground_line : Side → Option ℤ → What × List ℕ → List ℕ
 ground_line side id g = cond (is_empty g.1 && not (is_told_empty g.0)) []
     (codes "  " ++ what_words side id g.0 ++ codes ": " ++ entries_words g.1 ++ line_end)
@@ -248,13 +256,13 @@ abbrev pub link_text : Option ℤ → List ℕ
 link_text None = []
 link_text (Some id) = codes ", linked to " ++ signed_decimal id
 
--- an invocation of that ID: its entry, its operation and its class, and the ID that it is linked to
+-- the line of an invocation: its ID, its entry, its operation and class, and the ID to which it is linked
 abbrev pub invocation_line : Table → ℤ → Invocation → List ℕ
 invocation_line table id i =
     codes "  invocation " ++ signed_decimal id ++ codes " in entry " ++ decimal i.entry ++ codes " is of " ++ code_text i.code
     ++ class_text (class_of table i.code) ++ link_text i.linked ++ line_end
 
--- those that are not named
+-- the line with the number of invocations that are not named, if any
 abbrev pub more_invocations : ℕ → List ℕ
 more_invocations n = cond (nat_lt most n) (codes " " ++ more_words n ++ codes " invocations of it\n") []
 
@@ -263,8 +271,9 @@ invocation_lines table None invocations = []
 invocation_lines table (Some id) invocations =
     flat_map (invocation_line table id) (take most invocations) ++ more_invocations (length invocations)
 
--- ---- what else may be so
+-- ---- other possible explanations
 
+-- the line with another possible explanation, if the kind has one
 unfoldable pub doubt_words : Kind → List ℕ
 doubt_words kinds.BadMessage = codes "  `tcapjudge show --why RECORD` says what is wrong with its octets\n"
 doubt_words kinds.UnknownTransaction = codes "  it may be, too, that a message of the peer is missing from the record\n"
@@ -272,7 +281,7 @@ doubt_words kinds.ReusedId = codes "  it may be, too, that a quiet mark is missi
 doubt_words kinds.OpenAtMark = codes "  it may be, too, that the mark was set too early, or that an End is missing from the record\n"
 doubt_words kind = []
 
--- an operation that the table lacks
+-- whether a component is an Invoke of an operation that the table does not have
 abbrev pub lacks : Table → Option Component → Bool
 lacks table None = false
 lacks table (Some c) = is_unknown_operation table c
@@ -285,24 +294,24 @@ abbrev pub doubt_lines : Table → Kind → Option Component → List ℕ
 doubt_lines table kinds.WrongOperation c = lacks_words (lacks table c)
 doubt_lines table kind c = doubt_words kind
 
--- ---- all of it
+-- ---- all lines
 
--- of a message, of which a fault is about that, by what shows it
+-- the lines for a message at fault
 abbrev pub message_text : Table → Side → Refutation → Message → Subject → Option ℤ → List (What × List ℕ) → List ℕ
 message_text table side r m about id grounds =
     entry_line side r about.component ++ message_lines m about.component ++ half_line side r.kind (dtid_in m) about
     ++ flat_map (ground_line side id) grounds
     ++ doubt_lines table r.kind (component_at about.component (components_in m))
 
--- of a quiet mark
+-- the lines for a quiet mark
 abbrev pub mark_text : Side → Refutation → List (What × List ℕ) → List ℕ
 mark_text side r grounds = mark_line side r ++ flat_map (ground_line side None) grounds ++ doubt_words r.kind
 
--- of octets that are no message
+-- the lines for octets that are not a message
 abbrev pub bad_text : Side → Refutation → List ℕ
 bad_text side r = entry_line side r None ++ doubt_words r.kind
 
--- of an entry
+-- the lines for an entry at fault, without its invocations
 abbrev pub fault_text : Table → Side → Option Entry → Refutation → Subject → Option ℤ → List (What × List ℕ) → List ℕ
 fault_text table side entry r about id grounds = by entry
   where
@@ -315,12 +324,12 @@ fault_text table side entry r about id grounds = by entry
     by None = bad_text side r
     by (Some e) = by_body e.side e.body
 
--- the same, and the invocations whose operations and links it rests on
+-- the lines for an entry at fault, with the invocations on whose operations and links the fault depends
 abbrev pub evidence_text : Table → Side → Option Entry → Refutation → Subject → Option ℤ → List (What × List ℕ) → List Invocation → List ℕ
 evidence_text table side entry r about id grounds invocations =
     fault_text table side entry r about id grounds ++ invocation_lines table id invocations
 
--- of the entry of a record that is named for an end; it is given whether its kind was asked of one end
+-- the lines for an entry of a record; `of_one` tells whether its kind was found for one end alone
 abbrev pub told_text : Bool → Table → Side → List Entry → Refutation → List ℕ
 told_text of_one table side entries r =
     evidence_text table side (slice_get entries r.entry) r (subject_of of_one table side entries r)

@@ -1,4 +1,4 @@
--- Worked rows: the invocations whose operations and links a fault rests on.
+-- Test vectors: the invocations on whose operations and links a fault depends.
 use Rattle.std.specs.Prelude.{◌≡◌, ℕ, ℤ, pos, true, List, [], ◌∷◌, map, Option, Some, None, refl}
 use Rattle.tcap_parts.specs.declared.code.Code.TheVariants.{Local}
 use Rattle.tcap_parts.specs.declared.component.Component.{Component}
@@ -15,11 +15,11 @@ use Rattle.tcap_refute.specs.declared.kind.Kind.TheVariants as kinds
 use Rattle.tcap_evidence.specs.declared.operations.Invocation.{Invocation}
 use Rattle.tcap_evidence.specs.Operations.{invocations_at}
 
--- those of an entry that is blamed on that end for that kind
+-- the invocations for an entry that is blamed on that end for that kind
 abbrev found : Table → List Item → Side → ℕ → Kind → List Invocation
 found given items side entry kind = invocations_at true given side (map entry_of items) (record { entry = entry; kind = kind })
 
--- an invocation in that entry of that operation, linked or not
+-- an invocation in that entry, with its operation and linked ID
 abbrev invoked : ℕ → ℕ → Option ℤ → Invocation
 invoked entry code linked = record { entry = entry; code = Local (pos code); linked = linked }
 
@@ -32,20 +32,20 @@ answers cs = Sent B (answer None (Some cs))
 abbrev ends : List Component → Item
 ends cs = Sent B (end_to 1 (Some cs))
 
--- an Invoke of 2 of 48, linked to that ID, and a Reject of it with that problem
+-- an Invoke with ID 2 of operation 48, linked to that ID; and below it a Reject of this Invoke with that problem
 abbrev linked_to : ℕ → Component
 linked_to id = Invoke (pos 2) (Some (pos id)) (Local (pos 48)) None
 
 abbrev rejects_link : ℕ → Component
 rejects_link problem = Reject (Some (pos 2)) (problems.Invoke problem)
 
--- F6: operations of class 2 and 4 allow no Return Result. Those of another ID are not asked about.
+-- F6: operations of class 2 and 4 allow no Return Result. Invokes of another ID do not count.
 pub of_an_answer : found table
     (begins (invoke 46 ∷ linked_to 7 ∷ []) ∷ Sent B (answer None None) ∷ Sent A (further (invoke 48)) ∷ ends (result ∷ []) ∷ [])
     B 3 kinds.WrongOperation ≡ invoked 0 46 None ∷ invoked 2 48 None ∷ []
 of_an_answer = refl
 
--- F6 of an Invoke: the table lacks the operation, whatever was invoked before
+-- F6 of an Invoke: the table does not have the operation, so no earlier Invoke counts
 pub of_an_invoke : found table (begins (invoke 46 ∷ []) ∷ answers (invoke 49 ∷ []) ∷ []) B 1 kinds.WrongOperation ≡ []
 of_an_invoke = refl
 
@@ -54,7 +54,7 @@ pub in_use : found lasting (begins (invoke 45 ∷ []) ∷ Sent B (answer None No
     ≡ invoked 0 45 None ∷ []
 in_use = refl
 
--- F11: 48 may not be linked to 45, and nothing has the ID 7
+-- F11: operation 48 may not be linked to 45, and no invocation has the ID 7
 pub of_a_link : (found table (begins (invoke 45 ∷ []) ∷ answers (linked_to 1 ∷ []) ∷ []) B 1 kinds.BadLink ≡ invoked 0 45 None ∷ [])
     × (found table (begins (invoke 45 ∷ []) ∷ answers (linked_to 7 ∷ []) ∷ []) B 1 kinds.BadLink ≡ [])
 of_a_link = (refl, refl)
@@ -63,13 +63,14 @@ of_a_link = (refl, refl)
 pub answered : found table (begins (invoke 45 ∷ []) ∷ ends (result ∷ result ∷ []) ∷ []) B 1 kinds.AnsweredAlready ≡ invoked 0 45 None ∷ []
 answered = refl
 
--- F12: A's Continue came before its Begin, which the half heard first; the invocations are in the order of the entries
+-- F12: A sends a Continue before its Begin, but the half hears the Begin first; the invocations are in the order of
+-- the entries
 pub in_order : found table
     (Sent A (further (invoke 46)) ∷ begins (invoke 45 ∷ []) ∷ answers [] ∷ ends (result ∷ result ∷ result ∷ []) ∷ [])
     B 3 kinds.AnsweredAlready ≡ invoked 0 46 None ∷ invoked 1 45 None ∷ []
 in_order = refl
 
--- F13: two Rejects of one link; and two of one Return Result, with the own invocation that it answers
+-- F13: two Rejects of one link; and two Rejects of one Return Result, with the own invocation that it answers
 pub rejected : (found table
     (begins (invoke 50 ∷ []) ∷ answers (linked_to 1 ∷ []) ∷ Sent A (further (rejects_link 5)) ∷ Sent A (further (rejects_link 7)) ∷ [])
     A 3 kinds.RejectNotAllowed ≡ invoked 1 48 (Some (pos 1)) ∷ [])
@@ -78,7 +79,7 @@ pub rejected : (found table
     A 3 kinds.RejectNotAllowed ≡ invoked 0 45 None ∷ [])
 rejected = (refl, refl)
 
--- of another kind, and of a quiet mark, none
+-- another kind and a quiet mark have no invocations
 pub of_none : (found table (begins (invoke 45 ∷ []) ∷ ends [] ∷ ends [] ∷ []) B 2 kinds.AfterEnd ≡ [])
     × (found table (begins (invoke 45 ∷ []) ∷ answers [] ∷ Item.Quiet ∷ []) B 2 kinds.OpenAtMark ≡ [])
 of_none = (refl, refl)

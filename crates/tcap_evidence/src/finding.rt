@@ -1,4 +1,4 @@
-//! What the fault of an end rests on (Q.771, Q.773, Q.774).
+//! Finds the evidence for a fault of an end (Q.771, Q.773, Q.774).
 
 ghost use Rattle.std.specs.Prelude.{◌≡◌, ℕ, [], ◌∷◌, List, IfOk, false, map, option_map, slice_get};
 ghost use Rattle.std.specs.List.{list_any};
@@ -30,44 +30,44 @@ use tcap_parts::ComponentView;
 use tcap_record::{Body, End, Entry, Record};
 use tcap_refute::{Kind, Refutation, SearchFault};
 
-/// Entries that show something of a fault.
+/// A thing that a fault depends on, and the entries that show it.
 #[derive(Debug, Drop)]
 pub struct Ground {
-    /// What they show.
+    /// The thing that the entries show.
     pub what: What,
-    /// Their numbers in order; where components are counted, an entry as often as it has such a component.
+    /// The numbers of the entries, in order. If components are counted, an entry occurs once for each such component.
     pub entries: Vec<u64>,
 }
 
-/// What a fault rests on.
+/// The evidence for a fault.
 #[derive(Debug, Drop)]
 pub struct Evidence {
-    /// What it is about: the half over which the message would go, and the component at fault.
+    /// The subject of the fault: the half over which the message would go, and the component at fault.
     pub about: Subject,
-    /// The invoke ID that its components are counted of.
+    /// The invoke ID whose components are counted.
     pub id: Option<i8>,
-    /// What shows it.
+    /// The things that show the fault.
     pub grounds: Vec<Ground>,
-    /// The Invokes of that ID, in messages before this one, whose operations and links F6 of an answer, F10, F11 and F12 compare, and F13 may
-    /// compare: by its problem it compares them or not.
+    /// The Invokes of this ID in earlier messages whose operations and links the kind compares. F6 of an answer, F10,
+    /// F11 and F12 compare them; F13 does for some problems.
     pub invocations: Vec<Invocation>,
 }
 
-/// The entry of that number.
+/// Returns the entry with this number.
 pub(crate) fn entry_at(record: &Record, number: u64) -> Option<&Entry>
     ensures { option_map (λ e. e.now) result ≡ slice_get «record».now.entries.items number }
 {
     record.entries.get(number as usize)
 }
 
-/// The component of that number.
+/// Returns the component with this number.
 pub(crate) fn component_at(message: &Message, number: Option<u64>) -> Option<ComponentView<'_>>
     ensures { option_map component_of result ≡ component_at number (components_in message.now) }
 {
     message.components().nth(number? as usize)
 }
 
-/// The components before that number.
+/// Returns the components before this number; none without a number.
 fn components_before<'a>(
     alloc: Global,
     message: &'a Message,
@@ -81,7 +81,7 @@ fn components_before<'a>(
     }
 }
 
-/// The invoke ID that is asked about: of a linked Invoke the linked ID, of another component its own.
+/// Returns the invoke ID in question: for `BadLink` the linked ID of the Invoke, else the ID of the component.
 fn invoke_id_of(kind: Kind, component: Option<ComponentView>) -> Option<i8>
     ensures { result ≡ invoke_id_in kind (option_map component_of component.entry) }
 {
@@ -94,7 +94,7 @@ fn invoke_id_of(kind: Kind, component: Option<ComponentView>) -> Option<i8>
     }
 }
 
-/// The components of a message.
+/// Returns the components of a message.
 fn components_of<'a>(
     alloc: Global,
     message: &'a Message,
@@ -104,7 +104,8 @@ fn components_of<'a>(
     message.components().collect(alloc)
 }
 
-/// What is known of a message of that entry, by what each end sent before it, of which a fault is about that.
+/// Creates the scene of the message of entry `at`, from the messages of each end before it and the subject of its
+/// fault.
 fn scene_for<'a>(
     alloc: Global,
     stretch: Stretch<'a>,
@@ -126,7 +127,7 @@ fn scene_for<'a>(
     )
 }
 
-/// Each of these, with the entries that show it; none is asked of a quiet mark alone.
+/// Returns each of these things with the entries that show it. None of them may be for quiet marks only.
 fn grounds_in(alloc: Global, scene: &Scene, whats: &[What]) -> Result<Vec<Ground>, AllocError>
     ensures { (s : Known) → IsScene s scene.now → list_any is_of_mark whats.now ≡ false
         → IfOk result (λ v. map (λ g. (g.what, g.entries.items)) v.items ≡ grounds_in s whats.now) }
@@ -141,7 +142,7 @@ fn grounds_in(alloc: Global, scene: &Scene, whats: &[What]) -> Result<Vec<Ground
     Ok(grounds)
 }
 
-/// What shows the kind of a message, of which a fault is about that.
+/// Returns the evidence for a message at fault.
 fn of_message(
     alloc: Global,
     stretch: Stretch,
@@ -180,7 +181,8 @@ fn of_message(
     })
 }
 
-/// Of the message of that entry each of these, with the entries that show it, whatever its fault is about; of another entry nothing.
+/// Returns each of these things about the message of an entry, with the entries that show it. The list is empty if the
+/// entry is not a message.
 pub(crate) fn grounds_for(
     alloc: Global,
     record: &Record,
@@ -217,7 +219,7 @@ pub(crate) fn grounds_for(
     }
 }
 
-/// What shows that a half is open at a quiet mark.
+/// Returns the evidence for a half that is open at a quiet mark.
 fn of_mark(
     alloc: Global,
     stretch: &Stretch,
@@ -246,10 +248,18 @@ fn of_mark(
     })
 }
 
-/// What shows the kind of an entry of a record that is named for an end, as `refute` or `blame` name it: the component at fault, and
-/// for each thing that the kind compares the entries that show it, since the last quiet mark; and the Invokes whose operations and
-/// links it compares. It is given whether the kind was asked of one end alone, as `blame` does. Octets that are no message show it themselves. `Memory` where memory ran out. The record
-/// is gone over once more, and a few times what each end sent.
+/// Finds the evidence for the fault of an entry, as `refute` or `blame` names it for an end.
+///
+/// The result has the component at fault, and for each thing that the kind compares, the entries since the last quiet
+/// mark that show it. It also has the Invokes whose operations and links the kind compares. Octets that are not a
+/// message need no evidence.
+///
+/// `of_one` says whether the kind was found for one end alone, as `blame` does. The record is read once more, and the
+/// messages of each end a few times.
+///
+/// # Errors
+///
+/// `Memory` if memory runs out.
 pub fn find_evidence(
     alloc: Global,
     record: &Record,
@@ -279,7 +289,7 @@ pub fn find_evidence(
     }
 }
 
-/// What octets that are no message show: nothing but themselves.
+/// Returns the evidence for octets that are not a message, which has no entries.
 fn none_of(alloc: Global, about: Subject) -> Evidence
     ensures about { result.about ≡ about }
     ensures id { result.id ≡ None }

@@ -1,5 +1,5 @@
-//! What the fault of an end of TCAP dialogues rests on: the entries of a record that show it, and words for them (Q.771, Q.773,
-//! Q.774).
+//! The evidence for a fault of an end of TCAP dialogues: the entries of a record that show it, and their text (Q.771,
+//! Q.773, Q.774).
 #![tactic(auto)]
 
 mod finding;

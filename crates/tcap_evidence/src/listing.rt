@@ -36,25 +36,25 @@ pub(crate) enum Test<'a> {
     Request,
     /// A Continue.
     Continue,
-    /// A message from that originating ID, if one is given.
+    /// A message from this originating ID, if it is given.
     From(Option<&'a TransactionId>),
-    /// A Begin from there.
+    /// A Begin from this ID.
     BeginFrom(Option<&'a TransactionId>),
-    /// A Begin with a dialogue request from there.
+    /// A Begin with a dialogue request from this ID.
     RequestFrom(Option<&'a TransactionId>),
-    /// A Continue from the first ID to another than the second.
+    /// A Continue from the first ID to an ID other than the second.
     Elsewhere(Option<&'a TransactionId>, Option<&'a TransactionId>),
-    /// A message to that destination ID that is no Abort of the provider.
+    /// A message to this destination ID other than an Abort of the provider.
     Told(Option<&'a TransactionId>),
-    /// A Continue to there.
+    /// A Continue to this ID.
     ContinueTo(Option<&'a TransactionId>),
-    /// An End, or an Abort of the user, to there.
+    /// An End, or an Abort of the user, to this ID.
     EndTo(Option<&'a TransactionId>),
-    /// An Abort of the provider with that cause to there.
+    /// An Abort of the provider to this ID with this cause.
     AbortTo(Option<&'a TransactionId>, u8),
 }
 
-/// Whether that ID is there, and is the other.
+/// Returns whether there is an ID, and it is the other one.
 pub(crate) fn is_that(id: Option<&TransactionId>, other: Option<TransactionIdView>) -> bool
     ensures { result ≡ is_that (option_map (λ t. t.now) id.entry) (id_of other.entry) }
 {
@@ -64,35 +64,35 @@ pub(crate) fn is_that(id: Option<&TransactionId>, other: Option<TransactionIdVie
     }
 }
 
-/// Whether a message is a Begin.
+/// Returns whether a message is a Begin.
 fn is_begin(message: &Message) -> bool
     ensures { result ≡ is_a forms.Begin message.now }
 {
     matches!(message, Message::Begin { .. })
 }
 
-/// Whether it is a Begin with a dialogue request.
+/// Returns whether a message is a Begin with a dialogue request.
 fn is_request(message: &Message) -> bool
     ensures { result ≡ is_begin_with_request message.now }
 {
     is_begin(message) && matches!(message.dialogue(), Some(DialogueView::Request { .. }))
 }
 
-/// Whether it is a Continue.
+/// Returns whether a message is a Continue.
 fn is_continue(message: &Message) -> bool
     ensures { result ≡ is_a forms.Continue message.now }
 {
     matches!(message, Message::Continue { .. })
 }
 
-/// Whether it carries a dialogue response.
+/// Returns whether a message carries a dialogue response.
 fn has_response(message: &Message) -> bool
     ensures { result ≡ is_response (dialogue_in message.now) }
 {
     matches!(message.dialogue(), Some(DialogueView::Response { .. }))
 }
 
-/// The ID to which a message is an End, or an Abort: of the provider only where that counts.
+/// Returns the ID to which a message is an End or an Abort. Aborts of the provider count only if `by_provider`.
 pub(crate) fn ended_to(message: &Message, by_provider: bool) -> Option<TransactionIdView<'_>>
     ensures { id_of result ≡ ended_to by_provider message.now }
 {
@@ -104,7 +104,7 @@ pub(crate) fn ended_to(message: &Message, by_provider: bool) -> Option<Transacti
     if ends { message.dtid() } else { None }
 }
 
-/// Whether it is that cause.
+/// Returns whether there is a cause, and it has this number.
 fn is_cause(number: u8, cause: Option<SmallView>) -> bool
     ensures { result ≡ is_cause number (cause_of cause) }
 {
@@ -115,7 +115,7 @@ fn is_cause(number: u8, cause: Option<SmallView>) -> bool
 }
 
 impl Test<'_> {
-    /// Whether a message passes.
+    /// Returns whether a message passes the test.
     pub(crate) fn passes(self, message: &Message) -> bool
         ensures { result ≡ passes self.entry message.now }
     {
@@ -142,7 +142,7 @@ impl Test<'_> {
     }
 }
 
-/// Whether an operation is of that class, or of any (Q.771 3.1).
+/// Returns whether an operation is of this class, or any class is meant (Q.771 3.1).
 fn is_of_class(table: &Table, class: Class, code: CodeView) -> bool
     ensures { result ≡ is_of_class table.now class (code_of code.entry) }
 {
@@ -155,7 +155,7 @@ fn is_of_class(table: &Table, class: Class, code: CodeView) -> bool
     }
 }
 
-/// Whether an Invoke of that linked ID and that operation is of a sort.
+/// Returns whether an Invoke with this linked ID and operation is of a sort.
 fn is_invoke_of(table: &Table, sort: Sort, linked: Option<i8>, code: CodeView) -> bool
     ensures { result ≡ invoke_has table.now linked (code_of code.entry) sort }
 {
@@ -167,7 +167,7 @@ fn is_invoke_of(table: &Table, sort: Sort, linked: Option<i8>, code: CodeView) -
     }
 }
 
-/// Whether a Return Result, the last one or not, is of a sort.
+/// Returns whether a Return Result is of a sort.
 fn is_result_of(sort: Sort, last: bool) -> bool
     ensures { result ≡ result_has last sort }
 {
@@ -179,7 +179,7 @@ fn is_result_of(sort: Sort, last: bool) -> bool
     }
 }
 
-/// Whether a Reject with that problem is of a sort.
+/// Returns whether a Reject with this problem is of a sort.
 fn is_reject_of(sort: Sort, problem: ProblemView) -> bool
     ensures { result ≡ reject_has (problem_of problem) sort }
 {
@@ -194,7 +194,7 @@ fn is_reject_of(sort: Sort, problem: ProblemView) -> bool
     }
 }
 
-/// Whether a component of that invoke ID is of a sort (Q.773 4.2.2).
+/// Returns whether a component is of this invoke ID and sort (Q.773 4.2.2).
 fn is_sort(table: &Table, id: i8, sort: Sort, component: ComponentView) -> bool
     ensures { result ≡ is_sort table.now id sort (component_of component.entry) }
 {
@@ -219,7 +219,7 @@ fn is_sort(table: &Table, id: i8, sort: Sort, component: ComponentView) -> bool
     }
 }
 
-/// The entries of the messages that pass.
+/// Returns the entries of the messages that pass.
 pub(crate) fn entries_where(
     alloc: Global,
     sent: &[Sent],
@@ -236,7 +236,7 @@ pub(crate) fn entries_where(
     Ok(entries)
 }
 
-/// The first message that passes.
+/// Returns the first message that passes.
 pub(crate) fn first_where<'a>(sent: &[Sent<'a>], test: Test) -> Option<Sent<'a>>
     ensures { option_map (λ s. (s.number, s.message.now)) result
         ≡ find (λ n. passes test.entry n.1) (numbered_of sent.now) }
@@ -266,7 +266,7 @@ pub(crate) fn push_where<'a>(
     Ok(())
 }
 
-/// The messages that pass.
+/// Returns the messages that pass.
 pub(crate) fn sent_where<'a>(
     alloc: Global,
     sent: &[Sent<'a>],
@@ -279,7 +279,7 @@ pub(crate) fn sent_where<'a>(
     Ok(kept)
 }
 
-/// These messages from the first on that carries a dialogue response.
+/// Returns the messages from the first one on that carries a dialogue response.
 pub(crate) fn since_response<'a>(
     alloc: Global,
     sent: &[Sent<'a>],
@@ -298,7 +298,7 @@ pub(crate) fn since_response<'a>(
     Ok(kept)
 }
 
-/// These messages in the order of their entries, if all but the first are.
+/// Returns the messages in the order of their entries, if all but the first are in order already.
 pub(crate) fn in_order<'a>(alloc: Global, sent: &[Sent<'a>]) -> Result<Vec<Sent<'a>>, AllocError>
     ensures { IfOk result (λ v. numbered_of v.items ≡ in_order (numbered_of sent.now)) }
 {
@@ -320,7 +320,7 @@ pub(crate) fn in_order<'a>(alloc: Global, sent: &[Sent<'a>]) -> Result<Vec<Sent<
     Ok(ordered)
 }
 
-/// Appends an entry as often as one of these components is of that invoke ID and that sort.
+/// Appends `number` once for each of these components that is of this invoke ID and sort.
 pub(crate) fn push_sorted(
     entries: &mut Vec<u64>,
     table: &Table,
@@ -340,7 +340,7 @@ pub(crate) fn push_sorted(
     Ok(())
 }
 
-/// Appends the entry of a message as often as it has a component of that invoke ID and that sort.
+/// Appends the entry of a message once for each of its components that is of this invoke ID and sort.
 fn push_components(
     entries: &mut Vec<u64>,
     table: &Table,
@@ -359,7 +359,7 @@ fn push_components(
     Ok(())
 }
 
-/// The entries of the components of that invoke ID and that sort.
+/// Returns the entries of the components of this invoke ID and sort; an entry occurs once for each such component.
 pub(crate) fn entries_with(
     alloc: Global,
     table: &Table,

@@ -1,4 +1,4 @@
-//! Halves that are open at a quiet mark.
+//! The halves of an end that are open at a quiet mark.
 
 ghost use Rattle.std.specs.Prelude.{◌≡◌, ℕ, List, IfOk, OnOk, false};
 ghost use Rattle.std.specs.BTreeMap.{is_at};
@@ -20,18 +20,18 @@ use std::collections::{BTreeMap, BTreeSet};
 use tcap_end::Table;
 use tcap_msg::{Message, TransactionId};
 
-/// What tells which halves of an end are open.
+/// The facts by which the open halves of an end are found.
 #[derive(Drop)]
 struct Halves {
-    /// The first ID to which the end sent a Continue from each of its own.
+    /// For each own ID, the destination of the end's first Continue from it.
     first: BTreeMap<TransactionId, TransactionId>,
-    /// The IDs of the peer to which it sent an End, or an Abort of its user.
+    /// The peer's IDs to which the end sent an End, or its user an Abort.
     ended: BTreeSet<TransactionId>,
-    /// Its own IDs to which the peer sent an End or any Abort.
+    /// The own IDs to which the peer sent an End or any Abort.
     ended_by_peer: BTreeSet<TransactionId>,
 }
 
-/// The IDs to which these messages are Ends or Aborts: of the provider only where those count.
+/// Returns the IDs to which these messages are Ends or Aborts. Aborts of the provider count only if `by_provider`.
 fn all_ended(
     alloc: Global,
     sent: &[Sent],
@@ -49,7 +49,7 @@ fn all_ended(
     Ok(ended)
 }
 
-/// Notes where a Continue goes from an ID, unless one went from there before.
+/// Notes the destination of a Continue, unless there was one from the same ID before.
 fn note_first(
     first: &mut BTreeMap<TransactionId, TransactionId>,
     message: &Message,
@@ -68,7 +68,7 @@ fn note_first(
     Ok(())
 }
 
-/// The first ID to which these messages are Continues from each ID.
+/// Returns for each originating ID the destination of the first Continue from it.
 fn all_first(
     alloc: Global,
     sent: &[Sent],
@@ -84,7 +84,7 @@ fn all_first(
 }
 
 impl Halves {
-    /// Those of what both ends sent.
+    /// Collects the facts from the messages of both ends.
     fn of(alloc: Global, stretch: &Stretch) -> Result<Halves, AllocError>
         ensures { (s : Scene) → IsStretch s stretch.now → IfOk result (λ halves. AreHalves s halves) }
     {
@@ -95,7 +95,7 @@ impl Halves {
         })
     }
 
-    /// Whether a message is a Continue from an ID whose half is open for certain.
+    /// Returns whether a message is a Continue from an ID whose half is certainly open.
     fn has(&self, message: &Message) -> bool
         ensures { (s : Scene) → AreHalves s self.now → s.table.prearranged ≡ false
             → result ≡ is_open_continue s message.now }
@@ -110,7 +110,7 @@ impl Halves {
     }
 }
 
-/// The entries of the Continues from IDs whose halves are open for certain.
+/// Returns the entries of the Continues from IDs whose halves are certainly open.
 pub(crate) fn open_continues(
     alloc: Global,
     table: &Table,

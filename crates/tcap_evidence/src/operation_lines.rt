@@ -1,4 +1,4 @@
-//! The lines of the invocations whose operations and links a fault rests on.
+//! The lines for the invocations on whose operations and links a fault depends.
 
 ghost use Rattle.std.specs.Prelude.{◌≡◌, ◌++◌, OnOk, Some};
 ghost use Rattle.std.specs.List.{flat_map};
@@ -13,7 +13,7 @@ use tcap_end::Table;
 use tcap_parts::Code;
 use tcap_record::push_hex;
 
-/// Appends an operation code, a global one behind `g:`.
+/// Appends an operation code; a global one follows `g:`.
 fn push_code(text: &mut String, code: &Code) -> Result<(), AllocError>
     ensures { OnOk result (string_bytes text.new ≡ string_bytes text.old ++ code_text code.now) }
 {
@@ -36,7 +36,7 @@ fn push_class(text: &mut String, class: Option<u8>) -> Result<(), AllocError>
     }
 }
 
-/// Appends the invoke ID that an invocation is linked to.
+/// Appends the linked ID of an invocation.
 fn push_link(text: &mut String, id: i8) -> Result<(), AllocError>
     ensures { OnOk result (string_bytes text.new ≡ string_bytes text.old ++ link_text (Some id)) }
 {
@@ -44,7 +44,7 @@ fn push_link(text: &mut String, id: i8) -> Result<(), AllocError>
     write!(text, "{id}")
 }
 
-/// The same, where it is linked.
+/// Appends the linked ID of an invocation, if it has one.
 fn push_linked(text: &mut String, linked: Option<i8>) -> Result<(), AllocError>
     ensures { OnOk result (string_bytes text.new ≡ string_bytes text.old ++ link_text linked) }
 {
@@ -54,7 +54,7 @@ fn push_linked(text: &mut String, linked: Option<i8>) -> Result<(), AllocError>
     }
 }
 
-/// Appends an invocation of that ID.
+/// Appends the line of an invocation.
 fn push_invocation(
     text: &mut String,
     table: &Table,
@@ -74,7 +74,7 @@ fn push_invocation(
     text.push_str("\n")
 }
 
-/// Appends how many invocations there are that are not named.
+/// Appends the line with the number of invocations that are not named, if any.
 fn push_more_of_it(text: &mut String, count: usize) -> Result<(), AllocError>
     ensures { OnOk result (string_bytes text.new ≡ string_bytes text.old ++ more_invocations count) }
 {
@@ -86,7 +86,7 @@ fn push_more_of_it(text: &mut String, count: usize) -> Result<(), AllocError>
     text.push_str(" invocations of it\n")
 }
 
-/// Appends the first of these invocations of that ID.
+/// Appends the lines of these invocations.
 fn push_first(
     text: &mut String,
     table: &Table,
@@ -102,7 +102,7 @@ fn push_first(
     Ok(())
 }
 
-/// Appends invocations of the invoke ID that is asked about: the first eight, and how many more there are.
+/// Appends the lines of the invocations of the invoke ID in question: the first eight, and the number of the others.
 pub(crate) fn push_invocations(
     text: &mut String,
     table: &Table,

@@ -1,4 +1,4 @@
-//! The invocations whose operations and links a fault rests on (Q.771 3.1, Q.774 3.2).
+//! The invocations on whose operations and links a fault depends (Q.771 3.1, Q.774 3.2).
 
 ghost use Rattle.std.specs.Prelude.{◌≡◌, ◌++◌, IfOk, OnOk, Some, option_map};
 ghost use Rattle.std.specs.List.{flat_map};
@@ -12,18 +12,18 @@ use std::alloc::{AllocError, Global};
 use tcap_msg::MessageParts;
 use tcap_parts::{Code, ComponentView, ProblemView};
 
-/// An Invoke of the invoke ID that is asked about.
+/// An Invoke of the invoke ID in question.
 #[derive(Debug, Drop)]
 pub struct Invocation {
     /// The number of its entry.
     pub entry: u64,
-    /// Its operation.
+    /// The operation.
     pub code: Code,
-    /// The invoke ID that it is linked to, where it is.
+    /// The linked ID, if the Invoke has one.
     pub linked: Option<i8>,
 }
 
-/// Whether a component is an answer.
+/// Returns whether a component is an answer.
 pub(crate) fn is_answer(component: Option<ComponentView>) -> bool
     ensures { result ≡ answers (option_map component_of component.entry) }
 {
@@ -33,7 +33,7 @@ pub(crate) fn is_answer(component: Option<ComponentView>) -> bool
     )
 }
 
-/// Whether it rejects one.
+/// Returns whether a component is a Reject of an answer.
 pub(crate) fn rejects_answer(component: Option<ComponentView>) -> bool
     ensures { result ≡ rejects_answer (option_map component_of component.entry) }
 {
@@ -46,7 +46,7 @@ pub(crate) fn rejects_answer(component: Option<ComponentView>) -> bool
     )
 }
 
-/// Appends a component of that entry, where it is an Invoke of that ID.
+/// Appends a component of entry `number`, if it is an Invoke of this ID.
 fn push_invoke(
     alloc: Global,
     invocations: &mut Vec<Invocation>,
@@ -76,7 +76,7 @@ fn push_invoke(
     }
 }
 
-/// Appends the Invokes of that ID in a message.
+/// Appends the Invokes of this ID in a message.
 fn push_invokes(
     alloc: Global,
     invocations: &mut Vec<Invocation>,
@@ -92,7 +92,7 @@ fn push_invokes(
     Ok(())
 }
 
-/// The Invokes of that ID in these messages.
+/// Returns the Invokes of this ID in these messages.
 pub(crate) fn invocations_in(
     alloc: Global,
     sent: &[Sent],

@@ -1,4 +1,4 @@
-//! The entries that show with which IDs of the other end a transaction ID stands.
+//! The entries that show with which IDs of the other end (partners) a transaction ID was used.
 
 ghost use Rattle.std.specs.Prelude.{◌≡◌, ◌++◌, Some, None, IfOk, OnOk};
 ghost use Rattle.tcap_msg.specs.Meaning.{id_of};
@@ -10,17 +10,18 @@ use std::alloc::{AllocError, Global};
 use tcap_msg::{Message, TransactionId, TransactionIdView};
 use tcap_record::{Body, End, Entry, Record};
 
-/// The entries that begin an ID, and those of the Continues in which it stands with another ID than in the one before.
+/// The entries that begin an ID, and the Continues whose partner is not that of the Continue before in the same
+/// direction.
 #[derive(Drop)]
 struct Pairs {
     entries: Vec<u64>,
-    /// The ID with which it stood in the last Continue from it since it was begun.
+    /// The partner in the last Continue from the ID, since it was begun.
     from: Option<TransactionId>,
-    /// The one in the last to it.
+    /// The partner in the last Continue to the ID, since it was begun.
     to: Option<TransactionId>,
 }
 
-/// The ID of the other end with which an ID of that end stands in a Continue.
+/// Returns the partner of an ID of end `of` in a Continue.
 fn partner_in<'a>(
     of: End,
     id: &TransactionId,
@@ -44,7 +45,7 @@ fn partner_in<'a>(
     }
 }
 
-/// Notes the Continue of that number, in which an ID stands with another, where that is not the one with which it stood in the last.
+/// Appends the entry of a Continue, unless its partner is the last one, and notes the partner as the last.
 fn push_anew(
     entries: &mut Vec<u64>,
     last: &mut Option<TransactionId>,
@@ -62,7 +63,7 @@ fn push_anew(
 }
 
 impl Pairs {
-    /// A Continue of that number, from it or to it, in which it stands with an ID.
+    /// Takes a Continue from the ID (`is_from`) or to it, with its partner.
     fn take_partner(
         &mut self,
         number: u64,
@@ -79,7 +80,7 @@ impl Pairs {
         }
     }
 
-    /// Forgets with which IDs it stood last.
+    /// Forgets the last partners.
     fn forget(&mut self)
         ensures entries { self.new.entries ≡ self.old.entries }
         ensures from { self.new.from ≡ None }
@@ -89,7 +90,7 @@ impl Pairs {
         self.to = None;
     }
 
-    /// A message of that number more, of an end.
+    /// Takes a message of the end `sender`.
     fn take_message(
         &mut self,
         of: End,
@@ -112,7 +113,7 @@ impl Pairs {
         }
     }
 
-    /// An entry more, of that number.
+    /// Takes the next entry.
     fn take(
         &mut self,
         of: End,
@@ -137,7 +138,7 @@ impl Pairs {
     }
 }
 
-/// Those of an ID of that end before the entry of that number, since the last quiet mark.
+/// Returns these entries for an ID of end `of`, before entry `number` and since the last quiet mark.
 pub(crate) fn paired_before(
     alloc: Global,
     record: &Record,

@@ -1,5 +1,5 @@
-//! What is known of a message at fault: what each end sent since the last quiet mark, and the half over which it would go (Q.774
-//! 3.2, 3.3).
+//! What is known of a message at fault: the messages of each end since the last quiet mark, and the half over which it
+//! would go (Q.774 3.2, 3.3).
 
 ghost use Rattle.std.specs.Prelude.{◌≡◌, ◌++◌, false, List, IfOk, OnOk, map, option_map, option_to_list};
 ghost use Rattle.tcap_parts.specs.Meaning.{component_of};
@@ -32,26 +32,26 @@ use tcap_refute::Kind;
 #[derive(Drop)]
 pub(crate) struct Scene<'a> {
     pub(crate) table: &'a Table,
-    /// The number of its entry.
+    /// The number of the message's entry.
     pub(crate) number: u64,
     pub(crate) to: Option<TransactionId>,
     pub(crate) from: Option<TransactionId>,
-    /// The half over which it would go, and its own ID.
+    /// How the half began over which the message would go, and the half's own ID.
     pub(crate) how: How,
     pub(crate) half: Option<TransactionId>,
-    /// The components of the message, those before the one at fault, and the invoke ID that is asked about.
+    /// The components of the message, those before the component at fault, and the invoke ID in question.
     pub(crate) all: Vec<ComponentView<'a>>,
     pub(crate) earlier: Vec<ComponentView<'a>>,
     pub(crate) id: Option<i8>,
-    /// What its end sent.
+    /// The messages of the message's end.
     pub(crate) own: Vec<Sent<'a>>,
-    /// What its peer sent from the destination ID.
+    /// The peer's messages from the destination ID.
     pub(crate) there: Vec<Sent<'a>>,
-    /// What the end sent to there, without the Aborts of its provider.
+    /// The end's messages to the destination ID, without its provider's Aborts.
     pub(crate) told: Vec<Sent<'a>>,
 }
 
-/// A transaction ID as a value of its own, where there is one.
+/// Copies a transaction ID, if there is one.
 fn owned(id: Option<TransactionIdView>) -> Option<TransactionId>
     ensures { result ≡ id_of id.entry }
 {
@@ -61,7 +61,7 @@ fn owned(id: Option<TransactionIdView>) -> Option<TransactionId>
     }
 }
 
-/// A list of a message, if there is one.
+/// Returns a list of one message, or of none.
 fn list_of<'a>(alloc: Global, first: Option<Sent<'a>>) -> Result<Vec<Sent<'a>>, AllocError>
     ensures { IfOk result (λ v.
         numbered_of v.items ≡ option_to_list (option_map (λ s. (s.number, s.message.now)) first.entry)) }
@@ -74,8 +74,10 @@ fn list_of<'a>(alloc: Global, first: Option<Sent<'a>>) -> Result<Vec<Sent<'a>>, 
 }
 
 impl<'a> Scene<'a> {
-    /// That of a message of that number, of which a fault is about that, by what each end sent before it, by its components, those
-    /// before the one at fault, and the invoke ID that is asked about.
+    /// Creates the scene of a message of entry `number`.
+    ///
+    /// `about` is the subject of the fault, `stretch` has the messages before the entry. `all` are the components,
+    /// `earlier` those before the component at fault, and `id` is the invoke ID in question.
     pub(crate) fn new(
         alloc: Global,
         stretch: Stretch<'a>,
@@ -113,7 +115,7 @@ impl<'a> Scene<'a> {
         })
     }
 
-    /// The own ID that is asked about: that of the half; else that of the message.
+    /// Returns the own ID in question: that of the half or, if it is unknown, the message's originating ID.
     fn own_id(&self) -> Option<&TransactionId>
         ensures { (s : Known) → IsScene s self.now → option_map (λ t. t.now) result ≡ own_id s }
     {
@@ -123,21 +125,22 @@ impl<'a> Scene<'a> {
         }
     }
 
-    /// The half's own Begin.
+    /// Returns the half's own Begin.
     fn own_begin(&self) -> Option<Sent<'a>>
         ensures { (s : Known) → IsScene s self.now → option_map (λ b. (b.number, b.message.now)) result ≡ own_begin s }
     {
         first_where(&self.own, Test::BeginFrom(self.half.as_ref()))
     }
 
-    /// The Continues from there to the half's own ID.
+    /// Returns the peer's Continues from the destination ID to the half's own ID.
     fn to_half(&self, alloc: Global) -> Result<Vec<Sent<'a>>, AllocError>
         ensures { (s : Known) → IsScene s self.now → IfOk result (λ v. numbered_of v.items ≡ to_half s) }
     {
         sent_where(alloc, &self.there, Test::ContinueTo(self.half.as_ref()))
     }
 
-    /// What an accepted half heard: the peer's first Begin, and the Continues to its own ID.
+    /// Returns the messages that an accepted half heard: the peer's first Begin, and the Continues to the half's own
+    /// ID.
     fn heard_accepted(&self, alloc: Global) -> Result<Vec<Sent<'a>>, AllocError>
         ensures { (s : Known) → IsScene s self.now → IfOk result (λ v. numbered_of v.items ≡ heard_by s hows.Accepted) }
     {
@@ -150,8 +153,8 @@ impl<'a> Scene<'a> {
         Ok(heard)
     }
 
-    /// What a half heard that began by sending a Begin: the Continues to its own ID; where it asked for a dialogue, from the first
-    /// on that answers the request.
+    /// Returns the messages that a half heard whose end sent the Begin: the Continues to its own ID. If the Begin
+    /// requested a dialogue, they start with the first one that carries a response.
     fn heard_begun(&self, alloc: Global) -> Result<Vec<Sent<'a>>, AllocError>
         ensures { (s : Known) → IsScene s self.now → IfOk result (λ v. numbered_of v.items ≡ heard_by s hows.Begun) }
     {
@@ -162,7 +165,7 @@ impl<'a> Scene<'a> {
         }
     }
 
-    /// What the half heard, in the order in which it heard it.
+    /// Returns the messages that the half heard, in the order in which it heard them.
     fn heard_first(&self, alloc: Global) -> Result<Vec<Sent<'a>>, AllocError>
         ensures { (s : Known) → IsScene s self.now → IfOk result (λ v. numbered_of v.items ≡ heard_by s s.how) }
     {
@@ -173,14 +176,14 @@ impl<'a> Scene<'a> {
         }
     }
 
-    /// What the half heard, in the order of the entries.
+    /// Returns the messages that the half heard, in the order of the entries.
     fn heard(&self, alloc: Global) -> Result<Vec<Sent<'a>>, AllocError>
         ensures { (s : Known) → IsScene s self.now → IfOk result (λ v. numbered_of v.items ≡ in_order (heard_by s s.how)) }
     {
         in_order(alloc, &self.heard_first(alloc)?)
     }
 
-    /// The half's own Begin, where it began by sending one.
+    /// Returns the half's own Begin, if its end sent the Begin.
     fn sent_begin(&self) -> Option<Sent<'a>>
         ensures { (s : Known) → IsScene s self.now
             → option_to_list (option_map (λ b. (b.number, b.message.now)) result) ++ told_there s ≡ invoked_by s s.how }
@@ -191,7 +194,7 @@ impl<'a> Scene<'a> {
         }
     }
 
-    /// What has the half's own invocations, in the order of the entries.
+    /// Returns the messages that carry the half's own invocations, in the order of the entries.
     fn invoked(&self, alloc: Global) -> Result<Vec<Sent<'a>>, AllocError>
         ensures { (s : Known) → IsScene s self.now → IfOk result (λ v. numbered_of v.items ≡ in_order (invoked_by s s.how)) }
     {
@@ -200,7 +203,7 @@ impl<'a> Scene<'a> {
         in_order(alloc, &invoked)
     }
 
-    /// The entries of the components of the invoke ID, of that sort, in these messages.
+    /// Returns the entries of the components of the invoke ID and this sort in these messages.
     fn with_sort(&self, alloc: Global, sent: &[Sent], sort: Sort) -> Result<Vec<u64>, AllocError>
         ensures { (s : Known) → IsScene s self.now → IfOk result (λ v. v.items ≡ with_sort s sort (numbered_of sent.now)) }
     {
@@ -210,7 +213,7 @@ impl<'a> Scene<'a> {
         }
     }
 
-    /// Appends the same of these components of the message itself.
+    /// Appends the message's own entry once for each of these components that is of the invoke ID and this sort.
     fn push_in(
         &self,
         entries: &mut Vec<u64>,
@@ -226,7 +229,8 @@ impl<'a> Scene<'a> {
         }
     }
 
-    /// The same of what the end told there, and of these components of the message.
+    /// Returns the entries of such components in the end's messages to the destination ID, and among these components
+    /// of the message.
     fn told_with(
         &self,
         alloc: Global,
@@ -241,7 +245,7 @@ impl<'a> Scene<'a> {
         Ok(entries)
     }
 
-    /// The Continues from the message's originating ID to another destination ID.
+    /// Returns the Continues from the message's originating ID to another destination ID.
     fn elsewhere(&self, alloc: Global) -> Result<Vec<u64>, AllocError>
         ensures { (s : Known) → IsScene s self.now → IfOk result (λ v. v.items ≡ shown s whats.WentElsewhere) }
     {
@@ -255,7 +259,7 @@ impl<'a> Scene<'a> {
         }
     }
 
-    /// The entries that show it. What is open is asked of a quiet mark alone.
+    /// Returns the entries that show a thing about the message. `Open` is for quiet marks only, and gives none here.
     pub(crate) fn shown(&self, alloc: Global, what: What) -> Result<Vec<u64>, AllocError>
         ensures { (s : Known) → IsScene s self.now → is_of_mark what ≡ false → IfOk result (λ v. v.items ≡ shown s what) }
     {
@@ -282,7 +286,7 @@ impl<'a> Scene<'a> {
         }
     }
 
-    /// The Invokes of the invoke ID in these messages.
+    /// Returns the Invokes of the invoke ID in these messages.
     fn invocations_in(&self, alloc: Global, sent: &[Sent]) -> Result<Vec<Invocation>, AllocError>
         ensures { (s : Known) → IsScene s self.now
             → IfOk result (λ v. v.items ≡ invocations_in s.id (numbered_of sent.now)) }
@@ -293,7 +297,7 @@ impl<'a> Scene<'a> {
         }
     }
 
-    /// Those that a kind of the message compares by their operations or their links, by the component at fault.
+    /// Returns the invocations that a kind compares by operation or link, for this component at fault.
     pub(crate) fn invocations(
         &self,
         alloc: Global,

@@ -16,7 +16,7 @@ pub(crate) struct Sent<'a> {
     pub(crate) message: &'a Message,
 }
 
-/// What each end sent before the entry of that number, since the last quiet mark.
+/// The messages of each end before an entry, since the last quiet mark.
 #[derive(Drop)]
 pub(crate) struct Stretch<'a> {
     pub(crate) own: Vec<Sent<'a>>,
@@ -24,7 +24,7 @@ pub(crate) struct Stretch<'a> {
 }
 
 impl<'a> Stretch<'a> {
-    /// An entry more, of that number.
+    /// Takes the next entry.
     fn take(&mut self, end: End, number: u64, entry: &'a Entry) -> Result<(), AllocError>
         ensures own { OnOk result (numbered_of self.new.own.items
             ≡ with_entry end number (item_of entry.now) (numbered_of self.old.own.items)) }
@@ -50,7 +50,7 @@ impl<'a> Stretch<'a> {
     }
 }
 
-/// What an end and its peer sent before the entry of that number, since the last quiet mark.
+/// Returns the messages of an end and its peer before entry `number`, since the last quiet mark.
 pub(crate) fn stretch_before<'a>(
     alloc: Global,
     record: &'a Record,

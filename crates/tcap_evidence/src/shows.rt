@@ -1,4 +1,4 @@
-//! What shows each kind of fault (Q.771, Q.773, Q.774).
+//! The things that show each kind of fault (Q.771, Q.773, Q.774).
 
 ghost use Rattle.std.specs.Prelude.{◌≡◌, option_map};
 ghost use Rattle.tcap_parts.specs.Meaning.{component_of};
@@ -11,7 +11,8 @@ use tcap_msg::{Message, MessageParts};
 use tcap_parts::{ComponentView, ProblemView};
 use tcap_refute::Kind;
 
-/// F5: what a component answers or rejects; a Reject without ID, or with a general problem, is of nothing that could be read.
+/// F5: returns the components that could be answered or rejected. There is no list for a Reject without ID or with a
+/// general problem, which may reject something that could not be read.
 fn answered_by(component: Option<ComponentView>) -> &'static [What]
     ensures { result.now ≡ answered_by (option_map component_of component.entry) }
 {
@@ -40,7 +41,7 @@ fn answered_by(component: Option<ComponentView>) -> &'static [What]
     }
 }
 
-/// F6: the Invokes that would have to allow an answer.
+/// F6: returns the Invokes that would have to allow an answer.
 fn allowed_by(component: Option<ComponentView>) -> &'static [What]
     ensures { result.now ≡ allowed_by (option_map component_of component.entry) }
 {
@@ -55,7 +56,7 @@ fn allowed_by(component: Option<ComponentView>) -> &'static [What]
     }
 }
 
-/// F9: how the dialogue stands.
+/// F9: returns the Begins and Continues that determine the dialogue state.
 fn dialogue_of(how: How) -> &'static [What]
     ensures { result.now ≡ dialogue_of how }
 {
@@ -65,7 +66,8 @@ fn dialogue_of(how: How) -> &'static [What]
     }
 }
 
-/// F13, of a Reject with that invoke problem: duplicateInvokeID (0), or one of a link (5 to 7).
+/// F13 of a Reject with an invoke problem: returns the evidence for duplicateInvokeID (0), or for a link problem (5 to
+/// 7).
 fn problem_of_invoke(number: u8) -> &'static [What]
     ensures { result.now ≡ problem_of_invoke number }
 {
@@ -79,7 +81,7 @@ fn problem_of_invoke(number: u8) -> &'static [What]
     }
 }
 
-/// F13: what a Reject rejects, and what its problem is about.
+/// F13: returns the components that could be rejected, and those by which the problem is judged.
 fn rejected_by(component: Option<ComponentView>) -> &'static [What]
     ensures { result.now ≡ rejected_by (option_map component_of component.entry) }
 {
@@ -122,7 +124,7 @@ fn rejected_by(component: Option<ComponentView>) -> &'static [What]
     }
 }
 
-/// F8: the half, as it began and went on.
+/// F8: the Begin and the Continues of the half.
 const HALF: [What; 6] = [
     What::BeginsThere,
     What::Refused,
@@ -132,7 +134,7 @@ const HALF: [What; 6] = [
     What::Unknown,
 ];
 
-/// F10: own invocations of the ID, and what may have ended them.
+/// F10: the own invocations of the ID, and the components that may have ended them.
 const INVOCATIONS: [What; 11] = [
     What::Whole(Sort::Invokes(Class::Any)),
     What::Invoked(Sort::Lasting(Class::Any)),
@@ -147,7 +149,7 @@ const INVOCATIONS: [What; 11] = [
     What::Whole(Sort::GeneralRejects),
 ];
 
-/// F11: the Invokes of the linked ID, and what took them away.
+/// F11: the Invokes of the linked ID, and the components that ended them.
 const LINKED: [What; 4] = [
     What::Heard(Sort::Invokes(Class::Any)),
     What::Before(Sort::LastResults),
@@ -155,7 +157,7 @@ const LINKED: [What; 4] = [
     What::Before(Sort::InvokeRejects),
 ];
 
-/// F12: the Invokes of the ID, by class, and what answered them.
+/// F12: the Invokes of the ID, by class, and the components that answered them.
 const ANSWERED: [What; 7] = [
     What::Heard(Sort::Invokes(Class::Any)),
     What::Heard(Sort::Invokes(Class::One)),
@@ -175,7 +177,8 @@ const REPLIED: [What; 5] = [
     What::Told,
 ];
 
-/// What shows a kind of a message with destination ID, by how its half began and by the component at fault.
+/// Returns the things that show a kind of a message with a destination ID, by how its half began and the component at
+/// fault.
 fn shows_to(how: How, component: Option<ComponentView>, kind: Kind) -> &'static [What]
     ensures { result.now ≡ shows_to how (option_map component_of component.entry) kind }
 {
@@ -197,7 +200,7 @@ fn shows_to(how: How, component: Option<ComponentView>, kind: Kind) -> &'static 
     }
 }
 
-/// What shows a kind of a message without destination ID.
+/// Returns the things that show a kind of a message without a destination ID.
 fn shows_alone(kind: Kind) -> &'static [What]
     ensures { result.now ≡ shows_alone kind }
 {
@@ -208,7 +211,7 @@ fn shows_alone(kind: Kind) -> &'static [What]
     }
 }
 
-/// What shows a kind of a message.
+/// Returns the things that show a kind of a message.
 pub(crate) fn shows_of(
     message: &Message,
     how: How,

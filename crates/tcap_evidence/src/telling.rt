@@ -1,4 +1,4 @@
-//! The lines that say what a fault rests on.
+//! Writes the lines that say what a fault depends on.
 
 ghost use Rattle.std.specs.Prelude.{◌≡◌, ◌++◌, OnOk, true, codes, map, option_map, slice_get};
 ghost use Rattle.std.specs.List.{flat_map};
@@ -24,10 +24,10 @@ use tcap_parts::ComponentView;
 use tcap_record::{Body, End, Entry, Record, push_component, push_head, push_hex};
 use tcap_refute::{Kind, Refutation};
 
-/// How many entries are named at most.
+/// The most entries that a line names.
 pub(crate) const MOST: usize = 8;
 
-/// Appends the number of a component, where there is one.
+/// Appends the number of a component, if there is one.
 fn push_number(text: &mut String, component: Option<u64>) -> Result<(), AllocError>
     ensures { OnOk result (string_bytes text.new ≡ string_bytes text.old ++ component_words component) }
 {
@@ -37,7 +37,7 @@ fn push_number(text: &mut String, component: Option<u64>) -> Result<(), AllocErr
     }
 }
 
-/// Appends the line of an entry, and of its component where one is at fault.
+/// Appends the line of an entry at fault, with its component if one is at fault.
 fn push_entry(
     text: &mut String,
     end: End,
@@ -55,7 +55,7 @@ fn push_entry(
     text.push_str("\n")
 }
 
-/// Appends that of a quiet mark.
+/// Appends the line of a quiet mark.
 fn push_mark(text: &mut String, end: End, at: Refutation) -> Result<(), AllocError>
     ensures { OnOk result (string_bytes text.new ≡ string_bytes text.old ++ mark_line end at) }
 {
@@ -67,7 +67,7 @@ fn push_mark(text: &mut String, end: End, at: Refutation) -> Result<(), AllocErr
     text.push_str("\n")
 }
 
-/// Appends a component, where there is one.
+/// Appends the line of a component, if there is one.
 fn push_shown(text: &mut String, component: Option<ComponentView>) -> Result<(), AllocError>
     ensures { OnOk result (string_bytes text.new ≡ string_bytes text.old
         ++ component_shown (option_map component_of component.entry)) }
@@ -81,7 +81,7 @@ fn push_shown(text: &mut String, component: Option<ComponentView>) -> Result<(),
     }
 }
 
-/// Appends a message, and that component of it.
+/// Appends the lines of a message and a component of it.
 fn push_message(
     text: &mut String,
     message: &Message,
@@ -97,7 +97,7 @@ fn push_message(
     push_shown(text, component)
 }
 
-/// Appends the own ID of a half, where it is known.
+/// Appends the own ID of a half, if it is known.
 fn push_own(text: &mut String, own: Option<&TransactionId>) -> Result<(), AllocError>
     ensures { OnOk result (string_bytes text.new ≡ string_bytes text.old ++ own_words (option_map (λ id. id.now) own.entry)) }
 {
@@ -110,7 +110,7 @@ fn push_own(text: &mut String, own: Option<&TransactionId>) -> Result<(), AllocE
     }
 }
 
-/// Appends how the half began over which a message would go, and its own ID.
+/// Appends the line on how the half began over which a message would go, with its own ID.
 fn push_how(text: &mut String, end: End, about: &Subject) -> Result<(), AllocError>
     ensures { OnOk result (string_bytes text.new ≡ string_bytes text.old
         ++ (codes "  the transaction of " ++ letter end ++ codes ": " ++ how_words about.now.how ++ own_words about.now.own
@@ -124,7 +124,7 @@ fn push_how(text: &mut String, end: End, about: &Subject) -> Result<(), AllocErr
     text.push_str("\n")
 }
 
-/// The same of a message, where it has a destination ID and its kind is asked of the half.
+/// Appends the line of the half, if the message has a destination ID and its kind compares the half.
 fn push_half(
     text: &mut String,
     end: End,
@@ -141,7 +141,7 @@ fn push_half(
     }
 }
 
-/// Appends an invoke ID, where there is one.
+/// Appends an invoke ID, if there is one.
 fn push_id(text: &mut String, id: Option<i8>) -> Result<(), AllocError>
     ensures { OnOk result (string_bytes text.new ≡ string_bytes text.old ++ id_words id) }
 {
@@ -160,7 +160,7 @@ fn push_sort(text: &mut String, sort: Sort, id: Option<i8>) -> Result<(), AllocE
     text.push_str(class_words(class_of_sort(sort)))
 }
 
-/// The same where components are counted.
+/// Appends a sort of components of an invoke ID, if components are counted.
 fn push_sorted(text: &mut String, sort: Option<Sort>, id: Option<i8>) -> Result<(), AllocError>
     ensures { OnOk result (string_bytes text.new ≡ string_bytes text.old ++ sorted_in sort id) }
 {
@@ -170,7 +170,7 @@ fn push_sorted(text: &mut String, sort: Option<Sort>, id: Option<i8>) -> Result<
     }
 }
 
-/// Appends numbers of entries, each behind a comma.
+/// Appends numbers of entries, each after a comma.
 fn push_numbers(text: &mut String, numbers: &[u64]) -> Result<(), AllocError>
     ensures { OnOk result (string_bytes text.new ≡ string_bytes text.old ++ flat_map number_behind numbers.now) }
 {
@@ -180,7 +180,7 @@ fn push_numbers(text: &mut String, numbers: &[u64]) -> Result<(), AllocError>
     Ok(())
 }
 
-/// Appends how many entries there are that are not named.
+/// Appends the number of entries that are not named, if any.
 pub(crate) fn push_more(text: &mut String, count: usize) -> Result<(), AllocError>
     ensures { OnOk result (string_bytes text.new ≡ string_bytes text.old ++ more_words count) }
 {
@@ -191,7 +191,7 @@ pub(crate) fn push_more(text: &mut String, count: usize) -> Result<(), AllocErro
     write!(text, " and {left} more")
 }
 
-/// Appends entries: the first eight, and how many more there are.
+/// Appends the numbers of entries: the first eight, and the number of the others.
 pub(crate) fn push_entries(text: &mut String, entries: &[u64]) -> Result<(), AllocError>
     ensures { OnOk result (string_bytes text.new ≡ string_bytes text.old ++ entries_words entries.now) }
 {
@@ -206,8 +206,13 @@ pub(crate) fn push_entries(text: &mut String, entries: &[u64]) -> Result<(), All
     }
 }
 
-/// Appends what entries show of a fault of that end, in words: whose they are, and what they are, of that invoke ID where components are
-/// counted. `AllocError` where memory ran out.
+/// Appends the words for what entries show about a fault of an end: the end that sent them, and what they are.
+///
+/// `id` is the invoke ID, if components are counted.
+///
+/// # Errors
+///
+/// AllocError if memory runs out.
 pub fn push_what(text: &mut String, end: End, what: What, id: Option<i8>) -> Result<(), AllocError>
     ensures { OnOk result (string_bytes text.new ≡ string_bytes text.old ++ what_words end id what) }
 {
@@ -217,7 +222,7 @@ pub fn push_what(text: &mut String, end: End, what: What, id: Option<i8>) -> Res
     text.push_str(place_words(what))
 }
 
-/// Appends what entries show, and which.
+/// Appends the line for a thing and the entries that show it.
 fn push_ground(
     text: &mut String,
     end: End,
@@ -238,7 +243,7 @@ fn push_ground(
     text.push_str("\n")
 }
 
-/// Appends all that shows it, each on its line.
+/// Appends a line for each thing.
 pub(crate) fn push_grounds(
     text: &mut String,
     end: End,
@@ -254,7 +259,7 @@ pub(crate) fn push_grounds(
     Ok(())
 }
 
-/// Whether a component is an Invoke of an operation that the table lacks.
+/// Returns whether a component is an Invoke of an operation that the table does not have.
 fn lacks(table: &Table, component: Option<ComponentView>) -> bool
     ensures { result ≡ lacks table.now (option_map component_of component.entry) }
 {
@@ -264,7 +269,7 @@ fn lacks(table: &Table, component: Option<ComponentView>) -> bool
     }
 }
 
-/// Appends what else may be so of a message.
+/// Appends the line with another possible explanation of a message, if there is one.
 fn push_doubt(
     text: &mut String,
     table: &Table,
@@ -280,7 +285,7 @@ fn push_doubt(
     }
 }
 
-/// Appends the lines of a message.
+/// Appends the lines for a message at fault.
 fn push_of_message(
     text: &mut String,
     table: &Table,
@@ -302,9 +307,14 @@ fn push_of_message(
     push_doubt(text, table, at.kind, component)
 }
 
-/// Appends in words what the fault of an end rests on, as `find_evidence` gives it of that record, that table, that end and that
-/// refutation, but for the invocations: lines, each with two blanks before it, that name the entries which show it. `AllocError` where
-/// memory ran out: a part of the lines may have been appended.
+/// Appends the lines on what the fault of an end depends on, without its invocations.
+///
+/// `found` is the result of `find_evidence` for this record, table, end and refutation. Each line begins with two
+/// spaces, and names the entries that show something.
+///
+/// # Errors
+///
+/// AllocError if memory runs out; some lines may have been appended by then.
 pub fn push_fault(
     text: &mut String,
     record: &Record,
@@ -343,8 +353,14 @@ pub fn push_fault(
     }
 }
 
-/// Appends the same, and behind it a line for each invocation whose operation and link the fault rests on: the first eight, and how many
-/// more there are. `AllocError` where memory ran out: a part of the lines may have been appended.
+/// Appends the lines of `push_fault`, and then those of the invocations on whose operations and links the fault
+/// depends.
+///
+/// The first eight invocations have a line each, and one line has the number of the others.
+///
+/// # Errors
+///
+/// AllocError if memory runs out; some lines may have been appended by then.
 pub fn push_evidence(
     text: &mut String,
     record: &Record,
@@ -361,9 +377,14 @@ pub fn push_evidence(
     push_invocations(text, table, found.id, &found.invocations)
 }
 
-/// Appends in words what the fault of an end rests on: the entry of a record that is named for it, as `refute` or `blame` name it, which
-/// has to be that end's or a quiet mark, and the entries that show it. It is given whether its kind was asked of one end alone, as
-/// `blame` does. `AllocError` where memory ran out: a part of the lines may have been appended.
+/// Finds the evidence for the fault of an end, and appends its lines.
+///
+/// `at` is the entry and the kind, as `refute` or `blame` names them; the entry must be that end's or a quiet mark.
+/// `of_one` says whether the kind was found for one end alone, as `blame` does.
+///
+/// # Errors
+///
+/// AllocError if memory runs out; some lines may have been appended by then.
 pub fn push_why(
     alloc: Global,
     text: &mut String,

@@ -1,4 +1,4 @@
-//! Why nobody is blamed for an entry that is refuted, in words.
+//! Writes why nobody is blamed for a refuted entry.
 
 ghost use Rattle.std.specs.Prelude.{◌≡◌, ◌++◌, Some, OnOk};
 ghost use Rattle.std.specs.String.{string_bytes};
@@ -14,7 +14,7 @@ use tcap_end::Table;
 use tcap_faults::{Tangle, TangledId, Unblamed, unblamed};
 use tcap_record::{End, Record, push_hex};
 
-/// Where the IDs of a message stood before.
+/// The things that show earlier uses of a message's IDs.
 const ID_USES: [What; 4] = [
     What::BeginsThere,
     What::ContinuesThere,
@@ -22,7 +22,7 @@ const ID_USES: [What; 4] = [
     What::Used,
 ];
 
-/// Appends the lines of these for the message of that entry.
+/// Appends the lines that show earlier uses of the IDs of the message in that entry.
 fn push_id_uses(
     alloc: Global,
     text: &mut String,
@@ -38,7 +38,7 @@ fn push_id_uses(
     push_grounds(text, end, None, &grounds)
 }
 
-/// Why an ID is tangled.
+/// Returns the words for why an ID is ambiguous.
 #[tactic(auto, unfolding(crate::specs::Unblamed::tangle_words))]
 fn tangle_words(why: Tangle) -> &'static str
     ensures { result.now ≡ tangle_words why }
@@ -53,7 +53,7 @@ fn tangle_words(why: Tangle) -> &'static str
     }
 }
 
-/// That it may be read otherwise.
+/// Returns the line for a Reject of something that a stack may read in another way.
 #[tactic(auto, unfolding(crate::specs::Unblamed::spelling_words))]
 fn spelling_words() -> &'static str
     ensures { result.now ≡ spelling_words }
@@ -72,7 +72,7 @@ fn push_again(text: &mut String, end: End, again: u64) -> Result<(), AllocError>
     text.push_str("\n")
 }
 
-/// Appends that an ID is tangled, of which end, and why.
+/// Appends that an ID is ambiguous, with its end and the reason.
 fn push_tangled_id(text: &mut String, tangled: &TangledId) -> Result<(), AllocError>
     ensures { OnOk result (string_bytes text.new ≡ string_bytes text.old ++ tangled_text tangled.now) }
 {
@@ -83,8 +83,8 @@ fn push_tangled_id(text: &mut String, tangled: &TangledId) -> Result<(), AllocEr
     text.push_str(tangle_words(tangled.why))
 }
 
-/// Appends that an ID is tangled, the entries that begin it and those in which it stands with IDs of the other end, and where the IDs of
-/// the message stood before.
+/// Appends that an ID is ambiguous, the entries that begin it and show its partners, and the earlier uses of the
+/// message's IDs.
 fn push_tangled(
     alloc: Global,
     text: &mut String,
@@ -104,10 +104,17 @@ fn push_tangled(
     push_id_uses(alloc, text, record, table, end, number)
 }
 
-/// Appends why nobody is blamed for the entry of that number, which has to be that end's and refuted, with no end blamed for it or for an
-/// entry before it: the end used an own ID again, or the message goes over tangled IDs, the first of which is named, with the entries that
-/// begin it and those in which it stands with IDs of the other end; or it is a Reject of what a stack may read otherwise. `AllocError`
-/// where memory ran out: a part of the lines may have been appended.
+/// Appends why nobody is blamed for entry `number`.
+///
+/// The entry must be that end's and refuted, and no end may be blamed for it or for an earlier entry. There are three
+/// possible reasons:
+/// - the end used an own ID again;
+/// - the message has an ambiguous ID, which is printed with the entries that show it;
+/// - the message is a Reject of something that a stack may read in another way.
+///
+/// # Errors
+///
+/// AllocError if memory runs out; some lines may have been appended by then.
 pub fn push_unblamed(
     alloc: Global,
     text: &mut String,

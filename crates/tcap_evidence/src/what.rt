@@ -1,44 +1,47 @@
-//! What entries show of a fault.
+//! The things that entries show about a fault.
 
 use tcap_faults::Sort;
 
-/// What entries show of a message at fault and of the end that sent it. "There" is the message's destination ID.
+/// A thing that entries show about a message at fault and the end that sent it.
+///
+/// "There" is the message's destination ID. "Components" are those of the invoke ID in question.
 #[derive(Clone, Copy, Debug)]
 pub enum What {
     /// The peer's Begins from there.
     BeginsThere,
-    /// Those with a dialogue request (AARQ).
+    /// The peer's Begins from there with a dialogue request (AARQ).
     RequestsThere,
     /// The peer's Continues from there.
     ContinuesThere,
     /// The end's messages from the message's originating ID.
     Used,
-    /// The end's Continues from that ID to another destination ID.
+    /// The end's Continues from the message's originating ID to another destination ID.
     WentElsewhere,
-    /// The end's Begins from the own ID of the half; of a Continue from its originating ID.
+    /// The end's Begins from the half's own ID or, if that is unknown, from the message's originating ID.
     Begun,
-    /// Those with a dialogue request (AARQ).
+    /// The Begins of `Begun` with a dialogue request (AARQ).
     OwnRequests,
-    /// The end's messages to there, without the Aborts of its provider.
+    /// The end's messages to there, without its provider's Aborts.
     Told,
-    /// The Continues among them.
+    /// The end's Continues to there.
     ContinuesTold,
-    /// The end's Ends to there, and the Aborts of its user.
+    /// The end's Ends to there, and its user's Aborts.
     Ended,
-    /// Its provider's Aborts with cause 1, unrecognizedTransactionID, to there.
+    /// The end's provider's Aborts to there with cause 1, unrecognizedTransactionID.
     Unknown,
-    /// Its provider's Aborts with cause 4, resourceLimitation, to there.
+    /// The end's provider's Aborts to there with cause 4, resourceLimitation.
     Refused,
-    /// Components of the invoke ID, of a sort, in the peer's messages from there.
+    /// Components of a sort in the peer's messages from there.
     There(Sort),
-    /// Those among them that the half heard.
+    /// Components of a sort in the messages that the half heard.
     Heard(Sort),
-    /// Those in the end's messages to there, and in the message before its component.
+    /// Components of a sort in the end's messages to there, and in the message before the component at fault.
     Before(Sort),
-    /// Those in the end's messages to there, and in all of the message.
+    /// Components of a sort in the end's messages to there, and in the whole message.
     Whole(Sort),
-    /// Those in what has the half's own invocations: its Begin, and its messages to there.
+    /// Components of a sort in the messages that carry the half's own invocations: its Begin, and its messages to
+    /// there.
     Invoked(Sort),
-    /// The end's Continues from IDs whose halves are open for certain.
+    /// The end's Continues from IDs whose halves are certainly open.
     Open,
 }

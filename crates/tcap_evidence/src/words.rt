@@ -1,4 +1,4 @@
-//! Words for what a fault rests on.
+//! The words for what a fault depends on.
 
 ghost use Rattle.std.specs.Prelude.{◌≡◌};
 ghost use Rattle.tcap_evidence.specs.Words.{class_of_sort, class_words, doubt_words, how_words, is_of_half, is_told_empty, kind_words, lacks_words, place_words, sender_of, sort_in, sort_words};
@@ -8,7 +8,7 @@ use tcap_faults::{Class, How, Sort};
 use tcap_record::End;
 use tcap_refute::Kind;
 
-/// What a kind says of a message, or of a quiet mark.
+/// Returns the words for what a kind says of a message or a quiet mark.
 #[tactic(auto, unfolding(crate::specs::Words::kind_words))]
 pub(crate) fn kind_words(kind: Kind) -> &'static str
     ensures { result.now ≡ kind_words kind }
@@ -34,7 +34,7 @@ pub(crate) fn kind_words(kind: Kind) -> &'static str
     }
 }
 
-/// How the half began over which a message would go.
+/// Returns the words for how a half began.
 #[tactic(auto, unfolding(crate::specs::Words::how_words))]
 pub(crate) fn how_words(how: How) -> &'static str
     ensures { result.now ≡ how_words how }
@@ -48,7 +48,7 @@ pub(crate) fn how_words(how: How) -> &'static str
     }
 }
 
-/// Whether a kind is asked of the half over which a message would go.
+/// Returns whether a kind compares the half over which a message would go.
 pub(crate) fn is_of_half(kind: Kind) -> bool
     ensures { result ≡ is_of_half kind }
 {
@@ -63,7 +63,7 @@ pub(crate) fn is_of_half(kind: Kind) -> bool
     )
 }
 
-/// A class of operations, behind what is of it.
+/// Returns the words for a class of operations, which follow those for a sort.
 #[tactic(auto, unfolding(crate::specs::Words::class_words))]
 pub(crate) fn class_words(class: Class) -> &'static str
     ensures { result.now ≡ class_words class }
@@ -76,7 +76,7 @@ pub(crate) fn class_words(class: Class) -> &'static str
     }
 }
 
-/// A sort of components, without its class.
+/// Returns the words for a sort of components, without its class.
 #[tactic(auto, unfolding(crate::specs::Words::sort_words))]
 pub(crate) fn sort_words(sort: Sort) -> &'static str
     ensures { result.now ≡ sort_words sort }
@@ -98,7 +98,7 @@ pub(crate) fn sort_words(sort: Sort) -> &'static str
     }
 }
 
-/// The class of a sort.
+/// Returns the class of a sort.
 pub(crate) fn class_of_sort(sort: Sort) -> Class
     ensures { result ≡ class_of_sort sort }
 {
@@ -108,7 +108,7 @@ pub(crate) fn class_of_sort(sort: Sort) -> Class
     }
 }
 
-/// The end whose entries show it.
+/// Returns the end that sent the entries.
 pub(crate) fn sender_of(end: End, what: What) -> End
     ensures { result ≡ sender_of end what }
 {
@@ -122,7 +122,7 @@ pub(crate) fn sender_of(end: End, what: What) -> End
     }
 }
 
-/// The sort of components that is counted.
+/// Returns the sort of components that is counted, if any.
 pub(crate) fn sort_in(what: What) -> Option<Sort>
     ensures { result ≡ sort_in what }
 {
@@ -136,7 +136,7 @@ pub(crate) fn sort_in(what: What) -> Option<Sort>
     }
 }
 
-/// Where the messages were sent, or the components stood.
+/// Returns the words for messages and their IDs, or for the place of components.
 #[tactic(auto, unfolding(crate::specs::Words::place_words))]
 pub(crate) fn place_words(what: What) -> &'static str
     ensures { result.now ≡ place_words what }
@@ -163,7 +163,7 @@ pub(crate) fn place_words(what: What) -> &'static str
     }
 }
 
-/// Whether there being none is told.
+/// Returns whether a line is printed even if there are no entries.
 pub(crate) fn is_told_empty(what: What) -> bool
     ensures { result ≡ is_told_empty what }
 {
@@ -187,7 +187,7 @@ pub(crate) fn is_told_empty(what: What) -> bool
     }
 }
 
-/// What else may be so.
+/// Returns the line with another possible explanation, if the kind has one.
 #[tactic(auto, unfolding(crate::specs::Words::doubt_words))]
 pub(crate) fn doubt_words(kind: Kind) -> &'static str
     ensures { result.now ≡ doubt_words kind }
@@ -204,7 +204,7 @@ pub(crate) fn doubt_words(kind: Kind) -> &'static str
     }
 }
 
-/// That the table lacks an operation, where that is so.
+/// Returns the line on an operation that the table does not have, or no text.
 #[tactic(auto, unfolding(crate::specs::Words::lacks_words))]
 pub(crate) fn lacks_words(lacks: bool) -> &'static str
     ensures { result.now ≡ lacks_words lacks }

@@ -1,4 +1,4 @@
--- Where an invocation was answered already, or a Reject is not allowed, what is listed shows that.
+-- The lists show F12 (an invocation answered already) and F13 (a Reject that is not allowed).
 use Rattle.std.proofs.Common.{◌≡◌, ◌⊎◌, inl, inr, ℕ, ℤ, ◌+◌, ◌≤◌, ◌<◌, arith, Bool, true, false, not, ◌||◌, List, [], ◌∷◌, ◌++◌, length, take, Option, Some, None, refl, sym, ap, subst, ◌∙◌}
 use Rattle.std.specs.Prelude.{nat_lt}
 use Rattle.std.proofs.lemmas.Bool.{and_from, and_parts, leb-true, ltb-true, or_cases}
@@ -33,11 +33,11 @@ use Rattle.tcap_refute.specs.declared.kind.Kind.TheVariants as kinds
 use Rattle.tcap_faults.specs.declared.sort.Sort.TheVariants as sorts
 use Rattle.tcap_evidence.specs.declared.what.What.TheVariants as whats
 
--- One that passes is one more.
+-- An appended item that passes counts one.
 pub one_more : {A : Type 0} (p : A → Bool) (xs : List A) (x : A) → p x ≡ true → count p (xs ++ x ∷ []) ≡ count p xs + 1
 one_more p xs x so = let here : one (p x) ≡ 1 = ap one so in omega (arith, here, count_last p xs x)
 
--- and one that does not is none.
+-- An appended item that does not pass counts none.
 none_more : {A : Type 0} (p : A → Bool) (xs : List A) (x : A) → p x ≡ false → count p (xs ++ x ∷ []) ≡ count p xs + 0
 none_more p xs x so = let here : one (p x) ≡ 0 = ap one so in omega (arith, here, count_last p xs x)
 
@@ -169,7 +169,7 @@ module _ (s : Scene) (h : HalfOf) (cs : List Component) (id : ℤ) (counts : IsC
   again (Reject (Some other) (problems.ReturnResult n)) of_it is = cc
   again (Reject (Some other) (problems.ReturnError n)) of_it is = cc
 
--- ---- messages that are answers again
+-- ---- messages that answer again
 
 module _ (of_one : Bool) (table : Table) (side : Side) (entries : List Entry) (number : ℕ) (m : Message) where
   abbrev items : List Item

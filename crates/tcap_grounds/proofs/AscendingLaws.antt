@@ -1,4 +1,4 @@
--- Each list of entries that is given for a fault is in order.
+-- Each given list of entries is in ascending order.
 use Rattle.std.proofs.Common.{◌≡◌, ℕ, ℤ, ◌≤◌, arith, Bool, true, false, cond, ◌&&◌, List, [], ◌∷◌, ◌++◌, map, Option, Some, None, Result, Ok, Err, is_none, refl, sym, subst}
 use Rattle.std.specs.Prelude.{Contains, filter, option_to_list, slice_get}
 use Rattle.std.specs.List.{find}
@@ -38,7 +38,7 @@ use Rattle.tcap_grounds.proofs.OrderLaws.{Ascend, append_ascends, first_ascend, 
 use Rattle.tcap_grounds.proofs.SentBefore.{was_sent}
 use Rattle.tcap_grounds.proofs.SuchLaws.{itself_is, sorted_is, told_is}
 
--- A scene whose lists are what the ends sent before its entry.
+-- A scene with the messages of the ends before its entry.
 module _ (entries : List Entry) (s : Scene) (own : s.own ≡ sent_before s.side entries s.number)
     (peer : s.peer ≡ sent_before (other s.side) entries s.number) where
   -- ---- messages
@@ -109,7 +109,7 @@ module _ (entries : List Entry) (s : Scene) (own : s.own ≡ sent_before s.side 
           let (it, has) = itself_is s sort cs y here in
           let before = at.before in omega (arith, before, it)
 
-  -- ---- all
+  -- ---- all lists
 
   pub shown_ascends : (what : What) → IsAscending (shown s what)
   shown_ascends whats.BeginsThere = where_ascends (is_a forms.Begin) (there s) there_ascend
@@ -134,7 +134,7 @@ module _ (entries : List Entry) (s : Scene) (own : s.own ≡ sent_before s.side 
   shown_ascends (whats.Invoked sort) = sort_ascends sort (in_order (invoked_by s s.how)) (invoked_ascend s.how)
   shown_ascends whats.Open = where_ascends (is_open_continue s) s.own own_ascend
 
--- ---- of an entry
+-- ---- the lists for an entry
 
 module _ (of_one : Bool) (table : Table) (side : Side) (entries : List Entry) (r : Refutation) where
   pub grounds_ascend : (what : What) (numbers : List ℕ) → Contains (grounds_of of_one table side entries r) (what, numbers)

@@ -1,4 +1,4 @@
--- Where a component answers or rejects what was never sent, what is listed shows that.
+-- The lists show F5: an answer or a Reject of something that was never sent.
 use Rattle.std.proofs.Common.{◌≡◌, ℕ, ℤ, Bool, true, false, cond, not, ◌||◌, List, [], Option, Some, None, refl, sym, ap, subst, ◌∙◌}
 use Rattle.std.specs.List.{list_any}
 use Rattle.std.proofs.lemmas.Bool.{not-true, or_left}
@@ -34,9 +34,9 @@ use Rattle.tcap_refute.specs.declared.kind.Kind.TheVariants as kinds
 use Rattle.tcap_faults.specs.declared.sort.Sort.TheVariants as sorts
 use Rattle.tcap_evidence.specs.declared.what.What.TheVariants as whats
 
--- ---- lists of what is there
+-- ---- lists of the peer's messages from the destination ID
 
--- Of a message without destination ID nothing is there.
+-- They are empty for a message without a destination ID.
 alone_lists : (s : Scene) → s.to ≡ None → (sort : Sort) → ListsNone s (whats.There sort)
 alone_lists s to sort = ap (with_sort s sort) (nothing_there s to) ∙ by s.id refl
   where
@@ -46,7 +46,7 @@ alone_lists s to sort = ap (with_sort s sort) (nothing_there s to) ∙ by s.id r
 
 -- ---- F5
 
--- whether a message has it, asked of one end or of both, is whether one of its components has
+-- whether a message has F5, of one end or of both, is whether one of its components has it
 asked_of : (of_one : Bool) (side : Side) (items : List Item) (m : Message)
     → cond of_one (answers_nothing_there side items m) (answers_nothing side items m)
     ≡ list_any (answers_nothing_in of_one side items m) (components_in m)
@@ -61,7 +61,7 @@ asked_of false side items (Continue otid dtid dialogue components) = refl
 asked_of false side items (EndMessage dtid dialogue components) = refl
 asked_of false side items (Abort dtid reason) = refl
 
--- Of a message without destination ID.
+-- A message without a destination ID.
 unasked_alone : (s : Scene) → s.to ≡ None → (c : Component) → (is_answer c || is_reject c) ≡ true → ShowsUnasked s (Some c)
 unasked_alone s to (Invoke id linked code parameter) is = cc
 unasked_alone s to (ReturnResult last id body) is = alone_lists s to (sorts.Invokes Any)
@@ -72,7 +72,7 @@ unasked_alone s to (Reject (Some id) (problems.Invoke n)) is = alone_lists s to 
 unasked_alone s to (Reject (Some id) (problems.ReturnResult n)) is = alone_lists s to sorts.Results
 unasked_alone s to (Reject (Some id) (problems.ReturnError n)) is = alone_lists s to sorts.Errors
 
--- A Return Result of an ID, and a Return Error.
+-- The tests for Return Results and Return Errors of an ID are those of the sorts.
 results_are : (id : ℤ) (c : Component) → answers true id c ≡ is_result id c
 results_are id (Invoke other linked code parameter) = refl
 results_are id (ReturnResult last other body) = refl
@@ -85,11 +85,11 @@ errors_are id (ReturnResult last other body) = refl
 errors_are id (ReturnError other code parameter) = refl
 errors_are id (Reject other problem) = refl
 
--- What is counted there of an invoke ID is listed.
+-- The lists of an invoke ID have as many entries as these components are counted.
 abbrev pub AreThere : Scene → ℤ → List Component → Type 0
 AreThere s id there = (sort : Sort) → many s (whats.There sort) ≡ count (is_sort s.table id sort) there
 
--- Of one with destination ID, of both ends,
+-- A message with a destination ID, for both ends.
 module _ (s : Scene) (there : List Component) where
   none_invoked : (id : ℤ) → AreThere s id there → not (list_any (invokes id) there) ≡ true
       → ListsNone s (whats.There (sorts.Invokes Any))
@@ -114,7 +114,7 @@ module _ (s : Scene) (there : List Component) where
       (sym (any_same (answers false id) (is_error id) there (errors_are id))
       ∙ not-true (list_any (answers false id) there) is)
 
-  -- and of one.
+  -- A message with a destination ID, for one end.
   unasked_one : (c : Component) → ((id : ℤ) → invoke_id_of kinds.AnswersNothing c ≡ Some id → AreThere s id there)
       → answers_none there c ≡ true → ShowsUnasked s (Some c)
   unasked_one (Reject (Some id) (problems.General n)) counts is = tt
@@ -134,7 +134,7 @@ module _ (s : Scene) (there : List Component) where
   unasked_by true c counts is = unasked_one c counts is
   unasked_by false c counts is = unasked_to c counts is
 
--- The message has it where it is named for that.
+-- A message with the kind has F5.
 named_so : (of_one : Bool) (table : Table) (side : Side) (items : List Item) (m : Message)
     → has_kind_by of_one table side items m kinds.AnswersNothing ≡ true
     → cond of_one (answers_nothing_there side items m) (answers_nothing side items m) ≡ true

@@ -1,4 +1,4 @@
--- Where an invoke ID is in use, or a linked ID is of no invocation that is there, what is listed shows that.
+-- The lists show F10 (an invoke ID in use) and F11 (a linked ID without an invocation).
 use Rattle.std.proofs.Common.{◌≡◌, ◌≢◌, ◌⊎◌, inl, inr, ℕ, ℤ, ◌+◌, ◌≤◌, ◌<◌, arith, Bool, true, not, List, [], ◌∷◌, ◌++◌, length, map, take, Option, Some, None, refl, sym, ap, subst, ◌∙◌}
 use Rattle.std.specs.Prelude.{filter, ◌==◌, nat_le, nat_lt, slice_get}
 use Rattle.std.specs.List.{list_any}
@@ -44,7 +44,7 @@ use Rattle.tcap_evidence.specs.declared.what.What.TheVariants as whats
 
 -- ---- Rejects
 
--- A Reject has one problem.
+-- A Reject has only one problem.
 module _ (id : ℤ) where
   no_invoke : (c : Component) → rejects_invoke id any_problem c ≡ true → rejects_generally id c ≡ true → ⊥
   no_invoke (Invoke other linked code parameter) is general = cc
@@ -66,7 +66,7 @@ module _ (id : ℤ) where
   no_answer (Reject (Some other) (problems.ReturnResult n)) is general = cc
   no_answer (Reject (Some other) (problems.ReturnError n)) is general = cc
 
--- An Invoke is one of any class.
+-- Each Invoke is an Invoke of any class.
 any_so : (table : Table) (id : ℤ) (c : Component) → invokes id c ≡ true → is_sort table id (sorts.Invokes Any) c ≡ true
 any_so table id (Invoke other linked code parameter) is = and_from (is_invoke_id id other) true is refl
 any_so table id (ReturnResult last other body) is = cc
@@ -75,7 +75,7 @@ any_so table id (Reject other problem) is = cc
 
 -- ---- F10
 
--- A number stands as often in a list as it was put there.
+-- A number occurs in a list as often as it was put there.
 number_counted : (number : ℕ) (cs : List Component)
     → count (λ (n : ℕ). n == number) (map (λ (c : Component). number) cs) ≡ length cs
 number_counted number [] = refl
@@ -88,7 +88,7 @@ number_counted number (c ∷ cs) =
       number_counted number cs,
     )
 
--- Where two components of the message are of the sort, its entry stands twice in the list.
+-- If two components of the message are of the sort, its entry is listed twice.
 twice : (s : Scene) (id : ℤ) (sort : Sort) → s.id ≡ Some id → 2 ≤ count (is_sort s.table id sort) s.all
     → 2 ≤ count (λ (n : ℕ). n == s.number) (shown s (whats.Whole sort))
 twice s id sort is two =
@@ -217,7 +217,7 @@ module _ (of_one : Bool) (table : Table) (side : Side) (entries : List Entry) (n
   busy_it to goes some k (ReturnError id code parameter) here of_it is = cc
   busy_it to goes some k (Reject id problem) here of_it is = cc
 
-  -- Of a message without destination ID.
+  -- A message without a destination ID.
   again_it : (k : ℕ) (c : Component) → busy.id ≡ invoke_id_of kinds.InvokeIdBusy c → busy.earlier ≡ take k (components_in m)
       → invokes_again (take k (components_in m)) (take k (components_in m)) c ≡ true → ShowsBusy busy None (Some c)
   again_it k (Invoke id linked code parameter) of_it earlier is =
@@ -256,7 +256,7 @@ module _ (of_one : Bool) (table : Table) (side : Side) (entries : List Entry) (n
       → ShowsBusy busy (dtid_in m) (component_with of_one table side entries number m kinds.InvokeIdBusy)
   busy_shows has = busy_by has (dtid_in m) refl
 
-  -- ---- of F11
+  -- ---- a message with F11
 
   abbrev linked_scene : Scene
   linked_scene = scene_at of_one table side entries number m kinds.BadLink

@@ -1,5 +1,5 @@
--- Where the half over which a message goes was answered as closed, and the message goes over no tangled IDs, an Abort with cause 1
--- went to its destination ID.
+-- If the half of a message was closed and the message has no ambiguous ID, the end's provider sent an Abort with cause
+-- 1 to the destination ID.
 use Rattle.std.proofs.Common.{ℕ, ◌≡◌, ◌⊎◌, inl, inr, Bool, true, false, not, ◌&&◌, List, [], ◌∷◌, ◌++◌, Option, Some, None, append_assoc, append-nil, refl, sym, ap, subst, ◌∙◌}
 use Rattle.std.specs.Prelude.{Contains, filter, filter_map}
 use Rattle.std.specs.List.{list_any}
@@ -23,7 +23,7 @@ use Rattle.tcap_faults.proofs.TangledLaws.{all_same}
 use Rattle.tcap_faults.proofs.TwoTests.{passes_not}
 use Rattle.tcap_msg.specs.declared.kind.Kind.TheVariants as forms
 
--- An item that passes stands behind those before it.
+-- An item that passes has items before and after it.
 passing : (passes : List Item → Item → Bool) (seen items : List Item) → one_passes passes seen items ≡ true
     → (before : List Item) × (item : Item) × (after : List Item)
     × (items ≡ before ++ item ∷ after) × (passes (seen ++ before) item ≡ true)
@@ -47,7 +47,7 @@ passing passes seen (item ∷ items) is =
           ap (λ (xs : List Item). passes xs it) (sym (append_assoc seen (item ∷ []) before)) ∙ so,
         )
 
--- What was sent before was sent.
+-- A message that was sent before is among all that were sent.
 sent_still : (side : Side) (before after : List Item) (x : Message) → Contains (sent_by side before) x
     → Contains (sent_by side (before ++ after)) x
 sent_still side before after x has =
@@ -56,7 +56,7 @@ sent_still side before after x has =
 
 module _ (side : Side) (items : List Item) (own id : List ℕ) (joined : Contains (peers_of side items own) id)
     (one : is_own_tangled side items own ≡ false) where
-  -- An ID from which the peer went on to the own one is that.
+  -- A peer's ID from which the peer sent Continues to the own ID is the destination ID.
   same_peer : (before after : List Item) (other_id : List ℕ) → items ≡ before ++ after
       → all_go_on_to own (asked side other_id before) ≡ true → has_used side before own ≡ true → other_id ≡ id
   same_peer before after other_id are goes used =
@@ -93,7 +93,7 @@ module _ (side : Side) (items : List Item) (own id : List ℕ) (joined : Contain
           → Contains (peers_of side items own) other_id
       peer_of named = rw used_still (Contains-append_right _ _ other_id named)
 
-  -- The item that shows the half to be closed is an Abort to that ID.
+  -- The item that shows that the half is closed is an Abort to the destination ID.
   closes : (before : List Item) (item : Item) (after : List Item) → items ≡ before ++ item ∷ after
       → shows_closed side own before item ≡ true → list_any (is_abort_with 1 id) (sent_by side items) ≡ true
   closes before Item.Quiet after are is = cc

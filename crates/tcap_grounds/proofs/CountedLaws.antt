@@ -1,4 +1,4 @@
--- As many components, and as many messages, are listed as the kinds of faults count.
+-- The lists have as many entries as the kinds count components and messages.
 use Rattle.std.proofs.Common.{◌≡◌, ◌≢◌, ℕ, ℤ, arith, Bool, true, ◌&&◌, List, [], ◌∷◌, ◌++◌, length, Option, Some, refl, ap, ◌∙◌}
 use Rattle.std.specs.Prelude.{filter}
 use Rattle.std.proofs.lemmas.List.{length-append, length-map}
@@ -47,7 +47,7 @@ module _ (s : Scene) (invoke : ℤ) (is : s.id ≡ Some invoke) (sort : Sort) wh
   counted_itself cs = rw is (length-map (filter is_so cs) (λ (c : Component). s.number))
 
   module _ (side : Side) (items : List Item) (id : List ℕ) (of : IsTo side items id s) where
-    -- in what the end told there, and in these of the message itself
+    -- in the end's messages to the destination ID, and among these components of the message
     told_and_itself : (cs : List Component) → length (with_sort s sort (told_there s) ++ with_sort_in s sort cs)
         ≡ count is_so (components_of (told side id items) ++ cs)
     told_and_itself cs =

@@ -1,4 +1,4 @@
--- Where the dialogue portion of a message does not fit the dialogue of its half, what is listed shows that.
+-- The lists show F9: a dialogue portion that does not fit the dialogue.
 use Rattle.std.proofs.Common.{◌≡◌, ◌⊎◌, inl, inr, ℕ, ◌<◌, arith, Bool, true, false, cond, not, ◌&&◌, ◌||◌, List, [], ◌∷◌, Option, Some, None, is_some, refl, sym, ap, subst, ◌∙◌}
 use Rattle.std.specs.Prelude.{◌==◌}
 use Rattle.std.specs.List.{find}
@@ -37,7 +37,7 @@ use Rattle.tcap_msg.specs.declared.kind.Kind.TheVariants as forms
 use Rattle.tcap_refute.specs.declared.kind.Kind.TheVariants as kinds
 use Rattle.tcap_evidence.specs.declared.what.What.TheVariants as whats
 
--- Fewer pass a test than another which follows from it, and which the first that passes does not show.
+-- A stricter test counts fewer messages, if the first one that passes the other test fails it.
 count_fewer : (p q : Message → Bool) (ms : List Message) (m : Message) → ((x : Message) → q x ≡ true → p x ≡ true)
     → find p ms ≡ Some m → q m ≡ false → count q ms < count p ms
 count_fewer p q [] m weaker is apart = cc
@@ -57,7 +57,7 @@ count_fewer p q (x ∷ ms) m weaker is apart = by (p x) refl (q x) refl is (λ r
         let none_here : one (q x) ≡ 0 = ap one none in
         omega (arith, count_more p x ms, count_more q x ms, here, none_here, rest first)
 
--- ---- a dialogue portion
+-- ---- the dialogue portion
 
 module _ (side : Side) (items : List Item) (s : Scene) (id : List ℕ) (of : IsTo side items id s)
     (few : count (is_a forms.Begin) (asked side id items) < 2) where
@@ -75,7 +75,7 @@ module _ (side : Side) (items : List Item) (s : Scene) (id : List ℕ) (of : IsT
   no_request_there asks =
       none_there side items s id of is_begin_with_request (requests_are side items s id of few first refl ∙ asks)
 
-  -- In a Continue or an End of a half that the peer began,
+  -- A Continue or an End of a half whose Begin the peer sent.
   accepted_going : (d : Option Dialogue) → is_wrong_going_on (not has_continue) (is_request_of first) d ≡ true
       → ((is_some d ≡ true) × ListsOne s whats.ContinuesTold)
       ⊎ ((is_response d ≡ false) × ListsNone s whats.ContinuesTold × ListsOne s whats.RequestsThere)
@@ -98,7 +98,7 @@ module _ (side : Side) (items : List Item) (s : Scene) (id : List ℕ) (of : IsT
             request_there asks,
           )
 
-  -- and in an Abort.
+  -- An Abort of a half whose Begin the peer sent.
   accepted_aborting : (d : Option Dialogue) → is_wrong_aborting (not has_continue) (is_request_of first) d ≡ true
       → ((is_response d ≡ true) × ListsOne s whats.ContinuesTold)
       ⊎ ((is_user_abort d ≡ true) × ListsNone s whats.RequestsThere)
@@ -124,7 +124,7 @@ module _ (side : Side) (items : List Item) (s : Scene) (id : List ℕ) (of : IsT
   accepted_shows h how begin (Abort dtid reason) is =
       accepted_aborting (dialogue_in (Abort dtid reason)) (rw (how, begin) at is)
 
-  -- Of a half that the end began.
+  -- A half whose Begin the end sent.
   module _ (own : List ℕ) (own_is : own_id s ≡ Some own) (begun : began side own items ≡ true) where
     fewer_requests : is_request_of (begin_from side own items) ≡ false → many s whats.OwnRequests < many s whats.Begun
     fewer_requests none = by (begin_from side own items) refl begun none
@@ -189,7 +189,7 @@ module _ (side : Side) (items : List Item) (s : Scene) (id : List ℕ) (of : IsT
 
 -- ---- F9
 
--- What is left open to a half that nothing answered has no kind.
+-- A message that an unanswered half may send does not have F9.
 unanswered_fits : (side : Side) (items : List Item) (id : List ℕ) (m : Message) (h : HalfOf) → h.how ≡ Unanswered
     → may_not_speak Unanswered m ≡ false → is_wrong_dialogue side items id m h ≡ false
 unanswered_fits side items id (Unidirectional dialogue components) h how speaks = cc
@@ -210,7 +210,7 @@ unanswered_fits side items id (Abort dtid reason) h how speaks =
 
 module _ (side : Side) (items : List Item) (s : Scene) (id : List ℕ) (of : IsTo side items id s) (over : IsOver side items id s)
     (m : Message) (few : count (is_a forms.Begin) (asked side id items) < 2) where
-  -- Of a half that may speak.
+  -- A half that may send.
   accepted_misfits : has_a forms.Begin (asked side id items) ≡ true → (refused : Bool) → (h : HalfOf)
       → h.how ≡ cond refused Refused Accepted → h.begin ≡ find (is_a forms.Begin) (asked side id items)
       → may_not_speak h.how m ≡ false → is_wrong_dialogue side items id m h ≡ true

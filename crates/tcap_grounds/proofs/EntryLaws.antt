@@ -1,4 +1,4 @@
--- Each entry that is listed is one of the record, before the message at fault, that is so.
+-- Each listed entry is in the record, before the message at fault, and matches its list.
 use Rattle.std.proofs.Common.{◌≡◌, ◌⊎◌, inl, inr, ℕ, Bool, true, ◌&&◌, List, ◌++◌, Option, Some, subst}
 use Rattle.std.specs.Prelude.{Contains}
 use Rattle.std.proofs.lemmas.Bool.{and_parts}
@@ -25,7 +25,7 @@ use Rattle.tcap_grounds.proofs.OrderLaws.{in_order_is}
 use Rattle.tcap_grounds.proofs.SentBefore.{was_sent}
 use Rattle.tcap_grounds.proofs.SuchLaws.{heard_is, invoked_is, itself_is, open_is, sorted_is, there_is, told_is, went_is}
 
--- A scene whose lists are what the ends sent before its entry.
+-- A scene with the messages of the ends before its entry.
 module _ (entries : List Entry) (s : Scene) (own : s.own ≡ sent_before s.side entries s.number)
     (peer : s.peer ≡ sent_before (other s.side) entries s.number) where
   own_at : (n : ℕ) (m : Message) → Contains s.own (n, m) → IsSentBefore entries s.number s.side n m
@@ -38,19 +38,19 @@ module _ (entries : List Entry) (s : Scene) (own : s.own ≡ sent_before s.side 
 
   -- ---- messages
 
-  -- one of the peer from there
+  -- a message of the peer from the destination ID
   from_there : (p : Message → Bool) (n : ℕ) → Contains (entries_where p (there s)) n
       → (m : Message) × IsSentBefore entries s.number (other s.side) n m × (p m ≡ true) × AreSame s.to (otid_in m)
   from_there p n has =
       let (m, among, passes) = where_is p (there s) n has in
       let (sent, from) = there_is s n m among in (m, peer_at n m sent, passes, from)
 
-  -- one of the end
+  -- a message of the end
   of_own : (p : Message → Bool) (n : ℕ) → Contains (entries_where p s.own) n
       → (m : Message) × IsSentBefore entries s.number s.side n m × (p m ≡ true)
   of_own p n has = let (m, among, passes) = where_is p s.own n has in (m, own_at n m among, passes)
 
-  -- one of the end with that own ID
+  -- a message of the end from this own ID
   of_own_id : (p : Message → Bool) (id : Option (List ℕ)) (n : ℕ)
       → Contains (entries_where (λ m. p m && is_that id (otid_in m)) s.own) n
       → (m : Message) × IsSentBefore entries s.number s.side n m × (p m ≡ true) × AreSame id (otid_in m)
@@ -59,7 +59,7 @@ module _ (entries : List Entry) (s : Scene) (own : s.own ≡ sent_before s.side 
       let (passes, that) = and_parts (p m) (is_that id (otid_in m)) both in
       (m, sent, passes, one_is id (otid_in m) that)
 
-  -- an Abort of its provider with that cause
+  -- an Abort of the end's provider with this cause
   aborted : (cause : ℕ) (n : ℕ)
       → Contains (entries_where (λ m. is_that s.to (dtid_in m) && is_cause cause (cause_in m)) s.own) n
       → (m : Message) × IsSentBefore entries s.number s.side n m × AreSame s.to (dtid_in m) × (cause_in m ≡ Some cause)
@@ -70,14 +70,14 @@ module _ (entries : List Entry) (s : Scene) (own : s.own ≡ sent_before s.side 
 
   -- ---- components
 
-  -- one in the end's messages to there
+  -- a component in the end's messages to the destination ID
   sorted_told : (sort : Sort) (n : ℕ) → Contains (with_sort s sort (told_there s)) n
       → IsEntryOf entries s (whats.Before sort) n
   sorted_told sort n has =
       let (m, among, sorted) = sorted_is s sort (told_there s) n has in
       let (sent, told) = told_is s n m among in (m, own_at n m sent, (told, sorted))
 
-  -- one there, or among these of the message itself: those before the one at fault, or all
+  -- such a component, or one of these components of the message itself
   told_or_itself : (sort : Sort) (cs : List Component) (n : ℕ)
       → Contains (with_sort s sort (told_there s) ++ with_sort_in s sort cs) n
       → IsEntryOf entries s (whats.Before sort) n ⊎ IsItself s sort cs n
@@ -89,7 +89,7 @@ module _ (entries : List Entry) (s : Scene) (own : s.own ≡ sent_before s.side 
       by (inl told) = inl (sorted_told sort n told)
       by (inr here) = inr (itself_is s sort cs n here)
 
-  -- ---- all
+  -- ---- all lists
 
   pub is_shown : (what : What) (n : ℕ) → Contains (shown s what) n → IsShown entries s what n
   is_shown whats.BeginsThere n has =

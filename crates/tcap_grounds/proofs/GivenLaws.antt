@@ -1,4 +1,4 @@
--- Each list is given of which the laws speak.
+-- Each list that the laws use is given.
 use Rattle.std.proofs.Common.{◌≡◌, ℕ, zero, suc, ◌==◌, Bool, true, false, cond, List, [], ◌∷◌, map, Option, Some, None, Result, Ok, refl, sym, ap, subst}
 use Rattle.std.specs.Prelude.{Contains, slice_get}
 use Rattle.tcap_parts.specs.declared.component.Component.{Component}
@@ -31,7 +31,7 @@ use Rattle.tcap_evidence.specs.Scene.{Scene, shown}
 use Rattle.tcap_grounds.specs.Shown.{component_with, items_before, scene_at}
 use Rattle.tcap_grounds.proofs.NumberedLists.{map_has}
 
--- These are those that stand at some places there.
+-- The second list has the items of the first at some indexes.
 abbrev pub Includes : List What → List What → Type 0
 Includes ws spoken = (places : List ℕ) × (map (slice_get ws) places ≡ map Some spoken)
 
@@ -54,7 +54,7 @@ all_given s ws spoken (places, are) = by spoken places are
         let others : map (slice_get ws) places ≡ map Some more = cc in
         (map_has (λ (v : What). (v, shown s v)) ws w (there ws k w first), by more places others)
 
--- ---- of each kind
+-- ---- for each kind
 
 of_asked : (how : How) (c : Option Component) → Includes (shows_to how c kinds.AnswersNothing) (spoken_of_to how c kinds.AnswersNothing)
 of_asked how None = ([], refl)
@@ -126,7 +126,7 @@ includes None how c kinds.InvokeIdBusy = (0 ∷ [], refl)
 includes None how c kind = ([], refl)
 includes (Some id) how c kind = includes_to how c kind
 
--- ---- of an entry
+-- ---- for an entry
 
 module _ (of_one : Bool) (table : Table) (side : Side) (entries : List Entry) (r : Refutation) where
   pub given_of_message : (sender : Side) (m : Message) → slice_get (map item_of entries) r.entry ≡ Some (Ok (Sent sender m))

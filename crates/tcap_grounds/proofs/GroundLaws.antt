@@ -1,4 +1,4 @@
--- What is told of an entry at fault is what is listed of it; and a component at fault is one of a message over a half.
+-- The given entries are the listed ones; and a component at fault belongs to a message over a half.
 use Rattle.std.proofs.Common.{◌≡◌, ◌≢◌, inr, ℕ, Bool, true, false, not, ◌&&◌, List, ◌∷◌, [], map, Option, Some, None, Result, Ok, refl, sym, ap, ◌∙◌}
 use Rattle.std.specs.Prelude.{Contains, slice_get}
 use Rattle.std.proofs.lemmas.Bool.{and_parts, not-true}
@@ -27,7 +27,7 @@ use Rattle.tcap_grounds.specs.Shown.{is_of_component, items_before, scene_at}
 use Rattle.tcap_grounds.proofs.HasKindLaws.{half_so, is_of_a_half}
 use Rattle.tcap_grounds.proofs.NumberedLists.{map_is}
 
--- ---- what is told
+-- ---- the given entries
 
 told_so : (s : Scene) (ws : List What) (what : What) (numbers : List ℕ) → Contains (grounds_in s ws) (what, numbers)
     → numbers ≡ shown s what
@@ -67,7 +67,7 @@ module _ (table : Table) (side : Side) (items : List Item) (m : Message) (id : L
   first h more both =
       not-true (is_wrong_half side items m h) (and_parts (not (is_wrong_half side items m h)) more both).0
 
-  -- None of these kinds rests on a wrong half.
+  -- No message with one of these kinds has a wrong half.
   speaks : (h : HalfOf) (kind : Kind) → is_of_component kind ≡ true
       → is_of_half_kind table side id items m h kind ≡ true → is_wrong_half side items m h ≡ false
   speaks h kinds.InvokeIdBusy is so = first h _ so

@@ -1,4 +1,4 @@
--- What is listed of the half over which a message goes: its Begin, the Continues to it and from it, and whether it was closed.
+-- The lists of a half: its Begin, the Continues to it and from it, and whether it was closed.
 use Rattle.std.proofs.Common.{◌≡◌, ◌⊎◌, inl, inr, ℕ, ◌<◌, Bool, true, false, cond, ◌&&◌, ◌||◌, List, [], ◌∷◌, Option, Some, None, is_some, option_to_list, refl, sym, ap, subst, ◌∙◌, is_none}
 use Rattle.std.specs.Prelude.{Contains, filter}
 use Rattle.std.specs.List.{find, list_any}
@@ -41,7 +41,7 @@ use Rattle.tcap_evidence.specs.declared.what.What.TheVariants as whats
 
 -- ---- lists
 
--- Where nothing is left from the first on that passes, none passes.
+-- If nothing remains from the first item on that passes, none passes.
 none_first : (p : Message → Bool) (ms : List Message) → is_nothing (from_first p ms) ≡ true → list_any p ms ≡ false
 none_first p [] nothing = refl
 none_first p (m ∷ ms) nothing = by (p m) nothing (none_first p ms)
@@ -59,10 +59,10 @@ request_begins (Continue otid dtid dialogue components) is = cc
 request_begins (EndMessage dtid dialogue components) is = cc
 request_begins (Abort dtid reason) is = cc
 
--- ---- a scene of a message to that ID
+-- ---- the scene of a message to this ID
 
 module _ (side : Side) (items : List Item) (s : Scene) (id : List ℕ) (of : IsTo side items id s) where
-  -- The own IDs that are joined with that ID are not tangled.
+  -- The own IDs joined with this ID are not ambiguous.
   abbrev pub ArePlain : Type 0
   ArePlain = (own : List ℕ) → Contains (owns_of side items id) own → is_own_tangled side items own ≡ false
 
@@ -87,7 +87,7 @@ module _ (side : Side) (items : List Item) (s : Scene) (id : List ℕ) (of : IsT
           (any_has (λ x. is_begin_with_request x && is_that (own_id s) (otid_in x)) (sent_by side items) b has
           (and_from (is_begin_with_request b) (is_that (own_id s) (otid_in b)) so of_own))
 
-  -- Where the peer sent one Begin at the most, it has a request where one has.
+  -- If the peer sent at most one Begin, the first one has a request exactly if any has.
   pub requests_are : count (is_a forms.Begin) (asked side id items) < 2 → (o : Option Message) → find (is_a forms.Begin) (asked side id items) ≡ o
       → list_any is_begin_with_request (asked side id items) ≡ is_request_of o
   requests_are few None found =
@@ -128,9 +128,9 @@ module _ (side : Side) (items : List Item) (s : Scene) (id : List ℕ) (of : IsT
               of_it false so = refl
               of_it true so = sym so ∙ ap is_begin_with_request (sym (the_one x has so)) ∙ not_so
 
-  -- ---- a half that the end began
+  -- ---- a half whose Begin the end sent
 
-  -- the Continue by which the peer goes on to it
+  -- the Continue with which the peer answers it
   abbrev GoesOn : List ℕ → Type 0
   GoesOn own =
       (x : Message) × Contains (asked side id items) x × (is_a forms.Continue x ≡ true) × (dtid_in x ≡ Some own)
@@ -148,7 +148,7 @@ module _ (side : Side) (items : List Item) (s : Scene) (id : List ℕ) (of : IsT
           let same : other ≡ own = let both : Some other ≡ Some own = sym goes ∙ is in cc in
           (x, has, on, is, ap (λ (it : List ℕ). began side it items) (sym same) ∙ begun)
 
-  -- Where there is none, no Continue goes to an ID that the end began.
+  -- Without such a Continue, no Continue goes to an ID that the end began.
   pub none_begun : begun_from side items id ≡ None → list_any (goes_to_begun side items) (asked side id items) ≡ false
   none_begun none = by (find (goes_to_begun side items) (asked side id items)) refl none
     where
@@ -173,7 +173,7 @@ module _ (side : Side) (items : List Item) (s : Scene) (id : List ℕ) (of : IsT
           one_there side items s id of (is_a forms.Continue) (any_has (is_a forms.Continue) (asked side id items) x has on),
         )
 
-    -- Where it heard nothing, its Begin asks for a dialogue, and no Continue answers that.
+    -- If the half heard nothing, its Begin has a request, and no Continue answers it.
     pub unanswered : is_nothing (heard_of (begin_from side own items) (continued_to side items id (Some own))) ≡ true
         → ListsOne s whats.OwnRequests × (entries_where responds (to_half s) ≡ [])
     unanswered = by (is_request_of (begin_from side own items)) refl
@@ -195,7 +195,7 @@ module _ (side : Side) (items : List Item) (s : Scene) (id : List ℕ) (of : IsT
             (filter_has (goes_on_to own) (asked side id items) x has
             (and_from (is_a forms.Continue x) (is_id own (dtid_in x)) on (is_that_id own (dtid_in x) goes))) nothing
 
-    -- The own ID is joined with the peer's.
+    -- The own ID is joined with the peer's ID.
     begun_joined : Contains (owns_of side items id) own
     begun_joined =
         let (x, has, on, goes, begun) = goes_on own from in
@@ -215,9 +215,9 @@ module _ (side : Side) (items : List Item) (s : Scene) (id : List ℕ) (of : IsT
     begun_closed plain closed =
         one_aborts side items s id of 1 (closed_by side items own id begun_peer (plain own begun_joined) closed)
 
-  -- ---- a half that the peer began
+  -- ---- a half whose Begin the peer sent
 
-  -- the Continue by which the end told its own ID
+  -- the Continue with which the end gave its own ID
   abbrev Told : List ℕ → Type 0
   Told own =
       (x : Message) × Contains (told side id items) x × (is_a forms.Continue x ≡ true) × (otid_in x ≡ Some own)
@@ -237,7 +237,7 @@ module _ (side : Side) (items : List Item) (s : Scene) (id : List ℕ) (of : IsT
         let (x, has, on, is) = told_from own from in
         one_told side items s id of (is_a forms.Continue) (any_has (is_a forms.Continue) (told side id items) x has on)
 
-    -- It was sent from the own ID to the peer's.
+    -- The Continue joins the own ID with the peer's ID.
     told_joins : Contains (owns_of side items id) own × Contains (peers_of side items own) id
     told_joins =
         let (x, has, on, is) = told_from own from in

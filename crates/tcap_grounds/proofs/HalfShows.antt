@@ -1,4 +1,4 @@
--- Where no half may send a message, what is listed shows that.
+-- The lists show F8: a message that no half may send.
 use Rattle.std.proofs.Common.{◌≡◌, ◌≢◌, ◌⊎◌, inl, inr, ℕ, Bool, true, false, cond, ◌||◌, List, [], Option, Some, None, refl, sym, ap, subst, ◌∙◌}
 use Rattle.std.specs.Prelude.{Contains}
 use Rattle.std.specs.List.{list_any}
@@ -41,7 +41,7 @@ use Rattle.tcap_msg.specs.declared.kind.Kind.TheVariants as forms
 use Rattle.tcap_refute.specs.declared.kind.Kind.TheVariants as kinds
 use Rattle.tcap_evidence.specs.declared.what.What.TheVariants as whats
 
--- A scene is of a message that end sends behind these items.
+-- The scene is that of a message which this end sends after these items.
 pub record IsFrom (side : Side) (items : List Item) (m : Message) (s : Scene) : Type 0 where
   pub at_side : s.side ≡ side
   pub at_items : s.items ≡ items
@@ -52,7 +52,7 @@ differ id other apart same = let bad : true ≡ false = sym (is_that_id id (Some
 
 module _ (side : Side) (items : List Item) (s : Scene) (id : List ℕ) (of : IsTo side items id s) (over : IsOver side items id s)
     (m : Message) (sends : IsFrom side items m s) (plain : ArePlain side items s id of) where
-  -- A Continue from an ID that an accepted half does not have.
+  -- A Continue from an ID that the accepted half does not have.
   other_accepted : (o : Option (List ℕ)) → answered_from side items id ≡ o → s.half ≡ o → (x : Message) → s.from ≡ otid_in x
       → goes_from_other side items Accepted o x ≡ true
       → ListsOne s whats.Begun ⊎ (ListsOne s whats.ContinuesTold × AreDifferent s.half s.from)
@@ -93,7 +93,7 @@ module _ (side : Side) (items : List Item) (s : Scene) (id : List ℕ) (of : IsT
   closed_accepted None answered closed = cc
   closed_accepted (Some own) answered closed = accepted_closed side items s id of own answered plain closed
 
-  -- the three ways in which a half is wrong
+  -- the three ways in which the half is wrong
   ways : (how : How) (own : Option (List ℕ)) → (may_not_speak how m ≡ true → ShowsWrongHalf s how)
       → (goes_from_other side items how own m ≡ true → ShowsWrongHalf s how)
       → (was_closed side items own ≡ true → ListsOne s whats.Unknown)
@@ -168,9 +168,9 @@ module _ (side : Side) (items : List Item) (s : Scene) (id : List ℕ) (of : IsT
           (begun_wrong own none from half
           (is_nothing (heard_of (begin_from side own items) (continued_to side items id (Some own)))) refl is)
 
--- ---- a message that goes over no tangled IDs
+-- ---- a message without ambiguous IDs
 
--- The own IDs that are joined with its destination ID are not tangled.
+-- The own IDs joined with its destination ID are not ambiguous.
 near_plain : (side : Side) (items : List Item) (m : Message) (id : List ℕ) → dtid_in m ≡ Some id
     → goes_over_tangled side items m ≡ false → (own : List ℕ) → Contains (owns_of side items id) own
     → is_own_tangled side items own ≡ false

@@ -1,4 +1,4 @@
--- What it means that a message has a kind: which test of it is so.
+-- The test that holds if a message has a kind.
 use Rattle.std.proofs.Common.{◌≡◌, inl, inr, ℕ, Bool, true, false, not, ◌||◌, List, Option, Some, None, refl, sym, ◌∙◌}
 use Rattle.std.proofs.lemmas.Bool.{and_parts, not-true}
 use Rattle.tcap_msg.specs.declared.message.Message.{Message}
@@ -15,7 +15,7 @@ use Rattle.tcap_faults.specs.Tangled.{goes_over_tangled}
 use Rattle.tcap_grounds.specs.Shown.{HasKind}
 use Rattle.tcap_refute.specs.declared.kind.Kind.TheVariants as kinds
 
--- F2 to F4, F6 and F7, which are asked of one end as of both
+-- F2 to F4, F6 and F7, which are the same for one end and for both
 abbrev is_early : Kind → Bool
 is_early kinds.UnknownTransaction = true
 is_early kinds.ReusedId = true
@@ -24,7 +24,7 @@ is_early kinds.WrongOperation = true
 is_early kinds.MisplacedDialogue = true
 is_early kind = false
 
--- F8 to F13, of a message over a half
+-- F8 to F13, which are kinds of a message over a half
 abbrev pub is_of_a_half : Kind → Bool
 is_of_a_half kinds.WrongHalf = true
 is_of_a_half kinds.WrongDialogue = true
@@ -39,7 +39,7 @@ abbrev is_further : Kind → Bool
 is_further kinds.WrongReply = true
 is_further kind = is_of_a_half kind
 
--- those of F8 to F14 that a message without destination ID never has
+-- those of F8 to F14 that a message without a destination ID never has
 abbrev is_never_alone : Kind → Bool
 is_never_alone kinds.WrongHalf = true
 is_never_alone kinds.WrongDialogue = true
@@ -51,7 +51,7 @@ is_never_alone kind = false
 -- ---- F2 to F7
 
 module _ (table : Table) (side : Side) (items : List Item) (m : Message) where
-  -- None of these kinds, nor F5, is a further one,
+  -- F2 to F7, none of which is one of F8 to F14
   abbrev is_first : Kind → Bool
   is_first kinds.AnswersNothing = true
   is_first kind = is_early kind
@@ -83,7 +83,7 @@ module _ (table : Table) (side : Side) (items : List Item) (m : Message) where
   not_further None kind early = cc
   not_further (Some id) kind early = not_to id (cause_in m) kind early
 
-  -- so where one of them is blamed it is asked of that end,
+  -- If one of these is blamed on an end, the end's test for it holds.
   pub first_so : (kind : Kind) → is_first kind ≡ true → is_fault table side items m kind ≡ true
       → is_of_first_kind table side items m kind ≡ true
   first_so kind early is =
@@ -96,7 +96,7 @@ module _ (table : Table) (side : Side) (items : List Item) (m : Message) where
       by true so = refl
       by false so = so
 
-  -- and each of F2 to F4, F6 and F7 is asked of one end as of both.
+  -- F2 to F4, F6 and F7 have the same test for one end as for both.
   asked_alike : (kind : Kind) → is_early kind ≡ true
       → is_of_first_kind table side items m kind ≡ is_of_kind table side items m kind
   asked_alike kinds.UnknownTransaction early = refl
@@ -123,7 +123,7 @@ module _ (table : Table) (side : Side) (items : List Item) (m : Message) where
 -- ---- F8 to F14
 
 module _ (table : Table) (side : Side) (items : List Item) (m : Message) where
-  -- None of these kinds is a first one.
+  -- None of these kinds refutes a record.
   not_refuting : (kind : Kind) → is_further kind ≡ true → is_of_kind table side items m kind ≡ false
   not_refuting kinds.WrongHalf late = refl
   not_refuting kinds.WrongDialogue late = refl
@@ -153,7 +153,7 @@ module _ (table : Table) (side : Side) (items : List Item) (m : Message) where
       (is_of_first_kind table side items m kind || is_of_further_kind table side items m (dtid_in m) kind) is in
       (not-true (goes_over_tangled side items m) untangled, rw (not_first kind late) at either)
 
-  -- A message that has one has a destination ID, but for F10 and F11.
+  -- A message with one of these kinds has a destination ID, except for F10 and F11.
   not_alone : (kind : Kind) → is_never_alone kind ≡ true → is_of_alone_kind m kind ≡ false
   not_alone kinds.WrongHalf never = refl
   not_alone kinds.WrongDialogue never = refl
@@ -180,13 +180,13 @@ module _ (table : Table) (side : Side) (items : List Item) (m : Message) where
           let bad : false ≡ true = sym (not_alone kind never) ∙ so in cc
       by (Some id) to = (id, to)
 
-  -- Of a message to that ID.
+  -- A message to this ID.
   module _ (id : List ℕ) (to : dtid_in m ≡ Some id) where
     to_so : (kind : Kind) → is_further kind ≡ true → HasKind table side items m kind
         → is_of_kind_to table side id items m (cause_in m) kind ≡ true
     to_so kind late has = rw to at ((further_so kind late has).1)
 
-    -- F14 is one of an Abort with a cause,
+    -- F14 is a kind of an Abort with a cause.
     pub reply_so : HasKind table side items m kinds.WrongReply
         → (cause : ℕ) × (cause_in m ≡ Some cause)
         × (is_of_reply_kind table side id items (half_of side items id) cause kinds.WrongReply ≡ true)
@@ -198,7 +198,7 @@ module _ (table : Table) (side : Side) (items : List Item) (m : Message) where
         by None is so = cc
         by (Some cause) is so = (cause, is, so)
 
-    -- and the others of its half.
+    -- F8 to F13 are not kinds of such an Abort.
     not_reply : (h : HalfOf) (cause : ℕ) (kind : Kind) → is_of_a_half kind ≡ true
         → is_of_reply_kind table side id items h cause kind ≡ false
     not_reply h cause kinds.WrongHalf late = refl

@@ -1,4 +1,4 @@
--- The invocations that are given are the Invokes of their entries, one for each entry that a list of these has.
+-- The given invocations are the Invokes of their entries, one for each entry of a list of Invokes.
 use Rattle.std.proofs.Common.{◌≡◌, ◌⊎◌, inl, inr, ℕ, ℤ, Bool, true, false, cond, ◌&&◌, List, [], ◌∷◌, ◌++◌, map, Option, Some, None, Result, Ok, refl, sym, ap, subst, ◌∙◌}
 use Rattle.std.specs.Prelude.{Contains, filter, slice_get}
 use Rattle.std.specs.List.{flat_map}
@@ -44,10 +44,10 @@ use Rattle.tcap_grounds.proofs.SuchLaws.{heard_is, invoked_is, there_is}
 abbrev entries_of : List Invocation → List ℕ
 entries_of is = map (λ (i : Invocation). i.entry) is
 
--- ---- of messages
+-- ---- the invocations in messages
 
 module _ (table : Table) (id : ℤ) where
-  -- one for each Invoke of the ID in a message,
+  -- one for each Invoke of the ID in a message
   in_components : (number : ℕ) (cs : List Component) → entries_of (flat_map (invocation_in id number) cs)
       ≡ map (λ (c : Component). number) (filter (is_sort table id (sorts.Invokes Any)) cs)
   in_components number [] = refl
@@ -71,7 +71,7 @@ module _ (table : Table) (id : ℤ) where
   in_components number (ReturnError other code parameter ∷ cs) = in_components number cs
   in_components number (Reject other problem ∷ cs) = in_components number cs
 
-  -- and in all of them.
+  -- one for each Invoke of the ID in all messages
   in_messages : (sent : List Numbered)
       → entries_of (flat_map (λ (n : Numbered). flat_map (invocation_in id n.0) (components_in n.1)) sent)
       ≡ entries_with (is_sort table id (sorts.Invokes Any)) sent
@@ -84,7 +84,7 @@ module _ (table : Table) (id : ℤ) where
       ∙ ap (λ (ns : List ℕ). map (λ (c : Component). n.0) (filter (is_sort table id (sorts.Invokes Any)) (components_in n.1)) ++ ns)
       (in_messages sent)
 
--- An invocation of an ID that is found in messages: the message of its entry, and the Invoke.
+-- A found invocation, with the message of its entry and its Invoke.
 record IsFound (sent : List Numbered) (asked : Option ℤ) (i : Invocation) : Type 0 where
   message : Message
   id : ℤ
@@ -132,7 +132,7 @@ found (Some id) sent i has =
     let (c, in_it, it) = flat_map_is (invocation_in id number) (components_in m) i inside in
     one_found id number m sent i among c in_it it
 
--- ---- of a kind
+-- ---- the invocations for a kind
 
 module _ (s : Scene) where
   listed_in : (sent : List Numbered) → entries_of (invocations_in s.id sent) ≡ with_sort s (sorts.Invokes Any) sent
@@ -146,7 +146,7 @@ module _ (s : Scene) where
   none_in None = refl
   none_in (Some id) = refl
 
-  -- The list is of the messages whose invocations are given.
+  -- The list is that of the messages whose invocations are given.
   abbrev IsOf : What → List Numbered → Type 0
   IsOf what sent =
       (whats.There (sorts.Invokes Any) ≡ what) × (sent ≡ there s)
@@ -189,7 +189,7 @@ module _ (s : Scene) where
   no_list kinds.RejectNotAllowed c is = cc
   no_list kind c is = none_in s.id
 
-  -- ---- which end sent them
+  -- ---- the end that sent them
 
   module _ (entries : List Entry) (own : s.own ≡ sent_before s.side entries s.number)
       (peer : s.peer ≡ sent_before (other s.side) entries s.number) where
@@ -224,7 +224,7 @@ module _ (s : Scene) where
         rw (← is) (invoke_of s.side invoked i f
         (subst (λ (ns : List Numbered). Contains ns (i.entry, f.message)) own (invoked_is s s.how i.entry f.message among).0))
 
--- ---- of an entry
+-- ---- the invocations for an entry
 
 module _ (of_one : Bool) (table : Table) (side : Side) (entries : List Entry) (r : Refutation) (sender : Side) (m : Message)
     (is : slice_get (map item_of entries) r.entry ≡ Some (Ok (Sent sender m))) where
@@ -237,7 +237,7 @@ module _ (of_one : Bool) (table : Table) (side : Side) (entries : List Entry) (r
   abbrev component : Option Component
   component = component_with of_one table side entries r.entry m r.kind
 
-  -- what is given is that of the message
+  -- the given invocations are those of the message
   given : invocations_at of_one table side entries r ≡ invocations_of scene r.kind component
   given =
       sym (from (invocations_at of_one table side entries r) refl)

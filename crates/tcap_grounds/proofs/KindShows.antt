@@ -1,4 +1,4 @@
--- Where a message has one of the kinds F2 to F4, or a quiet mark F15, what is listed shows that.
+-- The lists show F2 to F4 of a message, and F15 of a quiet mark.
 use Rattle.std.proofs.Common.{◌≡◌, inl, inr, ℕ, Bool, true, false, not, ◌&&◌, List, [], ◌∷◌, Option, Some, None, is_none, refl, ap, ◌∙◌}
 use Rattle.std.specs.List.{list_any}
 use Rattle.std.proofs.lemmas.Bool.{and_parts, not-true}

@@ -1,4 +1,4 @@
--- Each entry of the record, before the message at fault, that is so is listed.
+-- Each entry before the message at fault that matches a list is listed.
 use Rattle.std.proofs.Common.{◌≡◌, ◌⊎◌, inl, inr, ℕ, Bool, true, false, ◌&&◌, List, ◌++◌, Option, Some, None, is_none, refl, sym, subst}
 use Rattle.std.specs.Prelude.{Contains, filter}
 use Rattle.std.proofs.lemmas.Bool.{and_from}
@@ -102,7 +102,7 @@ module _ (entries : List Entry) (s : Scene) (own : s.own ≡ sent_before s.side 
       (and_from (is_that s.to (dtid_in m)) (is_cause cause (cause_in m)) (one_so s.to (dtid_in m) to)
       (cause_so cause (cause_in m) is))
 
-  -- a component in the end's messages to there, or among these of the message itself: those before the one at fault, or all
+  -- a component in the end's messages to the destination ID, or one of these components of the message itself
   told_or_itself : (sort : Sort) (cs : List Component) (n : ℕ)
       → IsEntryOf entries s (whats.Before sort) n ⊎ IsItself s sort cs n
       → Contains (with_sort s sort (told_there s) ++ with_sort_in s sort cs) n

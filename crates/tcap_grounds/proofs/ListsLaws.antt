@@ -1,4 +1,4 @@
--- When a list of the entries of messages has none, and when it has one.
+-- When is a list of the entries of messages empty, and when not?
 use Rattle.std.proofs.Common.{◌≡◌, ℕ, Bool, true, false, cond, ◌&&◌, ◌||◌, List, [], ◌∷◌, length, map, Option, None, refl, ap, ◌∙◌}
 use Rattle.std.specs.Prelude.{Contains, filter}
 use Rattle.std.specs.List.{list_any}
@@ -21,12 +21,12 @@ use Rattle.tcap_grounds.proofs.SentBefore.{messages, sent_are}
 use Rattle.tcap_record.specs.Ends.{other}
 use Rattle.tcap_evidence.specs.declared.what.What.TheVariants as whats
 
--- What has no items is empty.
+-- A list of length 0 is empty.
 pub empty_is : {A : Type 0} (xs : List A) → length xs ≡ 0 → xs ≡ []
 empty_is [] none = refl
 empty_is (x ∷ xs) none = cc
 
--- A list has nothing where none passes,
+-- The list is empty if no message passes.
 pub none_pass : (p : Message → Bool) (sent : List Numbered) → list_any p (messages sent) ≡ false → entries_where p sent ≡ []
 none_pass p [] none = refl
 none_pass p (n ∷ sent) none = by (p n.1) none (none_pass p sent)
@@ -40,7 +40,7 @@ none_pass p (n ∷ sent) none = by (p n.1) none (none_pass p sent)
     by true none rest = cc
     by false none rest = rest none
 
--- and something where one passes.
+-- The list has an entry if a message passes.
 pub one_passes : (p : Message → Bool) (sent : List Numbered) → list_any p (messages sent) ≡ true
     → (n : ℕ) × Contains (entries_where p sent) n
 one_passes p sent some =
@@ -48,7 +48,7 @@ one_passes p sent some =
     let ((n, other), there, same) = map_is (λ (k : Numbered). k.1) sent m has in
     (n, where_has p sent n other there (ap p same ∙ passes))
 
--- An end sent one that passes.
+-- The end sent a message that passes.
 pub sent_one : (side : Side) (entries : List Entry) (number : ℕ) (s : Scene) (p : Message → Bool)
     → s.own ≡ sent_before side entries number → list_any p (sent_by side (items_before entries number)) ≡ true
     → (n : ℕ) × Contains (entries_where p s.own) n
@@ -56,13 +56,13 @@ sent_one side entries number s p own some =
     one_passes p s.own
     (ap (λ (ns : List Numbered). list_any p (messages ns)) own ∙ ap (list_any p) (sent_are side entries number) ∙ some)
 
--- Where a message has no destination ID nothing is there.
+-- Without a destination ID, the peer's messages from it are none.
 pub nothing_there : (s : Scene) → s.to ≡ None → there s ≡ []
 nothing_there s to =
     ap (λ (o : Option (List ℕ)). filter (λ (n : Numbered). is_that o (otid_in n.1)) s.peer) to
     ∙ none_kept (λ (n : Numbered). is_that None (otid_in n.1)) (λ n. refl) s.peer
 
--- A scene of a message to that ID.
+-- The scene of a message to this ID.
 module _ (side : Side) (items : List Item) (s : Scene) (id : List ℕ) (of : IsTo side items id s) (p : Message → Bool) where
   pub none_there : list_any p (asked side id items) ≡ false → entries_where p (there s) ≡ []
   none_there none = none_pass p (there s) (ap (list_any p) (there_are side items id s of) ∙ none)
@@ -80,7 +80,7 @@ module _ (side : Side) (items : List Item) (s : Scene) (id : List ℕ) (of : IsT
   one_sent some = one_passes p s.own (ap (list_any p) of.own ∙ some)
 
 module _ (side : Side) (items : List Item) (s : Scene) (id : List ℕ) (of : IsTo side items id s) where
-  -- Aborts of the provider with a cause.
+  -- whether a message is an Abort of the provider to the destination ID with this cause
   abbrev aborts : ℕ → Message → Bool
   aborts cause m = is_that s.to (dtid_in m) && is_cause cause (cause_in m)
 
@@ -100,7 +100,7 @@ module _ (side : Side) (items : List Item) (s : Scene) (id : List ℕ) (of : IsT
   one_aborts cause some =
       one_passes (aborts cause) s.own (ap (list_any (aborts cause)) of.own ∙ aborts_are cause ∙ some)
 
-  -- Something was told there.
+  -- The end sent something to the destination ID.
   pub something_told : is_nothing (told side id items) ≡ false → ListsOne s whats.Told
   something_told some = one_told side items s id of (λ m. true) (by (told side id items) some)
     where

@@ -1,4 +1,4 @@
--- What tests of a message say of its parts.
+-- What do tests of a message show about its parts?
 use Rattle.std.proofs.Common.{◌≡◌, ◌≢◌, inl, inr, ℕ, Bool, true, false, not, List, Option, Some, None, is_none, refl, sym, ap, ◌∙◌}
 use Rattle.std.proofs.lemmas.Bool.{and_from, and_parts, eq-eqb, eqb-true, false_from_ne_true, not-true}
 use Rattle.tcap_msg.specs.declared.kind.Kind.{Kind as Form}
@@ -17,7 +17,7 @@ use Rattle.tcap_faults.specs.Told.{is_cause}
 use Rattle.tcap_evidence.specs.Scene.{is_that}
 use Rattle.tcap_grounds.specs.Shown.{AreSame, AreDifferent, IsEndTo}
 
--- It is of that form.
+-- The message has this form.
 pub form_is : (a b : Form) → is_form a b ≡ true → b ≡ a
 form_is forms.Unidirectional forms.Unidirectional is = refl
 form_is forms.Begin forms.Begin is = refl
@@ -32,12 +32,12 @@ not_both m begins goes_on =
     let bad : forms.Begin ≡ forms.Continue =
     sym (form_is forms.Begin (kind_in m) begins) ∙ form_is forms.Continue (kind_in m) goes_on in cc
 
--- The IDs are one.
+-- The IDs are the same.
 pub one_is : (a b : Option (List ℕ)) → is_that a b ≡ true → AreSame a b
 one_is None b is = cc
 one_is (Some id) b is = (id, refl, id_is id b is)
 
--- It has that cause.
+-- The cause has this number.
 pub cause_is : (n : ℕ) (o : Option ℕ) → is_cause n o ≡ true → o ≡ Some n
 cause_is n None is = cc
 cause_is n (Some cause) is = ap Some (eqb-true cause n is)
@@ -49,7 +49,7 @@ none_ended (Some id) is = cc
 apart : (id other : List ℕ) → is_id id (Some other) ≡ false → id ≢ other
 apart id other isnt same = let it = is_that_id id (Some other) (ap Some (sym same)) in cc
 
--- It ends the dialogue of that ID.
+-- The message ends the dialogue of this ID.
 pub end_is : (to : Option (List ℕ)) (m : Message) → is_that to (ended_by m) ≡ true → IsEndTo to m
 end_is to (Unidirectional dialogue components) is = absurd (none_ended to is)
 end_is to (Begin otid dialogue components) is = absurd (none_ended to is)
@@ -63,7 +63,7 @@ end_is to (Abort dtid reason) is = by (is_none (reason_cause reason)) refl
         (one_is to (Some dtid) that, inr (refl, none_is (reason_cause reason) none))
     by false some = let bad : is_that to None ≡ true = rw some at is in absurd (none_ended to bad)
 
--- It is a Continue from one ID to another than that.
+-- The message is a Continue from the first ID to an ID other than the second.
 pub elsewhere_is : (otid dtid : List ℕ) (m : Message) → goes_elsewhere otid dtid m ≡ true
     → (kind_in m ≡ forms.Continue) × (otid_in m ≡ Some otid) × AreDifferent (Some dtid) (dtid_in m)
 elsewhere_is otid dtid (Continue from to dialogue components) is =
@@ -74,7 +74,7 @@ elsewhere_is otid dtid (Begin from dialogue components) is = cc
 elsewhere_is otid dtid (EndMessage to dialogue components) is = cc
 elsewhere_is otid dtid (Abort to reason) is = cc
 
--- ---- the other way round
+-- ---- the converses
 
 pub form_so : (a : Form) (m : Message) → kind_in m ≡ a → is_a a m ≡ true
 form_so a m is = rw is (itself a)

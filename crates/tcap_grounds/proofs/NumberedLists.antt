@@ -1,4 +1,4 @@
--- What is kept, found and listed of messages with the numbers of their entries is what is of the messages.
+-- Filters, searches and counts of numbered messages agree with those of the messages.
 use Rattle.std.proofs.Common.{◌≡◌, ◌⊎◌, inl, inr, ℕ, arith, Bool, true, false, cond, List, [], ◌∷◌, length, map, Option, Some, None, option_map, refl, sym, ap, subst, ◌∙◌}
 use Rattle.std.specs.Prelude.{Contains, filter}
 use Rattle.std.specs.List.{find}
@@ -20,7 +20,7 @@ use Rattle.tcap_evidence.specs.Numbered.{Numbered, entries_where, entries_with}
 use Rattle.tcap_evidence.specs.Scene.{has_request, since_first}
 use Rattle.tcap_grounds.proofs.SentBefore.{messages}
 
--- ---- what is kept and found
+-- ---- filters and searches
 
 module _ (p : Message → Bool) where
   pub kept_are : (sent : List Numbered) → messages (filter (λ n. p n.1) sent) ≡ filter p (messages sent)
@@ -69,16 +69,16 @@ pub requests : (o : Option Numbered) → has_request o ≡ is_request_of (option
 requests None = refl
 requests (Some n) = refl
 
--- ---- how many are listed
+-- ---- the number of entries
 
--- as many messages as pass,
+-- one for each message that passes
 pub where_counted : (p : Message → Bool) (sent : List Numbered) → length (entries_where p sent) ≡ count p (messages sent)
 where_counted p sent =
     length-map (filter (λ (n : Numbered). p n.1) sent) (λ (n : Numbered). n.0)
     ∙ sym (length-map (filter (λ (n : Numbered). p n.1) sent) (λ (n : Numbered). n.1))
     ∙ ap length (kept_are p sent)
 
--- and as many components.
+-- one for each component that passes
 pub with_counted : (is_so : Component → Bool) (sent : List Numbered)
     → length (entries_with is_so sent) ≡ count is_so (components_of (messages sent))
 with_counted is_so [] = refl
@@ -88,7 +88,7 @@ with_counted is_so (n ∷ sent) =
     let all = count_both is_so (components_in n.1) (components_of (messages sent)) in
     let rest = with_counted is_so sent in omega (arith, both, here, all, rest)
 
--- ---- which are listed
+-- ---- the listed entries
 
 pub map_is : {A B : Type 0} (f : A → B) (xs : List A) (y : B) → Contains (map f xs) y → (x : A) × Contains xs x × (f x ≡ y)
 map_is f [] y has = has_not y has
@@ -108,7 +108,7 @@ map_has {A} {B} f (z ∷ zs) x has = by (contains_first z zs x has) (map_has f z
         subst (λ (y : B). Contains (y ∷ map f zs) (f x)) (sym (ap f same)) (has_first (f x) (map f zs))
     by (inr more) rest = has_later (f z) (map f zs) (f x) (rest more)
 
--- An entry that is listed is that of a message that passes,
+-- A listed entry is that of a message that passes.
 pub where_is : (p : Message → Bool) (sent : List Numbered) (n : ℕ) → Contains (entries_where p sent) n
     → (m : Message) × Contains sent (n, m) × (p m ≡ true)
 where_is p sent n has =
@@ -116,14 +116,14 @@ where_is p sent n has =
     let (there, passes) = filter_is (λ (k : Numbered). p k.1) sent (number, m) kept in
     (m, subst (λ (k : ℕ). Contains sent (k, m)) same there, passes)
 
--- and each that passes is listed;
+-- The entry of each message that passes is listed.
 pub where_has : (p : Message → Bool) (sent : List Numbered) (n : ℕ) (m : Message) → Contains sent (n, m) → p m ≡ true
     → Contains (entries_where p sent) n
 where_has p sent n m has passes =
     map_has (λ (k : Numbered). k.0) (filter (λ (k : Numbered). p k.1) sent) (n, m)
     (filter_has (λ (k : Numbered). p k.1) sent (n, m) has passes)
 
--- or it is that of one with a component that passes.
+-- A listed entry is that of a message with a component that passes.
 pub with_is : (is_so : Component → Bool) (sent : List Numbered) (n : ℕ) → Contains (entries_with is_so sent) n
     → (m : Message) × (c : Component) × Contains sent (n, m) × Contains (components_in m) c × (is_so c ≡ true)
 with_is is_so sent n has =

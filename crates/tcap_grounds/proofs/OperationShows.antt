@@ -1,4 +1,4 @@
--- Where a component is of a wrong operation, what is listed shows that.
+-- The lists show F6: a wrong operation.
 use Rattle.std.proofs.Common.{◌≡◌, ◌⊎◌, inl, inr, ℕ, ℤ, Bool, true, false, not, ◌&&◌, ◌||◌, List, [], length, Option, Some, None, option_map, refl, sym, ap, subst, ◌∙◌}
 use Rattle.std.specs.List.{list_any}
 use Rattle.std.proofs.lemmas.Bool.{and_from, and_parts, not-true, or_cases, or_left, or_right, false_from_ne_true, eqb-true}
@@ -42,7 +42,7 @@ use Rattle.tcap_evidence.specs.declared.what.What.TheVariants as whats
 
 -- ---- lists of components
 
--- Where one of these passes, one passes a test that follows from it; and where none does, none passes one from which it follows.
+-- If one test implies another and an item passes the first, an item passes the second.
 any_weaker : (p q : Component → Bool) (cs : List Component) → ((c : Component) → p c ≡ true → q c ≡ true)
     → list_any p cs ≡ true → list_any q cs ≡ true
 any_weaker p q cs weaker some =
@@ -61,14 +61,14 @@ any_either p q cs is = by (or_cases (list_any p cs) (list_any q cs) is)
     by (inl some) = any_weaker p (λ (c : Component). p c || q c) cs (λ c so. or_left (p c) (q c) so) some
     by (inr some) = any_weaker q (λ (c : Component). p c || q c) cs (λ c so. or_right (p c) (q c) so) some
 
--- A class that reports such answers.
+-- The class reports this kind of answer.
 class_so : (of_result : Bool) (n : ℕ) → reports of_result n ≡ true → (o : Option ℕ) → is_class n o ≡ true
     → of_class (reports of_result) o ≡ true
 class_so of_result n so None is = cc
 class_so of_result n so (Some class) is = ap (reports of_result) (eqb-true class n is) ∙ so
 
 module _ (table : Table) (id : ℤ) where
-  -- An Invoke of that class may be answered so,
+  -- An Invoke of the class allows this answer.
   class_allows : (of_result : Bool) (class : Class) (n : ℕ) → reports of_result n ≡ true
       → ((code : Code) → is_of_class table class code ≡ has_class table n code) → (c : Component)
       → is_sort table id (sorts.Invokes class) c ≡ true → may_be_answered table of_result id None c ≡ true
@@ -81,7 +81,7 @@ module _ (table : Table) (id : ℤ) where
   class_allows of_result class n so same (ReturnError other code parameter) is = cc
   class_allows of_result class n so same (Reject other problem) is = cc
 
-  -- and one of a class that reports results, and of the operation that is named.
+  -- An Invoke of a class that reports success, and of the operation in the answer, allows it.
   operation_allows : (named : Code) (c : Component)
       → operates (λ code. class_reports table true code && is_code named code) id c ≡ true
       → may_be_answered table true id (Some named) c ≡ true
@@ -151,7 +151,7 @@ not_4_is s to from (ReturnResult last id body) is = cc
 not_4_is s to from (ReturnError id code parameter) is = cc
 not_4_is s to from (Reject id problem) is = cc
 
--- A message has it where one of its components has.
+-- A message with F6 has a component with F6.
 wrong_of : (table : Table) (side : Side) (items : List Item) (m : Message) → is_wrong_operation table side items m ≡ true
     → list_any (is_wrong_in table side items m) (components_in m) ≡ true
 wrong_of table side items (Unidirectional dialogue components) is = is

@@ -1,4 +1,4 @@
--- The lists of entries are in order.
+-- The lists of entries are in ascending order.
 use Rattle.std.proofs.Common.{◌≡◌, ◌⊎◌, inl, inr, ℕ, ℤ, ◌+◌, ◌<◌, ◌≤◌, arith, Bool, true, false, cond, List, [], ◌∷◌, ◌++◌, map, Option, Some, None, Result, Ok, Err, refl, sym, ap, subst, ltb-true, ltb-false}
 use Rattle.std.specs.Prelude.{Contains, filter, nat_lt, option_to_list, take, ⊤}
 use Rattle.std.proofs.lemmas.List.Elements.{Contains-append_cases, Contains-push_cases}
@@ -22,9 +22,9 @@ use Rattle.tcap_grounds.specs.Given.{IsAscending}
 use Rattle.tcap_grounds.proofs.NumberedLists.{map_is, with_is}
 use Rattle.tcap_grounds.proofs.SentBefore.{messages}
 
--- ---- a message in its place
+-- ---- a message inserted in order
 
--- It is one of these, or that one.
+-- An item after the insertion is the inserted one or an earlier one.
 inserted_is : (n : Numbered) (sent : List Numbered) (k : Numbered) → Contains (inserted n sent) k → (n ≡ k) ⊎ Contains sent k
 inserted_is n [] k has = contains_first n [] k has
 inserted_is n (m ∷ sent) k has = by (nat_lt m.0 n.0) has (inserted_is n sent k)
@@ -51,7 +51,7 @@ in_order_is (n ∷ sent) k has = by (inserted_is n sent k has)
     by (inl same) = subst (λ (x : Numbered). Contains (x ∷ sent) k) (sym same) (has_first k sent)
     by (inr more) = has_later n sent k more
 
--- As many components pass a test.
+-- A message inserted in order adds as many components as one put in front.
 module _ (is_so : Component → Bool) where
   abbrev many : List Numbered → ℕ
   many sent = count is_so (components_of (messages sent))
@@ -112,7 +112,7 @@ inserted_ascend n (m ∷ sent) (least, rest) = by (nat_lt m.0 n.0) refl (inserte
     by false is ordered =
         (λ k has. before (ltb-false m.0 n.0 is) k (contains_first m sent k has), (least, rest))
 
--- Where all but the first are in order, all are.
+-- If all but the first are in order, all are in order after the insertion.
 pub first_ascend : (o : Option Numbered) (sent : List Numbered) → Ascend sent → Ascend (in_order (option_to_list o ++ sent))
 first_ascend None [] so = tt
 first_ascend None (n ∷ sent) (least, rest) = inserted_ascend n sent rest
@@ -164,7 +164,7 @@ with_ascends is_so (n ∷ sent) (least, rest) =
         let (m, d, there, of, passes) = with_is is_so sent y late in
         let low = least (y, m) there in omega (arith, same, low)
 
--- ---- what an end sent
+-- ---- the messages of an end
 
 pushed_ascend : (sent : List Numbered) (n : Numbered) → Ascend sent → ((k : Numbered) → Contains sent k → k.0 ≤ n.0)
     → Ascend (sent ++ n ∷ [])

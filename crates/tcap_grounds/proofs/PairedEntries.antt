@@ -1,4 +1,4 @@
--- Each entry that is listed where a transaction ID stands with others begins the ID, or is a Continue in which it stands with one.
+-- Each entry listed for a transaction ID begins the ID, or is a Continue that uses it with a partner.
 use Rattle.std.proofs.Common.{◌≡◌, ◌⊎◌, inl, inr, ℕ, ◌+◌, ◌<◌, arith, Bool, true, false, cond, ◌&&◌, List, [], ◌∷◌, ◌++◌, length, length-append, map, take, Option, Some, None, Result, Ok, Err, refl, sym, subst, ◌∙◌}
 use Rattle.std.specs.Prelude.{Contains, slice_get}
 use Rattle.std.proofs.lemmas.Bool.{and_parts}
@@ -20,12 +20,12 @@ use Rattle.tcap_grounds.proofs.EntryPlaces.{Entries, here_at, keeps_at, push_at,
 use Rattle.tcap_grounds.proofs.SentBefore.{taken_at, taken_below}
 
 module _ (of : Side) (id : List ℕ) where
-  -- A Begin from the ID, or a Continue in which it stands with an ID.
+  -- A Begin from the ID, or a Continue that uses it with a partner.
   abbrev pub IsSo : Side → Message → Type 0
   IsSo sender m =
       (sender ≡ of) × (begins_from id m ≡ true) ⊎ (partner : List ℕ) × (partner_in of id sender m ≡ Some partner)
 
-  -- That one of these entries is such a message, and no quiet mark stands behind it.
+  -- Entry `n` is such a message, and no quiet mark follows it.
   record IsOne (done : Entries) (n : ℕ) : Type 0 where
     sender : Side
     message : Message
@@ -36,7 +36,7 @@ module _ (of : Side) (id : List ℕ) where
   abbrev AreOnes : Entries → List ℕ → Type 0
   AreOnes done listed = (n : ℕ) → Contains listed n → IsOne done n
 
-  -- It stays so with one more entry that is no quiet mark.
+  -- This still holds after one more entry that is not a quiet mark.
   one_stays : (done : Entries) (entry : Result Item Reason) (n : ℕ) → (entry ≡ Ok Item.Quiet → ⊥) → IsOne done n
       → IsOne (done ++ entry ∷ []) n
   one_stays done entry n not_quiet one = record {
@@ -51,7 +51,7 @@ module _ (of : Side) (id : List ℕ) where
       quiet j after (inl before) = one.since j after before
       quiet j after (inr it) = not_quiet it
 
-  -- The entry itself is such a message.
+  -- The new entry is such a message.
   one_here : (done : Entries) (sender : Side) (m : Message) → IsSo sender m
       → IsOne (done ++ Ok (Sent sender m) ∷ []) (length done)
   one_here done sender m so = record {
@@ -122,7 +122,7 @@ module _ (of : Side) (id : List ℕ) where
       long : length (done ++ entry ∷ []) ≡ length done + 1
       long = length-append done (entry ∷ [])
 
--- Each entry that is listed is such a message, before the entry and behind the last quiet mark.
+-- Each listed entry is such a message, before entry `number` and after the last quiet mark.
 pub is_one_listed : (of : Side) (id : List ℕ) (entries : List Entry) (number n : ℕ)
     → Contains (paired_before of id entries number) n → (sender : Side) × (m : Message) × IsSentBefore entries number sender n m
     × ((sender ≡ of) × (begins_from id m ≡ true) ⊎ (partner : List ℕ) × (partner_in of id sender m ≡ Some partner))

@@ -1,5 +1,5 @@
--- Which entries are listed where a transaction ID stands with others: each Begin from it; and for each Continue in which it stands with
--- an ID one in which it stands with that.
+-- The entries listed for a transaction ID: each Begin from it and, for each Continue with a partner, a Continue with
+-- the same partner.
 use Rattle.std.proofs.Common.{◌≡◌, ◌⊎◌, inl, inr, ℕ, zero, suc, ◌+◌, ◌<◌, ◌≤◌, arith, Bool, true, false, cond, ◌&&◌, List, [], ◌∷◌, ◌++◌, length, length-append, map, take, Option, Some, None, Result, Ok, Err, refl, sym, ap, subst, ◌∙◌}
 use Rattle.std.specs.Prelude.{Contains, nat_le, slice_get}
 use Rattle.std.proofs.lemmas.Bool.{and_parts, leb-false, leb-true}
@@ -26,7 +26,7 @@ use Rattle.tcap_grounds.proofs.EntryPlaces.{Entries, front_at, here_at, keeps_at
 use Rattle.tcap_grounds.proofs.MessageTests.{not_both}
 use Rattle.tcap_grounds.proofs.SentBefore.{taken_at, taken_below}
 
--- An end is known by whether it is that one.
+-- Two ends are equal if both are `of`, or neither is.
 one_end : (of a b : Side) → is_side of a ≡ is_side of b → a ≡ b
 one_end sides.A sides.A sides.A is = refl
 one_end sides.A sides.A sides.B is = cc
@@ -37,10 +37,11 @@ one_end sides.B sides.A sides.B is = cc
 one_end sides.B sides.B sides.A is = cc
 one_end sides.B sides.B sides.B is = refl
 
--- ---- what is listed
+-- ---- the listed entries
 
 module _ (of : Side) (id : List ℕ) where
-  -- A listed Continue, from the ID or to it, in which it stands with that one; behind it are no Begin from the ID and no quiet mark.
+  -- A listed Continue, from the ID or to it, with this partner; after it there is no Begin from the ID and no quiet
+  -- mark.
   pub record Stands (done : Entries) (listed : List ℕ) (is_from : Bool) (partner : List ℕ) : Type 0 where
     at : ℕ
     sender : Side
@@ -56,11 +57,11 @@ module _ (of : Side) (id : List ℕ) where
   last_of true (entries, from, to) = from
   last_of false (entries, from, to) = to
 
-  -- That is so of the last ID of each end.
+  -- There is such a Continue for the last partner in each direction.
   abbrev AreLast : Entries → Pairing → Type 0
   AreLast done p = (is_from : Bool) (partner : List ℕ) → last_of is_from p ≡ Some partner → Stands done p.0 is_from partner
 
-  -- An entry that is no Begin and no quiet mark leaves it so, where what is listed stays listed.
+  -- After an entry that is neither a Begin from the ID nor a quiet mark, this still holds, if the listed entries stay.
   stands_on : (done : Entries) (entry : Result Item Reason) (listed more : List ℕ) (is_from : Bool) (partner : List ℕ)
       → ((m : Message) → entry ≡ Ok (Sent of m) → begins_from id m ≡ false) → (entry ≡ Ok Item.Quiet → ⊥)
       → Stands done listed is_from partner → Stands (done ++ entry ∷ []) (listed ++ more) is_from partner
@@ -85,7 +86,7 @@ module _ (of : Side) (id : List ℕ) where
       quiet j after (inl before) = s.since j after before
       quiet j after (inr it) = not_quiet it
 
-  -- The entry itself is such a Continue.
+  -- The new entry is such a Continue.
   stands_here : (done : Entries) (sender : Side) (m : Message) (listed : List ℕ) (partner : List ℕ)
       → partner_in of id sender m ≡ Some partner
       → Stands (done ++ Ok (Sent sender m) ∷ []) (listed ++ length done ∷ []) (is_side of sender) partner
@@ -119,7 +120,7 @@ module _ (of : Side) (id : List ℕ) where
         let own : is_side of sender ≡ true = rw end (itself of) in
         rw (← same) (sym (ap (λ b. b && begins_from id m) own) ∙ not_begun)
 
-    -- with the ID in that Continue noted for its end, and the other end's as it was
+    -- the partner of the Continue is noted for its direction; the other direction keeps its partner
     noted : (entries : List ℕ) (last other : Option (List ℕ)) (partner : List ℕ) → partner_in of id sender m ≡ Some partner
         → ((q : List ℕ) → last ≡ Some q → Stands done entries (is_side of sender) q)
         → Stands (done ++ taken ∷ []) (entries ++ anew (length done) partner last) (is_side of sender) partner
@@ -187,7 +188,7 @@ module _ (of : Side) (id : List ℕ) where
 
   -- ---- all entries
 
-  -- What is listed stays so, where no quiet mark comes.
+  -- Without a quiet mark, a listed entry stays listed.
   stays : (more : Entries) (at : ℕ) (p : Pairing) (k : ℕ) → Contains p.0 k
       → ((j : ℕ) → slice_get more j ≡ Some (Ok Item.Quiet) → ⊥) → Contains (with_pairs of id at more p).0 k
   stays [] at p k has none = has
@@ -204,7 +205,7 @@ module _ (of : Side) (id : List ℕ) where
       by false true (Some q) = Contains-append_left entries (anew at q from) k has
       by false false (Some q) = Contains-append_left entries (anew at q to) k has
 
-  -- A Begin is listed.
+  -- A Begin from the ID is listed.
   pub begun : (more : Entries) (at : ℕ) (p : Pairing) (k n : ℕ) (m : Message) → n ≡ at + k
       → slice_get more k ≡ Some (Ok (Sent of m)) → begins_from id m ≡ true
       → ((j : ℕ) → k < j → slice_get more j ≡ Some (Ok Item.Quiet) → ⊥) → Contains (with_pairs of id at more p).0 n
@@ -224,7 +225,7 @@ module _ (of : Side) (id : List ℕ) where
       begun more (at + 1) (with_pair of id at entry p) k n m (omega (arith, at_k)) is begins
       (λ j after is. none (suc j) (omega arith) is)
 
-  -- A listed Continue of that end, no later than that entry, in which the ID stands with that one, with no Begin between.
+  -- A listed Continue of this end with this partner, no later than entry `n`, with no Begin from the ID between.
   pub record Paired (all : Entries) (listed : List ℕ) (sender : Side) (partner : List ℕ) (n : ℕ) : Type 0 where
     at : ℕ
     message : Message
@@ -235,7 +236,7 @@ module _ (of : Side) (id : List ℕ) where
     none_begun : (j : ℕ) (m : Message) → at < j → j ≤ n → slice_get all j ≡ Some (Ok (Sent of m)) → begins_from id m ≡ false
     since : (j : ℕ) → at < j → j ≤ n → slice_get all j ≡ Some (Ok Item.Quiet) → ⊥
 
-  -- A Continue in which it stands with an ID begins nothing,
+  -- A Continue with a partner is not a Begin from the ID.
   goes_on : (sender : Side) (m : Message) (partner : List ℕ) → partner_in of id sender m ≡ Some partner
       → (is_side of sender && begins_from id m) ≡ false
   goes_on sender m partner stands = by (is_side of sender && begins_from id m) refl
@@ -252,7 +253,7 @@ module _ (of : Side) (id : List ℕ) where
           let goes = so (goes_on_from id m) own from in
           absurd (not_both m (and_parts (is_a forms.Begin m) _ begins).0 (and_parts (is_a forms.Continue m) _ goes).0)
 
-  -- so that ID is its end's last.
+  -- So its partner is the last one of its direction.
   last_is : (at : ℕ) (sender : Side) (m : Message) (p : Pairing) (partner : List ℕ) → partner_in of id sender m ≡ Some partner
       → last_of (is_side of sender) (with_message of id at sender m p) ≡ Some partner
   last_is at sender m p partner stands = rw (goes_on sender m partner stands, stands) (by (is_side of sender) p)
@@ -261,7 +262,7 @@ module _ (of : Side) (id : List ℕ) where
       by true (entries, from, to) = refl
       by false (entries, from, to) = refl
 
-  -- For each Continue in which it stands with an ID there is one.
+  -- There is such a Continue for each Continue with a partner.
   pub paired : (more done : Entries) (p : Pairing) → AreLast done p → (k : ℕ) (sender : Side) (m : Message) (partner : List ℕ)
       → slice_get more k ≡ Some (Ok (Sent sender m)) → partner_in of id sender m ≡ Some partner
       → ((j : ℕ) → k < j → slice_get more j ≡ Some (Ok Item.Quiet) → ⊥)
@@ -344,13 +345,13 @@ module _ (of : Side) (id : List ℕ) (entries : List Entry) (number : ℕ) where
   none_yet true partner is = let bad : None ≡ Some partner = is in cc
   none_yet false partner is = let bad : None ≡ Some partner = is in cc
 
-  -- Each Begin is listed,
+  -- Each Begin from the ID is listed.
   pub begin_is_listed : (n : ℕ) (m : Message) → IsSentBefore entries number of n m → begins_from id m ≡ true
       → Contains (paired_before of id entries number) n
   begin_is_listed n m sent begins =
       begun of id before 0 no_pairing n n m (omega arith) (there_at n _ sent.before sent.is) begins (none_behind of n m sent)
 
-  -- and for each Continue in which it stands with an ID there is one.
+  -- For each Continue with a partner there is such a listed Continue.
   pub is_paired : (sender : Side) (n : ℕ) (m : Message) (partner : List ℕ) → IsSentBefore entries number sender n m
       → partner_in of id sender m ≡ Some partner → IsPaired of id entries number sender partner n
   is_paired sender n m partner sent stands = record {

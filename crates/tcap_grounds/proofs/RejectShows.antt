@@ -1,4 +1,4 @@
--- Where a Reject is not allowed, what is listed shows that.
+-- The lists show F13: a Reject that is not allowed.
 use Rattle.std.proofs.Common.{◌≡◌, ◌≢◌, ◌⊎◌, inl, inr, ℕ, ℤ, ◌+◌, ◌≤◌, ◌<◌, arith, Bool, true, false, cond, not, ◌&&◌, ◌||◌, List, [], ◌∷◌, ◌++◌, Some, None, refl, sym, ap, subst, ◌∙◌}
 use Rattle.std.specs.Prelude.{◌==◌, nat_le, nat_lt}
 use Rattle.std.specs.List.{list_any}
@@ -44,7 +44,7 @@ module _ (s : Scene) (h : HalfOf) (cs : List Component) (id : ℤ) (counts : IsC
   abbrev before : List Component
   before = h.told ++ s.earlier
 
-  -- ---- of an Invoke
+  -- ---- a Reject of an Invoke
 
   abbrev invoke_rejected : ℕ → Component
   invoke_rejected n = Reject (Some id) (problems.Invoke n)
@@ -121,9 +121,9 @@ module _ (s : Scene) (h : HalfOf) (cs : List Component) (id : ℤ) (counts : IsC
       by (inl so) = second (or_cases _ _ so)
       by (inr over) = inr (inr (inr (inr (ltb-true 7 n over))))
 
-  -- ---- of an answer
+  -- ---- a Reject of an answer
 
-  -- how many own invocations suit an answer
+  -- the number of own invocations whose class allows the answer
   suited_are : (of_result : Bool) (class : Class) → ((c : Component) → is_sort s.table id (sorts.Invokes class) c
       ≡ invokes_so id (has_class s.table (cond of_result 3 2)) c) → suited s class ≡ count_suited s.table of_result id h.invoked
   suited_are of_result class same =
@@ -134,7 +134,7 @@ module _ (s : Scene) (h : HalfOf) (cs : List Component) (id : ℤ) (counts : IsC
       ∙ count_same (is_sort s.table id (sorts.Invokes class)) (invokes_so id (has_class s.table (cond of_result 3 2))) h.invoked same in
       omega (arith, first, second)
 
-  -- a Return Result of an operation that no own invocation has
+  -- whether a component is a Return Result of an operation that no own invocation has
   no_operation : (c : Component) → is_of_no_operation h id c
       ≡ results_so id (λ code. not (list_any (invokes_so id (is_code code)) h.invoked)) c
   no_operation (Invoke other linked code parameter) = refl
@@ -196,7 +196,7 @@ module _ (s : Scene) (h : HalfOf) (cs : List Component) (id : ℤ) (counts : IsC
           let (from, none) = and_parts (nat_le 2 n) (count_suited s.table of_result id h.invoked == 0) so in
           inr (inr (inr (leb-true 2 n from, suit ∙ eqb-true _ 0 none)))
 
-  -- ---- of either
+  -- ---- any Reject
 
   rejected : (problem : Problem) → rejects_wrongly s.table h s.earlier before (Reject (Some id) problem) ≡ true
       → ShowsRejected s (Some (Reject (Some id) problem))

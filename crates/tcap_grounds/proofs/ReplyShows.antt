@@ -1,4 +1,4 @@
--- Where a dialogue portion is misplaced, or an Abort of the provider answers nothing that is left, what is listed shows that.
+-- The lists show F7 (a misplaced dialogue portion) and F14 (an Abort of the provider that answers nothing).
 use Rattle.std.proofs.Common.{◌≡◌, ◌⊎◌, inl, inr, ℕ, ◌+◌, ◌<◌, arith, Bool, true, false, cond, not, ◌&&◌, ◌||◌, List, Option, Some, None, is_some, refl, ap}
 use Rattle.std.specs.Prelude.{Contains, ◌==◌, nat_lt}
 use Rattle.std.specs.List.{list_any}
@@ -39,19 +39,19 @@ use Rattle.tcap_evidence.specs.declared.what.What.TheVariants as whats
 
 -- ---- F7
 
--- Not both: so where one is so, the other is not.
+-- If two conditions do not both hold and one does, the other does not.
 not_both : (has so : Bool) → not (has && so) ≡ true → so ≡ true → has ≡ false
 not_both true true apart is = cc
 not_both false true apart is = refl
 not_both has false apart is = cc
 
--- In a Continue or an End,
+-- A Continue or an End.
 going_on : (has : Bool) (d : Option Dialogue) → is_misplaced_going_on has d ≡ true
     → (is_some d ≡ true) × (accepts_dialogue d ≡ true → has ≡ false)
 going_on has None is = cc
 going_on has (Some d) is = (refl, not_both has (accepts_dialogue (Some d)) is)
 
--- and in an Abort.
+-- An Abort.
 aborting : (has : Bool) (d : Option Dialogue) → is_misplaced_aborting has d ≡ true
     → (is_some d ≡ true) × (refuses_dialogue d ≡ true → has ≡ false)
 aborting has None is = cc
@@ -65,7 +65,7 @@ module _ (table : Table) (side : Side) (entries : List Entry) (number : ℕ) (ab
   abbrev misplaced_in : Message → Scene
   misplaced_in m = scene_of table side entries number m kinds.MisplacedDialogue about
 
-  -- The peer sent no Begin with a request from there.
+  -- The peer sent no Begin with a request from the destination ID.
   no_request : (m : Message) (id : List ℕ) → dtid_in m ≡ Some id
       → list_any is_begin_with_request (asked side id (items_before entries number)) ≡ false
       → ListsNone (misplaced_in m) whats.RequestsThere
@@ -100,14 +100,14 @@ misplaced_shows table side entries number m about has =
     misplaced_by table side entries number about m
     (kind_so table side (items_before entries number) m kinds.MisplacedDialogue refl has)
 
--- ---- what was accepted
+-- ---- accepted Begins
 
 refused_so : (refused : Bool) → is_accepted (cond refused Refused Accepted) ≡ false → refused ≡ true
 refused_so true not_so = refl
 refused_so false not_so = cc
 
 module _ (side : Side) (items : List Item) (s : Scene) (id : List ℕ) (of : IsTo side items id s) where
-  -- Where the half is no accepted one, no Begin was accepted.
+  -- If the half is not an accepted one, no Begin was accepted.
   pub none_accepted : is_accepted (half_of side items id).how ≡ false → AcceptsNone s
   none_accepted = by (has_a forms.Begin (asked side id items)) (begun_from side items id) refl
     where
@@ -135,7 +135,7 @@ module _ (table : Table) (side : Side) (entries : List Entry) (number : ℕ) (m 
   all : AreAllThere side items id s
   all = messages_counted table side entries number m kinds.WrongReply about id to
 
-  -- Fewer Continues were sent than would be answered or received,
+  -- Each Continue was answered by an Abort or received.
   fewer : count (is_a forms.Continue) (asked side id items)
       < count (is_abort_with 1 id) (sent_by side items) + 1 + count_received side id items h → NoContinueLeft s
   fewer = by (is_nothing (told side id items)) (is_accepted h.how) refl refl
@@ -152,7 +152,7 @@ module _ (table : Table) (side : Side) (entries : List Entry) (number : ℕ) (m 
             none_accepted side items s id of none,
           ))
 
-  -- or all go to halves that are open.
+  -- All Continues go to open halves.
   all_open : all_go_to_open table side items (asked side id items) ≡ true → NoContinueLeft s
   all_open is =
       inr (inr (

@@ -1,5 +1,5 @@
--- What is listed of a scene is what the definitions of faults say: the messages from an ID and to it, what the half heard, and what
--- has its own invocations.
+-- The lists of a scene are those of the kinds: the messages from an ID and to it, those that the half heard, and those
+-- that carry its invocations.
 use Rattle.std.proofs.Common.{◌≡◌, ◌≢◌, ℕ, Bool, true, false, cond, ◌&&◌, List, [], ◌∷◌, ◌++◌, Option, Some, None, is_none, option_map, refl, ap, ◌∙◌}
 use Rattle.std.specs.Prelude.{filter}
 use Rattle.std.specs.List.{find}
@@ -23,7 +23,7 @@ use Rattle.tcap_evidence.specs.Scene.{Scene, has_request, heard_by, invoked_by, 
 use Rattle.tcap_grounds.proofs.SentBefore.{messages}
 use Rattle.tcap_grounds.proofs.NumberedLists.{first_is, kept_are, one_is, requests, since_are}
 
--- A scene is of a message to that ID, behind these items, and of the half with that ID.
+-- The scene is that of a message to this ID after these items, with the half of this ID.
 pub record IsTo (side : Side) (items : List Item) (id : List ℕ) (s : Scene) : Type 0 where
   pub own : messages s.own ≡ sent_by side items
   pub peer : messages s.peer ≡ sent_by (other side) items
@@ -34,7 +34,7 @@ pub record IsOver (side : Side) (items : List Item) (id : List ℕ) (s : Scene) 
   pub half : s.half ≡ (half_of side items id).own
 
 module _ (side : Side) (items : List Item) (id : List ℕ) (s : Scene) (of : IsTo side items id s) where
-  -- ---- from there and to there
+  -- ---- messages from the ID and to it
 
   pub there_are : messages (there s) ≡ asked side id items
   there_are =
@@ -62,9 +62,9 @@ module _ (side : Side) (items : List Item) (id : List ℕ) (s : Scene) (of : IsT
       ∙ ap (λ (o : Option (List ℕ)). find (λ (m : Message). is_a forms.Begin m && is_that o (otid_in m))
       (sent_by side items)) is
 
-  -- ---- what the half heard
+  -- ---- messages that the half heard
 
-  -- one that began by the peer's Begin
+  -- a half whose Begin the peer sent
   accepted_heard : (refused : Bool) (own : Option (List ℕ)) → s.half ≡ own
       → messages (heard_by s (cond refused Refused Accepted))
       ≡ option_to_list (find (is_a forms.Begin) (asked side id items)) ++ continued_to side items id own
@@ -90,7 +90,7 @@ module _ (side : Side) (items : List Item) (id : List ℕ) (s : Scene) (of : IsT
       by true = both
       by false = both
 
-  -- one that began by its own
+  -- a half whose Begin the end sent
   begun_heard : (own : List ℕ) → s.half ≡ Some own
       → messages (heard_by s Begun)
       ≡ heard_of (begin_from side own items) (continued_to side items id (Some own))
@@ -128,7 +128,7 @@ module _ (side : Side) (items : List Item) (id : List ℕ) (s : Scene) (of : IsT
           ∙ ap components_of
           (answered (heard_of (begin_from side own items) (continued_to side items id (Some own))) (begun_heard own half))
 
-  -- ---- what it told, and what has its own invocations
+  -- ---- messages that the half sent, and those that carry its invocations
 
   pub told_of : (half_of side items id).how ≢ Nowhere
       → components_of (told side id items) ≡ (half_of side items id).told

@@ -1,4 +1,4 @@
--- What an end sent before an entry, since the last quiet mark: which messages these are, and at which entries they stand.
+-- The messages of an end before an entry, since the last quiet mark, and their entries.
 use Rattle.std.proofs.Common.{◌≡◌, ◌⊎◌, inl, inr, ℕ, zero, suc, ◌+◌, ◌<◌, arith, Bool, true, false, cond, List, [], ◌∷◌, ◌++◌, map, take, Some, None, Result, Ok, Err, append_assoc, refl, sym, ap, subst, ◌∙◌}
 use Rattle.std.specs.Prelude.{Contains, slice_get}
 use Rattle.std.specs.List.{cons_option}
@@ -56,7 +56,7 @@ module _ (side : Side) where
       ∙ ap (λ (xs : List Item). sent_by side (since_quiet xs))
       (append_assoc items (Item.Quiet ∷ []) (items_among entries))
 
-  -- They are those among the items since the last quiet mark.
+  -- The messages are those among the items since the last quiet mark.
   pub sent_are : (entries : List Entry) (number : ℕ)
       → messages (sent_before side entries number) ≡ sent_by side (items_before entries number)
   sent_are entries number = behind_is (map item_of (take number entries)) 0 [] [] refl
@@ -67,7 +67,7 @@ module _ (side : Side) where
 abbrev NoMark : List (Result Item Reason) → Type 0
 NoMark entries = (j : ℕ) → slice_get entries j ≡ Some (Ok Item.Quiet) → ⊥
 
--- That one of these entries is a message of an end, and no quiet mark stands behind it.
+-- Entry `k` is a message of this end, and no quiet mark follows it.
 record IsLast (side : Side) (entries : List (Result Item Reason)) (k : ℕ) (m : Message) : Type 0 where
   is : slice_get entries k ≡ Some (Ok (Sent side m))
   since : (j : ℕ) → k < j → slice_get entries j ≡ Some (Ok Item.Quiet) → ⊥
@@ -82,7 +82,7 @@ none_more : (entry : Result Item Reason) (entries : List (Result Item Reason)) �
 none_more entry entries isnt none zero is = isnt (let same : entry ≡ Ok Item.Quiet = cc in same)
 none_more entry entries isnt none (suc j) is = none j is
 
--- The same with an entry before them.
+-- This still holds with one more entry in front.
 last_more : (side : Side) (entry : Result Item Reason) (entries : List (Result Item Reason)) (k : ℕ) (m : Message)
     → IsLast side entries k m → IsLast side (entry ∷ entries) (suc k) m
 last_more side entry entries k m last = record { is = last.is; since = behind }
@@ -97,7 +97,7 @@ last_less side entry entries k m last =
     record { is = last.is; since = λ j after is. last.since (suc j) (omega arith) is }
 
 module _ (side : Side) where
-  -- What is there was there before, or is one of these entries.
+  -- A message that is there was there before, or is one of these entries.
   abbrev Came : List (Result Item Reason) → ℕ → List Numbered → ℕ → Message → Type 0
   Came entries at sent n m =
       ((k : ℕ) × (n ≡ at + k) × IsLast side entries k m) ⊎ (Contains sent (n, m) × NoMark entries)
@@ -145,7 +145,7 @@ module _ (side : Side) where
           own (same_side side sender is) clear (Contains-push_cases sent (at, first) (n, m) there)
       by false is (inr (there, clear)) = inr (there, none_more (Ok (Sent sender first)) entries (λ bad. cc) clear)
 
-  -- What was there is there still, where no quiet mark comes.
+  -- A message that was there stays, if there is no quiet mark.
   stays : (entries : List (Result Item Reason)) (at : ℕ) (sent : List Numbered) (n : ℕ) (m : Message)
       → Contains sent (n, m) → NoMark entries → Contains (with_entries side at entries sent) (n, m)
   stays [] at sent n m has none = has
@@ -160,7 +160,7 @@ module _ (side : Side) where
       by true = Contains-append_left sent ((at, first) ∷ []) (n, m) has
       by false = has
 
-  -- Such an entry is there.
+  -- A message of these entries that no quiet mark follows is there.
   comes : (entries : List (Result Item Reason)) (at : ℕ) (sent : List Numbered) (n : ℕ) (m : Message) (k : ℕ)
       → n ≡ at + k → IsLast side entries k m → Contains (with_entries side at entries sent) (n, m)
   comes [] at sent n m k at_k last = let bad : None ≡ Some (Ok (Sent side m)) = last.is in cc
@@ -191,7 +191,7 @@ module _ (side : Side) where
       comes entries (at + 1) (cond (is_side side sender) (sent ++ (at, first) ∷ []) sent) n m k (omega (arith, at_k))
       (last_less side (Ok (Sent sender first)) entries k m last)
 
--- ---- the first entries
+-- ---- the entries before entry `number`
 
 pub taken_at : (n : ℕ) (xs : List (Result Item Reason)) (k : ℕ) → k < n → slice_get (take n xs) k ≡ slice_get xs k
 taken_at zero xs k below = absurd (omega arith)
@@ -205,7 +205,7 @@ taken_below n xs k x is =
     let within = slice_get_within (take n xs) k x is in
     let long = length-take n xs in omega arith
 
--- What an end sent before an entry stands at such entries,
+-- Each message is in an entry that matches it.
 pub was_sent : (side : Side) (entries : List Entry) (number n : ℕ) (m : Message)
     → Contains (sent_before side entries number) (n, m) → IsSentBefore entries number side n m
 was_sent side entries number n m has = by (came side (map item_of (take number entries)) 0 [] n m has)
@@ -228,7 +228,7 @@ was_sent side entries number n m has = by (came side (map item_of (take number e
         first k at_k (subst (λ (es : List (Result Item Reason)). IsLast side es k m) (sym (take-map item_of number entries)) last)
     by (inr (none, clear)) = has_not (n, m) none
 
--- and at each of them.
+-- Each matching entry has its message in the list.
 pub is_sent : (side : Side) (entries : List Entry) (number n : ℕ) (m : Message) → IsSentBefore entries number side n m
     → Contains (sent_before side entries number) (n, m)
 is_sent side entries number n m sent =

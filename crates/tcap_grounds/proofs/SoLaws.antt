@@ -1,4 +1,4 @@
--- The component of a message that has a kind: where it stands, and what a scene of it says.
+-- The component of a message that has a kind: its number, and its scene.
 use Rattle.std.proofs.Common.{◌≡◌, ◌≢◌, ℕ, ℤ, zero, suc, ◌+◌, ◌≤◌, arith, Bool, true, false, cond, not, ◌||◌, List, [], ◌∷◌, ◌++◌, length, take, Option, Some, None, append_assoc, append-nil, refl, sym, ap, ◌∙◌}
 use Rattle.std.specs.Prelude.{Contains, filter, slice_get}
 use Rattle.std.specs.List.{list_any}
@@ -37,9 +37,9 @@ use Rattle.tcap_grounds.proofs.NumberedLists.{with_counted}
 use Rattle.tcap_grounds.proofs.SentBefore.{messages}
 use Rattle.tcap_evidence.specs.declared.what.What.TheVariants as whats
 
--- ---- which component
+-- ---- the component
 
--- The first that passes.
+-- The first item that passes.
 pub first_is : {A : Type 0} (p : A → Bool) (number : ℕ) (xs : List A) → list_any p xs ≡ true
     → (k : ℕ) × (x : A) × (first_so p number xs ≡ Some (number + k)) × (slice_get xs k ≡ Some x) × (p x ≡ true)
 first_is p number [] some = cc
@@ -55,7 +55,7 @@ first_is {A} p number (x ∷ xs) some = by (p x) refl some (first_is p (number +
         let (k, y, is, here, passes) = rest some in
         (suc k, y, is ∙ ap (λ (n : ℕ). Some n) (omega arith), here, passes)
 
--- The first that is so behind those of its message and those that were told before.
+-- The first component with the property, given the messages and components before it.
 pub component_is : (is_so : List Component → List Component → Component → Bool) (number : ℕ) (own before cs : List Component)
     → has_component is_so own before cs ≡ true
     → (k : ℕ) × (c : Component) × (component_so is_so number own before cs ≡ Some (number + k))
@@ -93,9 +93,9 @@ component_is is_so number own before (c ∷ cs) some =
               ∙ passes,
         )
 
--- ---- what a scene of it says
+-- ---- its scene
 
--- A scene is of the component at that place.
+-- The scene is that of the component at index `k`.
 pub record IsOf (s : Scene) (kind : Kind) (cs : List Component) (k : ℕ) (c : Component) (o : Option Component) : Type 0 where
   pub it : o ≡ Some c
   pub earlier : s.earlier ≡ take k cs
@@ -113,7 +113,7 @@ about_component of_one table side items m kind = by (dtid_in m) refl
 pub zero_more : {o : Option ℕ} {k : ℕ} → o ≡ Some (0 + k) → o ≡ Some k
 zero_more is = is ∙ ap (λ (n : ℕ). Some n) (omega arith)
 
--- Where one of the first kinds has a component, it is that.
+-- If the first search finds a component, the result is that one.
 pub first_wins : (a b : Option ℕ) (k : ℕ) → a ≡ Some (0 + k) → or_else a b ≡ Some k
 first_wins a b k is = ap (λ (o : Option ℕ). or_else o b) is ∙ ap (λ (n : ℕ). Some n) (omega arith)
 
@@ -137,23 +137,23 @@ scene_of_it of_one table side entries number m kind k c is here = record { it = 
     id : (scene_at of_one table side entries number m kind).id ≡ invoke_id_of kind c
     id = ap (invoke_id_in kind) it
 
--- What is so of it is so of what a scene of it has before it.
+-- The property also holds for the components that the scene has before it.
 pub so_earlier : (s : Scene) (is_so : List Component → List Component → Component → Bool) (told cs : List Component) (k : ℕ)
     (c : Component) → s.earlier ≡ take k cs → is_so ([] ++ take k cs) (told ++ take k cs) c ≡ true
     → is_so s.earlier (told ++ s.earlier) c ≡ true
 so_earlier s is_so told cs k c earlier is =
     ap (λ (xs : List Component). is_so xs (told ++ xs) c) earlier ∙ is
 
--- A half that may send is one.
+-- A half that may send exists.
 pub speaks_half : (side : Side) (items : List Item) (m : Message) (h : HalfOf) → not (is_wrong_half side items m h) ≡ true
     → h.how ≢ Nowhere
 speaks_half side items m h right nowhere =
     let fits : is_wrong_half side items m h ≡ false = not-true (is_wrong_half side items m h) right in
     let bad : true ≡ false = rw nowhere at fits in cc
 
--- ---- how many are listed
+-- ---- the number of entries
 
--- What is counted of a half, of an invoke ID, is what is listed.
+-- The lists of an invoke ID have as many entries as the half's components are counted.
 pub record IsCounted (s : Scene) (h : HalfOf) (cs : List Component) (id : ℤ) : Type 0 where
   pub heard : (sort : Sort) → many s (whats.Heard sort) ≡ count (is_sort s.table id sort) h.heard
   pub before : (sort : Sort) → many s (whats.Before sort) ≡ count (is_sort s.table id sort) (h.told ++ s.earlier)
@@ -216,7 +216,7 @@ are_counted of_one table side entries number m kind to id goes is some =
 
 -- ---- lists of components
 
--- None is counted where none passes,
+-- If no item passes, none is counted.
 pub none_counted : {A : Type 0} (p : A → Bool) (xs : List A) → list_any p xs ≡ false → count p xs ≡ 0
 none_counted p [] none = refl
 none_counted {A} p (x ∷ xs) none = by (p x) none (none_counted p xs)
@@ -235,7 +235,7 @@ at_has [] k x here = cc
 at_has (y ∷ ys) zero x here = let same : y ≡ x = cc in rw (← same) (has_first y ys)
 at_has (y ∷ ys) (suc k) x here = has_later y ys x (at_has ys k x here)
 
--- and two are where one passes, and one before it.
+-- If an item passes and one before it passes, two are counted.
 pub two_counted : {A : Type 0} (p : A → Bool) (xs : List A) (k : ℕ) (x : A) → slice_get xs k ≡ Some x → p x ≡ true
     → list_any p (take k xs) ≡ true → 2 ≤ count p xs
 two_counted p [] k x here passes some = cc

@@ -1,4 +1,4 @@
--- What a message is that stands in a list of a scene, or passes a test by which entries are listed.
+-- The messages in a list of a scene match it.
 use Rattle.std.proofs.Common.{◌≡◌, ◌⊎◌, inl, inr, ℕ, ℤ, Bool, true, false, cond, ◌&&◌, List, [], ◌∷◌, ◌++◌, map, Option, Some, None, is_none, refl, sym}
 use Rattle.std.specs.Prelude.{Contains, filter}
 use Rattle.std.specs.List.{find}
@@ -47,7 +47,7 @@ since_had {A} p (y ∷ ys) x has = by (p y) has (since_had p ys x)
     by false some rest = has_later y ys x (rest some)
 
 module _ (s : Scene) where
-  -- ---- what a message is that is there
+  -- ---- the messages of the scene's lists
 
   pub there_is : (n : ℕ) (m : Message) → Contains (there s) (n, m) → Contains s.peer (n, m) × AreSame s.to (otid_in m)
   there_is n m has =
@@ -94,7 +94,7 @@ module _ (s : Scene) where
       by (inl first) = first_is n m first
       by (inr later) = half_is n m later
 
-  -- what the half heard
+  -- a message that the half heard
   pub heard_is : (how : How) (n : ℕ) (m : Message) → Contains (heard_by s how) (n, m)
       → Contains (there s) (n, m) × IsHeardBy s.half m
   heard_is Accepted n m has = accepted_is n m has
@@ -109,7 +109,7 @@ module _ (s : Scene) where
   heard_is Unanswered n m has = has_not (n, m) has
   heard_is Nowhere n m has = has_not (n, m) has
 
-  -- what has its own invocations
+  -- a message that carries the half's invocations
   begin_is : (n : ℕ) (m : Message) → Contains (option_to_list (own_begin s)) (n, m)
       → Contains s.own (n, m) × IsInvokedIn s.half s.to m
   begin_is n m has =

@@ -1,5 +1,5 @@
--- What is given for a kind: each list of which the laws say something where a message has it, in order, and the invocations. Of F8 the list of the
--- end's Begins with an AARQ is not given, though `ShowsWrongHalf` speaks of it.
+-- Which lists are given for a kind: each list that the laws use, and the invocations. An exception is F8: the list of
+-- the end's Begins with an AARQ is not given, though `ShowsWrongHalf` uses it.
 use Rattle.std.specs.Prelude.{◌≡◌, ◌≤◌, ℕ, ℤ, ⊤, List, [], ◌∷◌, Contains, Option, Some, None, ◌==◌, cond}
 use Rattle.tcap_parts.specs.declared.component.Component.{Component}
 use Rattle.tcap_parts.specs.declared.component.Component.TheVariants.{Invoke, ReturnResult, ReturnError, Reject}
@@ -22,17 +22,17 @@ use Rattle.tcap_evidence.specs.Operations.{answers, rejects_answer}
 use Rattle.tcap_evidence.specs.Scene.{Scene, shown}
 use Rattle.tcap_grounds.specs.Shown.{IsSentBefore}
 
--- Each of these is given, with the entries that show it.
+-- Each of these things is given, with the entries that show it.
 abbrev pub AreGiven : Scene → List (What × List ℕ) → List What → Type 0
 AreGiven s grounds [] = ⊤
 AreGiven s grounds (what ∷ more) = Contains grounds (what, shown s what) × AreGiven s grounds more
 
--- No number is lower than one before it.
+-- No number is lower than an earlier one.
 abbrev pub IsAscending : List ℕ → Type 0
 IsAscending [] = ⊤
 IsAscending (n ∷ more) = ((k : ℕ) → Contains more k → n ≤ k) × IsAscending more
 
--- ---- of which lists the laws speak
+-- ---- the lists that the laws use
 
 -- F5, `ShowsUnasked`
 abbrev pub spoken_of_asked : Option Component → List What
@@ -89,7 +89,7 @@ spoken_of_rejected (Some (Reject (Some id) (problems.ReturnError n))) =
     ∷ whats.Invoked (sorts.Invokes Any) ∷ whats.Invoked (sorts.Invokes One) ∷ whats.Invoked (sorts.Invokes Two) ∷ []
 spoken_of_rejected c = []
 
--- of a message with destination ID
+-- the lists for a message with a destination ID
 abbrev pub spoken_of_to : How → Option Component → Kind → List What
 spoken_of_to how c kinds.UnknownTransaction = whats.BeginsThere ∷ whats.ContinuesThere ∷ []
 spoken_of_to how c kinds.ReusedId = whats.WentElsewhere ∷ []
@@ -110,19 +110,21 @@ spoken_of_to how c kinds.WrongReply =
     whats.ContinuesThere ∷ whats.Unknown ∷ whats.Told ∷ whats.BeginsThere ∷ whats.Refused ∷ []
 spoken_of_to how c kind = []
 
--- Of one without: a list of what its peer sent from there is empty, so none is given.
+-- The lists for a message without a destination ID. Lists of the peer's messages from that ID would be empty, so they
+-- are not given.
 abbrev pub spoken_of_alone : Kind → List What
 spoken_of_alone kinds.ReusedId = whats.Used ∷ []
 spoken_of_alone kinds.InvokeIdBusy = whats.Before (sorts.Invokes Any) ∷ []
 spoken_of_alone kind = []
 
+-- the lists for a message, with or without a destination ID
 abbrev pub spoken_of : Option (List ℕ) → How → Option Component → Kind → List What
 spoken_of None how c kind = spoken_of_alone kind
 spoken_of (Some id) how c kind = spoken_of_to how c kind
 
 -- ---- invocations
 
--- the list of Invokes of the messages whose invocations are given for a kind
+-- the list of Invokes in the messages whose invocations are given for a kind
 abbrev pub invokes_listed : Kind → Option Component → Option What
 invokes_listed kinds.WrongOperation c = cond (answers c) (Some (whats.There (sorts.Invokes Any))) None
 invokes_listed kinds.InvokeIdBusy c = Some (whats.Invoked (sorts.Invokes Any))
@@ -132,8 +134,8 @@ invokes_listed kinds.RejectNotAllowed c =
     Some (cond (rejects_answer c) (whats.Invoked (sorts.Invokes Any)) (whats.Heard (sorts.Invokes Any)))
 invokes_listed kind c = None
 
--- An invocation is an Invoke of that ID in its entry, with its operation and its linked ID; that end sent the entry before the one at
--- fault.
+-- The invocation is an Invoke of the ID in its entry, with its operation and its linked ID. This end sent the entry,
+-- before the one at fault.
 pub record IsInvoke (entries : List Entry) (number : ℕ) (sender : Side) (asked : Option ℤ) (i : Invocation) : Type 0 where
   pub message : Message
   pub id : ℤ

@@ -1,5 +1,5 @@
--- What the lists of entries say where a message does not fit the dialogue, the half over which it would go, or what it answers: of F7 to
--- F9, and of F14 (Q.774 3.2, 3.3).
+-- What the lists show if a message does not fit its dialogue, its half, or the message that it answers: F7 to F9 and
+-- F14 (Q.774 3.2, 3.3).
 use Rattle.std.specs.Prelude.{◌≡◌, ◌⊎◌, ◌<◌, ◌≤◌, ◌+◌, ℕ, Bool, true, false, List, [], Option, Some, None, is_some, ◌&&◌, not}
 use Rattle.tcap_msg.specs.declared.kind.Kind.TheVariants as forms
 use Rattle.tcap_msg.specs.declared.message.Message.{Message}
@@ -17,32 +17,36 @@ use Rattle.tcap_evidence.specs.Numbered.{entries_where}
 use Rattle.tcap_evidence.specs.Scene.{Scene, there, to_half}
 use Rattle.tcap_grounds.specs.Shown.{AreDifferent, ListsNone, ListsOne, many}
 
--- ---- F7: a dialogue portion that no message of its kind carries
+-- ---- F7: a dialogue portion that the message may not carry
 
--- whether its dialogue portion is one that answers a request: an AARE that takes the dialogue, in an Abort one that refuses it
+-- whether the dialogue portion answers a request: an AARE that accepts the dialogue; in an Abort, an AARE that refuses
+-- it
 abbrev pub answers_request : Message → Bool
 answers_request (Abort dtid reason) = refuses_dialogue (dialogue_in (Abort dtid reason))
 answers_request m = accepts_dialogue (dialogue_in m)
 
--- There is a dialogue portion; and where it is one that answers a request, no Begin there has any.
+-- The message has a dialogue portion; and if it answers a request, no Begin from the destination ID has one.
 abbrev pub ShowsMisplaced : Scene → Message → Type 0
 ShowsMisplaced s m = (is_some (dialogue_in m) ≡ true) × (answers_request m ≡ true → ListsNone s whats.RequestsThere)
 
--- ---- F8: no half may send it
+-- ---- F8: no half may send the message
 
--- The end accepted the peer's Begin: there is one, and it was not refused. Or it accepted none.
+-- The end accepted the peer's Begin: there is one, and it was not refused.
 abbrev pub Accepts : Scene → Type 0
 Accepts s = ListsOne s whats.BeginsThere × ListsNone s whats.Refused
 
+-- The end accepted no Begin of the peer: there is none, or it was refused.
 abbrev pub AcceptsNone : Scene → Type 0
 AcceptsNone s = ListsNone s whats.BeginsThere ⊎ ListsOne s whats.Refused
 
--- The end sent a Begin from the own ID, and the peer, which sent none, Continues.
+-- The end sent a Begin from the own ID; the peer sent a Continue, but no Begin.
 abbrev pub Begins : Scene → Type 0
 Begins s = ListsNone s whats.BeginsThere × ListsOne s whats.Begun × ListsOne s whats.ContinuesThere
 
--- By how the half began it may not send: the peer's Begin was refused; or no Continue answers the request of the end's Begin; or
--- there is neither a Begin of the peer, nor a Continue to an ID that the end began.
+-- A half that began in this way may not send:
+-- - Refused: the peer's Begin was refused;
+-- - Unanswered: no Continue answers the request of the end's Begin;
+-- - Nowhere: there is no Begin of the peer, and no Continue to an ID that the end began.
 abbrev pub MayNotSpeak : Scene → How → Type 0
 MayNotSpeak s Accepted = ⊥
 MayNotSpeak s Refused = ListsOne s whats.BeginsThere × ListsOne s whats.Refused
@@ -50,27 +54,29 @@ MayNotSpeak s Begun = ⊥
 MayNotSpeak s Unanswered = Begins s × ListsOne s whats.OwnRequests × (entries_where responds (to_half s) ≡ [])
 MayNotSpeak s Nowhere = ListsNone s whats.BeginsThere × (entries_where (goes_to_begun s.side s.items) (there s) ≡ [])
 
--- The message's originating ID is not the half's: an accepted half has none that the end began, nor any but that from which a
--- Continue was told; one that began has its own.
+-- The message's originating ID is not the half's. Accepted half: the end sent a Begin from the own ID, or a Continue
+-- from another own ID. Begun half: its own ID is another one.
 abbrev pub GoesFromOther : Scene → How → Type 0
 GoesFromOther s Accepted =
     Accepts s × (ListsOne s whats.Begun ⊎ ListsOne s whats.ContinuesTold × AreDifferent s.half s.from)
 GoesFromOther s Begun = Begins s × AreDifferent s.half s.from
 GoesFromOther s how = ⊥
 
--- By how the half began: one of these; or it was answered as closed, by an Abort with cause 1.
+-- The half may not send, or has another own ID, or was closed by an Abort with cause 1.
 abbrev pub ShowsWrongHalf : Scene → How → Type 0
 ShowsWrongHalf s how = MayNotSpeak s how ⊎ GoesFromOther s how ⊎ ListsOne s whats.Unknown
 
--- ---- F9: the dialogue portion does not fit the dialogue
+-- ---- F9: a dialogue portion that does not fit the dialogue state
 
--- whether its dialogue portion is one that the first answer alone may have: any; in an Abort an AARE
+-- whether only the first answer may carry the dialogue portion: any portion; in an Abort, an AARE
 abbrev pub is_for_first : Message → Bool
 is_for_first (Abort dtid reason) = is_response (dialogue_in (Abort dtid reason))
 is_for_first m = is_some (dialogue_in m)
 
--- Where the peer's Begin was accepted: such a portion, and a Continue was told before; or no AARE in the first answer to a request;
--- in an Abort a user's ABRT without any.
+-- The dialogue portion does not fit a half whose Begin the peer sent, because one of these holds:
+-- - the portion is for the first answer, but the end sent a Continue before;
+-- - the message is the first answer to a request, but has no AARE;
+-- - the message is an Abort with a user's ABRT, but there was no request.
 abbrev pub MisfitsAccepted : Scene → Message → Type 0
 MisfitsAccepted s (Abort dtid reason) =
     (is_for_first (Abort dtid reason) ≡ true) × ListsOne s whats.ContinuesTold
@@ -79,21 +85,23 @@ MisfitsAccepted s m =
     (is_for_first m ≡ true) × ListsOne s whats.ContinuesTold
     ⊎ (is_response (dialogue_in m) ≡ false) × ListsNone s whats.ContinuesTold × ListsOne s whats.RequestsThere
 
--- Where the end began: such a portion; or in an Abort a user's ABRT, and not each Begin from the own ID has a request.
+-- The dialogue portion does not fit a half whose Begin the end sent: the portion is for the first answer; or an Abort
+-- has a user's ABRT, but not every Begin from the own ID has a request.
 abbrev pub MisfitsBegun : Scene → Message → Type 0
 MisfitsBegun s (Abort dtid reason) =
     (is_for_first (Abort dtid reason) ≡ true)
     ⊎ (is_user_abort (dialogue_in (Abort dtid reason)) ≡ true) × (many s whats.OwnRequests < many s whats.Begun)
 MisfitsBegun s m = is_for_first m ≡ true
 
+-- F9, by how the half began
 abbrev pub ShowsWrongDialogue : Scene → How → Message → Type 0
 ShowsWrongDialogue s Accepted m = ListsOne s whats.BeginsThere × MisfitsAccepted s m
 ShowsWrongDialogue s Begun m = ListsOne s whats.Begun × MisfitsBegun s m
 ShowsWrongDialogue s how m = ⊥
 
--- ---- F14: an Abort of the provider that answers nothing that is left
+-- ---- F14: an Abort of the provider that answers no message that is left
 
--- whether a message goes to a half that is open for certain
+-- whether a message goes to a half that is certainly open
 abbrev pub goes_to_open : Scene → Message → Bool
 goes_to_open s m = by (dtid_in m)
   where
@@ -101,8 +109,8 @@ goes_to_open s m = by (dtid_in m)
     by None = false
     by (Some own) = is_surely_open s.table s.side s.items own
 
--- No Continue from there is left to be answered by an Abort with cause 1: all were; or all but one, which was received, since
--- something was told there though no Begin from there was accepted; or each goes to a half that is open.
+-- No Continue from the destination ID is left for an Abort with cause 1. Either each was answered; or each but one,
+-- which was received, because the end sent something there without accepting a Begin; or each goes to an open half.
 abbrev pub NoContinueLeft : Scene → Type 0
 NoContinueLeft s =
     (many s whats.ContinuesThere ≤ many s whats.Unknown)
@@ -110,11 +118,11 @@ NoContinueLeft s =
     ⊎ ListsOne s whats.ContinuesThere
     × (entries_where (λ m. is_a forms.Continue m && not (goes_to_open s m)) (there s) ≡ [])
 
--- No Begin from there is left to be refused: none was accepted, or something was told there.
+-- No Begin from the destination ID is left to be refused: none was accepted, or the end sent something there.
 abbrev pub NoBeginLeft : Scene → Type 0
 NoBeginLeft s = AcceptsNone s ⊎ ListsOne s whats.Told
 
--- by the cause of the Abort
+-- F14, by the cause of the Abort
 abbrev pub ShowsWrongReply : Scene → Option ℕ → Type 0
 ShowsWrongReply s None = ⊥
 ShowsWrongReply s (Some cause) = (cause ≡ 1) × NoContinueLeft s ⊎ (cause ≡ 4) × NoBeginLeft s

@@ -1,5 +1,5 @@
--- What the lists of entries that show a fault say: how many entries they have, which ones, and what is listed where a message has
--- a kind.
+-- What the lists of entries show about a fault: how many entries they have, which entries these are, and what they
+-- contain if a message has a kind.
 use Rattle.std.specs.Prelude.{◌≡◌, ◌≢◌, ◌⊎◌, ◌<◌, ◌≤◌, ◌+◌, ℕ, ℤ, Bool, true, false, List, [], ◌++◌, Contains, length, map, take, slice_get, Option, Some, None, Ok}
 use Rattle.tcap_parts.specs.declared.component.Component.{Component}
 use Rattle.tcap_msg.specs.declared.kind.Kind.TheVariants as forms
@@ -32,25 +32,26 @@ use Rattle.tcap_evidence.specs.Pairing.{paired_before, partner_in}
 use Rattle.tcap_evidence.specs.Scene.{Scene, own_id, shown}
 use Rattle.tcap_evidence.specs.Words.{sender_of}
 
--- what stands before the entry of that number, since the last quiet mark
+-- the items before an entry, since the last quiet mark
 abbrev pub items_before : List Entry → ℕ → List Item
 items_before entries number = since_quiet (items_among (map item_of (take number entries)))
 
--- what is known of a message of that number that has that kind, by the half and the component which that is about
+-- what is known of a message of entry `number` that has a kind, with the subject of that kind
 abbrev pub scene_at : Bool → Table → Side → List Entry → ℕ → Message → Kind → Scene
 scene_at of_one table side entries number m kind =
     scene_of table side entries number m kind (subject of_one table side (items_before entries number) m kind)
 
--- the component which has that kind
+-- the component that has the kind
 abbrev pub component_with : Bool → Table → Side → List Entry → ℕ → Message → Kind → Option Component
 component_with of_one table side entries number m kind =
     component_at (subject of_one table side (items_before entries number) m kind).component (components_in m)
 
--- ---- how many
+-- ---- the number of entries
 
--- The lists of a sort have an entry for each component that passes the test: in the peer's messages from that ID; in what the half
--- heard; in what the end told that ID, together with the message before the component at fault, or with all of the message. Where
--- there is a half, what it told is what the end told that ID, and one more list is of what it invoked.
+-- Each list of a sort has as many entries as there are components that pass `is_so`. There: in the peer's messages
+-- from the ID. Heard: in those that the half heard. Before and Whole: in the end's messages to the ID, with the
+-- message's components before the one at fault, or all of them. If there is a half, the end's messages to the ID are
+-- the half's, and Invoked counts the half's own invocations.
 pub record AreCounted (side : Side) (items : List Item) (id : List ℕ) (m : Message) (s : Scene) (sort : Sort) (is_so : Component → Bool) : Type 0 where
   pub there : length (shown s (whats.There sort)) ≡ count is_so (components_of (asked side id items))
   pub heard : length (shown s (whats.Heard sort)) ≡ count is_so (half_of side items id).heard
@@ -63,8 +64,8 @@ pub record AreCounted (side : Side) (items : List Item) (id : List ℕ) (m : Mes
   pub invoked : (half_of side items id).how ≢ Nowhere
       → length (shown s (whats.Invoked sort)) ≡ count is_so (half_of side items id).invoked
 
--- What is counted of the sorts, in the words of the kinds: Invokes of an ID, those of a class, those that last, and what takes an
--- invocation. The other sorts are words of the kinds themselves.
+-- How many components are of a sort, in terms of the definitions of the kinds: Invokes of an ID, of a class, and not
+-- expiring; and components that end an invocation.
 pub record SortsAre (table : Table) (id : ℤ) (cs : List Component) : Type 0 where
   pub any : count (is_sort table id (sorts.Invokes Any)) cs ≡ count (invokes id) cs
   pub one : count (is_sort table id (sorts.Invokes One)) cs ≡ count_class table id 1 cs
@@ -76,7 +77,7 @@ pub record SortsAre (table : Table) (id : ℤ) (cs : List Component) : Type 0 wh
   pub taken : count (is_sort table id sorts.LastResults) cs + count (is_sort table id sorts.Errors) cs
       + count (is_sort table id sorts.InvokeRejects) cs ≡ count (takes id) cs
 
--- The lists of messages have an entry for each: of the peer's messages from that ID, and of the end's messages to it.
+-- Each list of messages has an entry for each of the peer's messages from the ID, or each of the end's messages to it.
 pub record AreAllThere (side : Side) (items : List Item) (id : List ℕ) (s : Scene) : Type 0 where
   pub begins : length (shown s whats.BeginsThere) ≡ count (is_a forms.Begin) (asked side id items)
   pub requests : length (shown s whats.RequestsThere) ≡ count is_begin_with_request (asked side id items)
@@ -86,15 +87,16 @@ pub record AreAllThere (side : Side) (items : List Item) (id : List ℕ) (s : Sc
   pub unknown : length (shown s whats.Unknown) ≡ count (is_abort_with 1 id) (sent_by side items)
   pub refused : length (shown s whats.Refused) ≡ count (is_abort_with 4 id) (sent_by side items)
 
--- ---- which
+-- ---- the listed entries
 
--- An entry before that number is that message of that end, and no quiet mark stands between them.
+-- Entry `n` is before entry `number`, is this message of this end, and no quiet mark is between the two.
 pub record IsSentBefore (entries : List Entry) (number : ℕ) (sender : Side) (n : ℕ) (m : Message) : Type 0 where
   pub is : slice_get (map item_of entries) n ≡ Some (Ok (Sent sender m))
   pub before : n < number
   pub since : (k : ℕ) → n < k → k < number → slice_get (map item_of entries) k ≢ Some (Ok Item.Quiet)
 
--- A listed Continue of that end, no later than that entry, in which the ID stands with that one; and no Begin from it is between.
+-- A listed Continue of this end, no later than entry `n`, uses the ID with this partner. No Begin from the ID comes
+-- after it, up to entry `n`.
 pub record IsPaired (of : Side) (id : List ℕ) (entries : List Entry) (number : ℕ) (sender : Side) (partner : List ℕ) (n : ℕ) : Type 0 where
   pub at : ℕ
   pub message : Message
@@ -105,39 +107,39 @@ pub record IsPaired (of : Side) (id : List ℕ) (entries : List Entry) (number :
   pub none_begun : (k : ℕ) (m : Message) → at < k → k ≤ n → slice_get (map item_of entries) k ≡ Some (Ok (Sent of m))
       → begins_from id m ≡ false
 
--- Both IDs are there, and they are the same.
+-- Both IDs exist and are the same.
 abbrev pub AreSame : Option (List ℕ) → Option (List ℕ) → Type 0
 AreSame a b = (id : List ℕ) × (a ≡ Some id) × (b ≡ Some id)
 
--- Both are there, and they differ.
+-- Both IDs exist and differ.
 abbrev pub AreDifferent : Option (List ℕ) → Option (List ℕ) → Type 0
 AreDifferent a b = (id : List ℕ) × (other : List ℕ) × (a ≡ Some id) × (b ≡ Some other) × (id ≢ other)
 
--- A message to that ID that is no Abort of the provider.
+-- A message to this ID other than an Abort of the provider.
 abbrev pub IsToldTo : Option (List ℕ) → Message → Type 0
 IsToldTo to m = AreSame to (dtid_in m) × (cause_in m ≡ None)
 
--- An End, or an Abort of the user, to that ID.
+-- An End, or an Abort of the user, to this ID.
 abbrev pub IsEndTo : Option (List ℕ) → Message → Type 0
 IsEndTo to m = AreSame to (dtid_in m) × ((kind_in m ≡ forms.End) ⊎ ((kind_in m ≡ forms.Abort) × (cause_in m ≡ None)))
 
--- What a half with that own ID can hear: a Begin, or a Continue to the own ID.
+-- A message that a half with this own ID can hear: a Begin, or a Continue to the own ID.
 abbrev pub IsHeardBy : Option (List ℕ) → Message → Type 0
 IsHeardBy own m = (kind_in m ≡ forms.Begin) ⊎ ((kind_in m ≡ forms.Continue) × AreSame own (dtid_in m))
 
--- What has the invocations of a half with that own ID: what is told to the peer's ID, and its own Begin.
+-- A message that carries invocations of a half with this own ID: one to the peer's ID, or the half's own Begin.
 abbrev pub IsInvokedIn : Option (List ℕ) → Option (List ℕ) → Message → Type 0
 IsInvokedIn own to m = IsToldTo to m ⊎ ((kind_in m ≡ forms.Begin) × AreSame own (otid_in m))
 
--- One of these components is of the invoke ID that is asked about, and of that sort.
+-- One of these components is of the invoke ID in question, and of the sort.
 abbrev pub HasSort : Scene → Sort → List Component → Type 0
 HasSort s sort cs = (id : ℤ) × (c : Component) × (s.id ≡ Some id) × Contains cs c × (is_sort s.table id sort c ≡ true)
 
--- A message from the own ID of a half that is open for certain.
+-- A message from the own ID of a half that is certainly open.
 abbrev pub IsOpen : Scene → Message → Type 0
 IsOpen s m = (own : List ℕ) × (otid_in m ≡ Some own) × (is_surely_open s.table s.side s.items own ≡ true)
 
--- What a message is that stands in such a list.
+-- The messages that each list is for.
 abbrev pub IsSuch : Scene → What → Message → Type 0
 IsSuch s whats.BeginsThere m = (kind_in m ≡ forms.Begin) × AreSame s.to (otid_in m)
 IsSuch s whats.RequestsThere m = (is_begin_with_request m ≡ true) × AreSame s.to (otid_in m)
@@ -158,40 +160,41 @@ IsSuch s (whats.Whole sort) m = IsToldTo s.to m × HasSort s sort (components_in
 IsSuch s (whats.Invoked sort) m = IsInvokedIn s.half s.to m × HasSort s sort (components_in m)
 IsSuch s whats.Open m = (kind_in m ≡ forms.Continue) × IsOpen s m
 
--- The entry of that number is such a message, of the end whose messages the list has, before the entry at fault.
+-- Entry `n` is such a message, sent before the entry at fault by the end whose messages the list has.
 abbrev pub IsEntryOf : List Entry → Scene → What → ℕ → Type 0
 IsEntryOf entries s what n = (m : Message) × IsSentBefore entries s.number (sender_of s.side what) n m × IsSuch s what m
 
--- The number is that of the entry at fault itself, and one of these components is of the invoke ID and of that sort.
+-- The number is that of the entry at fault itself, and one of these components is of the invoke ID in question and of
+-- the sort.
 abbrev pub IsItself : Scene → Sort → List Component → ℕ → Type 0
 IsItself s sort cs n = (n ≡ s.number) × HasSort s sort cs
 
--- The number is that of such an entry. In a list of what stands before the component at fault, or in all of the message, it may be
--- that of the entry at fault itself, which has such a component there.
+-- The number is that of such an entry. In a list for Before or Whole it may also be that of the entry at fault, if the
+-- message itself has such a component.
 abbrev pub IsShown : List Entry → Scene → What → ℕ → Type 0
 IsShown entries s (whats.Before sort) n = IsEntryOf entries s (whats.Before sort) n ⊎ IsItself s sort s.earlier n
 IsShown entries s (whats.Whole sort) n = IsEntryOf entries s (whats.Whole sort) n ⊎ IsItself s sort s.all n
 IsShown entries s what n = IsEntryOf entries s what n
 
--- whether a list has what one half heard or invoked: of such messages only those of that half
+-- whether a list is restricted to the messages that one half heard or that carry its invocations
 abbrev pub is_heard_or_invoked : What → Bool
 is_heard_or_invoked (whats.Heard sort) = true
 is_heard_or_invoked (whats.Invoked sort) = true
 is_heard_or_invoked what = false
 
--- ---- what has a kind
+-- ---- the kinds of a message
 
 -- A message has a kind by which a record is refuted, or one that is blamed on its end.
 abbrev pub HasKind : Table → Side → List Item → Message → Kind → Type 0
 HasKind table side items m kind =
     (is_of_kind table side items m kind ≡ true) ⊎ (is_fault table side items m kind ≡ true)
 
--- whether it has it, asked of one end, or of both
+-- whether a message has a kind, of one end alone (true) or of both (false)
 abbrev pub has_kind_by : Bool → Table → Side → List Item → Message → Kind → Bool
 has_kind_by true table side items m kind = is_fault table side items m kind
 has_kind_by false table side items m kind = is_of_kind table side items m kind
 
--- F10 to F13, the kinds of a component over a half
+-- whether a kind is one of F10 to F13, the kinds of a component over a half
 abbrev pub is_of_component : Kind → Bool
 is_of_component kinds.InvokeIdBusy = true
 is_of_component kinds.BadLink = true
@@ -199,25 +202,26 @@ is_of_component kinds.AnsweredAlready = true
 is_of_component kinds.RejectNotAllowed = true
 is_of_component kind = false
 
--- how many entries the list has
+-- the number of entries of a list
 abbrev pub many : Scene → What → ℕ
 many s what = length (shown s what)
 
--- The list is empty; or it has an entry.
+-- The list is empty.
 abbrev pub ListsNone : Scene → What → Type 0
 ListsNone s what = shown s what ≡ []
 
+-- The list has an entry.
 abbrev pub ListsOne : Scene → What → Type 0
 ListsOne s what = (n : ℕ) × Contains (shown s what) n
 
--- F2, by the cause of an Abort: the peer sent nothing from there, or nothing that an Abort with this cause answers. Of a cause that no
--- provider sends the lists say nothing.
+-- F2, by the cause of an Abort: the peer sent nothing from the destination ID, or nothing that an Abort with this
+-- cause answers. For a cause that no provider sends, nothing is shown.
 abbrev pub ShowsUnknown : Scene → Option ℕ → Type 0
 ShowsUnknown s None = ListsNone s whats.BeginsThere × ListsNone s whats.ContinuesThere
 ShowsUnknown s (Some cause) =
     (cause ≡ 1 → ListsNone s whats.ContinuesThere) × (cause ≡ 4 → ListsNone s whats.BeginsThere)
 
--- F3: the end used the originating ID of a Begin before, or went from that of a Continue to another ID.
+-- F3: the end used the originating ID of the Begin before, or sent a Continue from that of the Continue to another ID.
 abbrev pub ShowsReused : Scene → Message → Type 0
 ShowsReused s m =
     ((kind_in m ≡ forms.Begin) × ListsOne s whats.Used) ⊎ ((kind_in m ≡ forms.Continue) × ListsOne s whats.WentElsewhere)

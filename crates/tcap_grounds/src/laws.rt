@@ -1,5 +1,5 @@
-//! What it says that entries show a fault. Each function says by its contract alone what holds of the definitions: of the lists of
-//! entries, of the record, and of what the kinds of faults compare.
+//! What it means that entries show a fault. The contract of each function is a theorem about the definitions: the
+//! lists of entries, the record, and what the kinds of faults compare.
 
 ghost use Rattle.std.specs.Prelude.{◌≡◌, ◌≢◌, ◌⊎◌, ℕ, ℤ, Bool, true, false, List, [], ◌∷◌, Contains, Some, None, Ok, map, slice_get};
 ghost use Rattle.tcap_parts.specs.declared.component.Component.{Component};
@@ -33,8 +33,10 @@ ghost use Rattle.tcap_evidence.specs.Scene.{shown};
 ghost use Rattle.tcap_grounds.specs.Shown.{AreAllThere, AreCounted, HasKind, IsPaired, IsSentBefore, IsShown, ListsOne, ShowsReused, ShowsUnknown, SortsAre, component_with, has_kind_by, is_of_component, is_heard_or_invoked, items_before, scene_at};
 ghost use Rattle.tcap_evidence.specs.Words.{sender_of};
 
-/// The entries that are given as grounds are those which `shown` lists: of a message, with the half and the component that have the
-/// kind; of a quiet mark, with what was sent before it.
+/// Shows that the entries given as grounds are those of `shown`.
+///
+/// For a message, the scene has the half and the component that have the kind; for a quiet mark, it has the messages
+/// before the mark.
 pub fn grounds_are_listed()
     ensures message { (of_one : Bool) (table : Table) (side sender : Side) (entries : List Entry) (r : Refutation) (m : Message)
         (what : What) (numbers : List ℕ) → slice_get (map item_of entries) r.entry ≡ Some (Ok (Sent sender m))
@@ -46,7 +48,8 @@ pub fn grounds_are_listed()
         → numbers ≡ shown (mark_scene table side entries r.entry) what }
 {}
 
-/// The lists have as many entries as the kinds of faults count: of components of an invoke ID, of each sort, and of messages.
+/// Shows that the lists have as many entries as the kinds count: components of an invoke ID, of each sort, and
+/// messages.
 pub fn grounds_are_counts()
     ensures components { (of_one : Bool) (table : Table) (side : Side) (entries : List Entry) (number : ℕ) (m : Message)
         (kind : Kind) (to : List ℕ) (id : ℤ) (sort : Sort) → dtid_in m ≡ Some to
@@ -58,22 +61,24 @@ pub fn grounds_are_counts()
         → AreAllThere side (items_before entries number) to (scene_of table side entries number m kind about) }
 {}
 
-/// The sorts count what the words of the kinds count.
+/// Shows that the sorts count the same components as the definitions of the kinds.
 pub fn sorts_are_counts()
     ensures { (table : Table) (id : ℤ) (cs : List Component) → SortsAre table id cs }
 {}
 
-/// Where a message with a destination ID has one of the kinds F10 to F13, there is a half over which it goes. So the counts of what
-/// it told and invoked hold of these.
+/// Shows that a message with a destination ID and one of the kinds F10 to F13 has a half. So the counts of the half's
+/// messages and invocations apply to it.
 pub fn components_have_a_half()
     ensures { (table : Table) (side : Side) (items : List Item) (m : Message) (kind : Kind) (to : List ℕ)
         → dtid_in m ≡ Some to → is_of_component kind ≡ true → is_fault table side items m kind ≡ true
         → (half_of side items to).how ≢ Nowhere }
 {}
 
-/// Each number in a list is that of an entry of the record, of the end whose messages the list has, before the entry at fault and behind the last
-/// quiet mark, and its message is what the list is of; or it is the entry at fault itself, which has such a component before the
-/// one at fault, or, where the list is of all of the message, anywhere in it.
+/// Shows that each listed number is that of a matching entry.
+///
+/// The entry is before the one at fault and after the last quiet mark. The end whose messages the list has sent it,
+/// and its message is one that the list is for. The number may also be that of the entry at fault itself, if the
+/// message has such a component before the one at fault or, for `Whole`, anywhere.
 pub fn entries_are_there()
     ensures message { (table : Table) (side : Side) (entries : List Entry) (number : ℕ) (m : Message) (kind : Kind)
         (about : Subject) (what : What) (n : ℕ) → Contains (shown (scene_of table side entries number m kind about) what) n
@@ -83,7 +88,7 @@ pub fn entries_are_there()
         → IsShown entries (mark_scene table side entries number) what n }
 {}
 
-/// And each such entry is in the list, unless the list is of what one half heard or invoked.
+/// Shows that each such entry is listed, unless the list is restricted to what one half heard or invoked.
 pub fn entries_are_listed()
     ensures message { (table : Table) (side : Side) (entries : List Entry) (number : ℕ) (m : Message) (kind : Kind)
         (about : Subject) (what : What) (n : ℕ) → is_heard_or_invoked what ≡ false
@@ -94,8 +99,10 @@ pub fn entries_are_listed()
         → Contains (shown (mark_scene table side entries number) what) n }
 {}
 
-/// Where a message has one of the kinds F2 to F4, F7 and F14, or a quiet mark F15, the lists show that: of F2 they are empty, of F3, F4
-/// and F15 there is an entry, of F7 and F14 they are what the dialogue portion, or the cause of the Abort, can't be with.
+/// Shows what the lists contain for the kinds F2 to F4, F7 and F14 of a message, and F15 of a quiet mark.
+///
+/// For F2 they are empty. For F3, F4 and F15 they have an entry. For F7 and F14 they contradict the dialogue portion
+/// or the cause of the Abort.
 pub fn kinds_show()
     ensures unknown { (table : Table) (side : Side) (entries : List Entry) (number : ℕ) (m : Message) (about : Subject)
         → HasKind table side (items_before entries number) m kinds.UnknownTransaction
@@ -117,10 +124,13 @@ pub fn kinds_show()
         → ListsOne (mark_scene table side entries number) whats.Open }
 {}
 
-/// Of a transaction ID of an end each Begin from it is listed; and for each Continue from it or to it, in which it stands with an ID of the
-/// other end, one that the same end sent, no later and with no Begin from it between, in which it stands with the same ID. Each entry that
-/// is listed is such a Begin, or such a Continue. So the listed entries tell how often the ID was begun, and with which IDs it stands; what
-/// the other end began, or used, they don't tell.
+/// Shows which Begins and Continues are listed for a transaction ID of an end.
+///
+/// Each Begin from the ID is listed. For each Continue from it or to it, a Continue of the same end with the same
+/// partner is listed. The listed one is no later, and no Begin from the ID is between the two. Nothing else is listed.
+///
+/// So the list shows how often the ID was begun, and with which partners it was used. It does not show what the other
+/// end began or used.
 pub fn pairs_are_listed()
     ensures begins { (of : Side) (id : List ℕ) (entries : List Entry) (number n : ℕ) (m : Message)
         → IsSentBefore entries number of n m → begins_from id m ≡ true → Contains (paired_before of id entries number) n }
@@ -132,9 +142,10 @@ pub fn pairs_are_listed()
         × ((sender ≡ of) × (begins_from id m ≡ true) ⊎ (partner : List ℕ) × (partner_in of id sender m ≡ Some partner)) }
 {}
 
-/// Each list is given of which `kinds_show`, `halves_show` and `components_show` speak, for a message, its kind, its half and its component;
-/// and that of a quiet mark. But for these: of F8 the list of the end's Begins with an AARQ, and of a message without destination ID the
-/// lists of what its peer sent from there, which are empty.
+/// Shows that each list is given that `kinds_show`, `halves_show` and `components_show` use.
+///
+/// There are two exceptions. For F8, the list of the end's Begins with an AARQ is not given. For a message without a
+/// destination ID, the lists of the peer's messages from there are not given, because they are empty.
 pub fn lists_are_given()
     ensures message { (of_one : Bool) (table : Table) (side sender : Side) (entries : List Entry) (r : Refutation) (m : Message)
         → slice_get (map item_of entries) r.entry ≡ Some (Ok (Sent sender m))
@@ -146,7 +157,7 @@ pub fn lists_are_given()
         → AreGiven (mark_scene table side entries r.entry) (grounds_of of_one table side entries r) (whats.Open ∷ []) }
 {}
 
-/// Each list of entries is in order, and so are the entries of the invocations: no number is lower than one before it.
+/// Shows that each list of entries, and the list of the invocations' entries, is in ascending order.
 pub fn lists_ascend()
     ensures grounds { (of_one : Bool) (table : Table) (side : Side) (entries : List Entry) (r : Refutation) (what : What)
         (numbers : List ℕ) → Contains (grounds_of of_one table side entries r) (what, numbers) → IsAscending numbers }
@@ -154,10 +165,12 @@ pub fn lists_ascend()
         → IsAscending (map (λ i. i.entry) (invocations_at of_one table side entries r)) }
 {}
 
-/// The invocations that are given have the entries, in their order, that the list of Invokes has of the messages which the kind compares:
-/// for F6 of an answer those that the peer sent from the destination ID; for F10, and for F13 of a Reject of an answer, those with the
-/// half's own invocations; for F11, F12, and for F13 of another Reject, those that the half heard. Each invocation is an Invoke of its
-/// entry, with its operation and its linked ID. Of other kinds none is given.
+/// Shows that the given invocations are the Invokes in the messages that the kind compares, in order.
+///
+/// For F6 of an answer, these are the peer's messages from the destination ID. For F10, and F13 of a Reject of an
+/// answer, they are those with the half's own invocations. For F11, F12, and F13 of another Reject, they are those
+/// that the half heard. Each invocation is an Invoke of its entry, with its operation and its linked ID. Other kinds
+/// have no invocations.
 pub fn invocations_are_listed()
     ensures listed { (of_one : Bool) (table : Table) (side sender : Side) (entries : List Entry) (r : Refutation) (m : Message)
         (what : What) → slice_get (map item_of entries) r.entry ≡ Some (Ok (Sent sender m))
@@ -175,7 +188,7 @@ pub fn invocations_are_listed()
         → invocations_at of_one table side entries r ≡ [] }
 {}
 
-/// Where a message has F8 or F9, the lists show that, by how the half began over which it would go.
+/// Shows what the lists contain for the kinds F8 and F9 of a message, by how its half began.
 pub fn halves_show()
     ensures wrong_half { (of_one : Bool) (table : Table) (side : Side) (entries : List Entry) (number : ℕ) (m : Message)
         → HasKind table side (items_before entries number) m kinds.WrongHalf
@@ -187,9 +200,11 @@ pub fn halves_show()
         (scene_at of_one table side entries number m kinds.WrongDialogue).how m }
 {}
 
-/// Where a message has one of the kinds of a component, F5, F6 or F10 to F13, there is the component that has it, and the lists show
-/// that: of F5 the list is empty, of F6 no Invoke in the lists allows the answer, of the others the lists have more or fewer entries than
-/// the kind allows. Of a component of which the kind compares nothing they say nothing.
+/// Shows that a message with F5, F6 or one of F10 to F13 has a component with this kind, and what the lists contain
+/// for it.
+///
+/// For F5 the list is empty; for F6 no listed Invoke allows the answer; for the others, the lists have more or fewer
+/// entries than the component requires. If the kind compares nothing for a component, nothing is shown.
 pub fn components_show()
     ensures answers_nothing { (of_one : Bool) (table : Table) (side : Side) (entries : List Entry) (number : ℕ) (m : Message)
         → has_kind_by of_one table side (items_before entries number) m kinds.AnswersNothing ≡ true

@@ -1,4 +1,4 @@
--- Of which kinds the places of a row are.
+-- Laws of the kinds of a row's places, and of chains.
 use Rattle.std.proofs.Common.{◌≡◌, ◌≢◌, ◌⊎◌, inl, inr, ℕ, zero, suc, ◌+◌, ◌<◌, ◌≤◌, Bool, true, false, List, [], ◌∷◌, ◌++◌, Option, Some, None, length, take, refl, sym, ap, ◌∙◌, arith, get_or, set}
 use Rattle.std.proofs.lemmas.Bool.{cases_eq, cases_lt}
 use Rattle.std.proofs.lemmas.Bool.Decides.{nat_tests}
@@ -33,7 +33,7 @@ pub kinds_append : (marks more : List Mark) → kinds_in (marks ++ more) ≡ kin
 kinds_append [] more = refl
 kinds_append (mark ∷ marks) more = ap (λ kinds. mark.kind ∷ kinds) (kinds_append marks more)
 
--- One of a list with one more is one of the list, or that.
+-- An item of a list with one more is in the list, or is the new one.
 pub got_more : {A : Type 0} (items : List A) (new item : A) (n : ℕ) → slice_get (items ++ new ∷ []) n ≡ Some item
     → (slice_get items n ≡ Some item) ⊎ ((n ≡ length items) × (item ≡ new))
 got_more [] new item zero e = let same : item ≡ new = cc in inr (refl, same)
@@ -54,9 +54,9 @@ some_within (first ∷ items) (suc n) item e = omega (arith, some_within items n
 pub some_front : {A : Type 0} (items more : List A) (n : ℕ) (item : A) → slice_get items n ≡ Some item → slice_get (items ++ more) n ≡ Some item
 some_front items more n item e = get_front items more n (some_within items n item e) ∙ e
 
--- ---- what is known of the places
+-- ---- the known kinds of places
 
--- No place of the kind stands between.
+-- No place of the kind is between the two.
 pub is_next : (marks : List Mark) (at kind to : ℕ) (mark : Mark) → AreBefore marks → slice_get marks to ≡ Some mark → mark.kind ≡ kind
     → mark.before ≤ at + 1 → (n : ℕ) → at < n → n < to → slice_get (kinds_in marks) n ≢ Some kind
 is_next marks at kind to mark before is its_kind bound n behind less here =
@@ -81,7 +81,7 @@ pub padded_ends : (marks : List Mark) (ends other : List ℕ) → ((n : ℕ) →
     → AreEnds marks other
 padded_ends marks ends other same ended = λ at mark is. rw (same mark.kind) (ended at mark is)
 
--- The end of one kind changes.
+-- The end of one kind is set.
 pub set_ends : (marks : List Mark) (ends : List ℕ) (kind end : ℕ) → kind < length ends
     → ((at : ℕ) → slice_get (kinds_in marks) at ≡ Some kind → at < end) → AreEnds marks ends → AreEnds marks (set ends kind end)
 set_ends marks ends kind end within under ended = λ at mark is. by at mark is (cases_eq mark.kind kind)
@@ -92,7 +92,7 @@ set_ends marks ends kind end within under ended = λ at mark is. by at mark is (
         rw (get_or-set_at ends kind mark.kind end 0 same within) (under at (kind_got marks at mark is ∙ ap Some same))
     by at mark is (inr apart) = rw (get_or-set_other ends kind mark.kind end 0 apart) (ended at mark is)
 
--- ---- one more
+-- ---- a mark is added
 
 pub more_before : (marks : List Mark) (new : Mark) → AreBefore marks
     → ((at : ℕ) → slice_get (kinds_in marks) at ≡ Some new.kind → at < new.before) → AreBefore (marks ++ new ∷ [])
@@ -117,7 +117,7 @@ more_ends marks ends new ended under = λ at mark is. by at mark (got_more marks
     by at mark (inl is) = ended at mark is
     by at mark (inr last) = rw (last.0, last.1) under
 
--- It may be that there is no memory for it.
+-- Nothing is added if memory runs out.
 pub pushed_before : (pushed : Bool) (marks : List Mark) (new : Mark) → AreBefore marks
     → ((at : ℕ) → slice_get (kinds_in marks) at ≡ Some new.kind → at < new.before) → AreBefore (cond pushed (marks ++ new ∷ []) marks)
 pushed_before true marks new before under = more_before marks new before under
@@ -131,7 +131,7 @@ pushed_ends false marks ends new ended under = ended
 pub kind_within : (marks : List Mark) (n kind : ℕ) → slice_get (kinds_in marks) n ≡ Some kind → n < length marks
 kind_within marks n kind is = let there = mark_got marks n kind is in some_within marks n there.0 there.1
 
--- ---- one less
+-- ---- the last mark is removed
 
 pub less_before : (marks more : List Mark) → AreBefore (marks ++ more) → AreBefore marks
 less_before marks more before = λ n at mark other is there.
@@ -140,7 +140,7 @@ less_before marks more before = λ n at mark other is there.
 pub less_ends : (marks more : List Mark) (ends : List ℕ) → AreEnds (marks ++ more) ends → AreEnds marks ends
 less_ends marks more ends ended = λ at mark is. ended at mark (some_front marks more at mark is)
 
--- All others of its kind stand before what the mark says.
+-- All other places of its kind come before the mark's `before`.
 pub under_last : (marks : List Mark) (last : Mark) → AreBefore (marks ++ last ∷ []) → (at : ℕ)
     → slice_get (kinds_in marks) at ≡ Some last.kind → at < last.before
 under_last marks last before at here = let there = mark_got marks at last.kind here in
@@ -151,7 +151,7 @@ pub less_kinds : (marks more : List Mark) (at kind : ℕ) → slice_get (kinds_i
     → slice_get (kinds_in (marks ++ more)) at ≡ Some kind
 less_kinds marks more at kind is = rw (kinds_append marks more) (some_front (kinds_in marks) (kinds_in more) at kind is)
 
--- ---- places and what is known of them
+-- ---- places and their known kinds
 
 stood_within : (places : List (Option ℕ)) (at kind : ℕ) → stood places at ≡ Some kind → at < length places
 stood_within [] at kind is = absurd (none-some kind is)
@@ -161,7 +161,7 @@ stood_within (place ∷ places) (suc at) kind is = omega (arith, stood_within pl
 pub marked_none : (places : List (Option ℕ)) → AreMarked places []
 marked_none places = λ at kind known is bad. absurd (none-some known bad)
 
--- An item comes to a place that is known as one of its kind.
+-- An item is put into a place that is known to be of its kind.
 pub marked_set : (places : List (Option ℕ)) (kinds : List ℕ) (at kind : ℕ) → at < length places → slice_get kinds at ≡ Some kind
     → AreMarked places kinds → AreMarked (set places at (Some kind)) kinds
 marked_set places kinds at kind within here marked = λ n other known is there. by n other known is there (cases_eq n at)
@@ -174,7 +174,7 @@ marked_set places kinds at kind within here marked = λ n other known is there. 
     by n other known is there (inr apart) =
         marked n other known (sym (get_or-set_other places at n (Some kind) None apart) ∙ is) there
 
--- An item is taken.
+-- An item is removed.
 pub marked_taken : (places : List (Option ℕ)) (kinds : List ℕ) (at : ℕ) → at < length places → AreMarked places kinds
     → AreMarked (set places at None) kinds
 marked_taken places kinds at within marked = λ n other known is there. by n other known is there (cases_eq n at)
@@ -191,11 +191,11 @@ stood_more [] (suc n) kind bad = bad
 stood_more (place ∷ places) zero kind is = is
 stood_more (place ∷ places) (suc n) kind is = stood_more places n kind is
 
--- One place more is empty.
+-- An empty place is appended.
 pub marked_grown : (places : List (Option ℕ)) (kinds : List ℕ) → AreMarked places kinds → AreMarked (places ++ None ∷ []) kinds
 marked_grown places kinds marked = λ n other known is there. marked n other known (stood_more places n other is) there
 
--- It may be that there is no memory for it.
+-- Nothing is appended if memory runs out.
 pub marked_pushed : (pushed : Bool) (places : List (Option ℕ)) (kinds : List ℕ) → AreMarked places kinds
     → AreMarked (cond pushed (places ++ None ∷ []) places) kinds
 marked_pushed true places kinds marked = marked_grown places kinds marked
@@ -208,13 +208,13 @@ stood_less (place ∷ places) zero n kind bad = absurd (none-some kind bad)
 stood_less (place ∷ places) (suc count) zero kind is = is
 stood_less (place ∷ places) (suc count) (suc n) kind is = stood_less places count n kind is
 
--- Places go, and no more is known of those that are left.
+-- The last places are removed, and no other place becomes known.
 pub marked_less : (places : List (Option ℕ)) (kinds fewer : List ℕ) (count : ℕ)
     → ((at kind : ℕ) → slice_get fewer at ≡ Some kind → slice_get kinds at ≡ Some kind) → AreMarked places kinds
     → AreMarked (take count places) fewer
 marked_less places kinds fewer count so marked = λ n other known is there. marked n other known (stood_less places count n other is) (so n known there)
 
--- More is known.
+-- The kind of one more place becomes known.
 pub marked_more : (places : List (Option ℕ)) (kinds : List ℕ) (new : ℕ)
     → ((known : ℕ) → stood places (length kinds) ≡ Some known → new ≡ known) → AreMarked places kinds → AreMarked places (kinds ++ new ∷ [])
 marked_more places kinds new its marked = λ n other known is there. by n other known is (got_more kinds new known n there)
@@ -224,7 +224,7 @@ marked_more places kinds new its marked = λ n other known is there. by n other 
     by n other known is (inl there) = marked n other known is there
     by n other known is (inr last) = last.1 ∙ its other (ap (stood places) (sym last.0) ∙ is)
 
--- ---- where no item of a kind stands
+-- ---- stretches without items of a kind
 
 some_kind : (kinds : List ℕ) (n : ℕ) → n < length kinds → (known : ℕ) × (slice_get kinds n ≡ Some known)
 some_kind [] n below = absurd (omega (arith, below))
@@ -253,7 +253,7 @@ past_wanted [] kind n past = refl
 past_wanted (place ∷ places) kind zero past = absurd (omega (arith, past))
 past_wanted (place ∷ places) kind (suc n) past = past_wanted places kind n (omega (arith, past))
 
--- The next item of a kind is its oldest, once the oldest was taken.
+-- After the oldest item of a kind is removed, the next one is the oldest.
 pub next_oldest : (places before : List (Option ℕ)) (wanted : Option ℕ) (oldest at next : ℕ) → oldest ≡ at
     → ((n : ℕ) → at ≤ n → n < next → is_wanted wanted (stood places n) ≡ false)
     → ((n : ℕ) → next ≤ n → is_wanted wanted (stood places n) ≡ true → is_wanted wanted (stood places next) ≡ true)
@@ -285,7 +285,7 @@ next_oldest places before wanted oldest at next is none there set_so was = λ n 
         absurd (let wrong : true ≡ false = sym want ∙ none n (behind n apart want) less in cc)
     by n want (inr apart) (inr past) = (past, there n past want)
 
--- ---- what is read of a list
+-- ---- reading a list
 
 pub got_past : {A : Type 0} (items : List A) (n : ℕ) (d : A) → length items ≤ n → get_or items n d ≡ d
 got_past [] n d past = refl

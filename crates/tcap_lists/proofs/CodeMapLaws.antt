@@ -1,4 +1,4 @@
--- Looking up and inserting codes where local ones stand before global ones.
+-- Lookups and insertions of codes, with local codes before global ones.
 use Rattle.std.proofs.Common.{◌≡◌, ℕ, ℤ, Bool, false, IsTrue, ◌↔◌, List, [], ◌∷◌, ◌++◌, map, length, Some, None, cond, Vec, Global as Alloc, Ordering, Less, Equal, Greater, int_cmp, nat_cmp, refl, sym, ap, ◌∙◌, suc-ne-zero, true≢false}
 use Rattle.std.specs.Cmp.Lexicographic.{slice_cmp}
 use Rattle.std.specs.Ordering.{match_ordering}

@@ -1,4 +1,4 @@
--- The items of places, by the kinds that stand there.
+-- The items in the places of a row, from its kinds.
 use Rattle.std.proofs.Common.{◌≡◌, ℕ, zero, suc, ◌<◌, ◌-◌, true, false, List, [], ◌∷◌, ◌++◌, Option, Some, None, length, take, refl, sym, ap, ◌∙◌, arith, get_or, set}
 use Rattle.std.proofs.Math.ListN.{get_or-map}
 use Rattle.std.proofs.lemmas.Option.{none-some}
@@ -24,7 +24,7 @@ get_within [] n some = absurd (let bad : false ≡ true = some in cc)
 get_within (item ∷ items) zero some = omega arith
 get_within (item ∷ items) (suc n) some = omega (arith, get_within items n some)
 
--- What has a number in the front, has it in all.
+-- An entry of the front is the same entry of the whole list.
 pub get_some : {A : Type 0} (items more : List A) (n : ℕ) → IsSome (slice_get items n) → slice_get (items ++ more) n ≡ slice_get items n
 get_some items more n some = get_front items more n (get_within items n some)
 
@@ -53,7 +53,7 @@ items_length kinds (place ∷ places) = ap suc (items_length kinds places)
 pub items_stood : {K : Type 0} (kinds : List K) (places : List (Option ℕ)) (at : ℕ) → get_or (items_in kinds places) at None ≡ kind_in kinds (stood places at)
 items_stood kinds places at = get_or-map (kind_in kinds) places at None
 
--- One kind more changes no item.
+-- One more kind changes no item.
 pub items_more : {K : Type 0} (kinds : List K) (kind : K) (places : List (Option ℕ)) → AreNumbered places (length kinds)
     → items_in (kinds ++ kind ∷ []) places ≡ items_in kinds places
 items_more kinds kind [] numbered = refl
@@ -64,7 +64,7 @@ items_more {K} kinds kind (place ∷ places) numbered =
     by None below = refl
     by (Some number) below = get_front kinds (kind ∷ []) number (below number refl)
 
--- A place is empty whose item is none.
+-- A place without an item is empty.
 pub none_stood : {K : Type 0} (kinds : List K) (places : List (Option ℕ)) (at : ℕ) → AreNumbered places (length kinds)
     → get_or (items_in kinds places) at None ≡ None → stood places at ≡ None
 none_stood {K} kinds places at numbered none = by (stood places at) refl (sym (items_stood kinds places at) ∙ none)
@@ -78,7 +78,7 @@ none_stood {K} kinds places at numbered none = by (stood places at) refl (sym (i
     by None is e = is
     by (Some kind) is e = absurd (some_in kinds kind (numbered at kind is) e)
 
--- A place is not empty whose item is there.
+-- A place with an item is not empty.
 pub some_stood : {K : Type 0} (kinds : List K) (places : List (Option ℕ)) (at : ℕ) → IsSome (get_or (items_in kinds places) at None)
     → IsSome (stood places at)
 some_stood {K} kinds places at some = by (stood places at) (rw (items_stood kinds places at) at some)
@@ -87,16 +87,16 @@ some_stood {K} kinds places at some = by (stood places at) (rw (items_stood kind
     by None bad = bad
     by (Some kind) some = refl
 
--- What has a kind is there.
+-- A place with a kind has an item.
 pub kind_wanted : {K : Type 0} (kinds : List K) (place : Option ℕ) (kind : K) → kind_in kinds place ≡ Some kind → is_wanted None place ≡ true
 kind_wanted kinds None kind e = absurd (none-some kind e)
 kind_wanted kinds (Some number) kind e = refl
 
--- ---- an item joins
+-- ---- an item is added
 
 module _ {K : Type 0} (row mid next : Row K) (kind : K) (n : ℕ) (numbered : AreNumbered row.places.items (length row.kinds.items))
     (made : mid.kinds.items ≡ row.kinds.items ++ kind ∷ []) (places : mid.places ≡ row.places) (kinds : next.kinds.items ≡ mid.kinds.items) where
-  -- An item of a new kind joins.
+  -- It has a new kind.
   pub first_joined : n ≡ length row.kinds.items → next.places.items ≡ mid.places.items ++ Some n ∷ []
       → row_of next ≡ row_of row ++ Some kind ∷ []
   first_joined is joined =
@@ -111,11 +111,11 @@ module _ {K : Type 0} (row mid next : Row K) (kind : K) (n : ℕ) (numbered : Ar
       )
       refl
 
-  -- None does.
+  -- It is not added.
   pub first_kept : next.places.items ≡ mid.places.items → row_of next ≡ row_of row
   first_kept kept = rw (kinds, made, kept, places) (items_more row.kinds.items kind row.places.items numbered)
 
--- An item of a kind that is there joins.
+-- It has a known kind.
 pub kind_joined : {K : Type 0} (row next : Row K) (kind : K) (n : ℕ) → slice_get row.kinds.items n ≡ Some kind → next.kinds.items ≡ row.kinds.items
     → next.places.items ≡ row.places.items ++ Some n ∷ [] → row_of next ≡ row_of row ++ Some kind ∷ []
 kind_joined row next kind n is kinds joined = rw (kinds, joined, items_append row.kinds.items row.places.items (Some n ∷ []), is) refl

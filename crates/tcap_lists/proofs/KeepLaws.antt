@@ -1,4 +1,4 @@
--- Entries that stand for nothing are left out: looking up and inserting.
+-- Lists whose entries without a value are left out: lookups and insertions.
 use Rattle.std.proofs.Common.{◌≡◌, ℤ, List, [], ◌∷◌, Option, Some, None, refl, sym, ap, ◌∙◌}
 use Rattle.std.specs.Prelude.{cond, option_and_then}
 use Rattle.std.specs.Ordering.{int_cmp, is_eq, match_ordering}
@@ -49,7 +49,7 @@ remove_above : {B : Type 0} (id : ℤ) (es : List (ℤ × B)) → Above id es �
 remove_above id [] above = refl
 remove_above id (e ∷ es) above = rw above.0 (ap (λ more. e ∷ more) (remove_above id es above.1))
 
--- ---- the entries that are kept
+-- ---- the entries with a value
 
 pub lookup_keep : {A B : Type 0} (f : A → Option B) (id : ℤ) (es : List (ℤ × A)) → Rises int_cmp es
     → lookup (is_at (int_cmp id)) (keep f es) ≡ option_and_then f (lookup (is_at (int_cmp id)) es)
@@ -146,14 +146,14 @@ pub some_listed : {A : Type 0} (items : List A) → listed_by (some_items items)
 some_listed [] = refl
 some_listed (x ∷ xs) = refl
 
--- the list of a value that may be there
+-- the list of a value, or none without a value
 abbrev pub list_in : {V A : Type 0} → (V → List A) → Option V → List A
 list_in list None = []
 list_in list (Some value) = list value
 
--- Each value stands for a list.
+-- Each value means a list.
 module _ {V A : Type 0} (list : V → List A) (id : ℤ) (es : List (ℤ × V)) (rises : Rises int_cmp es) where
-  -- what is kept of an ID
+  -- the items of an ID
   pub listed_keep : listed id (keep (λ v. some_items (list v)) es) ≡ list_in list (lookup (is_at (int_cmp id)) es)
   listed_keep = ap listed_by (lookup_keep (λ v. some_items (list v)) id es rises) ∙ by (lookup (is_at (int_cmp id)) es)
     where
@@ -161,7 +161,7 @@ module _ {V A : Type 0} (list : V → List A) (id : ℤ) (es : List (ℤ × V)) 
       by None = refl
       by (Some v) = some_listed (list v)
 
-  -- an ID is given a value
+  -- an ID gets a value
   pub insert_listed : (v : V) → keep (λ v. some_items (list v)) (insert_entry int_cmp es id v)
       ≡ with_listed id (list v) (keep (λ v. some_items (list v)) es)
   insert_listed v = by (list v) refl
@@ -171,7 +171,7 @@ module _ {V A : Type 0} (list : V → List A) (id : ℤ) (es : List (ℤ × V)) 
       by [] is = insert_dropped (λ v. some_items (list v)) id v es rises (ap some_items is)
       by (x ∷ xs) is = insert_keep (λ v. some_items (list v)) id v (x ∷ xs) es rises (ap some_items is)
 
--- Lists by IDs, in their order, none of them empty.
+-- The lists are in the order of their IDs, and none is empty.
 pub record Whole {A : Type 0} (m : List (ℤ × List A)) : Type 0 where
   pub rises : Rises int_cmp m
   pub same : keep some_items m ≡ m
@@ -193,14 +193,14 @@ module _ {A : Type 0} (id : ℤ) (m : List (ℤ × List A)) (whole : Whole m) wh
   inserted : (items : List A) → keep some_items (insert_entry int_cmp m id items) ≡ with_listed id items m
   inserted items = insert_listed (λ items. items) id m whole.rises items ∙ ap (with_listed id items) whole.same
 
-  -- what is kept of an ID that was given a list
+  -- the items of an ID after it got a list
   pub listed_with : (items : List A) → listed id (with_listed id items m) ≡ items
   listed_with items =
       ap (listed id) (sym (inserted items))
       ∙ listed_keep (λ items. items) id (insert_entry int_cmp m id items) (rises_inserted int_cmp_total m id items whole.rises)
       ∙ ap (list_in (λ items. items)) (found_new int_cmp_total id items m)
 
-  -- Of two lists the second counts.
+  -- The second of two lists for an ID counts.
   pub given_twice : (first second : List A) → with_listed id second (with_listed id first m) ≡ with_listed id second m
   given_twice first second =
       ap (with_listed id second) (sym (inserted first))
@@ -208,7 +208,7 @@ module _ {A : Type 0} (id : ℤ) (m : List (ℤ × List A)) (whole : Whole m) wh
       ∙ ap (keep some_items) (insert_twice int_cmp_total id first second m)
       ∙ inserted second
 
-  -- An ID is given what is kept of it.
+  -- Giving an ID its own items changes nothing.
   pub given_back : with_listed id (listed id m) m ≡ m
   given_back = by (lookup (is_at (int_cmp id)) m) refl (lookup_keep some_items id m whole.rises)
     where

@@ -1,4 +1,4 @@
--- Rows by invoke IDs: what is read of one, and what is changed in it.
+-- Reading and changing one row of the lists.
 use Rattle.std.proofs.Common.{◌≡◌, ◌≢◌, ◌⊎◌, inl, inr, ℕ, suc, ℤ, true, false, get_or, List, [], ◌∷◌, ◌++◌, Option, Some, None, Result, Ok, Err, OnOk, OnErr, refl, sym, ap, subst, ◌∙◌}
 use Rattle.std.specs.Prelude.{IsSome, cond, is_some, option_and_then, option_map}
 use Rattle.std.specs.Borrow.{Bor}
@@ -45,7 +45,7 @@ filled_newest [] item = refl
 filled_newest (None ∷ places) item = filled_newest places item
 filled_newest (Some first ∷ places) item = ap (λ more. first ∷ more) (filled_newest places item)
 
--- one item more
+-- one more item
 pub items_newest : {A : Type 0} (id : ℤ) (item : A) (m : List (ℤ × List (Option A))) → Whole m
     → items_of (with_newest id (Some item) m) ≡ with_newest id item (items_of m)
 items_newest id item m whole =
@@ -53,13 +53,13 @@ items_newest id item m whole =
     ∙ ap (λ items. with_listed id items (items_of m))
     (filled_newest (listed id m) item ∙ ap (λ items. items ++ item ∷ []) (sym (listed_items id m whole.rises)))
 
--- ---- what is read
+-- ---- lookups
 
 module _ {K : Type 0} (id : ℤ) (l : Lists K) where
   kept_row : listed id (rows_of l) ≡ list_in row_in (lookup (is_at (int_cmp id)) l.rows.entries)
   kept_row = listed_keep row_in id l.rows.entries l.ordered
 
-  -- one that is there
+  -- the row is there
   module _ (row : Box (Row K)) (found : Some row ≡ lookup (is_at (int_cmp id)) l.rows.entries) where
     pub got_row : row_of row.value ≡ listed id (rows_of l)
     got_row = ap (list_in row_in) found ∙ sym kept_row
@@ -70,14 +70,14 @@ module _ {K : Type 0} (id : ℤ) (l : Lists K) where
     pub got_has : HasRow id l
     got_has = sym (ap is_some found)
 
-  -- one that is not
+  -- the row is not there
   pub got_none : None ≡ lookup (is_at (int_cmp id)) l.rows.entries → listed id (rows_of l) ≡ []
   got_none none = kept_row ∙ ap (list_in row_in) (sym none)
 
   pub has_none : None ≡ lookup (is_at (int_cmp id)) l.rows.entries → HasRow id l → ⊥
   has_none none has = let wrong : false ≡ true = ap is_some none ∙ has in cc
 
--- An ID whose row has a kind, or an item, has a row.
+-- An ID whose row has a kind or an item has a row.
 pub kind_row : {K : Type 0} (id : ℤ) (number : ℕ) (l : Lists K) → IsSome (kind_of id number l) → HasRow id l
 kind_row {K} id number l some = by (lookup (is_at (int_cmp id)) l.rows.entries) some
   where
@@ -94,7 +94,7 @@ item_row {K} id at l some = by (lookup (is_at (int_cmp id)) l.rows.entries) (rw 
 
 -- ---- a row is changed
 
--- Where an ID has a value, that is set as it is inserted.
+-- Setting the value of a present ID is an insertion.
 set_inserts : {B : Type 0} (id : ℤ) (was new : B) (es : List (ℤ × B)) → Rises int_cmp es → Some was ≡ lookup (is_at (int_cmp id)) es
     → set_value (is_at (int_cmp id)) es new ≡ insert_entry int_cmp es id new
 unfolding IsStrictlySortedBy
@@ -131,7 +131,7 @@ module _ {K : Type 0} (id : ℤ) (es next : List (ℤ × Box (Row K))) (rises : 
   given_keeps_rows other has =
       subst (λ rows. IsSome (lookup (is_at (int_cmp other)) rows)) (sym given) (still_found int_cmp_total other id row es has)
 
-  -- The kinds of this ID are kept, and so are all.
+  -- If the row of this ID keeps its kinds, all rows do.
   pub given_keeps_kinds : ((number : ℕ)
       → IsSome (option_and_then (λ row. slice_get row.value.kinds.items number) (lookup (is_at (int_cmp id)) es))
       → slice_get row.value.kinds.items number
@@ -155,7 +155,7 @@ module _ {K : Type 0} (id : ℤ) (es next : List (ℤ × Box (Row K))) (rises : 
           by (Some was) e some =
               ap (option_and_then (λ row. slice_get row.value.kinds.items number)) (found_there other was apart e ∙ sym e)
 
--- A row that is there is changed.
+-- An existing row is changed.
 module _ {K : Type 0} (id : ℤ) (l : Lists K) (next : List (ℤ × Box (Row K))) (was row : Box (Row K))
     (found : Some was ≡ lookup (is_at (int_cmp id)) l.rows.entries)
     (set : next ≡ set_value (is_at (int_cmp id)) l.rows.entries row) where
@@ -167,7 +167,7 @@ module _ {K : Type 0} (id : ℤ) (l : Lists K) (next : List (ℤ × Box (Row K))
   changed_as f made = given_rows id l.rows.entries next l.ordered row given
       ∙ ap (λ items. with_listed id items (rows_of l)) (made ∙ ap f (got_row id l was found))
 
-  -- What is kept of it was not.
+  -- Its items are unchanged.
   pub changed_same : row_of row.value ≡ row_of was.value → keep (λ row. some_items (row_in row)) next ≡ rows_of l
   changed_same same = changed_as (λ items. items) same ∙ given_back id (rows_of l) (whole_rows l)
 
@@ -182,7 +182,7 @@ module _ {K : Type 0} (id : ℤ) (l : Lists K) (next : List (ℤ × Box (Row K))
   changed_keeps_kinds keeps = given_keeps_kinds id l.rows.entries next l.ordered row given
       (λ number some. let is = got_kinds id l was found number in keeps number (rw (sym is) at some) ∙ is)
 
--- One is made where there was none.
+-- A row is made for an ID without one.
 module _ {K : Type 0} (id : ℤ) (l : Lists K) (next : List (ℤ × Box (Row K))) (row : Box (Row K))
     (none : None ≡ lookup (is_at (int_cmp id)) l.rows.entries) (given : next ≡ insert_entry int_cmp l.rows.entries id row) where
   pub made_same : row_of row.value ≡ [] → keep (λ row. some_items (row_in row)) next ≡ rows_of l
@@ -201,7 +201,7 @@ module _ {K : Type 0} (id : ℤ) (l : Lists K) (next : List (ℤ × Box (Row K))
   made_keeps_kinds = given_keeps_kinds id l.rows.entries next l.ordered row given
       (λ number some. absurd (has_none id l none (kind_row id number l some)))
 
--- ---- what holds in any case
+-- ---- whether the row existed or not
 
 pub on_ok : {T E P : Type 0} (r : Result T E) → P → OnOk r P
 on_ok (Ok _) p = p
@@ -213,7 +213,7 @@ on_err (Err _) p = p
 
 -- ---- the oldest item of a row
 
--- Whether there is one
+-- whether there is one
 pub oldest_there : {K : Type 0} (row : Row K) (found : Option (ℕ × Bor K))
     → MatchOption found (place_of (is_wanted None) row.places.items ≡ None)
     (λ first. (place_of (is_wanted None) row.places.items ≡ Some first.0)
@@ -223,7 +223,7 @@ oldest_there row None none = sym (ap is_some (none_at_all (λ item. true) row.ki
 oldest_there row (Some first) there =
     sym (ap is_some (oldest_fits (λ item. true) row.kinds.items row.places.items first.0 first.1.now there.0 there.1 refl))
 
--- ---- a row without an item goes
+-- ---- a row without items is dropped
 
 none_filled : {K : Type 0} (kinds : List K) (places : List (Option ℕ)) → place_of (is_wanted None) places ≡ None
     → filled (items_in kinds places) ≡ []
@@ -235,7 +235,7 @@ none_filled kinds (None ∷ places) e = none_filled kinds places (by (place_of (
     by (Some n) bad = absurd (none-some (suc n) (sym bad))
 none_filled kinds (Some kind ∷ places) bad = absurd (none-some 0 (sym bad))
 
--- Its row becomes an empty one.
+-- The row becomes an empty one.
 pub emptied : {K : Type 0} (id : ℤ) (l : Lists K) (next : List (ℤ × Box (Row K))) (was row : Box (Row K))
     → Some was ≡ lookup (is_at (int_cmp id)) l.rows.entries → next ≡ set_value (is_at (int_cmp id)) l.rows.entries row
     → place_of (is_wanted None) was.value.places.items ≡ None → row_of row.value ≡ []

@@ -1,4 +1,4 @@
--- Entries in the order of their keys: what a look-up finds behind a change, and that the keys still rise.
+-- Sorted lists of entries: lookups after a change, and why the list stays sorted.
 use Rattle.std.proofs.Common.{◌≡◌, ◌≢◌, Bool, true, false, cond, List, [], ◌∷◌, Option, Some, IsSome, ◌⊎◌, inl, inr, refl, sym, ap, subst, ◌∙◌}
 use Rattle.std.specs.declared.cmp.Ordering.{Ordering}
 use Rattle.std.specs.declared.cmp.Ordering.TheVariants.{Less, Equal, Greater}
@@ -15,13 +15,13 @@ use Rattle.std.proofs.lemmas.Map.Keys.{IsDistinct-from_sorted}
 use Rattle.std.proofs.lemmas.Map.Lookups.{CmpEqualImpliesEq}
 use Rattle.tcap_lists.specs.Items.{Rises}
 
--- what is kept at a key
+-- the value of a key
 abbrev pub kept_at : {K A : Type 0} → (K → K → Ordering) → List (K × A) → K → Option A
 kept_at cmp es q = lookup (is_at (cmp q)) es
 
--- ---- what holds of each
+-- ---- a property of each
 
--- entry, where one is removed
+-- entry, after one is removed
 pub all_removed : {K A : Type 0} (P : K × A → Type 0) (test : K → Bool) (es : List (K × A))
     → AllByRecursion P es → AllByRecursion P (remove_entry test es)
 all_removed P test [] all = tt
@@ -31,7 +31,7 @@ all_removed P test (e ∷ es) all = by (test e.0) (all_removed P test es all.1)
     by true rest = all.1
     by false rest = (all.0, rest)
 
--- key, where one is removed
+-- key, after one is removed
 keys_removed : {K A : Type 0} (P : K → Type 0) (test : K → Bool) (es : List (K × A))
     → AllByRecursion P (keys_of es) → AllByRecursion P (keys_of (remove_entry test es))
 keys_removed P test [] all = tt
@@ -42,7 +42,7 @@ keys_removed P test (e ∷ es) all = by (test e.0) (keys_removed P test es all.1
     by true rest = all.1
     by false rest = (all.0, rest)
 
--- value, where one is inserted of which it holds
+-- value, after a value with the property is inserted
 pub all_inserted : {K A : Type 0} (P : A → Type 0) (cmp : K → K → Ordering) (es : List (K × A)) (k : K) (v : A)
     → P v → AllByRecursion (λ e. P e.1) es → AllByRecursion (λ e. P e.1) (insert_entry cmp es k v)
 all_inserted P cmp [] k v new all = (new, tt)
@@ -54,7 +54,7 @@ all_inserted P cmp (e ∷ es) k v new all = by (cmp k e.0) (all_inserted P cmp e
     by Equal rest = (new, all.1)
     by Greater rest = (all.0, rest)
 
--- key, where one is inserted of which it holds
+-- key, after a key with the property is inserted
 keys_inserted : {K A : Type 0} (P : K → Type 0) (cmp : K → K → Ordering) (es : List (K × A)) (k : K) (v : A)
     → P k → AllByRecursion P (keys_of es) → AllByRecursion P (keys_of (insert_entry cmp es k v))
 keys_inserted P cmp [] k v new all = (new, tt)
@@ -68,12 +68,12 @@ keys_inserted P cmp (e ∷ es) k v new all = by (cmp k e.0) (keys_inserted P cmp
 
 -- ---- orders
 
--- either answer of a test
+-- a proof for both results of a test
 either : {P : Type 0} (b : Bool) → (b ≡ true → P) → (b ≡ false → P) → P
 either true if_so if_not = if_so refl
 either false if_so if_not = if_not refl
 
--- Keys that an exact order does not tell apart are one.
+-- Keys that an exact order does not distinguish are equal.
 equal : {K : Type 0} {cmp : K → K → Ordering} → CmpEqualImpliesEq cmp → (x y : K) → is_at (cmp x) y ≡ true → x ≡ y
 equal {cmp = cmp} exact x y same = exact x y (by (cmp x y) same)
   where
@@ -89,17 +89,17 @@ module _ {K : Type 0} {cmp : K → K → Ordering} (total : IsTotalOrder cmp) wh
   pub turned_less : (x y : K) → cmp x y ≡ Less → cmp y x ≡ Greater
   turned_less x y is = total.antisymm y x ∙ ap ordering_reverse is
 
-  -- What is below a key is below all that are above it.
+  -- A key below another is below all that are above that one.
   pub below_all : (k x : K) (ks : List K) → cmp k x ≡ Less
       → AllByRecursion (λ y. cmp x y ≡ Less) ks → AllByRecursion (λ y. cmp k y ≡ Less) ks
   below_all k x [] is all = tt
   below_all k x (y ∷ ks) is all = (total.trans k x y is all.0, below_all k x ks is all.1)
 
-  -- Keys that are one are not told apart.
+  -- The order does not distinguish equal keys.
   pub tied : (q k : K) → q ≡ k → is_at (cmp q) k ≡ true
   tied q k same = ap (λ x. is_eq (cmp x k)) same ∙ ap is_eq (tied_itself total k)
 
-  -- Two keys are one or are not.
+  -- Two keys are equal or not.
   pub keys_eq : CmpEqualImpliesEq cmp → (q k : K) → (q ≡ k) ⊎ (q ≢ k)
   keys_eq exact q k = by (cmp q k) refl
     where
@@ -111,9 +111,9 @@ module _ {K : Type 0} {cmp : K → K → Ordering} (total : IsTotalOrder cmp) wh
       by Equal is = inl (exact q k is)
       by Greater is = inr (apart Greater is refl)
 
--- ---- keys that rise
+-- ---- sorted keys
 
--- Those that are left rise.
+-- The list stays sorted after a removal.
 pub rises_removed : {K A : Type 0} (cmp : K → K → Ordering) (test : K → Bool) (es : List (K × A))
     → Rises cmp es → Rises cmp (remove_entry test es)
 unfolding IsStrictlySortedBy
@@ -125,7 +125,7 @@ rises_removed cmp test (e ∷ es) rises = by (test e.0) (rises_removed cmp test 
     by false rest = (keys_removed (λ y. cmp e.0 y ≡ Less) test es rises.0, rest)
 
 module _ {K A : Type 0} {cmp : K → K → Ordering} (total : IsTotalOrder cmp) where
-  -- Those behind an insertion rise.
+  -- The list stays sorted after an insertion.
   pub rises_inserted : (es : List (K × A)) (k : K) (v : A) → Rises cmp es → Rises cmp (insert_entry cmp es k v)
   unfolding IsStrictlySortedBy
   rises_inserted [] k v rises = (tt, tt)
@@ -137,7 +137,7 @@ module _ {K A : Type 0} {cmp : K → K → Ordering} (total : IsTotalOrder cmp) 
       by Equal is rest = rises
       by Greater is rest = (keys_inserted (λ y. cmp e.0 y ≡ Less) cmp es k v (turned total k e.0 is) rises.0, rest)
 
-  -- A key that is found among later ones is not the first.
+  -- A key that is found after the first entry is not the first key.
   pub behind_first : (q : K) (e : K × A) (es : List (K × A)) (v : A) → Rises cmp (e ∷ es)
       → kept_at cmp es q ≡ Some v → is_at (cmp q) e.0 ≡ false
   behind_first q e es v rises found = either (is_at (cmp q) e.0) first (λ other. other)
@@ -147,7 +147,7 @@ module _ {K A : Type 0} {cmp : K → K → Ordering} (total : IsTotalOrder cmp) 
           let distinct = IsDistinct-from_sorted cmp (keys_of (e ∷ es)) rises in
           let none = lookup-none (is_at (cmp q)) es (none_past_head (eq_by_cmp_equiv total) q e es distinct same) in cc
 
-  -- ---- look-ups behind an insertion
+  -- ---- lookups after an insertion
 
   inserted : (q k : K) (v : A) (es : List (K × A))
       → kept_at cmp (insert_entry cmp es k v) q ≡ cond (is_at (cmp q) k) (Some v) (kept_at cmp es q)
@@ -173,7 +173,7 @@ module _ {K A : Type 0} {cmp : K → K → Ordering} (total : IsTotalOrder cmp) 
       by Equal is rest = rw (alike_right total k e.0 q is) (alike (is_eq (cmp q e.0)))
       by Greater is rest = rw rest (apart is (cmp q e.0) refl)
 
-  -- What is found is found still behind an insertion.
+  -- A key that was found is still found.
   pub still_found : (q k : K) (v : A) (es : List (K × A)) → IsSome (kept_at cmp es q) → IsSome (kept_at cmp (insert_entry cmp es k v) q)
   still_found q k v es there = subst IsSome (sym (inserted q k v es)) (by (is_at (cmp q) k))
     where
@@ -182,7 +182,7 @@ module _ {K A : Type 0} {cmp : K → K → Ordering} (total : IsTotalOrder cmp) 
       by false = there
 
   module _ (exact : CmpEqualImpliesEq cmp) where
-    -- What is found is the new value, or was there.
+    -- The found value is the new one, or was there before.
     pub found_inserted : (q k : K) (v w : A) (es : List (K × A)) → kept_at cmp (insert_entry cmp es k v) q ≡ Some w
         → ((q ≡ k) × (w ≡ v)) ⊎ (kept_at cmp es q ≡ Some w)
     found_inserted q k v w es found = by (is_at (cmp q) k) refl (sym (inserted q k v es) ∙ found)
@@ -192,7 +192,7 @@ module _ {K A : Type 0} {cmp : K → K → Ordering} (total : IsTotalOrder cmp) 
         by true same is = inl (equal exact q k same, cc)
         by false other is = inr is
 
-    -- What was there is found, at any other key.
+    -- Any other key finds its earlier value.
     pub found_other : (q k : K) (v w : A) (es : List (K × A)) → q ≢ k
         → kept_at cmp es q ≡ Some w → kept_at cmp (insert_entry cmp es k v) q ≡ Some w
     found_other q k v w es apart found = either (is_at (cmp q) k) (λ same. absurd (apart (equal exact q k same))) other
@@ -200,7 +200,7 @@ module _ {K A : Type 0} {cmp : K → K → Ordering} (total : IsTotalOrder cmp) 
         other : is_at (cmp q) k ≡ false → kept_at cmp (insert_entry cmp es k v) q ≡ Some w
         other is = inserted q k v es ∙ ap (λ b. cond b (Some v) (kept_at cmp es q)) is ∙ found
 
--- ---- what is found and inserted at one key
+-- ---- one key
 
 module _ {K A : Type 0} {cmp : K → K → Ordering} (total : IsTotalOrder cmp) where
   -- A key below the first is not found.
@@ -211,7 +211,7 @@ module _ {K A : Type 0} {cmp : K → K → Ordering} (total : IsTotalOrder cmp) 
   below_first q e (f ∷ es) v rises less found =
       let next = total.trans q e.0 f.0 less rises.0.0 in below_first q f es v rises.1 next (rw next at found)
 
-  -- What is inserted again changes nothing.
+  -- Inserting a value that is there changes nothing.
   pub insert_again : (k : K) (v : A) (es : List (K × A)) → Rises cmp es → kept_at cmp es k ≡ Some v → insert_entry cmp es k v ≡ es
   unfolding IsStrictlySortedBy
   insert_again k v [] rises found = cc
@@ -224,7 +224,7 @@ module _ {K A : Type 0} {cmp : K → K → Ordering} (total : IsTotalOrder cmp) 
       by Equal is found rest = let same : v ≡ e.1 = cc in ap (λ w. (e.0, w) ∷ es) same
       by Greater is found rest = ap (λ more. e ∷ more) (rest found)
 
-  -- The key finds what was inserted.
+  -- The key finds the inserted value.
   pub found_new : (k : K) (v : A) (es : List (K × A)) → kept_at cmp (insert_entry cmp es k v) k ≡ Some v
   found_new k v es = inserted total k k v es ∙ ap (λ r. cond (is_eq r) (Some v) (kept_at cmp es k)) (tied_itself total k)
 
@@ -232,12 +232,12 @@ module _ {K A : Type 0} {cmp : K → K → Ordering} (total : IsTotalOrder cmp) 
   pub found_first : (e : K × A) (es : List (K × A)) → kept_at cmp (e ∷ es) e.0 ≡ Some e.1
   found_first e es = ap (λ r. cond (is_eq r) (Some e.1) (kept_at cmp es e.0)) (tied_itself total e.0)
 
-  -- What is found among later ones is found.
+  -- A key that is found after the first entry is found in the whole list.
   pub found_later : (e : K × A) (es : List (K × A)) (q : K) (v : A) → Rises cmp (e ∷ es)
       → kept_at cmp es q ≡ Some v → kept_at cmp (e ∷ es) q ≡ Some v
   found_later e es q v rises found = ap (λ b. cond b (Some e.1) (kept_at cmp es q)) (behind_first total q e es v rises found) ∙ found
 
-  -- Of two values that are inserted at one key the later one stays.
+  -- The second of two values inserted at one key counts.
   pub insert_twice : (k : K) (v w : A) (es : List (K × A))
       → insert_entry cmp (insert_entry cmp es k v) k w ≡ insert_entry cmp es k w
   insert_twice k v w [] = ap (λ r. match_ordering r ((k, w) ∷ (k, v) ∷ []) ((k, w) ∷ []) ((k, v) ∷ (k, w) ∷ [])) (tied_itself total k)

@@ -1,4 +1,4 @@
--- The place of the first item that fits.
+-- The place of the first item that passes a test.
 use Rattle.std.proofs.Common.{◌≡◌, ℕ, zero, suc, ◌+◌, ◌<◌, ◌≤◌, ◌⊎◌, inl, inr, Bool, true, false, List, [], ◌∷◌, Option, Some, None, length, refl, sym, ap, ◌∙◌, arith, get_or, ltb}
 use Rattle.std.proofs.lemmas.Bool.{cases_eq, cases_lt}
 use Rattle.std.proofs.lemmas.Bool.Decides.{nat_tests}
@@ -29,7 +29,7 @@ zero_less n = grind (arith, nat_tests)
 one_more : (n m : ℕ) → suc (cond (ltb m n) m n) ≡ cond (ltb (suc m) (suc n)) (suc m) (suc n)
 one_more n m = grind (arith, nat_tests)
 
--- what fits by one of two tests
+-- a test that is either of two tests
 pub place_either : {A : Type 0} (fits first other : A → Bool) (items : List A) → ((item : A) → fits item ≡ (first item || other item))
     → place_of fits items ≡ earlier (place_of first items) (place_of other items)
 place_either fits first other [] either = refl
@@ -55,7 +55,7 @@ place_at fits d (item ∷ items) zero not before here = rw here refl
 place_at fits d (item ∷ items) (suc at) not before here =
     rw (before 0 (omega arith), place_at fits d items at not (λ n below. before (suc n) (omega (arith, below))) here) refl
 
--- One more that does not fit was passed.
+-- The item after those that were passed does not fit either.
 pub none_passed : {A : Type 0} (fits : A → Bool) (d : A) (items : List A) (at : ℕ)
     → ((n : ℕ) → n < at → fits (get_or items n d) ≡ false) → fits (get_or items at d) ≡ false
     → (n : ℕ) → n < at + 1 → fits (get_or items n d) ≡ false
@@ -70,11 +70,11 @@ pub place_nowhere : {A : Type 0} (fits : A → Bool) (d : A) (items : List A) �
 place_nowhere fits d [] none = refl
 place_nowhere fits d (item ∷ items) none = rw (none 0, place_nowhere fits d items (λ n. none (suc n))) refl
 
--- a place among all items, from one among those that are left
+-- a place in the whole list, from a place in the rest
 abbrev pub shifted : ℕ → Option ℕ → Option ℕ
 shifted at place = option_map (λ n. at + n) place
 
--- ---- what fits by a test that asks for more
+-- ---- a stricter test
 
 module _ {A : Type 0} (fits more : A → Bool) (so : (item : A) → fits item ≡ false → more item ≡ false) where
   pub none_more : (items : List A) → place_of fits items ≡ None → place_of more items ≡ None
@@ -87,7 +87,7 @@ module _ {A : Type 0} (fits more : A → Bool) (so : (item : A) → fits item �
       by false is None e rest = rw (so item is, rest refl) refl
       by false is (Some n) bad rest = absurd (none-some (suc n) (sym bad))
 
-  -- The first fits so too.
+  -- The first item that fits also passes the stricter test.
   pub first_more : (d : A) (items : List A) (at : ℕ) → more d ≡ false → place_of fits items ≡ Some at → more (get_or items at d) ≡ true
       → place_of more items ≡ Some at
   first_more d [] at not e here = absurd (none-some at e)
@@ -104,9 +104,9 @@ module _ {A : Type 0} (fits more : A → Bool) (so : (item : A) → fits item �
       by false is (Some n) (suc at) e here rest = let same : n ≡ at = cc in
           rw (so item is, rest at not (ap Some same) here) refl
 
--- ---- over all kinds
+-- ---- a look at all kinds
 
--- whether an item of a kind with a number below that fits
+-- whether an item fits whose kind number is below `n`
 abbrev pub fits_below : {K : Type 0} → (K → Bool) → List K → ℕ → Option ℕ → Bool
 fits_below fits kinds n None = false
 fits_below fits kinds n (Some kind) = ltb kind n && fits_in fits (slice_get kinds kind)
@@ -148,7 +148,7 @@ module _ {K : Type 0} (fits : K → Bool) (kinds : List K) (places : List (Optio
               let not : (other == n) ≡ false = grind (arith, nat_tests) in
               rw (same, not) (sym (or_false (ltb other n && fits_in fits (slice_get kinds other))))
 
-  -- It does not.
+  -- The next kind does not fit.
   pub below_no : (n : ℕ) (kind : K) → slice_get kinds n ≡ Some kind → fits kind ≡ false
       → place_of (fits_below fits kinds n) places ≡ place_of (fits_below fits kinds (n + 1)) places
   below_no n kind is not = place_same (fits_below fits kinds n) (fits_below fits kinds (n + 1)) places same
@@ -162,7 +162,7 @@ module _ {K : Type 0} (fits : K → Bool) (kinds : List K) (places : List (Optio
           by (inl e) = rw (e, is, not, and_false (ltb n n), and_false (ltb n (n + 1))) refl
           by (inr apart) = let same : ltb other (n + 1) ≡ ltb other n = grind (arith, nat_tests) in rw same refl
 
-  -- All kinds were asked.
+  -- All kinds were looked at.
   pub below_all : (n : ℕ) → length kinds ≤ n → place_of (fits_below fits kinds n) places ≡ place_of (fits_in fits) (items_in kinds places)
   below_all n all = place_same (fits_below fits kinds n) (λ place. fits_in fits (kind_in kinds place)) places same
       ∙ sym (place_map (fits_in fits) (kind_in kinds) places)
@@ -192,13 +192,13 @@ module _ {K : Type 0} (fits : K → Bool) (kinds : List K) (places : List (Optio
       ∙ first_more (is_wanted None) (λ place. fits_in fits (kind_in kinds place)) not_wanted None places at refl e
       (rw is fit)
 
--- ---- one of a kind
+-- ---- an item of one kind
 
 some_suc : (place : Option ℕ) → is_some (option_map suc place) ≡ is_some place
 some_suc None = refl
 some_suc (Some n) = refl
 
--- Where one of a kind that fits is there, one that fits is.
+-- If there is an item of a kind that fits, there is an item that fits.
 pub kind_there : {K : Type 0} (fits : K → Bool) (kinds : List K) (n : ℕ) (kind : K) (places : List (Option ℕ))
     → slice_get kinds n ≡ Some kind → fits kind ≡ true → is_some (place_of (is_wanted (Some n)) places) ≡ true
     → is_some (place_of (fits_in fits) (items_in kinds places)) ≡ true
@@ -224,9 +224,9 @@ kind_there fits kinds n kind (Some other ∷ places) is fit there =
         later (fits_in fits (slice_get kinds other))
         (rest (sym (some_suc _) ∙ (rw not at there)))
 
--- ---- items that are left
+-- ---- the items without the empty places
 
--- whether one fits of those that stand in places
+-- whether an item in the places fits
 pub any_filled : {A : Type 0} (fits : A → Bool) (places : List (Option A)) → list_any fits (filled places) ≡ is_some (place_of (fits_in fits) places)
 any_filled fits [] = refl
 any_filled fits (None ∷ places) = any_filled fits places ∙ by (place_of (fits_in fits) places)
@@ -250,11 +250,11 @@ module _ {K : Type 0} (fits : K → Bool) (kinds : List K) (places : List (Optio
       → now ≡ place_of (fits_below fits kinds (n + 1)) places
   asked_yes oldest now fit is_oldest is_now = rw (is_now, was, is_oldest) (below_yes fits kinds places n kind is fit)
 
-  -- It does not.
+  -- The next kind does not fit.
   pub asked_no : (now : Option ℕ) → fits kind ≡ false → now ≡ found → now ≡ place_of (fits_below fits kinds (n + 1)) places
   asked_no now not is_now = is_now ∙ was ∙ below_no fits kinds places n kind is not
 
--- All were asked.
+-- All kinds were looked at.
 pub asked_all : {K : Type 0} (fits : K → Bool) (kinds all : List K) (places : List (Option ℕ)) (n : ℕ) (found : Option ℕ) → kinds ≡ all
     → length kinds ≤ n → found ≡ place_of (fits_below fits kinds n) places → found ≡ place_of (fits_in fits) (items_in all places)
 asked_all fits kinds all places n found same past was =

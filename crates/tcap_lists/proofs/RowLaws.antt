@@ -1,4 +1,4 @@
--- Where the oldest item of a kind stands.
+-- The place of the oldest item of a kind.
 use Rattle.std.proofs.Common.{◌≡◌, ℕ, zero, suc, ◌≢◌, ◌⊎◌, inl, inr, Bool, true, false, List, [], ◌∷◌, Option, Some, None, Result, Ok, Err, OnOk, OnErr, refl, sym, ap, ◌∙◌, arith, get_or, set, length, length-append, take, ◌<◌, ◌≤◌}
 use Rattle.std.proofs.lemmas.Bool.{cases_eq, cases_lt}
 use Rattle.std.proofs.lemmas.Bool.Decides.{nat_tests}
@@ -17,14 +17,14 @@ false_unless : (b : Bool) → (b ≡ true → ⊥) → b ≡ false
 false_unless true not = absurd (not refl)
 false_unless false not = refl
 
--- It stands there.
+-- The oldest wanted item is in that place.
 pub oldest_stands : (wanted : Option ℕ) (places : List (Option ℕ)) (at : ℕ) → IsOldest wanted places at
     → is_wanted wanted (stood places at) ≡ true → place_of (is_wanted wanted) places ≡ Some at
 oldest_stands wanted places at oldest here =
     place_at (is_wanted wanted) None places at refl
     (λ n below. false_unless (is_wanted wanted (stood places n)) (λ yes. absurd (omega (arith, (oldest n yes).0, below)))) here
 
--- There is none.
+-- There is no wanted item.
 pub none_stands : (wanted : Option ℕ) (places : List (Option ℕ)) (at : ℕ) → IsOldest wanted places at
     → is_wanted wanted (stood places at) ≡ false → place_of (is_wanted wanted) places ≡ None
 none_stands wanted places at oldest not =
@@ -33,7 +33,7 @@ none_stands wanted places at oldest not =
 
 -- ---- one place changes
 
--- Where nothing else is wanted, the oldest stays.
+-- The oldest stays the oldest if the same places are wanted.
 pub oldest_stays : (wanted : Option ℕ) (places other : List (Option ℕ)) (oldest : ℕ)
     → ((n : ℕ) → is_wanted wanted (stood other n) ≡ is_wanted wanted (stood places n)) → IsOldest wanted places oldest
     → IsOldest wanted other oldest
@@ -55,7 +55,7 @@ module _ (places : List (Option ℕ)) (at : ℕ) (new : Option ℕ) (within : at
       by (inl is) = rw (stood_here n is, is) same
       by (inr apart) = rw (stood_there n apart) refl
 
-  -- The kinds have the numbers that they had.
+  -- All kind numbers stay below the limit.
   pub set_numbered : (count : ℕ) → ((kind : ℕ) → new ≡ Some kind → kind < count) → AreNumbered places count
       → AreNumbered (set places at new) count
   set_numbered count below numbered = λ n kind is. by n kind is (cases_eq n at)
@@ -64,7 +64,7 @@ module _ (places : List (Option ℕ)) (at : ℕ) (new : Option ℕ) (within : at
       by n kind is (inl here) = below kind (sym (stood_here n here) ∙ is)
       by n kind is (inr apart) = numbered n kind (sym (stood_there n apart) ∙ is)
 
-  -- The oldest item of one kind changes, and the items of no other.
+  -- The oldest item of one kind changes, and no other kind changes.
   pub set_oldest : (oldest : List ℕ) (kind now : ℕ) → kind < length oldest
       → ((other : ℕ) → other ≢ kind → is_wanted (Some other) new ≡ is_wanted (Some other) (stood places at))
       → AreOldest places oldest → IsOldest (Some kind) (set places at new) now → AreOldest (set places at new) (set oldest kind now)
@@ -80,9 +80,9 @@ module _ (places : List (Option ℕ)) (at : ℕ) (new : Option ℕ) (within : at
 pub apart_kinds : (other kind : ℕ) → other ≢ kind → (kind == other) ≡ false
 apart_kinds other kind apart = grind (arith, nat_tests)
 
--- ---- one place more
+-- ---- a place is appended
 
--- A place that was empty, the last one, is filled.
+-- The appended place, which was empty, is filled.
 pub set_behind : {A : Type 0} (places : List A) (first new : A) (n : ℕ) → n ≡ length places
     → set (places ++ first ∷ []) n new ≡ places ++ new ∷ []
 set_behind [] first new n is = rw is refl
@@ -103,9 +103,9 @@ stands_within places at is = by (stood places at) refl is
     by None e bad = absurd (let wrong : false ≡ true = bad in cc)
     by (Some kind) e some = some_here places at kind e
 
--- ---- a place comes, or the last ones go
+-- ---- a place is appended, or the last ones are removed
 
--- One more, or as before where there is no memory for it.
+-- One more item, or the same items if memory runs out.
 pub pushed_items : {T E A : Type 0} (pushed : Result T E) (was now : SmallVec A) (new : A) → OnOk pushed (now.items ≡ was.items ++ new ∷ [])
     → OnErr pushed (now ≡ was) → now.items ≡ cond (is_ok pushed) (was.items ++ new ∷ []) was.items
 pushed_items (Ok value) was now new joined same = joined
@@ -128,7 +128,7 @@ pushed_oldest true wanted places oldest was =
     oldest_stays wanted places (places ++ None ∷ []) oldest (λ n. ap (is_wanted wanted) (stood_grown places n)) was
 pushed_oldest false wanted places oldest was = was
 
--- One kind more of which there is no item.
+-- A kind without items is added.
 pub widened : (pushed : Bool) (places : List (Option ℕ)) (oldest : List ℕ) → AreOldest places oldest
     → AreOldest places (cond pushed (oldest ++ 0 ∷ []) oldest)
 widened true places oldest were = λ kind. rw (pad_same oldest kind) (were kind)

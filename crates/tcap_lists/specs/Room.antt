@@ -1,9 +1,10 @@
--- Where the items of a list are whose first item is kept in place.
+-- Which items a list holds that stores its first item in place.
 use Rattle.std.specs.Option.{option_to_list}
 use Rattle.tcap_lists.specs.InPlace.{Items}
 use Rattle.tcap_lists.specs.declared.in_place.Room.{Room}
 use Rattle.tcap_lists.specs.declared.in_place.Room.TheVariants.{Inside, Outside}
 
+-- the items, stored in place or in a vector
 abbrev pub items_in : {T : Type 0} → Room T → Items T
 items_in (Inside item) = record { items = option_to_list item }
 items_in (Outside list) = record { items = list.items }

@@ -1,4 +1,4 @@
-//! For each kind its places in a row, one after the other.
+//! For each kind, a chain of its places in a row.
 
 ghost use Rattle.std.specs.Prelude.{◌≡◌, ◌≢◌, ◌<◌, ◌++◌, ◌∷◌, [], ℕ, List, Option, Some, IsTrue, OnErr, OnOk, length, slice_index_or, slice_set, vec_len};
 ghost use Rattle.std.specs.List.{slice_get};
@@ -6,28 +6,28 @@ ghost use Rattle.tcap_lists.specs.Chains.{AreBefore, AreEnds, AreMarked, kinds_i
 
 use std::alloc::{AllocError, Global};
 
-/// Of which kind a place is, and what no earlier place of that kind stands behind.
+/// The kind of a place, and a bound on the earlier places of the kind.
 #[derive(Clone, Copy, Debug)]
 pub(crate) struct Mark {
-    /// The number of its kind. It stays where the place's item is taken.
+    /// The number of the kind, which stays when the item of the place is removed.
     kind: usize,
-    /// All earlier places of that kind stand before this one.
+    /// Greater than all earlier places of the kind.
     before: usize,
 }
 
-/// Of each place of a row its kind, so that the next place of a kind is found with no look at those between.
+/// The kind of each place of a row, so that the next place of a kind is found without a look at the places between.
 #[derive(Debug, Drop)]
 pub(crate) struct Chains {
     marks: Vec<Mark>,
-    /// For each kind the place behind its last one.
+    /// For each kind, a place after its last one.
     ends: Vec<usize>,
-    /// For each place the next one of its kind. It only saves a search: who takes one sees whether it is right.
+    /// For each place, the next place of its kind. It is only a guess that saves a search, so each use checks it.
     next: Vec<usize>,
     ghost all_before: { AreBefore marks.items },
     ghost all_ended: { AreEnds marks.items ends.items },
 }
 
-/// Zeros behind, up to that one.
+/// Appends zeros until the list has an entry `at`.
 fn pad(ends: &mut Vec<usize>, at: usize) -> Result<(), AllocError>
     ensures long { OnOk result (at < vec_len ends.new) }
     ensures same { (n : ℕ) → slice_index_or ends.new.items n 0 ≡ slice_index_or ends.old.items n 0 }
@@ -39,7 +39,7 @@ fn pad(ends: &mut Vec<usize>, at: usize) -> Result<(), AllocError>
 }
 
 impl Chains {
-    /// Of no place.
+    /// Creates chains without places.
     pub(crate) fn new(alloc: Global) -> Chains
         ensures { result.marks.items ≡ [] }
     {
@@ -50,21 +50,21 @@ impl Chains {
         }
     }
 
-    /// Of how many places the kind is known, from the first one on.
+    /// Returns the number of places whose kind is known: the first places of the row.
     pub(crate) fn len(&self) -> usize
         ensures { result ≡ vec_len self.now.marks }
     {
         self.marks.len()
     }
 
-    /// Whether a place is of that kind.
+    /// Returns whether a place is known to be of this kind.
     pub(crate) fn has(&self, at: usize, kind: usize) -> bool
         ensures { IsTrue result → slice_get (kinds_in self.now.marks.items) at ≡ Some kind }
     {
         at < self.marks.len() && self.marks[at].kind == kind
     }
 
-    /// A place behind all of that kind.
+    /// Returns a place after all known places of this kind.
     pub(crate) fn end_of(&self, kind: usize) -> usize
         ensures { (at : ℕ) → slice_get (kinds_in self.now.marks.items) at ≡ Some kind → at < result }
     {
@@ -75,7 +75,7 @@ impl Chains {
         }
     }
 
-    /// Whether a place is of that kind, and none of that kind stands between it and an earlier one.
+    /// Returns whether place `to` is of this kind, and no place of the kind is between `at` and `to`.
     fn is_next(&self, at: usize, kind: usize, to: usize) -> bool
         requires { at < vec_len self.now.marks }
         ensures { IsTrue result → (n : ℕ) → at < n → n < to → slice_get (kinds_in self.now.marks.items) n ≢ Some kind }
@@ -87,7 +87,7 @@ impl Chains {
         mark.kind == kind && mark.before <= at + 1
     }
 
-    /// Which place may be the next one of its kind.
+    /// Returns a guess of the next place of the same kind.
     fn guess(&self, at: usize) -> usize {
         if at < self.next.len() {
             self.next[at]
@@ -96,7 +96,7 @@ impl Chains {
         }
     }
 
-    /// A later place, and none of that kind stands between.
+    /// Returns a later place, with no place of this kind between.
     pub(crate) fn behind(&self, at: usize, kind: usize) -> usize
         requires { at < vec_len self.now.marks }
         ensures later { at < result }
@@ -110,7 +110,7 @@ impl Chains {
         }
     }
 
-    /// All places of a kind stand before this one.
+    /// Sets the end of a kind, a place after all of its places.
     fn set_end(&mut self, kind: usize, end: usize) -> Result<(), AllocError>
         requires { (at : ℕ) → slice_get (kinds_in self.old.marks.items) at ≡ Some kind → at < end }
         ensures end { OnOk result (slice_index_or self.new.ends.items kind 0 ≡ end) }
@@ -121,7 +121,7 @@ impl Chains {
         Ok(())
     }
 
-    /// The place behind the last one of its kind is the next one of the kind.
+    /// Notes that the kind whose end was `end` has its next place at `to`.
     fn link(&mut self, to: usize, end: usize) -> Result<(), AllocError>
         ensures { self.new.marks ≡ self.old.marks }
     {
@@ -134,7 +134,7 @@ impl Chains {
         Ok(())
     }
 
-    /// The next place is of that kind.
+    /// Appends a place of this kind.
     pub(crate) fn push(&mut self, kind: usize) -> Result<(), AllocError>
         ensures more { OnOk result (kinds_in self.new.marks.items ≡ kinds_in self.old.marks.items ++ kind ∷ []) }
         ensures kept { OnErr result (kinds_in self.new.marks.items ≡ kinds_in self.old.marks.items) }
@@ -147,7 +147,7 @@ impl Chains {
         Ok(())
     }
 
-    /// Nothing is known of the last place, where it is not among so many.
+    /// Forgets the last known place, if more than `places` are known.
     pub(crate) fn pop(&mut self, places: usize)
         ensures { (at kind : ℕ) → slice_get (kinds_in self.new.marks.items) at ≡ Some kind
             → slice_get (kinds_in self.old.marks.items) at ≡ Some kind }
@@ -162,7 +162,7 @@ impl Chains {
         }
     }
 
-    /// An item of that kind comes to a place. Where that is not the kind of the place, nothing is known of any place.
+    /// Notes that an item of this kind is put in a place. If the place has another kind, forgets all places.
     pub(crate) fn keep(&mut self, at: usize, kind: usize)
         ensures { (places : List (Option ℕ)) → at < length places → AreMarked places (kinds_in self.old.marks.items)
             → AreMarked (slice_set places at (Some kind)) (kinds_in self.new.marks.items) }

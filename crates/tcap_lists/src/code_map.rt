@@ -1,4 +1,4 @@
-//! Values by operation codes.
+//! A map from operation codes to values.
 
 ghost use Rattle.std.specs.Prelude.{◌≡◌, [], option_copied, is_some, IfOk, IsTrue, ◌↔◌};
 ghost use Rattle.std.specs.Map.{lookup};
@@ -10,7 +10,7 @@ use std::alloc::{AllocError, Global};
 use std::collections::BTreeMap;
 use tcap_parts::CodeView;
 
-/// An operation code by which a value is kept.
+/// An operation code as a key.
 #[derive(Debug, Drop)]
 pub enum CodeKey {
     /// A local code.
@@ -19,7 +19,7 @@ pub enum CodeKey {
     Global(Vec<u8>),
 }
 
-/// Values by operation codes. A lookup takes the logarithm of their count, and no memory.
+/// A map from operation codes to values. A lookup takes logarithmic time, and does not allocate.
 #[derive(Debug, Drop)]
 pub struct CodeMap<V> {
     locals: BTreeMap<i32, V>,
@@ -27,7 +27,7 @@ pub struct CodeMap<V> {
 }
 
 impl<V> CodeMap<V> {
-    /// Creates a map of no values.
+    /// Creates an empty map.
     pub fn new(alloc: Global) -> CodeMap<V>
         ensures { coded result ≡ [] }
     {
@@ -37,14 +37,14 @@ impl<V> CodeMap<V> {
         }
     }
 
-    /// Returns whether the map has no value.
+    /// Returns whether the map is empty.
     pub fn is_empty(&self) -> bool
         ensures { IsTrue result ↔ (coded self.now ≡ []) }
     {
         self.locals.is_empty() && self.globals.is_empty()
     }
 
-    /// Returns the value of that code.
+    /// Returns the value of a code.
     pub fn get(&self, code: CodeView) -> Option<&V>
         ensures { option_copied result ≡ lookup (is_at (code_cmp (code_of code.entry))) (coded self.now) }
     {
@@ -54,7 +54,7 @@ impl<V> CodeMap<V> {
         }
     }
 
-    /// Returns whether there is a value of that code.
+    /// Returns whether a code has a value.
     pub fn has(&self, key: &CodeKey) -> bool
         ensures { result ≡ is_some (lookup (is_at (code_cmp (key_code key.now))) (coded self.now)) }
     {
@@ -64,7 +64,11 @@ impl<V> CodeMap<V> {
         }
     }
 
-    /// Gives the code that value, in place of the one that it had.
+    /// Sets the value of a code, and drops the earlier one.
+    ///
+    /// # Errors
+    ///
+    /// AllocError if memory runs out.
     pub fn insert(&mut self, key: CodeKey, value: V) -> Result<(), AllocError>
     where
         V: Drop,

@@ -1,5 +1,5 @@
-//! Lists that take no memory for their first item, of any type. The lists of `smallvec`, which serve for numbers, fill unused
-//! places with a blank value, which a type parameter has not.
+//! Lists of any type that do not allocate for their first item. `smallvec` fills unused places with a blank value,
+//! which a type parameter does not have, so it serves only for numbers.
 
 ghost use Rattle.std.specs.Prelude.{◌≡◌, ◌≤◌, ◌++◌, ◌∷◌, [], OnErr, OnOk, IfOk, length, option_copied, slice_get, vec_capacity};
 ghost use Rattle.std.specs.Option.{option_to_list};
@@ -8,15 +8,16 @@ ghost use Rattle.std.specs.Mem.{FitsInMemory};
 use std::alloc::{AllocError, Global};
 use std::marker::Model;
 
-/// Where the items are.
+/// The storage of the items.
 #[derive(Debug, Drop)]
 pub(crate) enum Room<T> {
-    /// One at most, in place.
+    /// At most one item, in place.
     Inside(Option<T>),
+    /// All items, in a vector.
     Outside(Vec<T>),
 }
 
-/// Items, one after the other.
+/// A list of items.
 #[derive(Debug, Drop)]
 pub(crate) struct InPlace<T> {
     room: Room<T>,
@@ -33,7 +34,7 @@ impl<T> Model for InPlace<T> {
     ghost view = { λ a. items_in a.room };
 }
 
-/// A list of no items, with room for two.
+/// Creates an empty list with room for two items.
 fn with_room<T: Drop>(alloc: Global) -> Result<Vec<T>, AllocError>
     ensures items { IfOk result (λ items. items.items ≡ []) }
     ensures room { IfOk result (λ items. 2 ≤ vec_capacity items) }
@@ -43,7 +44,7 @@ fn with_room<T: Drop>(alloc: Global) -> Result<Vec<T>, AllocError>
     Ok(items)
 }
 
-/// Two items, of which the first one is taken from where it is.
+/// Moves the first item out of its place, and returns a list of both.
 fn both<T: Drop>(first: &mut Option<T>, second: T, mut items: Vec<T>) -> Vec<T>
     requires none { items.items ≡ [] }
     requires room { 2 ≤ vec_capacity items }
@@ -57,7 +58,7 @@ fn both<T: Drop>(first: &mut Option<T>, second: T, mut items: Vec<T>) -> Vec<T>
 }
 
 impl<T> InPlace<T> {
-    /// No items.
+    /// Creates an empty list.
     pub(crate) fn new() -> InPlace<T>
         ensures { result.items ≡ [] }
     {
@@ -66,7 +67,7 @@ impl<T> InPlace<T> {
         }
     }
 
-    /// How many there are.
+    /// Returns the number of items.
     pub(crate) fn len(&self) -> usize
         ensures { result ≡ length self.now.items }
     {
@@ -77,7 +78,7 @@ impl<T> InPlace<T> {
         }
     }
 
-    /// All of them.
+    /// Returns all items.
     pub(crate) fn as_slice(&self) -> &[T]
         requires { FitsInMemory T.row }
         ensures { result.now ≡ self.now.items }
@@ -88,7 +89,7 @@ impl<T> InPlace<T> {
         }
     }
 
-    /// The item with this number.
+    /// Returns the item at an index.
     pub(crate) fn get(&self, number: usize) -> Option<&T>
         ensures { option_copied result ≡ slice_get self.now.items number }
     {
@@ -99,7 +100,7 @@ impl<T> InPlace<T> {
         }
     }
 
-    /// One more.
+    /// Appends an item.
     pub(crate) fn push(&mut self, alloc: Global, item: T) -> Result<(), AllocError>
     where
         T: Drop,

@@ -1,4 +1,4 @@
-//! An index of the kinds of a row, which is made where they are many.
+//! An index of the kinds of a row, which is made when the row has many.
 
 ghost use Rattle.std.specs.Prelude.{◌≡◌, ◌<◌, ℕ, List, [], Option, Some, IfSome, length, slice_get, slice_set};
 ghost use Rattle.tcap_lists.specs.Chains.{AreMarked, kinds_in};
@@ -14,13 +14,13 @@ use tcap_parts::CodeView;
 /// Kinds by their codes, and places by their kinds.
 #[derive(Debug, Drop)]
 pub(crate) struct IndexParts {
-    /// By operation codes, where kinds have one: guesses, on which no answer rests.
+    /// Guesses of the numbers of kinds, by operation codes. No result depends on them.
     numbers: KindNumbers,
     /// The places of each kind.
     chains: Chains,
 }
 
-/// The same, made where kinds are many; before, it takes no memory.
+/// An index that is made when a row has many kinds. Before that it does not allocate.
 #[derive(Debug, Drop)]
 pub(crate) struct KindIndex {
     parts: Option<Box<IndexParts>>,
@@ -35,7 +35,7 @@ impl Model for KindIndex {
     ghost view = { λ a. indexed_kinds a.parts };
 }
 
-/// The kind of the item in a place, or else the one given.
+/// Returns the kind of the item in a place, or `kind` if the place is empty.
 fn kind_at(places: &[Option<usize>], at: usize, kind: usize) -> usize
     ensures { (known : ℕ) → stood places.now at ≡ Some known → result ≡ known }
 {
@@ -45,7 +45,7 @@ fn kind_at(places: &[Option<usize>], at: usize, kind: usize) -> usize
     }
 }
 
-/// Puts one place more into the chain of its kind; one without an item may be of this kind.
+/// Adds the next place to the chain of its kind; an empty place is added to that of `kind`.
 fn follow_one(places: &[Option<usize>], chains: &mut Chains, kind: usize) -> Result<(), AllocError>
     ensures { AreMarked places.now (kinds_in chains.old.marks.items) → AreMarked places.now (kinds_in chains.new.marks.items) }
 {
@@ -53,7 +53,7 @@ fn follow_one(places: &[Option<usize>], chains: &mut Chains, kind: usize) -> Res
     chains.push(known)
 }
 
-/// Puts the places that are in no chain into those of their kinds, and then the next place into that of this kind.
+/// Adds all places that are in no chain yet, and then one more place of this kind.
 fn follow(places: &[Option<usize>], chains: &mut Chains, kind: usize) -> Result<(), AllocError>
     requires marked { AreMarked places.now (kinds_in chains.old.marks.items) }
     ensures { AreMarked places.now (kinds_in chains.new.marks.items) }
@@ -65,14 +65,14 @@ fn follow(places: &[Option<usize>], chains: &mut Chains, kind: usize) -> Result<
 }
 
 impl KindIndex {
-    /// Nothing.
+    /// Creates an index that is not yet made.
     pub(crate) fn new() -> KindIndex
         ensures { result ≡ [] }
     {
         KindIndex { parts: None }
     }
 
-    /// A guess of the number of the kind of this sort that has this operation code.
+    /// Returns a guess of the number of the kind with this sort and operation code.
     pub(crate) fn guess(&self, code: CodeView, sort: usize) -> Option<usize>
         requires { sort < SORTS }
     {
@@ -82,7 +82,7 @@ impl KindIndex {
         }
     }
 
-    /// A kind of this sort, one of many, will have this operation code and this number.
+    /// Notes that the kind with this sort and operation code will have this number. Makes the index if there is none.
     pub(crate) fn expect(
         &mut self,
         alloc: Global,
@@ -107,7 +107,7 @@ impl KindIndex {
         }
     }
 
-    /// The places of each kind, where kinds are many.
+    /// Returns the places of each kind, if the index was made.
     pub(crate) fn chains(&self) -> Option<&Chains>
         ensures { IfSome result (λ chains. kinds_in chains.now.marks.items ≡ self.now) }
     {
@@ -117,7 +117,7 @@ impl KindIndex {
         }
     }
 
-    /// The next place will be one of this kind.
+    /// Notes that the next place will be of this kind.
     pub(crate) fn follow(&mut self, places: &[Option<usize>], kind: usize) -> Result<(), AllocError>
         requires marked { AreMarked places.now self.old }
         ensures { AreMarked places.now self.new }
@@ -128,7 +128,7 @@ impl KindIndex {
         }
     }
 
-    /// Forgets the last place, where more are known than there are places.
+    /// Forgets the last place, if more than `places` are known.
     pub(crate) fn pop(&mut self, places: usize)
         ensures { (at kind : ℕ) → slice_get self.new at ≡ Some kind → slice_get self.old at ≡ Some kind }
     {
@@ -137,7 +137,7 @@ impl KindIndex {
         }
     }
 
-    /// An item of that kind comes to a place. Where that is not the kind of the place, nothing is known of any place.
+    /// Notes that an item of this kind is put in a place. If the place has another kind, forgets all places.
     pub(crate) fn keep(&mut self, at: usize, kind: usize)
         ensures { (places : List (Option ℕ)) → at < length places → AreMarked places self.old
             → AreMarked (slice_set places at (Some kind)) self.new }

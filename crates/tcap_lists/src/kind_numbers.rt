@@ -6,25 +6,25 @@ use crate::code_map::{CodeKey, CodeMap};
 use std::alloc::{AllocError, Global};
 use tcap_parts::CodeView;
 
-/// How many sorts of kinds one operation code may have.
+/// The most sorts of kinds that one operation code may have.
 pub const SORTS: usize = 8;
 
-/// For each operation code a number for each sort of kinds. They only save a search: who takes one sees whether it is
-/// right.
+/// For each operation code, a number for each sort of kind. It is only a guess that saves a search, so each use checks
+/// it.
 #[derive(Debug, Drop)]
 pub(crate) struct KindNumbers {
     of_codes: CodeMap<[usize; SORTS]>,
 }
 
 impl KindNumbers {
-    /// No numbers.
+    /// Creates an empty map.
     pub(crate) fn new(alloc: Global) -> KindNumbers {
         KindNumbers {
             of_codes: CodeMap::new(alloc),
         }
     }
 
-    /// The number that was given to that sort of a code.
+    /// Returns the number for a code and a sort.
     pub(crate) fn get(&self, code: CodeView, sort: usize) -> Option<usize>
         requires { sort < SORTS }
     {
@@ -32,7 +32,7 @@ impl KindNumbers {
         Some(numbers[sort])
     }
 
-    /// Gives a number to that sort of a code.
+    /// Sets the number for a code and a sort.
     pub(crate) fn put(
         &mut self,
         alloc: Global,

@@ -1,4 +1,4 @@
-//! Items by invoke IDs.
+//! Rows of items by invoke ID.
 
 ghost use Rattle.std.specs.Ordering.{int_cmp};
 ghost use Rattle.std.specs.Map.{keys_of};
@@ -8,11 +8,10 @@ use crate::row::Row;
 use std::alloc::{AllocError, Global};
 use std::collections::BTreeMap;
 
-/// Rows of items by invoke IDs. Taking an item and putting it back can't fail. An ID of which nothing is kept may have a
-/// row.
+/// Rows of items by invoke ID. Removing an item and putting it back can't fail. An ID without items may have a row.
 #[derive(Debug, Drop)]
 pub struct Lists<K> {
-    /// The rows, by their invoke IDs.
+    /// The rows by their invoke IDs.
     pub rows: BTreeMap<i8, Box<Row<K>>>,
     alloc: Global,
     pub ghost ordered: { IsStrictlySortedBy int_cmp (keys_of rows.entries) } by { IsStrictlySortedBy-prop int_cmp
@@ -24,7 +23,7 @@ impl<K> Lists<K> {
     ghost use Rattle.tcap_lists.specs.Items.{listed};
     ghost use Rattle.tcap_lists.specs.Lists.{row_of, rows_of};
 
-    /// Creates lists of no items.
+    /// Creates lists without rows.
     pub fn new(alloc: Global) -> Lists<K>
         ensures { rows_of result ≡ [] }
     {
@@ -34,7 +33,7 @@ impl<K> Lists<K> {
         }
     }
 
-    /// Returns the row of an ID, if one was made.
+    /// Returns the row of an ID, if it was made.
     pub fn get(&self, id: i8) -> Option<&Row<K>>
         ensures { MatchOption result (listed id (rows_of self.now) ≡ [])
             (λ row. listed id (rows_of self.now) ≡ row_of row.now) }
@@ -51,7 +50,11 @@ impl<K: Drop> Lists<K> {
     ghost use Rattle.tcap_lists.specs.Items.{listed};
     ghost use Rattle.tcap_lists.specs.Lists.{HasRow, KeepsRows, items_of, kind_of, one_less, row_of, rows_of, with_place};
 
-    /// Makes a row of an ID, if there is none.
+    /// Makes a row for an ID, if it has none.
+    ///
+    /// # Errors
+    ///
+    /// AllocError if memory runs out.
     pub fn make(&mut self, id: i8) -> Result<(), AllocError>
         ensures made { OnOk result (HasRow id self.new) }
         ensures rows { rows_of self.new ≡ rows_of self.old }
@@ -65,7 +68,7 @@ impl<K: Drop> Lists<K> {
         Ok(())
     }
 
-    /// Takes the newest place of an ID's row away again.
+    /// Removes the newest place of an ID's row.
     pub fn leave(&mut self, id: i8)
         requires made { HasRow id self.old }
         ensures left { rows_of self.new ≡ one_less id (rows_of self.old) }
@@ -77,7 +80,7 @@ impl<K: Drop> Lists<K> {
         }
     }
 
-    /// Takes the item at that place of an ID's row, and returns the number of its kind.
+    /// Removes the item in a place of an ID's row, and returns the number of its kind.
     pub fn take(&mut self, id: i8, at: usize) -> usize
         requires there { IsSome (slice_index_or (listed id (rows_of self.old)) at None) }
         ensures kind { slice_index_or (listed id (rows_of self.old)) at None ≡ kind_of id result self.old }
@@ -90,7 +93,7 @@ impl<K: Drop> Lists<K> {
         }
     }
 
-    /// Puts an item of a kind back to that place, which is empty.
+    /// Puts an item of a kind back into an empty place of an ID's row.
     pub fn put_back(&mut self, id: i8, at: usize, kind: usize)
         requires within { at < length (listed id (rows_of self.old)) }
         requires empty { slice_index_or (listed id (rows_of self.old)) at None ≡ None }
@@ -104,7 +107,7 @@ impl<K: Drop> Lists<K> {
         }
     }
 
-    /// Lets the places of an ID's row go, if it has many of them and no item.
+    /// Drops the places of an ID's row, if they are many and all empty.
     pub fn settle(&mut self, id: i8)
         ensures { items_of (rows_of self.new) ≡ items_of (rows_of self.old) }
     {

@@ -15,29 +15,32 @@ use std::alloc::{AllocError, Global};
 use std::cell::Cell;
 use tcap_parts::CodeView;
 
-/// How many kinds are looked through one by one. If there are more, they have numbers by their codes, and the places of one
-/// kind are in chains.
+/// The most kinds that are searched one by one. More kinds are found by guesses from their codes, and the places of
+/// each kind are in a chain.
 pub const FEW_KINDS: usize = 8;
 
-/// From how many places on a row without an item is spent.
+/// The number of places from which a row without items is dropped.
 const SPENT_FROM: usize = 16;
 
-/// Items in the order in which they came, each of one kind. An item stands in a place, which is empty once the item was
-/// taken; neither taking it nor putting it back can fail. One item, or two of one kind, take no memory besides the row's.
-/// Where the oldest item of a kind stands is known; where it is taken, the next one is looked for behind it: place by place
-/// where kinds are few, or else over places of that kind alone.
+/// Items in the order in which they came, each of one kind.
+///
+/// An item is in a place, which is empty after the item is removed. Removing an item and putting it back can't fail. A
+/// row of one item, or of two items of one kind, does not allocate.
+///
+/// The place of the oldest item of each kind is known. When that item is removed, the next one is searched for: place
+/// by place if kinds are few, else only in the places of the kind.
 #[derive(Debug, Drop)]
 pub struct Row<K> {
     kinds: InPlace<K>,
-    /// The kind of the item in each place, by its number.
+    /// The kind number of the item in each place.
     places: SmallVec<Option<usize>, 2>,
-    /// The place of the oldest item of each kind, where there is one.
+    /// The place of the oldest item of each kind, if there is one.
     oldest: SmallVec<usize, 1>,
-    /// The place of the oldest item of all, where there is one.
+    /// The place of the oldest item of all, if there is one.
     first: usize,
-    /// Numbers of kinds and the places of each, where kinds are many.
+    /// The numbers of kinds and the places of each, if kinds are many.
     index: KindIndex,
-    /// The number of the last kind to which an operation was found to be linked. It is a hint for speed alone.
+    /// The number of the last kind to which an operation was found to be linked. It is only a hint that saves time.
     linking: Cell<usize>,
     ghost marked: { AreMarked places.items index },
     ghost numbered: { AreNumbered places.items (length kinds.items) },
@@ -46,7 +49,7 @@ pub struct Row<K> {
     ghost oldest_of_all: { IsOldest None places.items first },
 }
 
-/// A place that all items of a kind stand before.
+/// Returns a place after all items of a kind.
 fn end_of(places: &[Option<usize>], chains: &Chains, kind: usize) -> usize
     requires marked { AreMarked places.now (kinds_in chains.now.marks.items) }
     requires all { length places.now ≤ vec_len chains.now.marks }
@@ -61,7 +64,7 @@ fn end_of(places: &[Option<usize>], chains: &Chains, kind: usize) -> usize
     }
 }
 
-/// The first place from there on where an item of a kind stands, or else one behind all of them.
+/// Returns the first place at or after `from` with an item of a kind, or a place after all of them.
 fn next_of_kind(places: &[Option<usize>], chains: &Chains, kind: usize, from: usize) -> usize
     requires marked { AreMarked places.now (kinds_in chains.now.marks.items) }
     requires all { length places.now ≤ vec_len chains.now.marks }
@@ -81,7 +84,8 @@ fn next_of_kind(places: &[Option<usize>], chains: &Chains, kind: usize, from: us
     at
 }
 
-/// Where the oldest item of a kind stands, once an item of a place was taken: it stood there before.
+/// Returns the place of the oldest item of a kind after the item in place `at` was removed; `oldest` is the place
+/// before that. Searches in the chain of the kind.
 fn oldest_in_chain(
     places: &[Option<usize>],
     chains: &Chains,
@@ -100,7 +104,8 @@ fn oldest_in_chain(
     }
 }
 
-/// The same, where kinds may be many.
+/// Returns the place of the oldest item of a kind after the item in place `at` was removed; `oldest` is the place
+/// before that. Searches in the chain of the kind if there is one.
 fn oldest_of_kind(
     places: &[Option<usize>],
     index: &KindIndex,
@@ -118,7 +123,7 @@ fn oldest_of_kind(
     }
 }
 
-/// Where the oldest item of a kind stands, if there is one.
+/// Returns the place of the oldest item of a kind; meaningless if there is none.
 fn place_of_kind(oldest: &[usize], kind: usize) -> usize
     requires { kind < length oldest.now }
     ensures { result ≡ slice_index_or oldest.now kind 0 }
@@ -126,7 +131,7 @@ fn place_of_kind(oldest: &[usize], kind: usize) -> usize
     oldest[kind]
 }
 
-/// Puts a value in the place of another.
+/// Replaces the value at an index.
 fn put<T: Copy, const N: usize>(items: &mut SmallVec<T, N>, at: usize, value: T)
     requires { at < small_vec_len items.old }
     ensures { items.new.items ≡ slice_set items.old.items at value }
@@ -161,7 +166,7 @@ impl<K> Row<K> {
     ghost use Rattle.tcap_lists.specs.Row.{is_wanted, kind_in, place_of, stood};
     ghost use Rattle.tcap_lists.specs.Lists.{KeepsKinds, row_kinds, row_of, row_places};
 
-    /// No items.
+    /// Creates a row without places.
     pub(crate) fn new(alloc: Global) -> Row<K>
         ensures { row_of result ≡ [] }
     {
@@ -175,7 +180,7 @@ impl<K> Row<K> {
         }
     }
 
-    /// Returns the kinds that there were, by their numbers.
+    /// Returns the kinds of the row, by their numbers.
     pub fn kinds(&self) -> &[K]
         requires { FitsInMemory K.row }
         ensures kinds { result.now ≡ row_kinds self.now }
@@ -184,14 +189,18 @@ impl<K> Row<K> {
         self.kinds.as_slice()
     }
 
-    /// Returns a guess of the number of the kind of this sort that has this operation code.
+    /// Returns a guess of the number of the kind with this sort and operation code. The caller must check it.
     pub fn guess(&self, code: CodeView, sort: usize) -> Option<usize>
         requires { sort < SORTS }
     {
         self.index.guess(code, sort)
     }
 
-    /// Notes that the next kind will be of this sort, and have this operation code.
+    /// Notes that the next kind will have this sort and operation code.
+    ///
+    /// # Errors
+    ///
+    /// AllocError if memory runs out.
     pub fn expect(&mut self, alloc: Global, code: CodeView, sort: usize) -> Result<(), AllocError>
         requires { sort < SORTS }
         ensures kinds { row_kinds self.new ≡ row_kinds self.old }
@@ -204,7 +213,7 @@ impl<K> Row<K> {
         self.index.expect(alloc, code, sort, number)
     }
 
-    /// Returns where the number is kept of the last kind to which an operation was found to be linked.
+    /// Returns the cell with the number of the last kind to which an operation was found to be linked.
     pub fn linking(&self) -> &Cell<usize> {
         &self.linking
     }
@@ -222,7 +231,7 @@ impl<K> Row<K> {
         }
     }
 
-    /// Returns the kind of the item in a place, if one stands there.
+    /// Returns the kind of the item in a place, or `None` if the place is empty.
     pub fn item(&self, at: usize) -> Option<&K>
         ensures { option_copied result ≡ kind_in (row_kinds self.now) (stood (row_places self.now) at) }
     {
@@ -230,7 +239,7 @@ impl<K> Row<K> {
         self.kinds.get(kind)
     }
 
-    /// Returns the place of the oldest item, and its kind, if there is one.
+    /// Returns the place and the kind of the oldest item, if there is one.
     pub fn oldest(&self) -> Option<(usize, &K)>
         ensures { MatchOption result (place_of (is_wanted None) (row_places self.now) ≡ None)
             (λ first. (place_of (is_wanted None) (row_places self.now) ≡ Some first.0)
@@ -240,28 +249,28 @@ impl<K> Row<K> {
         Some((self.first, kind))
     }
 
-    /// Returns a place that no item stands before.
+    /// Returns a place before which all places are empty.
     pub fn front(&self) -> usize
         ensures { (at : ℕ) → at < result → stood (row_places self.now) at ≡ None }
     {
         self.first
     }
 
-    /// Returns how many places there are.
+    /// Returns the number of places.
     pub fn len(&self) -> usize
         ensures { result ≡ length (row_places self.now) }
     {
         self.places.len()
     }
 
-    /// Whether it has many places, and no item in them.
+    /// Returns whether the row has many places, all of them empty.
     pub(crate) fn is_spent(&self) -> bool
         ensures { IsTrue result → place_of (is_wanted None) self.now.places.items ≡ None }
     {
         self.places.len() >= SPENT_FROM && self.oldest().is_none()
     }
 
-    /// Lets all places go, and all kinds.
+    /// Drops all places and all kinds.
     pub(crate) fn clear(&mut self, alloc: Global)
     where
         K: Drop,
@@ -270,7 +279,7 @@ impl<K> Row<K> {
         *self = Row::new(alloc);
     }
 
-    /// One kind more, of which there is no item. Its number.
+    /// Adds a kind without items, and returns its number.
     pub(crate) fn begin(&mut self, kind: K) -> Result<usize, AllocError>
     where
         K: Drop,
@@ -286,7 +295,7 @@ impl<K> Row<K> {
         Ok(number)
     }
 
-    /// A place for the oldest item of one kind more.
+    /// Makes room for the oldest place of one more kind.
     fn widen(&mut self) -> Result<(), AllocError>
         ensures wide { OnOk result (length self.new.kinds.items < small_vec_len self.new.oldest) }
         ensures kinds { self.new.kinds ≡ self.old.kinds }
@@ -298,7 +307,7 @@ impl<K> Row<K> {
         Ok(())
     }
 
-    /// Puts an item of a kind to an empty place.
+    /// Puts an item of a kind into an empty place.
     pub(crate) fn put_back(&mut self, at: usize, kind: usize)
         requires within { at < small_vec_len self.old.places }
         requires empty { stood self.old.places.items at ≡ None }
@@ -314,7 +323,7 @@ impl<K> Row<K> {
         put(&mut self.places, at, Some(kind));
     }
 
-    /// One place more, which is empty.
+    /// Appends an empty place.
     fn grow(&mut self) -> Result<(), AllocError>
         ensures more { OnOk result (self.new.places.items ≡ self.old.places.items ++ None ∷ []) }
         ensures kept { OnErr result (self.new.places.items ≡ self.old.places.items) }
@@ -324,7 +333,7 @@ impl<K> Row<K> {
         Ok(())
     }
 
-    /// The next place will be one of a kind, where kinds are many.
+    /// Notes that the next place will be of this kind, if kinds are many.
     fn follow(&mut self, kind: usize) -> Result<(), AllocError>
         ensures places { self.new.places ≡ self.old.places }
         ensures kinds { self.new.kinds ≡ self.old.kinds }
@@ -335,7 +344,11 @@ impl<K> Row<K> {
         self.index.follow(self.places.as_slice(), kind)
     }
 
-    /// Adds an item of a kind, the newest of all.
+    /// Appends an item of a known kind, as the newest.
+    ///
+    /// # Errors
+    ///
+    /// AllocError if memory runs out. The places are unchanged then.
     pub fn join(&mut self, kind: usize) -> Result<(), AllocError>
         requires { kind < length (row_kinds self.old) }
         ensures joined { OnOk result (row_places self.new ≡ row_places self.old ++ Some kind ∷ []) }
@@ -349,7 +362,11 @@ impl<K> Row<K> {
         Ok(())
     }
 
-    /// Adds the first item of a kind, the newest of all.
+    /// Appends an item of a new kind, as the newest.
+    ///
+    /// # Errors
+    ///
+    /// AllocError if memory runs out. The items are unchanged then.
     pub fn join_first(&mut self, kind: K) -> Result<(), AllocError>
     where
         K: Drop,
@@ -361,7 +378,7 @@ impl<K> Row<K> {
         self.join(number)
     }
 
-    /// Takes the newest place away again.
+    /// Removes the newest place.
     pub(crate) fn leave(&mut self)
         ensures left { self.new.places.items ≡ take (length self.old.places.items - 1) self.old.places.items }
         ensures kinds { self.new.kinds ≡ self.old.kinds }
@@ -370,7 +387,7 @@ impl<K> Row<K> {
         self.index.pop(self.places.len());
     }
 
-    /// Takes the item of a place. The number of its kind.
+    /// Removes the item in a place, and returns the number of its kind.
     pub(crate) fn take(&mut self, at: usize) -> usize
         requires { IsSome (stood self.old.places.items at) }
         ensures kind { stood self.old.places.items at ≡ Some result }

@@ -1,9 +1,9 @@
-//! Which places have an item that is wanted. What stands in a place is the number of a kind, or nothing.
+//! Searches for a place with a wanted item. A place has the number of a kind, or is empty.
 
 ghost use Rattle.std.specs.Prelude.{◌≡◌, ◌<◌, ◌≤◌, ℕ, List, Option, Some, None, true, false, slice_set, length};
 ghost use Rattle.tcap_lists.specs.Row.{IsOldest, is_wanted, stood};
 
-/// Whether an item stands there, of that kind if one is wanted.
+/// Returns whether a place has an item, and of the wanted kind if one is given.
 pub(crate) fn is_wanted(place: Option<usize>, wanted: Option<usize>) -> bool
     ensures { result ≡ is_wanted wanted place }
 {
@@ -14,14 +14,14 @@ pub(crate) fn is_wanted(place: Option<usize>, wanted: Option<usize>) -> bool
     }
 }
 
-/// What stands in a place: the number of a kind, or nothing.
+/// Returns the kind number in a place, or None if the place is empty or beyond the end.
 pub(crate) fn stood(places: &[Option<usize>], at: usize) -> Option<usize>
     ensures { result ≡ stood places.now at }
 {
     if at < places.len() { places[at] } else { None }
 }
 
-/// The first place from there on where an item stands that is wanted, or else how many places there are.
+/// Returns the first place at or after `from` with a wanted item, or the number of places.
 pub(crate) fn next_of(places: &[Option<usize>], wanted: Option<usize>, from: usize) -> usize
     ensures behind { from ≤ result }
     ensures none { (at : ℕ) → from ≤ at → at < result → is_wanted wanted (stood places.now at) ≡ false }
@@ -37,7 +37,8 @@ pub(crate) fn next_of(places: &[Option<usize>], wanted: Option<usize>, from: usi
     at
 }
 
-/// Where the oldest stands that is wanted, once an item of a place was taken: it stood there before.
+/// Returns the place of the oldest wanted item after the item in place `at` was removed; `oldest` is the place before
+/// that.
 pub(crate) fn oldest_behind(
     places: &[Option<usize>],
     wanted: Option<usize>,
@@ -54,7 +55,8 @@ pub(crate) fn oldest_behind(
     }
 }
 
-/// Where the oldest stands that is wanted, once an item that is wanted was put to an empty place: it stood there before.
+/// Returns the place of the oldest wanted item after a wanted item is put into the empty place `at`; `oldest` is the
+/// place before that.
 pub(crate) fn oldest_before(
     places: &[Option<usize>],
     wanted: Option<usize>,

@@ -7,7 +7,7 @@ use Rattle.tcap_books.specs.BookText.{bare_table}
 use Rattle.tcap_books.proofs.DepthLaws.{bare_depth}
 use Rattle.tcap_books.proofs.book_text.bare_read.Goals as goal
 
--- what is written is read again, since it nests no deeper than what was read
+-- the written table can be read again, because it nests no deeper than the book
 pub returns : goal.returns
 returns c =
     let d = view c.args.value.now in

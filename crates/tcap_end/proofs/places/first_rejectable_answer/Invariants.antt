@@ -5,7 +5,7 @@ use Rattle.tcap_end.specs.Places.{place_of}
 use Rattle.tcap_lists.proofs.PlaceLaws.{fits_below}
 use Rattle.tcap_end.proofs.places.first_rejectable_answer.Given as goal
 
--- The oldest of the kinds that were asked so far.
+-- the oldest place among the kinds so far
 abbrev pub invariant-loop-kind : goal.invariant-loop-kind
 invariant-loop-kind l = record {
   kinds : l.kinds ≡ row_kinds l.row;

@@ -4,7 +4,7 @@ use Rattle.tcap_end.specs.TableText.{has_only}
 use Rattle.tcap_end.proofs.TableLaws.{are_keys}
 use Rattle.tcap_end.proofs.table_text.has_only.Given as goal
 
--- what is left decides
+-- the result is that of the remaining keys
 abbrev pub invariant-loop-key : goal.invariant-loop-key
 invariant-loop-key l = record {
   can : (goal.iterator-loop-key).can_next l.key-iterator;

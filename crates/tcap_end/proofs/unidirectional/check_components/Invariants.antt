@@ -1,4 +1,4 @@
--- The IDs so far are in use, and what is left tells of all.
+-- The used IDs are those so far, and the result is that of the remaining components.
 use Rattle.tcap_parts.specs.Meaning.{components_left}
 use Rattle.tcap_end.proofs.UniLaws.{Uni}
 use Rattle.tcap_end.proofs.unidirectional.check_components.Given as goal

@@ -1,4 +1,4 @@
--- The cursor's item of that number.
+-- The item of the iterator with this number.
 use Rattle.std.proofs.Common.{sym, ap, ◌∙◌}
 use Rattle.std.proofs.lemmas.Iterator.Consumers.{nth_from_yields_List, YieldsList-from_first}
 use Rattle.tcap_parts.specs.Meaning.{component_of, components_left}

@@ -1,4 +1,4 @@
--- By what the entry is.
+-- By cases on the entry.
 use Rattle.std.proofs.Common.{sym, ap, map, ◌∙◌}
 use Rattle.tcap_evidence.proofs.FindingLaws.{good_grounds, good_id, good_invocations, mark_grounds, mark_id, mark_invocations, not_good, not_quiet, not_there}
 use Rattle.tcap_evidence.proofs.finding.find_evidence.Goals as goal

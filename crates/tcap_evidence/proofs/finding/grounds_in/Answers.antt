@@ -1,4 +1,4 @@
--- The next is asked of a message.
+-- The next thing is not for quiet marks only.
 use Rattle.std.proofs.Common.{arith}
 use Rattle.std.proofs.lemmas.Grind.{common_steps}
 use Rattle.tcap_evidence.specs.Marked.{is_of_mark}

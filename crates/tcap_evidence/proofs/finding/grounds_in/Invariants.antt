@@ -1,4 +1,4 @@
--- So far each has the entries that show it.
+-- Each thing so far has the entries that show it.
 use Rattle.std.proofs.Common.{◌≡◌, false, map, take}
 use Rattle.std.specs.List.{list_any}
 use Rattle.tcap_evidence.specs.Evidence.{grounds_in}

@@ -1,4 +1,4 @@
--- Of what each end sent before the mark.
+-- From the messages of each end before the mark.
 use Rattle.std.proofs.Common.{refl}
 use Rattle.tcap_evidence.specs.Evidence.{mark_scene}
 use Rattle.tcap_evidence.proofs.StretchLaws.{stretch_at_mark}

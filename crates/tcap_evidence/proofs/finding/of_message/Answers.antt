@@ -1,4 +1,4 @@
--- By what is known of the message.
+-- From the message's scene.
 use Rattle.std.proofs.Common.{ap, ◌∙◌}
 use Rattle.tcap_msg.specs.Parts.{components_in, dtid_in}
 use Rattle.tcap_evidence.specs.Evidence.{component_at, grounds_in, scene_of, shows}

@@ -1,4 +1,4 @@
--- What is kept of the message is what is known of it.
+-- The stored scene is the message's scene.
 use Rattle.std.proofs.Common.{map, take, ap, ◌∙◌}
 use Rattle.std.proofs.lemmas.Result.{IfOk-weaker}
 use Rattle.tcap_parts.specs.Meaning.{component_of}

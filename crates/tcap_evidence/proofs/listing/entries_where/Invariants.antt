@@ -1,4 +1,4 @@
--- With those that are left they are all.
+-- The entries so far and those of the remaining messages are all.
 use Rattle.std.proofs.Common.{◌≡◌, ◌++◌, drop}
 use Rattle.tcap_evidence.specs.Listing.{passes}
 use Rattle.tcap_evidence.specs.Numbered.{entries_where, numbered_of}

@@ -1,4 +1,4 @@
--- It is among those that are left.
+-- The result is the first among the remaining messages.
 use Rattle.std.proofs.Common.{◌≡◌, drop}
 use Rattle.std.specs.List.{find}
 use Rattle.tcap_evidence.specs.Listing.{passes}

@@ -1,4 +1,4 @@
--- With those that are left, and the first in its place among them, they are all.
+-- The messages so far and the remaining ones, with the first in its place, are all.
 use Rattle.std.proofs.Common.{◌≡◌, ◌++◌, drop}
 use Rattle.tcap_evidence.specs.Numbered.{inserted, numbered_of}
 use Rattle.tcap_evidence.proofs.ListingLaws.{placed}

@@ -1,4 +1,4 @@
--- With those of the components that are left they are all.
+-- The entries so far and those of the remaining components are all.
 use Rattle.std.proofs.Common.{◌≡◌, ◌++◌, drop, filter, map}
 use Rattle.tcap_parts.specs.Meaning.{component_of}
 use Rattle.tcap_faults.specs.Tallied.{is_sort}

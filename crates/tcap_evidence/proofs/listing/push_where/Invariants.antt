@@ -1,4 +1,4 @@
--- With those that are left they are all.
+-- The messages so far and those among the remaining ones are all.
 use Rattle.std.proofs.Common.{◌≡◌, ◌++◌, drop, filter}
 use Rattle.tcap_evidence.specs.Listing.{passes}
 use Rattle.tcap_evidence.specs.Numbered.{numbered_of}

@@ -1,4 +1,4 @@
--- With what is heard of those that are left they are all.
+-- The messages so far and those among the remaining ones are all.
 use Rattle.std.proofs.Common.{◌≡◌, ◌++◌, drop}
 use Rattle.tcap_msg.specs.Parts.{dialogue_in}
 use Rattle.tcap_end.specs.Dialogue.{is_response}

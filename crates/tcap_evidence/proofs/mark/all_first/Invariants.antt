@@ -1,4 +1,4 @@
--- With those of the messages that are left they are all.
+-- The destinations so far and those of the remaining messages are all.
 use Rattle.std.proofs.Common.{◌≡◌, ℕ, List, drop}
 use Rattle.std.specs.BTreeMap.{is_at}
 use Rattle.std.specs.Map.{lookup}

@@ -1,4 +1,4 @@
--- With the lines of those that are left they are all.
+-- The lines so far and those of the remaining invocations are all.
 use Rattle.std.proofs.Common.{◌≡◌, ◌++◌, drop, flat_map}
 use Rattle.std.specs.String.{string_bytes}
 use Rattle.tcap_evidence.specs.Words.{invocation_line}

@@ -1,4 +1,4 @@
--- One text behind the other.
+-- The texts are appended one after another.
 use Rattle.std.proofs.Common.{◌++◌, append_assoc, sym, ap, ◌∙◌, to_z-of_z}
 use Rattle.std.specs.Fmt.{decimal, signed_decimal}
 use Rattle.std.specs.Prelude.{codes}

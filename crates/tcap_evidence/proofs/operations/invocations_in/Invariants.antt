@@ -1,4 +1,4 @@
--- With those of the messages that are left they are all.
+-- The invocations so far and those of the remaining messages are all.
 use Rattle.std.proofs.Common.{◌≡◌, ◌++◌, Some, drop}
 use Rattle.tcap_evidence.specs.Numbered.{numbered_of}
 use Rattle.tcap_evidence.specs.Operations.{invocations_in}

@@ -1,4 +1,4 @@
--- With those of the components that are left they are all.
+-- The invocations so far and those of the remaining components are all.
 use Rattle.std.proofs.Common.{◌≡◌, ◌++◌, flat_map}
 use Rattle.tcap_parts.specs.Meaning.{components_left}
 use Rattle.tcap_msg.specs.Parts.{components_in}

@@ -1,4 +1,4 @@
--- With those in the entries that are left they are all.
+-- The entries so far and those found in the remaining ones are all.
 use Rattle.std.proofs.Common.{◌≡◌}
 use Rattle.tcap_evidence.specs.Pairing.{paired_before}
 use Rattle.tcap_evidence.proofs.PairingLaws.{pairs_from}

@@ -1,4 +1,4 @@
--- With what each end sent in the entries that are left they are all.
+-- The messages so far and those of the remaining entries are all.
 use Rattle.std.proofs.Common.{◌≡◌}
 use Rattle.tcap_record.specs.Ends.{other}
 use Rattle.tcap_evidence.specs.Numbered.{numbered_of, sent_before}

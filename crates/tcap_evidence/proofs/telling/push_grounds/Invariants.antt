@@ -1,4 +1,4 @@
--- So far the line of each is appended.
+-- The line of each thing so far is appended.
 use Rattle.std.proofs.Common.{◌≡◌, ◌++◌, map, take, flat_map}
 use Rattle.std.specs.String.{string_bytes}
 use Rattle.tcap_evidence.specs.Words.{ground_line}

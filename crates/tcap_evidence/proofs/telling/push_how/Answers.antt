@@ -1,4 +1,4 @@
--- One text behind the other.
+-- The texts are appended one after another.
 use Rattle.std.proofs.Common.{◌++◌, ap, ◌∙◌}
 use Rattle.std.specs.Prelude.{codes}
 use Rattle.std.specs.String.{string_bytes}

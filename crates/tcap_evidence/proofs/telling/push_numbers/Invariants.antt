@@ -1,4 +1,4 @@
--- So far each number is appended.
+-- Each number so far is appended.
 use Rattle.std.proofs.Common.{◌≡◌, ◌++◌, take, flat_map}
 use Rattle.std.specs.String.{string_bytes}
 use Rattle.tcap_evidence.specs.Words.{number_behind}

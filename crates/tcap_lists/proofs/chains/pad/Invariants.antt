@@ -1,7 +1,7 @@
 use Rattle.std.proofs.Common.{◌≡◌, ℕ, suc, ◌-◌, get_or, vec_len}
 use Rattle.tcap_lists.proofs.chains.pad.Given as goal
 
--- Zeros make no difference.
+-- Appended zeros change no entry.
 abbrev pub invariant-loop-ends : goal.invariant-loop-ends
 invariant-loop-ends l = (n : ℕ) → get_or l.ends.items n 0 ≡ get_or l.initial.ends.items n 0
 

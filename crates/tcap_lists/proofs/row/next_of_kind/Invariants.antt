@@ -2,7 +2,7 @@ use Rattle.std.proofs.Common.{◌≡◌, ◌≤◌, ◌<◌, ◌-◌, ℕ, Some,
 use Rattle.tcap_lists.specs.Row.{is_wanted, stood}
 use Rattle.tcap_lists.proofs.row.next_of_kind.Given as goal
 
--- None of that kind was passed.
+-- No place so far has an item of the kind.
 abbrev pub invariant-loop-at : goal.invariant-loop-at
 invariant-loop-at l = record {
   behind : l.from ≤ l.at;

@@ -2,7 +2,7 @@ use Rattle.std.proofs.Common.{◌≡◌, ◌≤◌, ◌<◌, ◌-◌, ℕ, false
 use Rattle.tcap_lists.specs.Row.{is_wanted, stood}
 use Rattle.tcap_lists.proofs.wanted.next_of.Given as goal
 
--- None that is wanted was passed.
+-- No place so far has a wanted item.
 abbrev pub invariant-loop-at : goal.invariant-loop-at
 invariant-loop-at l = record {
   behind : l.from ≤ l.at;

@@ -12,7 +12,7 @@ returns-in-Invoke-clause-step c =
     let fits : SFits w8 c.in-Invoke.id = search rules in
     rw c.in-Invoke.is (rw (to_z-of_z w8 c.in-Invoke.id fits) at c.send_invoke.ensures.step)
 
--- the operation that the body names
+-- the operation in the body of a Return Result
 named_is : (c : After-send_answer)
     → option_map code_of c.match-body.named ≡ option_map (λ body. body.code) (option_map body_of c.in-ReturnResult.body)
 named_is c = elim c.match-body.branch [ in-Some w ↦ rw (w.named-is, w.in-Some.is) refl | in-None w ↦ rw (w.named-is, w.in-None.is) refl ]

@@ -1,4 +1,4 @@
--- what is left does to the half as it is what all do to it; the changes lead back to what was at first
+-- The step of all components is that of the rest from the current half, and the changes still undo what they undid.
 use Rattle.tcap_parts.specs.Meaning.{components_left}
 use Rattle.tcap_end.specs.HalfState.{half_of}
 use Rattle.tcap_end.proofs.RoundLaws.{Going, Keeps}

@@ -27,7 +27,7 @@ returns-in_err-put_index-clause-held c =
     c.in_err-put_index.ensures.kept c.put_index.ensures.by_own c.put_index.ensures.by_peer c.put_index.ensures.others)
     c.requires.held refl
 
--- ---- behind the new entry of the index
+-- ---- after the index has its new entry
 
 with_entry : (c : After-activate)
     → Reindexed c.args.found.now.slot
@@ -47,13 +47,13 @@ is_there c =
 is_under : (c : After-activate) → get c.args.self.now.slab c.number-number.result ≡ Some c.in-Some.half.now
 is_under c = under_before (with_entry c) c.number-number.result c.in-Some.half.now (sym c.in-Some.ensures.value)
 
--- what the step makes of the half
+-- the half after the step
 abbrev made : After-activate → Half → Result Half EndFault
 made c h =
     components_by (way_of c.args.found.now.slot) c.args.table.now (active_half c.args.found.now.slot c.args.id h)
     (components_left c.args.components)
 
--- The half's slot is that one.
+-- the step, in the slot that was found
 step : (c : After-activate) (r : Result (Unit {0}) EndFault)
     → AnswersInMemory (components_by (way_of c.in-Some.half.now.slot) c.args.table.now
     (active_half c.in-Some.half.now.slot c.args.id (half_of c.in-Some.half.now)) (components_left c.args.components))
@@ -65,7 +65,7 @@ step c r =
     (slot_of c.args.self.now c.args.found.now.slot c.args.found.now.key c.number-number.result c.in-Some.half.now
     c.requires.held (is_there c) (is_under c))
 
--- the halves where that one goes on
+-- the halves after the step
 abbrev on : After-activate → Halves
 on c = going_on c.args.self.now c.number-number.result c.activate.new.self
 
@@ -80,7 +80,7 @@ placed : (c : After-activate) → AllPlaced c.args.self.now → AllPlaced (on c)
 placed c =
     placed_on c.args.self.now c.number-number.result c.in-Some.half.now c.activate.new.self (is_under c) c.activate.ensures.slot
 
--- ---- it is active
+-- ---- the step was Ok, and the half is active
 
 with_entry_on : (c : After-activate)
     → Reindexed c.args.found.now.slot
@@ -107,7 +107,7 @@ returns-in-Ok-clause-held c =
 pub returns-in-Ok-clause-placed : goal.returns-in-Ok-clause-placed
 returns-in-Ok-clause-placed c all = placed_too (with_entry_on (at_ok c)) (placed (at_ok c) all)
 
--- ---- the entry is gone
+-- ---- the step was refused, and the entry is removed
 
 abbrev at_err : After-remove_index → After-activate
 at_err c = c.before.before.before.before.before.before

@@ -25,7 +25,7 @@ returns-in-Ok-clause-placed c =
     c.in_ok-number.ensures.updates c.in-Ok.ensures.begun c.in-Ok.ensures.accepted c.in-Ok.ensures.others c.requires.new.free
     c.in-Ok.ensures.put
 
--- it was not
+-- the place was not put
 unchanged : (c : goal.Joined-try_remove) → Same c.args.self.now (record c.put_place.new.self { slab = c.try_remove.new.self })
 unchanged c =
     freed c.args.self.now c.put_place.new.self c.insert.new.self c.args.key c.in_ok-number.number c.args.half

@@ -4,7 +4,7 @@ use Rattle.tcap_end.specs.Sound.{halves_of}
 use Rattle.tcap_lists.proofs.PlaceLaws.{shifted}
 use Rattle.tcap_end.proofs.halves.Halves.closing_of.Given as goal
 
--- So many halves before this place are open, and each may close.
+-- `count` halves before this place are open, and each may close.
 abbrev pub invariant-loop-place : goal.invariant-loop-place
 invariant-loop-place l = record {
   left : shifted l.count (closing l.table (halves_at l.self.slab l.fn.slot l.place-iterator))

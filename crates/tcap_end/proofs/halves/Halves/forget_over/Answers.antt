@@ -17,7 +17,7 @@ put-requires c =
     c.number-number.ensures (sym c.in-Some.ensures.value) in
     record { made = rw (to_z-of_z w8 c.args.id c.ranges.id) (some_place c.args.id half.out (c.requires.own_invocation (half_of half) had)) }
 
--- what is left of the half
+-- the half after the invocation is removed
 left : (c : goal.Joined-put)
     → half_of (record c.in-Some.half.now { out = c.put.new.self }) ≡ without_invocation c.args.id (half_of c.in-Some.half.now)
 left c =

@@ -27,7 +27,7 @@ returns-clause-kept c =
     c.requires.held c.number-number.ensures (sym c.in-Some.ensures.value) c.step_components.new.self)
     c.step_components.ensures.kept
 
--- The phase, the IDs and the dialogue stay.
+-- The phase, the IDs and the dialogue state do not change.
 follows : (step : Result Half EndFault) (h g : Half) (r : Result (Unit {0}) EndFault) → ((k : Half) → step ≡ Ok k → Follows h k)
     → AnswersInMemory step r g → OnErr r (g ≡ h) → Follows h g
 follows step h g (Ok _) made answers kept = made g answers
