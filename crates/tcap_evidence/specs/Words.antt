@@ -71,10 +71,18 @@ entry_line side r component =
     codes "  entry " ++ decimal r.entry ++ codes " of " ++ letter side ++ component_words component ++ codes ": "
     ++ kind_words r.kind ++ line_end
 
+-- the words for a quiet mark at which a transaction of an end is open
+abbrev pub open_words : Side → List ℕ
+open_words side = codes "a transaction of " ++ letter side ++ codes " is open at this quiet mark"
+
+-- a fault of an end in one sentence
+abbrev pub sentence_words : Side → Kind → List ℕ
+sentence_words side kinds.OpenAtMark = open_words side
+sentence_words side kind = kind_words kind
+
 -- the line of a quiet mark, which names the end whose transaction is open
 abbrev pub mark_line : Side → Refutation → List ℕ
-mark_line side r =
-    codes "  entry " ++ decimal r.entry ++ codes ": a transaction of " ++ letter side ++ codes " is open at this quiet mark" ++ line_end
+mark_line side r = codes "  entry " ++ decimal r.entry ++ codes ": " ++ open_words side ++ line_end
 
 -- the line of a component, if there is one
 abbrev pub component_shown : Option Component → List ℕ

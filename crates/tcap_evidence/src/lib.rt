@@ -18,6 +18,6 @@ mod words;
 
 pub use finding::{Evidence, Ground, find_evidence};
 pub use operations::Invocation;
-pub use telling::{push_evidence, push_fault, push_what, push_why};
+pub use telling::{push_evidence, push_fault, push_sentence, push_what, push_why};
 pub use unblamed::push_unblamed;
 pub use what::What;

@@ -7,7 +7,7 @@ ghost use Rattle.tcap_parts.specs.Meaning.{component_of};
 ghost use Rattle.tcap_msg.specs.Parts.{dtid_in};
 ghost use Rattle.tcap_record.specs.Ends.{letter};
 ghost use Rattle.tcap_record.specs.Lines.{head_text, line_end};
-ghost use Rattle.tcap_evidence.specs.Words.{component_shown, component_words, doubt_lines, entries_words, entry_line, evidence_text, fault_text, ground_line, half_line, how_words, id_words, is_for, lacks, mark_line, message_text, more_words, number_behind, own_words, sorted, sorted_in, told_text, what_words};
+ghost use Rattle.tcap_evidence.specs.Words.{component_shown, component_words, doubt_lines, entries_words, entry_line, evidence_text, fault_text, ground_line, half_line, how_words, id_words, is_for, lacks, mark_line, message_text, more_words, number_behind, open_words, own_words, sentence_words, sorted, sorted_in, told_text, what_words};
 
 use crate::finding::{Evidence, Ground, component_at, entry_at, find_evidence};
 use crate::operation_lines::push_invocations;
@@ -55,15 +55,37 @@ fn push_entry(
     text.push_str("\n")
 }
 
+/// Appends the words for a quiet mark at which a transaction of an end is open.
+fn push_open(text: &mut String, end: End) -> Result<(), AllocError>
+    ensures { OnOk result (string_bytes text.new ≡ string_bytes text.old ++ open_words end) }
+{
+    text.push_str("a transaction of ")?;
+    text.push_str(end.letter())?;
+    text.push_str(" is open at this quiet mark")
+}
+
+/// Appends a fault of an end in one sentence, as the first line of [`push_fault`] says it after its colon.
+///
+/// # Errors
+///
+/// AllocError if memory runs out.
+pub fn push_sentence(text: &mut String, end: End, kind: Kind) -> Result<(), AllocError>
+    ensures { OnOk result (string_bytes text.new ≡ string_bytes text.old ++ sentence_words end kind) }
+{
+    match kind {
+        Kind::OpenAtMark => push_open(text, end),
+        _ => text.push_str(kind_words(kind)),
+    }
+}
+
 /// Appends the line of a quiet mark.
 fn push_mark(text: &mut String, end: End, at: Refutation) -> Result<(), AllocError>
     ensures { OnOk result (string_bytes text.new ≡ string_bytes text.old ++ mark_line end at) }
 {
     let number = at.entry;
     write!(text, "  entry {number}")?;
-    text.push_str(": a transaction of ")?;
-    text.push_str(end.letter())?;
-    text.push_str(" is open at this quiet mark")?;
+    text.push_str(": ")?;
+    push_open(text, end)?;
     text.push_str("\n")
 }
 

@@ -4,11 +4,11 @@
 
 use crate::case::{Case, Judged};
 use crate::order::{in_order, is_asked};
-use crate::reason::push_sentence;
 use crate::text::no_table_words;
 use crate::waiting::push_first_wait;
 use crate::words::{line_of, push_doubt, push_said};
 use std::alloc::{AllocError, Global};
+use tcap_evidence::push_sentence;
 use tcap_record::End;
 use tcap_refute::Refutation;
 use tcap_traces::Said;
@@ -24,18 +24,11 @@ fn push_line(text: &mut String, case: &Case, entry: u64) -> Result<(), AllocErro
 }
 
 /// Appends the entry, the kind and the reason of a blame.
-fn push_blame(
-    alloc: Global,
-    text: &mut String,
-    case: &Case,
-    judged: &Judged,
-    end: End,
-    at: Refutation,
-) -> Result<(), AllocError> {
+fn push_blame(text: &mut String, case: &Case, end: End, at: Refutation) -> Result<(), AllocError> {
     let kind = at.kind.number();
     push_line(text, case, at.entry)?;
     write!(text, "F{kind}: ")?;
-    push_sentence(alloc, text, case, judged, end, at)
+    push_sentence(text, end, at.kind)
 }
 
 /// Appends the first reason why an end does not pass.
@@ -50,9 +43,9 @@ fn push_end(
     text.push_str(end.letter())?;
     text.push_str(": ")?;
     match said {
-        Said::Fail(at) => push_blame(alloc, text, case, judged, end, at),
+        Said::Fail(at) => push_blame(text, case, end, at),
         Said::Doubtful(at, doubt) => {
-            push_blame(alloc, text, case, judged, end, at)?;
+            push_blame(text, case, end, at)?;
             text.push_str("; inconclusive: ")?;
             push_doubt(alloc, text, case, doubt)
         }

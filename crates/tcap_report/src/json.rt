@@ -80,7 +80,7 @@ fn push_blamed(
         push_named(json, "comment", &comment)?;
     }
     let mut text = String::new(alloc);
-    push_reason(alloc, &mut text, case, judged, end, at)?;
+    push_reason(alloc, &mut text, case, judged, end, at, grounds)?;
     push_named(json, "text", &text)?;
     if grounds.later == Some(end) {
         push_named(json, "may_follow", end.other().letter())?;
@@ -189,7 +189,7 @@ fn push_ends(
 ) -> Result<(), AllocError> {
     let Some(ends) = judged.ends else {
         let mut text = String::new(alloc);
-        push_behind(alloc, &mut text, case, judged, of)?;
+        push_behind(alloc, &mut text, case, judged, of, grounds)?;
         return push_named(json, "text", &text);
     };
     for end in [End::A, End::B] {
@@ -216,6 +216,7 @@ pub(crate) fn push_case(
     case: &Case,
     judged: &Judged,
     of: Option<End>,
+    grounds: &Grounds,
 ) -> Result<(), AllocError> {
     let number = case.number();
     json.push_str("{\"trace\":")?;
@@ -232,10 +233,9 @@ pub(crate) fn push_case(
     push_flag(json, "open", case.is_open(judged.table))?;
     push_flag(json, "again", case.gathered.earlier.is_some())?;
     push_flag(json, "marked", case.is_marked())?;
-    let grounds = Grounds::of(alloc, judged, of)?;
-    push_ends(alloc, json, case, judged, of, &grounds)?;
+    push_ends(alloc, json, case, judged, of, grounds)?;
     if judged.verdict != Verdict::Pass {
-        push_messages(alloc, json, case, judged, &grounds)?;
+        push_messages(alloc, json, case, judged, grounds)?;
     }
     json.push_str("}\n")
 }

@@ -3,10 +3,11 @@
 //! Each function returns `AllocError` if memory runs out.
 
 use crate::case::{Case, Judged};
+use crate::grounds::Grounds;
 use crate::no_message::push_why;
 use crate::which::push_which;
 use std::alloc::{AllocError, Global};
-use tcap_evidence::{find_evidence, push_fault};
+use tcap_evidence::push_fault;
 use tcap_record::End;
 use tcap_refute::{Kind, Refutation};
 
@@ -28,7 +29,7 @@ fn push_of_octets(
     push_why(alloc, text, case, at.entry)
 }
 
-/// Appends the reasons for a blame: the evidence, and which fault of its kind it is.
+/// Appends the reasons for a blame: the evidence that was found for it, and which fault of its kind it is.
 pub(crate) fn push_reason(
     alloc: Global,
     text: &mut String,
@@ -36,35 +37,16 @@ pub(crate) fn push_reason(
     judged: &Judged,
     end: End,
     at: Refutation,
+    grounds: &Grounds,
 ) -> Result<(), AllocError> {
-    let Some(table) = judged.table else {
+    let (Some(table), Some(found)) = (judged.table, grounds.at(end)) else {
         return Ok(());
     };
-    let Ok(found) = find_evidence(alloc, &judged.record, table.table(), end, at, true) else {
-        return Err(AllocError);
-    };
     let mut lines = String::new(alloc);
-    push_fault(&mut lines, &judged.record, table.table(), end, at, &found)?;
+    push_fault(&mut lines, &judged.record, table.table(), end, at, found)?;
     if at.kind == Kind::BadMessage {
         return push_of_octets(alloc, text, case, at, &lines);
     }
     text.push_str(&lines)?;
-    push_which(text, judged, table, at, &found)
-}
-
-/// Appends the fault in one sentence: the first line of the reasons, without the entry before its colon.
-pub(crate) fn push_sentence(
-    alloc: Global,
-    text: &mut String,
-    case: &Case,
-    judged: &Judged,
-    end: End,
-    at: Refutation,
-) -> Result<(), AllocError> {
-    let mut lines = String::new(alloc);
-    push_reason(alloc, &mut lines, case, judged, end, at)?;
-    match first_line(&lines).split_once(": ") {
-        Some((_, sentence)) => text.push_str(sentence),
-        None => Ok(()),
-    }
+    push_which(text, judged, table, at, found)
 }

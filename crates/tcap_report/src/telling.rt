@@ -4,6 +4,7 @@ ghost use Rattle.std.specs.Prelude.{◌≡◌};
 
 use crate::case::{Case, Judged};
 use crate::fault::{FormFault, Stop};
+use crate::grounds::Grounds;
 use crate::junit::Junit;
 use crate::page::Page;
 use crate::sum::{Counts, Sum};
@@ -79,6 +80,22 @@ impl<W: Write, J: Lines, P> Sinks<'_, W, J, P> {
     ) -> Result<(), Stop>
         ensures { self.new.sum ≡ self.old.sum }
     {
+        let grounds = Grounds::of(alloc, judged, of)?;
+        self.tell_found(alloc, name, case, judged, of, &grounds)
+    }
+
+    /// Reports the verdict on a dialogue, with the evidence that was found for it.
+    fn tell_found(
+        &mut self,
+        alloc: Global,
+        name: &str,
+        case: &Case,
+        judged: &Judged,
+        of: Option<End>,
+        grounds: &Grounds,
+    ) -> Result<(), Stop>
+        ensures { self.new.sum ≡ self.old.sum }
+    {
         let passes = judged.verdict == Verdict::Pass;
         let shown = match &mut self.page {
             Some(page) if !passes => page.takes_dialogue(),
@@ -86,14 +103,14 @@ impl<W: Write, J: Lines, P> Sinks<'_, W, J, P> {
         };
         if shown || self.json.is_some() {
             let mut line = String::new(alloc);
-            json::push_case(alloc, &mut line, name, case, judged, of)?;
+            json::push_case(alloc, &mut line, name, case, judged, of, grounds)?;
             self.tell_object(&line, shown)?;
         }
         if passes {
             return Ok(());
         }
         let mut lines = String::new(alloc);
-        text::push_case(alloc, &mut lines, name, case, judged, of)?;
+        text::push_case(alloc, &mut lines, name, case, judged, of, grounds)?;
         if let Some(junit) = &mut self.junit {
             junit.add_case(name, case, judged, of, &lines)?;
         }

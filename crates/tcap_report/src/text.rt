@@ -3,9 +3,10 @@
 //! Each function returns `AllocError` if memory runs out.
 
 use crate::case::{Case, Judged};
+use crate::grounds::Grounds;
 use crate::listed::{is_near, last_listed};
 use crate::no_message::push_no_message;
-use crate::order::{in_order, is_asked, last_open, later_end};
+use crate::order::{in_order, is_asked, last_open};
 use crate::reason::push_reason;
 use crate::waiting::push_waiting;
 use crate::words::{comment_of, ids_of, line_of, push_doubt, push_ids, push_said};
@@ -135,20 +136,21 @@ fn push_end(
     judged: &Judged,
     end: End,
     said: Said,
-    later: bool,
+    grounds: &Grounds,
 ) -> Result<(), AllocError> {
+    let later = grounds.later == Some(end);
     match said {
         Said::Pass(_) => Ok(()),
         Said::Fail(at) => {
             push_blamed(alloc, text, case, end, said.verdict(), at, later)?;
-            push_reason(alloc, text, case, judged, end, at)
+            push_reason(alloc, text, case, judged, end, at, grounds)
         }
         Said::Doubtful(at, doubt) => {
             push_blamed(alloc, text, case, end, said.verdict(), at, later)?;
             text.push_str("  that is inconclusive: ")?;
             push_doubt(alloc, text, case, doubt)?;
             text.push_str("\n")?;
-            push_reason(alloc, text, case, judged, end, at)
+            push_reason(alloc, text, case, judged, end, at, grounds)
         }
         _ => {
             text.push_str("  ")?;
@@ -246,9 +248,10 @@ pub(crate) fn push_case(
     case: &Case,
     judged: &Judged,
     of: Option<End>,
+    grounds: &Grounds,
 ) -> Result<(), AllocError> {
     push_dialogue(text, trace, case, judged)?;
-    push_behind(alloc, text, case, judged, of)?;
+    push_behind(alloc, text, case, judged, of, grounds)?;
     push_entries(alloc, text, case, judged)
 }
 
@@ -260,23 +263,15 @@ pub(crate) fn push_behind(
     case: &Case,
     judged: &Judged,
     of: Option<End>,
+    grounds: &Grounds,
 ) -> Result<(), AllocError> {
     let Some(ends) = judged.ends else {
         return push_no_table(text, judged);
     };
-    let later = later_end(ends, of);
     let open = last_open(ends, of);
     for end in in_order(ends, of) {
         if is_asked(of, end) {
-            push_end(
-                alloc,
-                text,
-                case,
-                judged,
-                end,
-                ends.of(end),
-                later == Some(end),
-            )?;
+            push_end(alloc, text, case, judged, end, ends.of(end), grounds)?;
         }
         if open == Some(end) {
             push_waiting(alloc, text, judged)?;
