@@ -1,5 +1,5 @@
 -- The shortest contents of an INTEGER are the last of its four octets.
-use Rattle.std.proofs.Common.{◌≡◌, ℕ, zero, suc, ◌-◌, ◌^◌, ◌<◌, ◌≤◌, ◌/◌, ◌%◌, ℤ, pos, negsuc, Bool, true, false, cond, nat_lt, nat_le, inl, inr, List, [], ◌∷◌, ◌++◌, length, take, drop, Option, Some, None, Result, Ok, Err, OnOk, w32, ◌+◌, append_assoc, refl, ap, ◌∙◌, subst, arith}
+use Rattle.std.proofs.Common.{◌≡◌, ℕ, suc, ◌-◌, ◌^◌, ◌<◌, ◌≤◌, ◌/◌, ◌%◌, ℤ, pos, negsuc, Bool, true, false, cond, nat_lt, nat_le, inl, inr, List, [], ◌∷◌, ◌++◌, length, take, drop, Option, Some, None, Result, Ok, Err, OnOk, w32, ◌+◌, append_assoc, refl, ap, ◌∙◌, subst, arith}
 use Rattle.std.specs.Option.{option_map, IsSome}
 use Rattle.std.proofs.KnownBytes.{Appends-trans}
 use Rattle.std.specs.Io.KnownBytes.{Appends}
@@ -56,11 +56,6 @@ last_octets value = of_one (nat_lt (magnitude value) 0x80) refl
     of_one true e = ends-1 value (ltb-true (magnitude value) 0x80 e)
     of_one false e = of_two (nat_lt (magnitude value) 0x8000) refl
 
--- two writes, one after the other
-pub writes_then : (a b c : Option (List ℕ)) (front rest : List ℕ) (r : Result (Unit {0}) Failed) → Appends a b front → OnOk r (Appends b c rest) → OnOk r (Appends a c (front ++ rest))
-writes_then a b c front rest (Ok _) before more = Appends-trans a b c front rest before more
-writes_then a b c front rest (Err _) before more = tt
-
 -- a write, and then octets taken
 pub takes_then : (a b c : Option (List ℕ)) (front octets rest : List ℕ) (r : Result (Unit {0}) Failed) → Appends a b front → Takes b c r octets → octets ≡ rest
     → OnOk r (Appends a c (front ++ rest))
@@ -73,22 +68,8 @@ pub contents_of : (value : ℤ) (len : ℕ) (octets : List ℕ) → len ≡ inte
 contents_of value len octets l o =
     rw (l, o) (take_rest (number_octets 4 (cast_unsigned w32 value)) (4 - integer_len value) ∙ last_octets value)
 
-length-number_octets : (count n : ℕ) → length (number_octets count n) ≡ count
-length-number_octets zero n = refl
-length-number_octets (suc count) n = omega (arith, length-append (number_octets count (n / 256)) (n % 256 ∷ []), length-number_octets count (n / 256))
-
-pub length-integer_octets : (n : ℤ) → length (integer_octets n) ≡ integer_len n
-length-integer_octets n = length-number_octets (integer_len n) (twos_complement (integer_len n) n)
-
 at_most_four : (m : ℕ) → cond (nat_lt m 0x80) 1 (cond (nat_lt m 0x8000) 2 (cond (nat_lt m 0x800000) 3 4)) ≤ 4
 at_most_four m = grind (arith, nat_tests)
-
-pub length-shortest_header : (tag count : ℕ) → count ≤ 65535 → length (shortest_header tag count) ≤ 4
-length-shortest_header tag count h = grind (arith, nat_tests)
-
--- an INTEGER is within the content limit
-pub integer_around : (tag : ℕ) (n : ℤ) → element_around tag (Some (integer_octets n)) ≡ Some (shortest_header tag (integer_len n) ++ integer_octets n)
-integer_around tag n = rw (length-integer_octets n) (rw (le-leb (integer_len n) 65535 (omega (arith, at_most_four (magnitude n)))) refl)
 
 -- ---- an element around a content
 
@@ -147,10 +128,6 @@ no_len (Some x) e = absurd cc
 pub some_there : (x : Option (List ℕ)) → IsSome x → (octets : List ℕ) × (x ≡ Some octets)
 some_there None h = absurd cc
 some_there (Some x) h = (x, refl)
-
-pub some_not_none : (x : Option (List ℕ)) → IsSome x → x ≡ None → ⊥
-some_not_none None h e = cc
-some_not_none (Some x) h e = cc
 
 -- the spelling of an element with this content
 pub around_is : (tag : ℕ) (content octets : List ℕ) → element_around tag (Some content) ≡ Some octets → shortest_header tag (length content) ++ content ≡ octets

@@ -268,10 +268,6 @@ whole_on (suc steps) p octets n e =
       | inr g ↦ omega (arith, step_rises p g.next octets g.opening g.behind, whole_gone (walk_on steps) p g.next octets n (λ q rest. whole_on steps q rest n) g.gone)
     ]
 
--- each open element still has its end-of-contents octets
-pub whole_at_least : (p : Progress) (octets : List ℕ) (n : ℕ) → walk p octets ≡ Ok (Whole n) → p.at + 2 * p.depth ≤ n
-whole_at_least p octets n e = whole_on (length octets + 1) p octets n e
-
 -- the rest is shorter by the step's length
 left_there : (p next : Progress) (octets : List ℕ) → p.at ≤ next.at → next.at - p.at ≤ length octets → next.at + length (left p next octets) ≡ p.at + length octets
 left_there p next octets further room = omega (arith, length-drop (next.at - p.at) octets)

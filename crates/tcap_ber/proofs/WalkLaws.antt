@@ -8,7 +8,7 @@ use Rattle.tcap_ber.specs.declared.header.Opening.{Opening}
 use Rattle.tcap_ber.specs.declared.header.Opening.TheVariants.{Definite, Indefinite}
 use Rattle.tcap_ber.specs.declared.progress.Progress.{Progress}
 use Rattle.tcap_ber.specs.declared.element.Outer.{Outer}
-use Rattle.tcap_ber.specs.Element.{IsTag, IsLength, ending, depth_limit}
+use Rattle.tcap_ber.specs.Element.{IsTag, IsLength, depth_limit}
 use Rattle.tcap_ber.specs.HeaderReading.{◌>>=◌, opening_at}
 use Rattle.tcap_ber.specs.Walking.{is_ending, within_limit, opened, closed, passed, behind_header, gone_to, gone_on, walk_on, goes_to, goes_by, goes, stopped_by, stopped_on, noted_by, noted_on, note}
 use Rattle.tcap_ber.specs.Progress.{header_octets}

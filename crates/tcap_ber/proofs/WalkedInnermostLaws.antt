@@ -11,8 +11,8 @@ use Rattle.tcap_ber.specs.declared.progress.Progress.{Progress}
 use Rattle.tcap_ber.specs.Element.{IsTag, content_limit, IsConstructed, ending, IsNested, depth_limit}
 use Rattle.tcap_ber.specs.Walked.{Level, walked, content_walked, IsWalked, innermost}
 use Rattle.tcap_ber.specs.Walking.{opened, closed, passed, behind_header, at_first, goes, note}
-use Rattle.tcap_ber.proofs.OpeningLaws.{from, indefinite_complete}
-use Rattle.tcap_ber.proofs.WalkLaws.{Goes, left, walk, notes, notes_goes, notes_there, left_shorter}
+use Rattle.tcap_ber.proofs.OpeningLaws.{indefinite_complete}
+use Rattle.tcap_ber.proofs.WalkLaws.{Goes, left, notes, notes_goes, notes_there, left_shorter}
 use Rattle.tcap_ber.proofs.ReachLaws.{Reaches, ReachesIn, content_began, content_count, progress_of, reaches_fewer, moved, passes_all, reaches_levels}
 use Rattle.tcap_ber.proofs.WalkedStepLaws.{open_within, place_is, walked_at, walked_depth, Moves, opens_ok, closes_ok, passes_ok, definite_step}
 use Rattle.tcap_ber.proofs.WalkedOpenLaws.{begun, left_behind, fresh, fresh_length}

@@ -1,5 +1,5 @@
 -- The result of a walk at the place where it stops is correct.
-use Rattle.std.proofs.Common.{◌≡◌, ℕ, zero, ◌+◌, ◌-◌, ◌<◌, ◌≤◌, Bool, true, false, List, [], ◌∷◌, ◌++◌, length, Option, Some, None, Result, Ok, Err, refl, sym, ap, subst, ◌∙◌, inl, inr, arith, append_assoc, add-one}
+use Rattle.std.proofs.Common.{◌≡◌, ℕ, ◌+◌, ◌-◌, ◌<◌, ◌≤◌, Bool, true, false, List, [], ◌∷◌, ◌++◌, length, Option, Some, None, Result, Ok, Err, refl, sym, ap, subst, ◌∙◌, inl, inr, arith, append_assoc, add-one}
 use Rattle.std.specs.Prelude.{◌≢◌, ◌%◌, nat_lt, ◌==◌, ◌&&◌}
 use Rattle.std.specs.List.{concat}
 use Rattle.std.proofs.lemmas.List.{length-append}
@@ -24,7 +24,7 @@ use Rattle.tcap_ber.proofs.HeaderLaws.{FindsHeader}
 use Rattle.tcap_ber.proofs.WalkLaws.{left, walk, walk_stops}
 use Rattle.tcap_ber.proofs.ReachLaws.{content_count, progress_of}
 use Rattle.tcap_ber.proofs.WalkedStepLaws.{open_within, place_is, walked_at, walked_depth, opens_ok, opens_err, closes_ok, closes_err, passes_ok, passes_err, definite_step}
-use Rattle.tcap_ber.proofs.WalkedOpenLaws.{begun, whole, finds_definite, definite_nested, ending_there, not_ending, whole_length, begun_length, whole_nested, first_content, stands}
+use Rattle.tcap_ber.proofs.WalkedOpenLaws.{begun, whole, finds_definite, definite_nested, ending_there, not_ending, whole_length, begun_length, whole_nested, first_content}
 
 -- ---- where the walk stops
 

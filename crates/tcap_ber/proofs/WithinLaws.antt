@@ -4,7 +4,7 @@ use Rattle.std.proofs.lemmas.List.{length-append}
 use Rattle.tcap_ber.specs.declared.fault.Reason.{Reason}
 use Rattle.tcap_ber.specs.Span.{Span}
 use Rattle.tcap_ber.specs.Element.{content_start}
-use Rattle.tcap_ber.specs.Grammar.{Body, Field, Content, IsElementFault, IsFaultyInside, IsFaultyAfter, required, optional, parameter, verbatim, absent, ended, after, ◌⨾▹◌, ◌⨾◌, each, structure, made, single, integer}
+use Rattle.tcap_ber.specs.Grammar.{Body, Field, Content, IsElementFault, IsFaultyInside, IsFaultyAfter, required, optional, parameter, verbatim, absent, ended, after, ◌⨾▹◌, ◌⨾◌, each, single, integer}
 use Rattle.tcap_ber.specs.Choice.{Choice, ◌▹◌, ◌∣◌, others_are, one_of}
 use Rattle.tcap_ber.specs.ObjectId.{object_id}
 use Rattle.tcap_ber.specs.Small.{small, null}
@@ -84,17 +84,11 @@ each_within item within s reason place h = after_within item within h.0 s reason
 
 -- ---- bodies
 
-pub structure_within : {V : Type 0} (content : Content V) → ContentWithin content → BodyWithin (structure content)
-structure_within content within at s reason place before h = within s reason place h
-
 pub single_within : {V : Type 0} (part : Field V) → FieldWithin part → BodyWithin (single part)
 single_within part within at s reason place before h = then_within part ended within ended_within s reason place h
 
 pub integer_within : (limit : ℕ) (too_wide : Reason) → BodyWithin (integer limit too_wide)
 integer_within limit too_wide at s reason place before h = omega (arith, h.0, before)
-
-made_within : {V W : Type 0} (make : V → W) (body : Body V) → BodyWithin body → BodyWithin (made make body)
-made_within make body within = within
 
 pub object_id_within : BodyWithin object_id
 object_id_within at s reason place before h = omega (arith, h.1, before)

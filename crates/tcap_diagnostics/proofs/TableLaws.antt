@@ -1,6 +1,5 @@
 -- The text of a table set without the key `tables` is the text of an operation table.
-use Rattle.std.proofs.Common.{◌≡◌, ◌∙◌, ℕ, inl, inr, List, [], ◌∷◌, Result, Ok, Err, ap, sym, codes, refl}
-use Rattle.serde_json.specs.Find.{get}
+use Rattle.std.proofs.Common.{◌≡◌, ◌∙◌, ℕ, inl, inr, List, [], ◌∷◌, Result, Ok, Err, ap, sym, refl}
 use Rattle.tcap_end.specs.declared.table.TableFault.{TableFault}
 use Rattle.tcap_end.specs.Table.{Table}
 use Rattle.tcap_end.specs.TableText.{IsTableOf, table_in, then_ok}

@@ -5,7 +5,7 @@ use Rattle.std.specs.List.{flat_map, list_any}
 use Rattle.std.proofs.lemmas.Bool.{cases_Bool, false_from_ne_true, true≢false}
 use Rattle.std.proofs.lemmas.List.Elements.{Contains-append_cases, Contains-append_left, Contains-append_right}
 use Rattle.std.proofs.lemmas.List.Folds.{list_any-append}
-use Rattle.tcap_dialogues.proofs.CutLists.{finds, found, kept_in, left_in}
+use Rattle.tcap_dialogues.proofs.CutLists.{finds, found, left_in}
 
 -- ---- tests
 
@@ -71,10 +71,3 @@ module _ {X : Type 0} (test : X → Bool) (xs : List X) where
       by : (test x ≡ true) ⊎ (test x ≡ false) → Contains (filter test xs) x ⊎ Contains (filter (λ y. not (test y)) xs) x
       by (inl is) = inl (left_in test xs x has is)
       by (inr is) = inr (left_in (λ y. not (test y)) xs x has (ap not is))
-
--- Tests that agree leave the same elements.
-pub filter_same : {X : Type 0} (p q : X → Bool) (xs : List X) → ((x : X) → Contains xs x → p x ≡ q x) → AreSame (filter p xs) (filter q xs)
-filter_same {X} p q xs agree = record {
-  there = λ x has. let (there, so) = kept_in p xs x has in left_in q xs x there (sym (agree x there) ∙ so);
-  back = λ x has. let (there, so) = kept_in q xs x has in left_in p xs x there (agree x there ∙ so);
-}

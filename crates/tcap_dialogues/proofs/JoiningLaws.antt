@@ -4,7 +4,7 @@ use Rattle.std.specs.Prelude.{◌==◌, not, Contains, filter}
 use Rattle.std.specs.BTreeMap as tree
 use Rattle.std.specs.List.{list_any}
 use Rattle.std.specs.Ordering.{nat_cmp}
-use Rattle.std.proofs.lemmas.Bool.{cases_Bool, eq-eqb, eqb-true, false_from_ne_true, or_cases, or_left, or_right, true≢false}
+use Rattle.std.proofs.lemmas.Bool.{cases_Bool, eq-eqb, eqb-true, false_from_ne_true, true≢false}
 use Rattle.tcap_record.specs.declared.entry.End.{End as Side}
 use Rattle.tcap_record.specs.declared.entry.End.TheVariants as sides
 use Rattle.tcap_record.specs.Ends.{other}
@@ -17,7 +17,7 @@ use Rattle.tcap_dialogues.specs.declared.known.Ids.{Ids}
 use Rattle.tcap_dialogues.specs.declared.live.Live.{Live}
 use Rattle.tcap_dialogues.proofs.CourseJoins.{IsNew, hit_by, in_hit, joins, number_comes, number_stays, stays, which}
 use Rattle.tcap_dialogues.proofs.CutIds.{same_id}
-use Rattle.tcap_dialogues.proofs.CutLists.{finds, found, left_in}
+use Rattle.tcap_dialogues.proofs.CutLists.{found, left_in}
 use Rattle.tcap_dialogues.proofs.HeldLists.{AreSame, or_none}
 
 -- What is known of an ID of the heading.

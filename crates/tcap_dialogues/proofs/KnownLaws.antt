@@ -250,17 +250,6 @@ sent_added ids key old new sent adds q =
         ∙ ap (λ b. set.contains octets_cmp old q || b) (sym (ap (λ x. (known_in ids x).sent) ((bytes_eq-Decides q key).0 is) ∙ sent))
     by false is = sym (or_none (set.contains octets_cmp old q))
 
-pub sent_not_added : (ids : EndIds) (key : List ℕ) (old : BTreeSet (List ℕ)) → (known_in ids key).sent ≡ false
-    → (q : List ℕ) → set.contains octets_cmp old q ≡ (set.contains octets_cmp old q || (bytes_eq q key && (known_in ids q).sent))
-sent_not_added ids key old not_sent q = sym (by (bytes_eq q key) refl)
-  where
-    by : (b : Bool) → bytes_eq q key ≡ b
-        → (set.contains octets_cmp old q || (b && (known_in ids q).sent)) ≡ set.contains octets_cmp old q
-    by true is =
-        ap (λ b. set.contains octets_cmp old q || b) (ap (λ x. (known_in ids x).sent) ((bytes_eq-Decides q key).0 is) ∙ not_sent)
-        ∙ or_none (set.contains octets_cmp old q)
-    by false is = or_none (set.contains octets_cmp old q)
-
 -- The keys of both maps are all known IDs.
 pub all_sent : (ids : EndIds) (live done : List (List ℕ)) (old new : BTreeSet (List ℕ))
     → ((q : List ℕ) → is_some (tree.get octets_cmp ids.live q) ≡ list_any (is_at (octets_cmp q)) live)

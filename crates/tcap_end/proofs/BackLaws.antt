@@ -24,11 +24,6 @@ use Rattle.tcap_end.proofs.OutLaws.{puts, stands}
 
 -- ---- the place of the oldest item that fits
 
--- If there is no such place, no item fits.
-pub place_none : {A : Type 0} (fits : A → Bool) (places : List (Option A)) → place_of (fits_in fits) places ≡ None
-    → list_any fits (filled places) ≡ false
-place_none fits places e = any_filled fits places ∙ ap is_some e
-
 -- If there is one, emptying it removes the oldest item that fits.
 pub place_some : {A : Type 0} (fits : A → Bool) (places : List (Option A)) (at : ℕ) → place_of (fits_in fits) places ≡ Some at
     → (list_any fits (filled places) ≡ true) × IsSome (get_or places at None) × (without_oldest fits (filled places) ≡ filled (set places at None))

@@ -19,7 +19,7 @@ use Rattle.tcap_end.specs.Half.{Half, is_closed}
 use Rattle.tcap_end.specs.HalfState.{half_of}
 use Rattle.tcap_end.specs.End.{End, KeptHalf, first_half, half_where, is_id, with_own, with_peer}
 use Rattle.tcap_end.specs.Sound.{Has, IsEnd, IsKept, IsSame, halves_of}
-use Rattle.tcap_end.specs.Halves.{Indexes, IsAt, IsNumbered, IsHeld, IsOpen, closed_at, end_of, half_at, half_in, halves_at, open_at, places_of, kept_half}
+use Rattle.tcap_end.specs.Halves.{Indexes, IsAt, IsNumbered, IsHeld, IsOpen, closed_at, end_of, half_at, half_in, halves_at, places_of, kept_half}
 use Rattle.tcap_lists.proofs.MapLaws.{kept_at}
 use Rattle.tcap_end.proofs.FoundLaws.{none_own, none_peer, own_has, peer_has}
 
@@ -115,14 +115,6 @@ closed_is Accepted key other = refl
 pub closed_there : (s : Halves) (slot : Slot) (key : List ℕ) (other : Option (List ℕ)) (h : Half)
     → IsAt slot key (Closed other) s → Has (end_of s) (kept_half slot key h) → is_closed h.phase ≡ true
 closed_there s slot key other h there had = rw (had_there s slot key (Closed other) h there had) (closed_is slot key other)
-
--- the state at a place, open or closed
-pub shown_there : (s : Halves) (slot : Slot) (key : List ℕ) (place : Place) (h : Half) (r : Option (Bor HalfState))
-    → IsHeld s → IsAt slot key place s → option_copied r ≡ open_at s.slab place → Has (end_of s) (kept_half slot key h)
-    → MatchOption r (is_closed h.phase ≡ true) (λ half. (half_of half.now ≡ h) × (is_closed h.phase ≡ false))
-shown_there s slot key (Open k) h r held there is had = open_there s slot key k h r held there is had
-shown_there s slot key (Closed other) h None held there is had = closed_there s slot key other h there had
-shown_there s slot key (Closed other) h (Some half) held there is had = cc
 
 -- ---- the half that is found passes the test
 

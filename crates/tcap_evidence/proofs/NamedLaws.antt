@@ -1,5 +1,5 @@
 -- An entry that is blamed on an end is that end's or a quiet mark.
-use Rattle.std.proofs.Common.{◌≡◌, inl, inr, ℕ, zero, suc, Bool, true, ◌||◌, List, [], ◌∷◌, ◌++◌, length, map, Option, Some, None, is_none, Result, Ok, Err, refl, ap}
+use Rattle.std.proofs.Common.{◌≡◌, inl, inr, ℕ, zero, suc, true, ◌||◌, List, [], ◌∷◌, ◌++◌, length, map, Option, Some, None, Result, Ok, refl, ap}
 use Rattle.std.specs.Prelude.{slice_get}
 use Rattle.tcap_msg.specs.declared.message.Message.{Message}
 use Rattle.tcap_record.specs.declared.entry.Body.{Body}
@@ -13,7 +13,7 @@ use Rattle.tcap_model.specs.Entries.{item_by, item_of}
 use Rattle.tcap_model.proofs.WorldLaws.{itself}
 use Rattle.tcap_refute.specs.declared.kind.Refutation.{Refutation}
 use Rattle.tcap_faults.specs.AtFault.{IsAtFaultOf}
-use Rattle.tcap_faults.specs.Fault.{blamed, is_entry_of}
+use Rattle.tcap_faults.specs.Fault.{blamed}
 use Rattle.tcap_faults.proofs.BlamedLaws.{blamed_at_fault}
 use Rattle.tcap_evidence.specs.Words.{is_for}
 

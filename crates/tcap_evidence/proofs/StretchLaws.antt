@@ -1,8 +1,7 @@
 -- The loop over the entries for the messages of each end, which are those since the last quiet mark.
-use Rattle.std.proofs.Common.{◌≡◌, ◌⊎◌, inl, inr, ℕ, ◌+◌, ◌<◌, ◌≤◌, arith, Bool, true, false, cond, List, [], ◌∷◌, ◌++◌, Result, Ok, Err, append_assoc, map, take, drop, get_or, length, length-take, refl, sym, ap, ◌∙◌}
-use Rattle.std.proofs.lemmas.List.{append-nil, drop_all, drop_more, get_or-take, map-append}
+use Rattle.std.proofs.Common.{◌≡◌, ◌⊎◌, ℕ, ◌+◌, ◌<◌, ◌≤◌, arith, Bool, true, false, cond, List, [], ◌∷◌, ◌++◌, Result, Ok, Err, append_assoc, map, take, drop, get_or, length, length-take, refl, sym, ap, ◌∙◌}
+use Rattle.std.proofs.lemmas.List.{append-nil, drop_more, get_or-take, map-append}
 use Rattle.tcap_msg.specs.declared.message.Message.{Message}
-use Rattle.tcap_msg.specs.Parts.{components_in}
 use Rattle.tcap_record.specs.declared.entry.End.{End as Side}
 use Rattle.tcap_record.specs.declared.entry.Entry.{Entry}
 use Rattle.tcap_record.specs.Ends.{other}
@@ -10,14 +9,11 @@ use Rattle.tcap_end.specs.Table.{Table}
 use Rattle.tcap_model.specs.declared.reason.Reason.{Reason}
 use Rattle.tcap_model.specs.World.{Item, Sent, has_quiet, is_side}
 use Rattle.tcap_model.specs.Entries.{item_of}
-use Rattle.tcap_refute.specs.declared.kind.Kind.{Kind}
 use Rattle.tcap_refute.specs.Before.{sent_by, since_quiet}
-use Rattle.tcap_faults.specs.declared.subject.Subject.{Subject}
 use Rattle.tcap_faults.specs.Subject.{items_among}
-use Rattle.tcap_evidence.specs.declared.scene.Scene.{Scene as SceneKept}
 use Rattle.tcap_evidence.specs.declared.sent.Stretch.{Stretch}
-use Rattle.tcap_evidence.specs.Evidence.{component_at, components_before, invoke_id_in, mark_scene, scene_of}
-use Rattle.tcap_evidence.specs.Kept.{IsScene, IsStretch, scene_by}
+use Rattle.tcap_evidence.specs.Evidence.{mark_scene}
+use Rattle.tcap_evidence.specs.Kept.{IsStretch}
 use Rattle.tcap_evidence.specs.Numbered.{Numbered, numbered_of, sent_before, with_entries, with_entry}
 
 -- ---- entry by entry
@@ -45,16 +41,6 @@ module _ (side : Side) (entries : List Entry) (number : ℕ) where
 
       it : get_or xs at e ≡ e
       it = get_or-take number entries at e below ∙ sym here
-
-  -- No entries remain.
-  pub sent_all : (at : ℕ) → (length entries ≤ at) ⊎ (number ≤ at) → (sent : List Numbered)
-      → sent_from at sent ≡ sent_before side entries number → sent ≡ sent_before side entries number
-  sent_all at past sent so_far =
-      ap (λ left. with_entries side at (map item_of left) sent) (sym (drop_all at (take number entries) (none past))) ∙ so_far
-    where
-      none : (length entries ≤ at) ⊎ (number ≤ at) → length (take number entries) ≤ at
-      none (inl end) = simp length-take (omega arith)
-      none (inr end) = simp length-take (omega arith)
 
 -- ---- since the last quiet mark
 
@@ -111,15 +97,6 @@ module _ (side : Side) where
 -- ---- scenes
 
 module _ (table : Table) (side : Side) (entries : List Entry) (number : ℕ) where
-  -- The stored messages of each end before a message give the message's scene.
-  pub scene_at_message : (m : Message) (kind : Kind) (about : Subject) (stretch : Stretch) (kept : SceneKept)
-      → (numbered_of stretch.own.items ≡ sent_before side entries number)
-      × (numbered_of stretch.peer.items ≡ sent_before (other side) entries number)
-      → IsScene (scene_by table side (since_quiet (items_among (map item_of (take number entries)))) stretch m number about
-      (components_in m) (components_before about.component (components_in m))
-      (invoke_id_in kind (component_at about.component (components_in m)))) kept
-      → IsScene (scene_of table side entries number m kind about) kept
-  scene_at_message m kind about stretch kept are is = rw (are.0, are.1) at is
 
 -- The stored messages of each end before a quiet mark give the mark's scene.
 pub stretch_at_mark : (table : Table) (side : Side) (entries : List Entry) (number : ℕ) (kept : Stretch)

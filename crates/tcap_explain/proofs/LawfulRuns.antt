@@ -1,6 +1,6 @@
 -- Entries that have a run are lawful.
 use Rattle.std.proofs.Common.{◌≡◌, ℕ, Bool, true, false, cond, List, ◌++◌, length, map, refl, sym, ap, ap₂, subst, ◌∙◌, inl, inr}
-use Rattle.std.specs.Prelude.{◌&&◌, IfOk, IfSome, Option, Some, None, Result, Ok, Err}
+use Rattle.std.specs.Prelude.{◌&&◌, IfOk, Option, Some, None, Result, Ok, Err}
 use Rattle.tcap_record.specs.declared.entry.End.{End as Side}
 use Rattle.tcap_record.specs.declared.entry.End.TheVariants as sides
 use Rattle.tcap_record.specs.declared.entry.Entry.{Entry}
@@ -16,7 +16,7 @@ use Rattle.tcap_check.specs.Stands.{IsAnswered, answered}
 use Rattle.tcap_check.specs.Told.{discards_of, events_of}
 use Rattle.tcap_judge.specs.declared.outcome.Outcome.{Outcome}
 use Rattle.tcap_judge.specs.Judged.{IsShown, lawful_by}
-use Rattle.tcap_judge.specs.declared.outcome.Outcome.TheVariants.{Lawful, NotShown, Refuted, Undecided}
+use Rattle.tcap_judge.specs.declared.outcome.Outcome.TheVariants.{Lawful, Refuted}
 use Rattle.tcap_judge.specs.declared.finding.Ends.{Ends}
 use Rattle.tcap_judge.specs.declared.finding.Finding.{Finding}
 use Rattle.tcap_judge.specs.Checked.{replay_says}
@@ -27,7 +27,7 @@ use Rattle.tcap_model.specs.Run.{Event}
 use Rattle.tcap_refute.specs.declared.kind.Refutation.{Refutation}
 use Rattle.tcap_explain.specs.Refuted.{ends_asked, refuted_lines}
 use Rattle.tcap_explain.specs.StepLines.{run_lines}
-use Rattle.tcap_explain.specs.Why.{AreLinesOf, AreLinesOfBoth, EndsWithEnds, IsWhy}
+use Rattle.tcap_explain.specs.Why.{AreLinesOf, AreLinesOfBoth, IsWhy}
 
 of_run : (judged : Option Side) (table : Table) (c : Certificate) (entries : List Entry) (answer : Result (List Step) CheckFault)
     → IfOk answer (λ steps. IsGivenTo judged table c entries (events_of steps))
@@ -183,41 +183,8 @@ refused_by judged table c entries None steps fault is exact = cc
 refused_by judged table c entries (Some f) steps fault is exact =
     let same : f ≡ fault = cc in sym exact ∙ ap (λ (x : CheckFault). Err x) same
 
-pub undecided_by : (judged : Option Side) (table : Table) (c : Certificate) (entries : List Entry) (fault : CheckFault)
-    → c ≡ proposed_by judged entries → named_by judged table entries ≡ None → replayed_by judged table c entries ≡ Err fault
-    → verdict_of judged table entries ≡ Undecided fault
-undecided_by judged table c entries fault is named refused =
-    ap₂ (verdict_by judged (length entries)) named (ap (λ (d : Certificate). replayed_by judged table d entries) (sym is) ∙ refused)
-
 module _ {A F : Type 0} (outcome : A → Outcome) (behind : A → List ℕ) (table : Table) (c : Certificate) (entries : List Entry)
     (fault : CheckFault) (ends : Option Ends) (result : Result A F) where
-  abbrev Stops : Outcome → Type 0
-  Stops said = IfOk result (λ x. (outcome x ≡ said) × EndsWithEnds table entries ends (behind x))
-
-  abbrev AreNotLawful : Option Ends → Type 0
-  AreNotLawful o = IfSome o (λ both. (is_lawful both.a && is_lawful both.b) ≡ false)
-
-  joint_other : (judged : Option Side) → verdict_of judged table entries ≡ Undecided fault → AreNotLawful (ends_asked judged table entries)
-      → joint_verdict judged table entries ≡ Undecided fault
-  joint_other None verdict other = ap (λ (b : Bool). cond b (Lawful (length entries)) (verdict_of None table entries)) other ∙ verdict
-  joint_other (Some side) verdict other = verdict
-
-  pub stop_says : (judged : Option Side) → ends ≡ ends_asked judged table entries → verdict_of judged table entries ≡ Undecided fault
-      → AreNotLawful ends → Stops (Undecided fault)
-      → IfOk result (λ x. (outcome x ≡ joint_verdict judged table entries) × IsShown judged table entries (outcome x)
-      × IsWhy judged table c entries (outcome x) (behind x))
-  stop_says judged is verdict other said = by result said
-    where
-      by : (r : Result A F) → IfOk r (λ x. (outcome x ≡ Undecided fault) × EndsWithEnds table entries ends (behind x))
-          → IfOk r (λ x. (outcome x ≡ joint_verdict judged table entries) × IsShown judged table entries (outcome x)
-          × IsWhy judged table c entries (outcome x) (behind x))
-      by (Err f) said = tt
-      by (Ok x) said = (
-        said.0 ∙ sym (joint_other judged verdict (subst AreNotLawful is other)),
-        subst (IsShown judged table entries) (sym said.0) tt,
-        subst (λ (o : Outcome). IsWhy judged table c entries o (behind x)) (sym said.0)
-            (subst (λ (e : Option Ends). EndsWithEnds table entries e (behind x)) is said.1),
-      )
 
 -- The verdict and the reasons for a certificate that gives a run.
 pub replay_run_says : {A F : Type 0} (outcome : A → Outcome) (behind : A → List ℕ) (judged : Option Side) (table : Table) (c : Certificate)

@@ -1,6 +1,6 @@
 -- A finding on an end blames an entry of that end. If no finding blames an entry up to a refuted one, nobody is blamed
 -- for the refuted one.
-use Rattle.std.proofs.Common.{◌≡◌, inl, inr, ℕ, ◌<◌, Bool, true, false, ◌||◌, List, map, Option, Some, None, is_none, Result, Ok, Err, refl, sym, ap, ◌∙◌, leb-false}
+use Rattle.std.proofs.Common.{◌≡◌, inl, inr, ℕ, ◌<◌, true, false, ◌||◌, List, map, Option, Some, None, Result, Ok, Err, refl, sym, ap, ◌∙◌, leb-false}
 use Rattle.std.specs.Prelude.{length, slice_get}
 use Rattle.tcap_record.specs.declared.entry.End.{End as Side}
 use Rattle.tcap_record.specs.declared.entry.End.TheVariants as sides
@@ -17,12 +17,11 @@ use Rattle.tcap_refute.specs.declared.kind.Refutation.{Refutation}
 use Rattle.tcap_refute.specs.Kind.{refuted}
 use Rattle.tcap_refute.specs.Unsendable.{IsAtFault}
 use Rattle.tcap_refute.proofs.RefutedLaws.{at_fault}
-use Rattle.tcap_faults.specs.Fault.{blamed, is_entry_of}
+use Rattle.tcap_faults.specs.Fault.{blamed}
 use Rattle.tcap_evidence.specs.Unblamed.{IsUnblamed}
 use Rattle.tcap_evidence.specs.Words.{is_for}
 use Rattle.tcap_evidence.proofs.NamedLaws.{entry_at, item_at}
 use Rattle.tcap_judge.specs.declared.finding.Ends.{Ends}
-use Rattle.tcap_judge.specs.declared.finding.Finding.{Finding}
 use Rattle.tcap_judge.specs.declared.finding.Finding.TheVariants as findings
 use Rattle.tcap_judge.specs.Blamed.{ends_of, finding, finding_by, items_before}
 use Rattle.tcap_judge.specs.Judged.{replayed_by}

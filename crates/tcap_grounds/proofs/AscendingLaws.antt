@@ -1,6 +1,6 @@
 -- Each given list of entries is in ascending order.
 use Rattle.std.proofs.Common.{◌≡◌, ℕ, ℤ, ◌≤◌, arith, Bool, true, false, cond, ◌&&◌, List, [], ◌∷◌, ◌++◌, map, Option, Some, None, Result, Ok, Err, is_none, refl, sym, subst}
-use Rattle.std.specs.Prelude.{Contains, filter, option_to_list, slice_get}
+use Rattle.std.specs.Prelude.{Contains, filter, slice_get}
 use Rattle.std.specs.List.{find}
 use Rattle.tcap_parts.specs.declared.component.Component.{Component}
 use Rattle.tcap_msg.specs.declared.kind.Kind.TheVariants as forms

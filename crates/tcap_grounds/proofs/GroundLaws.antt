@@ -1,5 +1,5 @@
 -- The given entries are the listed ones; and a component at fault belongs to a message over a half.
-use Rattle.std.proofs.Common.{◌≡◌, ◌≢◌, inr, ℕ, Bool, true, false, not, ◌&&◌, List, ◌∷◌, [], map, Option, Some, None, Result, Ok, refl, sym, ap, ◌∙◌}
+use Rattle.std.proofs.Common.{◌≡◌, ◌≢◌, inr, ℕ, Bool, true, false, not, ◌&&◌, List, ◌∷◌, [], map, Option, Some, Result, Ok, refl, sym, ap, ◌∙◌}
 use Rattle.std.specs.Prelude.{Contains, slice_get}
 use Rattle.std.proofs.lemmas.Bool.{and_parts, not-true}
 use Rattle.tcap_msg.specs.declared.message.Message.{Message}

@@ -1,6 +1,6 @@
 -- The findings on each end if a certificate gives a run of both.
 use Rattle.std.proofs.Common.{◌≡◌, ◌<◌, ℕ, ◌+◌, Bool, true, false, List, [], ◌∷◌, map, length, cond, arith, refl, sym, ap, ap₂, subst, ◌∙◌}
-use Rattle.std.specs.Prelude.{Option, Some, None, Result, Ok, Err}
+use Rattle.std.specs.Prelude.{Option, Some, None, Ok}
 use Rattle.tcap_record.specs.declared.entry.Entry.{Entry}
 use Rattle.tcap_record.specs.declared.entry.End.{End as Side}
 use Rattle.tcap_end.specs.Table.{Table}
@@ -20,12 +20,11 @@ use Rattle.tcap_check.proofs.AloneRuns.{gives_for}
 use Rattle.tcap_check.proofs.GivenRuns.{gives}
 use Rattle.tcap_faults.specs.Fault.{blamed}
 use Rattle.tcap_refute.specs.declared.kind.Refutation.{Refutation}
-use Rattle.tcap_search.specs.Lines.{is_end}
 use Rattle.tcap_search.specs.Proposed.{proposed_for}
-use Rattle.tcap_judge.specs.Blamed.{IsFound, finding, finding_by, items_before}
+use Rattle.tcap_judge.specs.Blamed.{finding, finding_by, items_before}
 use Rattle.tcap_judge.specs.declared.finding.Finding.TheVariants as findings
 use Rattle.tcap_judge.specs.EachEnd.{lost_by, lost_of}
-use Rattle.tcap_judge.specs.Judged.{AreLawfulUnheard, lawful_by}
+use Rattle.tcap_judge.specs.Judged.{AreLawfulUnheard}
 use Rattle.tcap_judge.specs.Verdict.{verdict_by}
 
 -- ---- nothing is blamed

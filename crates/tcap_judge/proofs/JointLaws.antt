@@ -13,7 +13,6 @@ use Rattle.tcap_model.proofs.WholeLaws.{lawful_together}
 use Rattle.tcap_refute.specs.declared.kind.Refutation.{Refutation}
 use Rattle.tcap_refute.specs.Kind.{refuted}
 use Rattle.tcap_refute.proofs.RefutedLaws.{never_lawful}
-use Rattle.tcap_judge.specs.declared.outcome.Outcome.{Outcome}
 use Rattle.tcap_judge.specs.declared.outcome.Outcome.TheVariants.{Lawful, LawfulFor, Refuted}
 use Rattle.tcap_judge.specs.Checked.{replay_says}
 use Rattle.tcap_judge.specs.Judged.{replayed_by}

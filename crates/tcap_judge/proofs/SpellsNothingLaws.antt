@@ -1,5 +1,5 @@
 -- An entry of kind F1 spells no message.
-use Rattle.std.proofs.Common.{◌≡◌, false, true, ℕ, zero, suc, ◌-◌, ◌+◌, List, [], ◌∷◌, map, length, slice_get, Some, None, Option, Ok, Err, refl, sym, ap, ◌∙◌, inl, inr}
+use Rattle.std.proofs.Common.{◌≡◌, false, true, ℕ, zero, suc, ◌-◌, ◌+◌, List, [], ◌∷◌, map, length, slice_get, Some, None, Option, Err, refl, sym, ap, ◌∙◌, inl, inr}
 use Rattle.std.proofs.lemmas.Bool.{and_parts}
 use Rattle.tcap_ber.specs.declared.fault.Fault.{Fault}
 use Rattle.tcap_msg.specs.declared.message.Message.{Message}

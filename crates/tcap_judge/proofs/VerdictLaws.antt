@@ -22,7 +22,7 @@ use Rattle.tcap_lines.specs.declared.status.Status.{Status}
 use Rattle.tcap_lines.specs.declared.status.Status.TheVariants as statuses
 use Rattle.tcap_lines.specs.declared.status.WriteFailed.{WriteFailed}
 use Rattle.tcap_judge.specs.Outcome.{SaysWith, outcome_line, outcome_status, refuted_line}
-use Rattle.tcap_judge.specs.Judged.{IsShown, lawful_by, replayed_by, said_lawful}
+use Rattle.tcap_judge.specs.Judged.{IsShown, replayed_by, said_lawful}
 use Rattle.tcap_judge.specs.Checked.{ReadsRecord, ReadsTable, out_of_memory}
 use Rattle.tcap_judge.specs.Device.{Device}
 use Rattle.tcap_judge.specs.Verdict.{FindsFault, FindsLawfulThen, GivesVerdict, GivesVerdictWith, IsAtFaultBy, IsCertificateLine, IsJudged, PrintsVerdict, certificate_line, named_by, proposed_by, record_verdict, verdict_by}

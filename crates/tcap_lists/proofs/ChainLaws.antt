@@ -1,16 +1,16 @@
 -- Laws of the kinds of a row's places, and of chains.
 use Rattle.std.proofs.Common.{◌≡◌, ◌≢◌, ◌⊎◌, inl, inr, ℕ, zero, suc, ◌+◌, ◌<◌, ◌≤◌, Bool, true, false, List, [], ◌∷◌, ◌++◌, Option, Some, None, length, take, refl, sym, ap, ◌∙◌, arith, get_or, set}
-use Rattle.std.proofs.lemmas.Bool.{cases_eq, cases_lt}
+use Rattle.std.proofs.lemmas.Bool.{cases_eq}
 use Rattle.std.proofs.lemmas.Bool.Decides.{nat_tests}
 use Rattle.std.proofs.lemmas.Grind.{get_or-set_at}
 use Rattle.std.proofs.lemmas.List.{get_or-set_other}
 use Rattle.std.proofs.lemmas.Option.{none-some}
-use Rattle.std.specs.Prelude.{◌==◌, cond, map}
+use Rattle.std.specs.Prelude.{◌==◌, cond}
 use Rattle.std.specs.List.{slice_get}
 use Rattle.tcap_lists.specs.declared.chains.Mark.{Mark}
 use Rattle.tcap_lists.specs.Chains.{AreBefore, AreEnds, AreMarked, kinds_in}
-use Rattle.tcap_lists.specs.Row.{IsOldest, is_wanted, stood}
-use Rattle.tcap_lists.proofs.ItemLaws.{get_front, get_last, get_within}
+use Rattle.tcap_lists.specs.Row.{is_wanted, stood}
+use Rattle.tcap_lists.proofs.ItemLaws.{get_front}
 
 -- ---- the kinds of marks
 
@@ -133,20 +133,6 @@ kind_within marks n kind is = let there = mark_got marks n kind is in some_withi
 
 -- ---- the last mark is removed
 
-pub less_before : (marks more : List Mark) → AreBefore (marks ++ more) → AreBefore marks
-less_before marks more before = λ n at mark other is there.
-    before n at mark other (some_front marks more at mark is) (some_front marks more n other there)
-
-pub less_ends : (marks more : List Mark) (ends : List ℕ) → AreEnds (marks ++ more) ends → AreEnds marks ends
-less_ends marks more ends ended = λ at mark is. ended at mark (some_front marks more at mark is)
-
--- All other places of its kind come before the mark's `before`.
-pub under_last : (marks : List Mark) (last : Mark) → AreBefore (marks ++ last ∷ []) → (at : ℕ)
-    → slice_get (kinds_in marks) at ≡ Some last.kind → at < last.before
-under_last marks last before at here = let there = mark_got marks at last.kind here in
-    before at (length marks) last there.0 (get_last marks last (length marks) refl) (some_front marks (last ∷ []) at there.0 there.1)
-    (some_within marks at there.0 there.1) there.2
-
 pub less_kinds : (marks more : List Mark) (at kind : ℕ) → slice_get (kinds_in marks) at ≡ Some kind
     → slice_get (kinds_in (marks ++ more)) at ≡ Some kind
 less_kinds marks more at kind is = rw (kinds_append marks more) (some_front (kinds_in marks) (kinds_in more) at kind is)
@@ -157,22 +143,6 @@ stood_within : (places : List (Option ℕ)) (at kind : ℕ) → stood places at 
 stood_within [] at kind is = absurd (none-some kind is)
 stood_within (place ∷ places) zero kind is = omega arith
 stood_within (place ∷ places) (suc at) kind is = omega (arith, stood_within places at kind is)
-
-pub marked_none : (places : List (Option ℕ)) → AreMarked places []
-marked_none places = λ at kind known is bad. absurd (none-some known bad)
-
--- An item is put into a place that is known to be of its kind.
-pub marked_set : (places : List (Option ℕ)) (kinds : List ℕ) (at kind : ℕ) → at < length places → slice_get kinds at ≡ Some kind
-    → AreMarked places kinds → AreMarked (set places at (Some kind)) kinds
-marked_set places kinds at kind within here marked = λ n other known is there. by n other known is there (cases_eq n at)
-  where
-    by : (n other known : ℕ) → stood (set places at (Some kind)) n ≡ Some other → slice_get kinds n ≡ Some known
-        → (n ≡ at) ⊎ (n ≡ at → ⊥) → known ≡ other
-    by n other known is there (inl same) =
-        let it : Some kind ≡ Some other = sym (get_or-set_at places at n (Some kind) None same within) ∙ is in
-        let its : Some known ≡ Some kind = sym there ∙ ap (slice_get kinds) same ∙ here in cc
-    by n other known is there (inr apart) =
-        marked n other known (sym (get_or-set_other places at n (Some kind) None apart) ∙ is) there
 
 -- An item is removed.
 pub marked_taken : (places : List (Option ℕ)) (kinds : List ℕ) (at : ℕ) → at < length places → AreMarked places kinds
@@ -214,16 +184,6 @@ pub marked_less : (places : List (Option ℕ)) (kinds fewer : List ℕ) (count :
     → AreMarked (take count places) fewer
 marked_less places kinds fewer count so marked = λ n other known is there. marked n other known (stood_less places count n other is) (so n known there)
 
--- The kind of one more place becomes known.
-pub marked_more : (places : List (Option ℕ)) (kinds : List ℕ) (new : ℕ)
-    → ((known : ℕ) → stood places (length kinds) ≡ Some known → new ≡ known) → AreMarked places kinds → AreMarked places (kinds ++ new ∷ [])
-marked_more places kinds new its marked = λ n other known is there. by n other known is (got_more kinds new known n there)
-  where
-    by : (n other known : ℕ) → stood places n ≡ Some other → (slice_get kinds n ≡ Some known) ⊎ ((n ≡ length kinds) × (known ≡ new))
-        → known ≡ other
-    by n other known is (inl there) = marked n other known is there
-    by n other known is (inr last) = last.1 ∙ its other (ap (stood places) (sym last.0) ∙ is)
-
 -- ---- stretches without items of a kind
 
 some_kind : (kinds : List ℕ) (n : ℕ) → n < length kinds → (known : ℕ) × (slice_get kinds n ≡ Some known)
@@ -247,43 +207,6 @@ not_wanted places kinds kind n marked all apart = false_unless (is_wanted (Some 
     by (Some other) is want =
         let there = some_kind kinds n (omega (arith, all, stood_within places n other is)) in
         apart (there.1 ∙ ap Some (marked n other there.0 is there.1 ∙ equal_kinds other kind want))
-
-pub past_wanted : (places : List (Option ℕ)) (kind n : ℕ) → length places ≤ n → is_wanted (Some kind) (stood places n) ≡ false
-past_wanted [] kind n past = refl
-past_wanted (place ∷ places) kind zero past = absurd (omega (arith, past))
-past_wanted (place ∷ places) kind (suc n) past = past_wanted places kind n (omega (arith, past))
-
--- After the oldest item of a kind is removed, the next one is the oldest.
-pub next_oldest : (places before : List (Option ℕ)) (wanted : Option ℕ) (oldest at next : ℕ) → oldest ≡ at
-    → ((n : ℕ) → at ≤ n → n < next → is_wanted wanted (stood places n) ≡ false)
-    → ((n : ℕ) → next ≤ n → is_wanted wanted (stood places n) ≡ true → is_wanted wanted (stood places next) ≡ true)
-    → places ≡ set before at None → IsOldest wanted before oldest → IsOldest wanted places next
-next_oldest places before wanted oldest at next is none there set_so was = λ n want. by n want (cases_eq n at) (cases_lt n next)
-  where
-    not_here : (places : List (Option ℕ)) (at : ℕ) → stood (set places at None) at ≡ None
-    not_here [] zero = refl
-    not_here [] (suc at) = refl
-    not_here (place ∷ places) zero = refl
-    not_here (place ∷ places) (suc at) = not_here places at
-
-    none_wanted : (wanted : Option ℕ) → is_wanted wanted None ≡ false
-    none_wanted None = refl
-    none_wanted (Some kind) = refl
-
-    behind : (n : ℕ) → n ≢ at → is_wanted wanted (stood places n) ≡ true → at ≤ n
-    behind n apart want =
-        let same : stood places n ≡ stood before n = ap (λ places. stood places n) set_so ∙ get_or-set_other before at n None None apart in
-        let old = (was n (ap (is_wanted wanted) (sym same) ∙ want)).0 in omega (arith, old, is)
-
-    by : (n : ℕ) → is_wanted wanted (stood places n) ≡ true → (n ≡ at) ⊎ (n ≡ at → ⊥) → (n < next) ⊎ (next ≤ n)
-        → (next ≤ n) × (is_wanted wanted (stood places next) ≡ true)
-    by n want (inl here) where_at =
-        let bad : is_wanted wanted (stood places n) ≡ false =
-        rw (set_so, here, not_here before at) (none_wanted wanted) in
-        absurd (let wrong : true ≡ false = sym want ∙ bad in cc)
-    by n want (inr apart) (inl less) =
-        absurd (let wrong : true ≡ false = sym want ∙ none n (behind n apart want) less in cc)
-    by n want (inr apart) (inr past) = (past, there n past want)
 
 -- ---- reading a list
 

@@ -5,7 +5,7 @@ use Rattle.std.proofs.lemmas.Option.{none-some}
 use Rattle.std.specs.Prelude.{IsSome}
 use Rattle.std.specs.List.{slice_get}
 use Rattle.tcap_lists.specs.declared.row.Row.{Row}
-use Rattle.tcap_lists.specs.Lists.{KeepsKinds, row_of}
+use Rattle.tcap_lists.specs.Lists.{row_of}
 use Rattle.tcap_lists.specs.Row.{AreNumbered, is_wanted, items_in, kind_in, stood}
 
 -- ---- kinds
@@ -115,11 +115,6 @@ module _ {K : Type 0} (row mid next : Row K) (kind : K) (n : ℕ) (numbered : Ar
   pub first_kept : next.places.items ≡ mid.places.items → row_of next ≡ row_of row
   first_kept kept = rw (kinds, made, kept, places) (items_more row.kinds.items kind row.places.items numbered)
 
--- It has a known kind.
-pub kind_joined : {K : Type 0} (row next : Row K) (kind : K) (n : ℕ) → slice_get row.kinds.items n ≡ Some kind → next.kinds.items ≡ row.kinds.items
-    → next.places.items ≡ row.places.items ++ Some n ∷ [] → row_of next ≡ row_of row ++ Some kind ∷ []
-kind_joined row next kind n is kinds joined = rw (kinds, joined, items_append row.kinds.items row.places.items (Some n ∷ []), is) refl
-
 pub kind_kept : {K : Type 0} (row next : Row K) → next.kinds.items ≡ row.kinds.items → next.places.items ≡ row.places.items → row_of next ≡ row_of row
 kind_kept row next kinds places = rw (kinds, places) refl
 
@@ -133,6 +128,3 @@ row_less row next kinds places =
 pub row_set : {K : Type 0} (row next : Row K) (at : ℕ) (place : Option ℕ) → next.kinds ≡ row.kinds
     → next.places.items ≡ set row.places.items at place → row_of next ≡ set (row_of row) at (kind_in row.kinds.items place)
 row_set row next at place kinds places = rw (kinds, places) (items_set row.kinds.items row.places.items at place)
-
-pub kinds_kept : {K : Type 0} (row next : Row K) → next.kinds.items ≡ row.kinds.items → KeepsKinds row next
-kinds_kept row next kinds = λ number some. rw kinds refl

@@ -1,5 +1,5 @@
 -- Reading and changing one row of the lists.
-use Rattle.std.proofs.Common.{◌≡◌, ◌≢◌, ◌⊎◌, inl, inr, ℕ, suc, ℤ, true, false, get_or, List, [], ◌∷◌, ◌++◌, Option, Some, None, Result, Ok, Err, OnOk, OnErr, refl, sym, ap, subst, ◌∙◌}
+use Rattle.std.proofs.Common.{◌≡◌, ◌≢◌, ◌⊎◌, inl, inr, ℕ, suc, ℤ, true, false, get_or, List, [], ◌∷◌, ◌++◌, Option, Some, None, Result, Ok, Err, OnOk, refl, sym, ap, subst, ◌∙◌}
 use Rattle.std.specs.Prelude.{IsSome, cond, is_some, option_and_then, option_map}
 use Rattle.std.specs.Borrow.{Bor}
 use Rattle.std.specs.List.{slice_get}
@@ -17,7 +17,7 @@ use Rattle.std.proofs.lemmas.Option.{none-some}
 use Rattle.tcap_lists.specs.declared.lists.Lists.{Lists}
 use Rattle.tcap_lists.specs.declared.row.Row.{Row}
 use Rattle.tcap_lists.specs.Items.{Rises, listed, listed_by, with_listed, with_newest}
-use Rattle.tcap_lists.specs.Lists.{HasRow, KeepsKinds, items_of, keep, kind_of, row_in, row_of, rows_of, some_items}
+use Rattle.tcap_lists.specs.Lists.{HasRow, items_of, keep, kind_of, row_in, row_of, rows_of, some_items}
 use Rattle.tcap_lists.specs.Row.{filled, fits_in, is_wanted, items_in, kind_in, place_of, stood}
 use Rattle.tcap_lists.proofs.KeepLaws.{Whole, given_back, insert_listed, list_in, listed_keep, lookup_above, lookup_keep, remove_keep, some_listed, whole_keep}
 use Rattle.tcap_lists.proofs.PlaceLaws.{none_at_all, oldest_fits}
@@ -174,14 +174,6 @@ module _ {K : Type 0} (id : ℤ) (l : Lists K) (next : List (ℤ × Box (Row K))
   pub changed_has : IsSome (lookup (is_at (int_cmp id)) next)
   changed_has = given_has id l.rows.entries next l.ordered row given
 
-  pub changed_keeps_rows : (other : ℤ) → HasRow other l → IsSome (lookup (is_at (int_cmp other)) next)
-  changed_keeps_rows = given_keeps_rows id l.rows.entries next l.ordered row given
-
-  pub changed_keeps_kinds : KeepsKinds was.value row.value → (other : ℤ) (number : ℕ) → IsSome (kind_of other number l)
-      → option_and_then (λ row. slice_get row.value.kinds.items number) (lookup (is_at (int_cmp other)) next) ≡ kind_of other number l
-  changed_keeps_kinds keeps = given_keeps_kinds id l.rows.entries next l.ordered row given
-      (λ number some. let is = got_kinds id l was found number in keeps number (rw (sym is) at some) ∙ is)
-
 -- A row is made for an ID without one.
 module _ {K : Type 0} (id : ℤ) (l : Lists K) (next : List (ℤ × Box (Row K))) (row : Box (Row K))
     (none : None ≡ lookup (is_at (int_cmp id)) l.rows.entries) (given : next ≡ insert_entry int_cmp l.rows.entries id row) where
@@ -189,9 +181,6 @@ module _ {K : Type 0} (id : ℤ) (l : Lists K) (next : List (ℤ × Box (Row K))
   made_same empty = given_rows id l.rows.entries next l.ordered row given
       ∙ ap (λ items. with_listed id items (rows_of l)) (empty ∙ sym (got_none id l none))
       ∙ given_back id (rows_of l) (whole_rows l)
-
-  pub made_has : IsSome (lookup (is_at (int_cmp id)) next)
-  made_has = given_has id l.rows.entries next l.ordered row given
 
   pub made_keeps_rows : (other : ℤ) → HasRow other l → IsSome (lookup (is_at (int_cmp other)) next)
   made_keeps_rows = given_keeps_rows id l.rows.entries next l.ordered row given
@@ -206,10 +195,6 @@ module _ {K : Type 0} (id : ℤ) (l : Lists K) (next : List (ℤ × Box (Row K))
 pub on_ok : {T E P : Type 0} (r : Result T E) → P → OnOk r P
 on_ok (Ok _) p = p
 on_ok (Err _) p = tt
-
-pub on_err : {T E P : Type 0} (r : Result T E) → P → OnErr r P
-on_err (Ok _) p = tt
-on_err (Err _) p = p
 
 -- ---- the oldest item of a row
 

@@ -46,13 +46,6 @@ externals_fault s f some e = items.each_fault external external_at reads_externa
 pub rest_is_shorter : (s : Span) (c : List ℕ) (rest : Span) → external_at s ≡ Ok (c, rest) → length rest.octets < length s.octets
 rest_is_shorter s c rest e = items.rest_is_shorter external external_at reads_external (verbatim_has_octets 0x28) s c rest e
 
-none_in_front : (r : Result (List (List ℕ)) Fault) → r ≡ with_front [] r
-none_in_front (Ok es) = refl
-none_in_front (Err f) = refl
-
-pub counted_none : (s : Span) → Counted s s 0
-counted_none s = record { front = []; goes_on = none_in_front (externals_at s); counts = refl; within = omega arith }
-
 pub counted_more : (content s : Span) (count : ℕ) (c : List ℕ) (rest : Span) → Counted content s count → 0 < length s.octets → external_at s ≡ Ok (c, rest) → Counted content rest (count + 1)
 counted_more content s count c rest so_far some e = record {
   front = so_far.front ++ c ∷ [];

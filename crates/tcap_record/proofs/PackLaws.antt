@@ -152,13 +152,6 @@ refused_stops count content rest untold fault (inl (is, none)) line total =
 refused_stops count content rest untold fault (inr is) line total =
     subst (λ (f : FeedFault). StopsAs count total rest untold f.reason f.place) (sym is) refl
 
--- No more lines are allowed.
-pub stops_full : (p : Packing) (octets : List ℕ) (untold a : Option (List ℕ)) → p.lines ≡ lines_limit → 0 < length octets
-    → PacksUpTo p octets (feed_fault feed.BadHexLine (p.lines + 1)) untold a a
-stops_full p octets untold a full some =
-    stops_here p octets (feed_fault feed.BadHexLine (p.lines + 1)) untold a a (omega (arith, full)) refl
-    (λ total. (refl, inl (full, λ none. absurd (omega (arith, some, ap length none, length-append p.line.items octets)))))
-
 -- The line is too long, or memory ran out.
 pub stops_long : (p : Packing) (front behind : List ℕ) (number : ℕ) (fault : LineFault) (untold a : Option (List ℕ))
     → p.lines ≤ lines_limit → number ≡ p.lines + 1

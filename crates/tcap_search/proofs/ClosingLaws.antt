@@ -2,7 +2,7 @@
 use Rattle.std.proofs.Common.{◌≡◌, ℕ, ◌+◌, ◌<◌, ◌≤◌, ◌==◌, ◌&&◌, ◌||◌, not, Bool, true, false, cond, List, [], ◌∷◌, ◌++◌, length, take, drop, get_or, Option, Some, None, is_some, refl, sym, ap, ◌∙◌, arith}
 use Rattle.std.specs.Prelude.{option_map, slice_get}
 use Rattle.std.specs.List.{list_any}
-use Rattle.std.proofs.lemmas.List.{drop_all, drop_more}
+use Rattle.std.proofs.lemmas.List.{drop_more}
 use Rattle.std.proofs.lemmas.Option.{same_Some, slice_get_past, slice_get_read}
 use Rattle.tcap_record.specs.declared.entry.End.{End as Side}
 use Rattle.tcap_record.specs.declared.entry.Entry.{Entry}
@@ -142,21 +142,6 @@ pub record Listed (all : List Fated) (lines : List Line) (ties : List Tie) (coun
   pub room : HasRoom count l
   pub kept : KeepsListed count listed l
   pub left : closings_from all lines (drop i ties) listed ≡ closings_of all lines ties
-
-pub listed_none : (all : List Fated) (lines : List Line) (ties : List Tie) (count : ℕ) (kept : Leasts)
-    → ((side : Side) (transaction : ℕ) → least_at side transaction kept ≡ None) → HasRoom count kept
-    → Listed all lines ties count 0 [] kept
-listed_none all lines ties count kept nothing room = record {
-  room = room;
-  kept = λ side transaction below. ap is_some (nothing side transaction);
-  left = refl;
-}
-
-pub listed_all : (all : List Fated) (lines : List Line) (ties : List Tie) (count i : ℕ) (listed : List Closing)
-    (kept : Leasts)
-    → length ties ≤ i → Listed all lines ties count i listed kept → listed ≡ closings_of all lines ties
-listed_all all lines ties count i listed kept past so_far =
-    ap (λ (left : List Tie). closings_from all lines left listed) (sym (drop_all i ties past)) ∙ so_far.left
 
 module _ (all : List Fated) (lines : List Line) (ties : List Tie) (count i : ℕ) (listed : List Closing) (old : Leasts)
     (other_tie t : Tie) (below : i < length ties) (is : t ≡ get_or ties i other_tie)

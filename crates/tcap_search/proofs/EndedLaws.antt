@@ -1,5 +1,5 @@
 -- Which entries end transactions, as noted in `Leasts`.
-use Rattle.std.proofs.Common.{◌≡◌, ℕ, ◌+◌, ◌<◌, ◌≤◌, ◌&&◌, ◌||◌, Bool, true, false, cond, List, length, take, get_or, Option, None, sym, ap, ◌∙◌, arith}
+use Rattle.std.proofs.Common.{◌≡◌, ℕ, ◌+◌, ◌<◌, ◌≤◌, ◌&&◌, ◌||◌, Bool, true, false, cond, List, length, take, get_or, Option, sym, ap, ◌∙◌, arith}
 use Rattle.std.specs.Prelude.{nat_lt}
 use Rattle.std.proofs.lemmas.List.{take_all}
 use Rattle.tcap_record.specs.declared.entry.End.{End as Side}
@@ -21,14 +21,6 @@ use Rattle.tcap_search.proofs.TestLaws.{and_false, or_false}
 pub record Ended (entries : List Entry) (count : ℕ) (l : Leasts) : Type 0 where
   pub room : HasRoom (length entries) l
   pub kept : KeepsEnded (length entries) (lines_of (take count entries)) l
-
-pub ended_none : (entries : List Entry) (ended : Leasts)
-    → ((side : Side) (transaction : ℕ) → least_at side transaction ended ≡ None) → HasRoom (length entries) ended
-    → Ended entries 0 ended
-ended_none entries ended nothing room = record {
-  room = room;
-  kept = λ x side transaction limit sent has below. ap (is_below limit) (nothing (other side) transaction);
-}
 
 pub ended_all : (entries : List Entry) (count : ℕ) (ended : Leasts) → length entries ≤ count → Ended entries count ended
     → KeepsEnded (length entries) (lines_of entries) ended

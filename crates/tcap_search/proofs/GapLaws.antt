@@ -226,9 +226,6 @@ fate_is judged lines ties x are = by (reply_of ties x.number) (message_of x.entr
 
 -- ---- one more line
 
-max_zero : (n : ℕ) → max n 0 ≡ n
-max_zero n = omega arith
-
 -- the highest gap, with one more line
 pub highest_more : (side : Side) (lines : List Line) (x : Line) (ties : List Tie)
     → highest side (lines ++ x ∷ []) ties

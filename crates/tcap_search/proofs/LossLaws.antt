@@ -1,5 +1,5 @@
 -- Losses, from the least time of what each end sends later.
-use Rattle.std.proofs.Common.{◌≡◌, ℕ, zero, suc, ◌<◌, min, Bool, true, false, cond, List, [], ◌∷◌, map, length, get_or, Option, Some, None, refl, sym, ap, arith, ◌∙◌}
+use Rattle.std.proofs.Common.{◌≡◌, ℕ, suc, ◌<◌, min, Bool, true, false, cond, List, [], ◌∷◌, map, length, Option, Some, None, refl, sym, ap, arith, ◌∙◌}
 use Rattle.std.specs.Prelude.{◌&&◌, ◌||◌, is_some, nat_lt}
 use Rattle.std.specs.List.{list_any}
 use Rattle.std.proofs.lemmas.Bool.Decides.{nat_tests}
@@ -10,7 +10,7 @@ use Rattle.tcap_certificate.specs.declared.certificate.Fate.{Fate}
 use Rattle.tcap_certificate.specs.declared.certificate.Fate.TheVariants.{Lost}
 use Rattle.tcap_certificate.specs.Replayed.{is_later, time_of}
 use Rattle.tcap_search.specs.Lines.{Line, is_end, lines_of, message_of}
-use Rattle.tcap_search.specs.Proposed.{Fated, all_fated, fate_before, fate_of, fate_unanswered, fated, first_fates, is_gap, is_overtaken, ties_of, with_losses, without_unanswered}
+use Rattle.tcap_search.specs.Proposed.{Fated, all_fated, fate_before, fate_of, fated, first_fates, is_gap, is_overtaken, ties_of, with_losses, without_unanswered}
 use Rattle.tcap_search.specs.declared.tie.Tie.{Tie}
 use Rattle.tcap_search.specs.Traced.{AreFates, AreTies}
 use Rattle.tcap_search.specs.Fates.{fate_behind_least, least_time, sooner}
@@ -83,17 +83,6 @@ fates_fated (line ∷ lines) [] same = absurd (omega arith)
 fates_fated [] (fate ∷ fates) same = absurd (omega arith)
 fates_fated (line ∷ lines) (fate ∷ fates) same = ap (λ (fs : List Fate). fate ∷ fs)
     (fates_fated lines fates (omega arith))
-
--- the line and the fate at a place
-pub fated_there : (lines : List Line) (fates : List Fate) (i : ℕ) (line : Line) (fate : Fate) (d : Fated)
-    → i < length lines → length fates ≡ length lines → line ≡ get_or lines i line → fate ≡ get_or fates i fate
-    → get_or (fated lines fates) i d ≡ fated_at line fate
-fated_there [] fates i line fate d within same is_line is_fate = absurd (omega arith)
-fated_there (x ∷ lines) [] i line fate d within same is_line is_fate = absurd (omega arith)
-fated_there (x ∷ lines) (y ∷ fates) zero line fate d within same is_line is_fate =
-    λ i. record { line = sym is_line i; fate = sym is_fate i }
-fated_there (x ∷ lines) (y ∷ fates) (suc i) line fate d within same is_line is_fate =
-    fated_there lines fates i line fate d (omega arith) (omega arith) is_line is_fate
 
 -- Lines and fates, taken apart and joined again.
 pub fated_parts : (all : List Fated) → fated (map (λ x. x.line) all) (map (λ x. x.fate) all) ≡ all

@@ -150,9 +150,6 @@ module _ (lines : List Line) (gap : ℕ) (is_result : Bool) (t : ℕ) (s : Side)
   lt_next : (h : ℕ) → (h == gap) ≡ false → nat_lt h (gap + 1) ≡ nat_lt h gap
   lt_next h apart = grind (arith, nat_tests)
 
-  lt_same : (h : ℕ) → (h == gap) ≡ true → nat_lt h (gap + 1) ≡ true
-  lt_same h same = grind (arith, nat_tests)
-
   -- An answer in another gap is below both limits or below none.
   not_here : (x : Fated) → here x ≡ false → below (gap + 1) x ≡ below gap x
   unfolding below here

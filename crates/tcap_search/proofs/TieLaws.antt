@@ -3,7 +3,6 @@ use Rattle.std.proofs.Common.{◌≡◌, ℕ, ◌+◌, ◌<◌, ◌≤◌, ◌==
 use Rattle.std.specs.Prelude.{filter, option_map}
 use Rattle.std.specs.Str.{bytes_eq}
 use Rattle.std.proofs.lemmas.Bool.{and_parts, eq-eqb, eqb-true, false_from_ne_true, ne_eqb}
-use Rattle.std.proofs.lemmas.List.{take_all}
 use Rattle.std.proofs.lemmas.Slice.Eq.{bytes_eq-Decides}
 use Rattle.tcap_msg.specs.declared.message.AbortReason.TheVariants as reasons
 use Rattle.tcap_msg.specs.declared.message.Message.{Message}
@@ -290,10 +289,6 @@ drop_kept ties lines x old new kept falls dropped side id cause =
 pub record Collected (entries : List Entry) (count : ℕ) (c : Candidates) : Type 0 where
   pub kept : AreUntied [] (reverse (lines_of (take count entries))) c
 
-pub collected_none : (entries : List Entry) (c : Candidates)
-    → ((side : Side) (id : List ℕ) (cause : ℕ) → candidates_at side id cause c ≡ []) → Collected entries 0 c
-collected_none entries c empty = record { kept = empty }
-
 pub collected_more : (entries : List Entry) (i : ℕ) (old new : Candidates) (e : Entry) → i < length entries
     → e ≡ get_or entries i e → Collected entries i old
     → ((side : Side) (id : List ℕ) (cause : ℕ) → candidates_at side id cause new
@@ -324,30 +319,11 @@ collected_more entries i old new e below is so_far pushed = record {
     by side id cause true = refl
     by side id cause false = refl
 
-pub collected_all : (entries : List Entry) (count : ℕ) (c : Candidates) → length entries ≤ count
-    → Collected entries count c
-    → AreUntied [] (reverse (lines_of entries)) c
-collected_all entries count c all so_far =
-    rw (take_all count entries all) at so_far.kept
-
 -- The ties so far, from the last Abort on, and the candidates of the entries before.
 pub record Tied (entries : List Entry) (count : ℕ) (c : Candidates) (found : List Tie) : Type 0 where
   pub within : count ≤ length entries
   pub kept : AreUntied (reverse found) (reverse (lines_of (take count entries))) c
   pub ties : ties_from (reverse (lines_of (take count entries))) (reverse found) ≡ ties_of (lines_of entries)
-
-pub tied_none : (entries : List Entry) (c : Candidates) → AreUntied [] (reverse (lines_of entries)) c
-    → Tied entries (length entries) c []
-tied_none entries c kept = record {
-  within = omega arith;
-  kept = rw (take_all (length entries) entries (omega arith)) kept;
-  ties =
-      ap (λ (es : List Entry). ties_from (reverse (lines_of es)) []) (take_all (length entries) entries (omega arith));
-}
-
-pub tied_all : (entries : List Entry) (c : Candidates) (ties : List Tie) → Tied entries 0 c ties
-    → reverse ties ≡ ties_of (lines_of entries)
-tied_all entries c ties so_far = so_far.ties
 
 pub tied_more : (entries : List Entry) (i : ℕ) (old dropped new : Candidates) (ties more : List Tie) (e : Entry)
     (answered : Option ℕ) → i < length entries → e ≡ get_or entries i e → Tied entries (i + 1) old ties

@@ -1,4 +1,4 @@
-use Rattle.std.proofs.Common.{◌≡◌, ap, ◌∙◌}
+use Rattle.std.proofs.Common.{◌≡◌, ◌∙◌}
 use Rattle.serde_json.specs.View.{view}
 use Rattle.tcap_certificate_text.specs.CertificateText.{certificate_data}
 use Rattle.tcap_certificate_text.proofs.CertificateTextLaws.{text_read, text_written}

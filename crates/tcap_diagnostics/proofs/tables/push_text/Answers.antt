@@ -1,4 +1,4 @@
-use Rattle.std.proofs.Common.{◌≡◌, Ok, Err}
+use Rattle.std.proofs.Common.{◌≡◌}
 use Rattle.tcap_diagnostics.proofs.TableLaws.{text_of_book}
 use Rattle.tcap_diagnostics.proofs.tables.push_text.Goals as goal
 

@@ -1,5 +1,5 @@
 -- the writer took the front of the octets, and the rest is left
-use Rattle.std.proofs.Common.{◌≡◌, ℕ, ◌≤◌, length, take, drop}
+use Rattle.std.proofs.Common.{◌≡◌, ℕ, ◌≤◌, take, drop}
 use Rattle.std.specs.Io.KnownBytes.{Appends}
 use Rattle.tcap_ber.proofs.counted.Counted.write_rest.Given as goal
 

@@ -1,4 +1,3 @@
-use Rattle.std.proofs.Common.{ap}
 use Rattle.tcap_end.specs.Halves.{end_of}
 use Rattle.tcap_end.proofs.HiddenLaws.{knows_closed, knows_open}
 use Rattle.tcap_end.proofs.OverLaws.{named_there, over_named}

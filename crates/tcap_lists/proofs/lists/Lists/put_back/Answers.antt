@@ -1,5 +1,5 @@
 use mir.Syntax.{w8}
-use Rattle.std.proofs.Common.{◌≡◌, ◌<◌, Some, arith, ap, length, rules, set, ◌∙◌}
+use Rattle.std.proofs.Common.{◌≡◌, ◌<◌, Some, arith, ap, length, set, ◌∙◌}
 use Rattle.std.proofs.lemmas.Int.{to_z-of_z}
 use Rattle.std.specs.Box.{with_value}
 use Rattle.std.specs.List.{slice_get}

@@ -1,4 +1,4 @@
-use Rattle.std.proofs.Common.{◌≡◌, ◌∙◌, None, Some, refl, sym}
+use Rattle.std.proofs.Common.{◌≡◌, ◌∙◌, None, refl, sym}
 use Rattle.tcap_lists.specs.Row.{stood}
 use Rattle.tcap_lists.proofs.ItemLaws.{kind_wanted, none_stood, items_stood}
 use Rattle.tcap_lists.proofs.RowLaws.{oldest_stands, none_stands}
