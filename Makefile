@@ -70,7 +70,7 @@ octets: program
 	@python3 tests/octets.py
 
 measured: program
-	@log=$$(mktemp) && { (cd crates/tcap_bench && rt run <stdin && cd ../tcap_end_rows && rt run <stdin) >"$$log" 2>&1 \
+	@log=$$(mktemp) && { (cd crates/tcap_bench && rt run <stdin && cd ../tcap_rule_vectors && rt run <stdin) >"$$log" 2>&1 \
 		|| { cat "$$log" >&2; rm -f "$$log"; exit 1; }; rm -f "$$log"; }
 
 needs:

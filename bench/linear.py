@@ -27,7 +27,7 @@ DIALOGUE = bytes.fromhex(
 # How often the program reads its input.
 ROUNDS = 200
 
-with open("crates/tcap_msg_rows/src/vectors.rt") as file:
+with open("crates/tcap_vectors/src/vectors.rt") as file:
     # The digits of a row stand behind its name.
     DIGITS = re.findall(r'^\w+;([0-9a-f]+);', file.read(), re.MULTILINE)
 VECTORS = b"".join(bytes.fromhex(digits) for digits in DIGITS)

@@ -18,7 +18,7 @@ from collections import Counter
 # The program to try: the one that TCAPJUDGE names, else the proved one.
 PROGRAM = os.environ.get("TCAPJUDGE") or "crates/tcapjudge/out/tcapjudge"
 BENCH = "crates/tcap_bench/out/tcap_bench"
-CALLS = "crates/tcap_end_rows/out/tcap_end_rows"
+CALLS = "crates/tcap_rule_vectors"
 NO_MEMORY = b"FAULT 99 0\n"
 
 # Records in lines of hexadecimal digits, and tables and certificates for them.
@@ -245,11 +245,20 @@ def look_at_calls(library):
         f"feeding: of {count} allocations {given[again]} fail in a feed, and the same octet fed again goes on;"
         f" {given[neither]} are the program's, and it does without {given[fed]}"
     )
-    made, again = said("0 0\n", 0), said("1 0\n", 0)
-    count, given = look("calls of an end", library, [CALLS], b"", made, [again, neither])
+    # The heading of the calls, and its rows.
+    with open(f"{CALLS}/stdin", encoding="utf-8") as file:
+        calls = "[calls]" + file.read().partition("\n[calls]")[2].partition("\n[")[0]
+    rows = sum(line[:1] not in ("", "#", "[") for line in calls.splitlines())
+    made, again = (said(f"{rows} rows, {failed} calls without memory\n", 0) for failed in (0, 1))
+    unread = [
+        said(f"line {number} of [calls] can't be read\n".encode() + made[0], 0)
+        for number in range(2, calls.count("\n") + 2)
+    ]
+    command = [f"{CALLS}/out/tcap_rule_vectors"]
+    count, given = look("calls of an end", library, command, calls.encode(), made, [again, neither, *unread])
     print(
         f"calls of an end: of {count} allocations {given[again]} fail in a call, and the same call made again goes on;"
-        f" {given[neither]} are of messages and tables, and it does without {given[made]}"
+        f" {count - given[again] - given[made]} are of rows, messages and tables, and it does without {given[made]}"
     )
 
 

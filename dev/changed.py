@@ -2,7 +2,7 @@
 that is named, else origin/main, else HEAD~1. What is not committed yet counts too.
 
 It checks every crate, of which only what changed is proved again; it tries the edits that the changes touch, runs the
-tests without a proof, builds the program and runs it. It is no gate: at its end it says what it left out."""
+programs that look at test vectors, builds the program and runs it. It is no gate: at its end it says what it left out."""
 
 import os
 import shutil
@@ -17,8 +17,10 @@ import gate
 import kept
 import kit
 
-SKIPPED = """Left to `make test`: proofs from nothing, the proofs of tests, edits of crates and files that did not
-change, the layout, the stored runs, the second compiler, feeding while an entry is lent, and allocations that fail in turn."""
+# The programs that look at test vectors.
+VECTORS = "tcap_octet_vectors", "tcap_rule_vectors"
+SKIPPED = """Left to `make test`: proofs from nothing, edits of crates and files that did not change, the layout,
+the other stored runs, the second compiler, feeding while an entry is lent, and allocations that fail in turn."""
 
 
 def base_of(names):
@@ -73,10 +75,9 @@ def main(names):
     passed.append(is_proved)
     if is_proved:
         passed.append(edits.counted(rt, copy.tree, chosen, copy.log, 0) == 0)
-    for crate in rt.rtlib.crates_below(copy.tree):
-        if crate.has_tests():
-            what = f"tests of {crate.name}, run without a proof"
-            passed.append(copy.step(what, ["rt", "try", "--test"], f"crates/{crate.name}"))
+        for name in VECTORS:
+            looked = ["sh", "-c", "rt run <stdin | diff stdout -"]
+            passed.append(copy.step(f"test vectors of {name}", looked, f"crates/{name}"))
     if is_proved and copy.step("the program is built", ["make", "--silent", "program"]):
         passed += [copy.step(what, [sys.executable, f"tests/{name}.py"]) for name, what in gate.TESTS.items()]
         if shutil.which("cc") and shutil.which("ar"):

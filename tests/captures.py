@@ -29,7 +29,7 @@ import lines_of_capture
 import wireshark
 
 TOOL = "tools/lines_of_capture.py"
-VECTORS = "crates/tcap_msg_rows/src/vectors.rt"
+VECTORS = "crates/tcap_vectors/src/vectors.rt"
 DAMAGED = 3000
 # Of the network.
 MESSAGES = 3000

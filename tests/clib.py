@@ -1,8 +1,8 @@
 """The library for programs in C, which dev/clib.py built: of the records of judged.py, blamed.py, alone.py and examples/,
 and of octets that are none, it says what the program prints, of both ends and of one alone, with and without a certificate;
 of traces it says what the program writes as JSON (clib_traces.py); and so do its two examples, in C and in Python, which say of a
-file that it can't be read. Where an allocation fails, the library says so, and gives back all that it took. Closes with
-`N passed, M failed`."""
+file that it can't be read. Some answers are also compared with those that were worked out by hand. Where an allocation fails, the
+library says so, and gives back all that it took. Closes with `N passed, M failed`."""
 
 import ctypes
 import glob
@@ -26,6 +26,16 @@ EXAMPLE, ARCHIVE = "clib/out/example", "clib/out/libtcapjudge.a"
 NAMES = "LAWFUL", "REFUTED", "UNDECIDED", "FAULT", "NOT SHOWN", "BLAMED", "NOT BLAMED", None
 NO_CERT = b'{"close":[],"expire":[],"fates":[],"version":1}'
 ENDS = "", "A", "B"
+# Answers that were worked out by hand: the word, its texts, the octet of an end, the status, and the fields of each answer. After the
+# dialogue there is one whose End goes to a transaction that does not exist.
+TO_NINE = bytes.fromhex("41620d4801016c08a10602010102012d426403490109")
+BY_HAND = [
+    ("judge", [program.DIALOGUE, program.TABLE], 0, 0, [(2, 0, 0, 0, 0)]),
+    ("judge", [program.DIALOGUE, program.TABLE], ord("C"), 4, [(0, 0, 7, 0, 0)]),
+    ("check", [program.DIALOGUE, program.TABLE, program.FILES["LATE"]], ord("A"), 0, [(2, 0, 0, 0, 0)]),
+    ("check", [program.DIALOGUE, program.TABLE, program.FILES["LATE"]], ord("B"), 2, [(1, 0, 4, 65, 40)]),
+    ("blame", [TO_NINE, program.TABLE], None, 1, [(1, 0, 1, 2, 0), (2, 0, 0, 0, 0), (1, 0, 5, 2, 0)]),
+]
 
 
 class Answers(ctypes.Structure):
@@ -226,6 +236,15 @@ def files_of_examples(count, folder, python):
             count.same(f"{words}, {given}", printed([*words, *given]), (b"", 4))
 
 
+def by_hand(count, library):
+    """The answers that were worked out by hand."""
+    for word, texts, end, status, wanted in BY_HAND:
+        said, found = library.call(word, Answers if word == "blame" else example.Answer, texts, end)
+        parts = [said.both, said.a, said.b] if word == "blame" else [said]
+        fields = [tuple(getattr(part, name) for name, _ in part._fields_) for part in parts]
+        count.same(f"{word}, end {end}, by hand", (found, fields), (status, wanted))
+
+
 def wrong_calls(count, library):
     """An octet that names no end: nothing is said, and all of the answer is written."""
     for word, texts in ("judge", [b"", b""]), ("check", [b"", b"", b""]):
@@ -257,6 +276,7 @@ def main():
         run_examples(count, folder, python)
         files_of_examples(count, folder, python)
         fails_each(count, folder)
+    by_hand(count, library)
     wrong_calls(count, library)
     clib_traces.look_at(count, library, lambda: example.Asked(linger=10000))
     print(f"{count.passed} passed, {count.failed} failed")

@@ -1,4 +1,4 @@
-"""The messages of crates/tcap_msg_rows cut behind each count of octets, and the two longest of them with each octet set
+"""The messages of crates/tcap_vectors cut behind each count of octets, and the two longest of them with each octet set
 to each value, through `show`, `check`, `judge` and `blame` of the built program, by as many processes as there are
 processors: `make octets`. A cut record is the fault 21 under each word. Of a changed one the words agree: on a fault of
 the record; on the first entry that is no message, which refutes the record but where its reason is a limit of the
@@ -21,7 +21,7 @@ PART = 16
 
 
 def vectors():
-    with open("crates/tcap_msg_rows/src/vectors.rt", encoding="utf-8") as file:
+    with open("crates/tcap_vectors/src/vectors.rt", encoding="utf-8") as file:
         return {name: bytes.fromhex(digits) for name, digits in re.findall(r"^(\w+);([0-9a-f]+);", file.read(), re.M)}
 
 

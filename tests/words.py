@@ -686,7 +686,7 @@ def words(rows):
 
 
 def vectors():
-    with open("crates/tcap_msg_rows/src/vectors.rt", encoding="utf-8") as file:
+    with open("crates/tcap_vectors/src/vectors.rt", encoding="utf-8") as file:
         return [bytes.fromhex(digits) for digits in re.findall(r"^\w+;([0-9a-f]+);", file.read(), re.M)]
 
 

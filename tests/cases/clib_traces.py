@@ -1,7 +1,7 @@
 """The call `tcapjudge_test` of the library for programs in C, for tests/clib.py: of the traces of examples/, of trace_rows.py, of
 lines with a fault and of random ones, as lines of digits and as records, it writes octet by octet what `tcapjudge test --json` writes
 of a file of the name `trace`. It keeps to the room that it is given, refuses each number that is unknown, and says what is wrong
-with a book in the words of the program."""
+with a book in the words of the program. Some traces were judged by hand."""
 
 import ctypes
 import glob
@@ -39,6 +39,32 @@ NO_BOOKS = [
     '{"tables":[{"operations":[{"class":1,"code":1,"name":1}]}]}',
     '{"tables":[%s,%s]}' % (TABLE, TABLE),
     '{"tables":[{"name":"M","contexts":["2A"],"operations":[]},{"contexts":["2B","2a"],"operations":[]}]}',
+]
+# Traces that were judged by hand: the trace, its book, the status, and the lines, or None if they are not looked at. A record and the
+# same lines; no message; a dialogue for which the carried book has no table; a book that is none, and one of which it is not told which
+# table is for which dialogue.
+OF_45 = b'{"operations":[{"class":1,"code":45}]}'
+RECORD, LINES = bytes.fromhex("416203480101426403490101"), b"A 6203480101\nB 6403490101\n"
+NONE = '"dialogues":{"pass":0,"inconc":0,"fail":0,"error":0},"unheard":0'
+BY_HAND = [
+    (
+        RECORD,
+        OF_45,
+        0,
+        '{"trace":"trace","dialogue":0,"verdict":"pass","entries":[0,1],"lines":[0,0],"ids":{"A":["01"],"B":[]},'
+        '"open":false,"again":false,"marked":false,"A":{"verdict":"pass","unheard":0,"sent":1},'
+        '"B":{"verdict":"pass","unheard":0,"sent":1}}\n{"trace":"trace","verdict":"pass","messages":2,'
+        '"dialogues":{"pass":1,"inconc":0,"fail":0,"error":0},"unheard":0}\n',
+    ),
+    (b"", OF_45, 3, None),
+    (LINES, b"", 3, None),
+    (
+        LINES,
+        b"{",
+        3,
+        f'{{"trace":"trace","verdict":"error","messages":0,{NONE},"text":"the book: the text is no JSON, or not UTF-8"}}\n',
+    ),
+    (LINES, b'{"tables":[{"operations":[]},{"operations":[]}]}', 3, None),
 ]
 
 
@@ -157,6 +183,20 @@ def rooms(count, library, asked):
         count.same(f"a room of {room}", in_room(library, trace, book, room, asked()), wanted)
 
 
+def by_hand(count, library, asked):
+    """The traces that were judged by hand, in rooms for all lines, for ten octets and for none."""
+    for trace, book, status, lines in BY_HAND:
+        for room in 1000, 10, 0:
+            written, around, size, found = in_room(library, trace, book, room, asked())
+            octets = lines.encode() if lines else written[:size]
+            wanted = (octets + bytes([GUARD] * room))[:room], bytes([GUARD] * 16), len(octets) if lines else size, status
+            count.same(f"test {trace} by {book}, by hand", (written, around, size, found), wanted)
+            count.same(f"the lines of {trace} by {book}", size > 0, True)
+    numbered = asked()
+    numbered.of, numbered.ids, numbered.complete = OF["B"], 2, 1
+    count.same("known numbers together", in_room(library, LINES, OF_45, 1, numbered)[3] != 4, True)
+
+
 def wrong_calls(count, library, asked):
     """A number that is unknown: nothing is written, and no octet is counted."""
     trace, book = trace_rows.lines(*trace_rows.SHORT).encode(), trace_rows.OPERATIONS.encode()
@@ -179,4 +219,5 @@ def look_at(count, library, asked):
             compare(count, library, word, *case)
         compare_books(count, library, word)
     rooms(count, library, asked)
+    by_hand(count, library, asked)
     wrong_calls(count, library, asked)

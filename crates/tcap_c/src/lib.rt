@@ -9,10 +9,6 @@ mod asked;
 mod octets;
 mod outcomes;
 mod room;
-#[cfg(test)]
-mod tests;
-#[cfg(test)]
-mod trace_tests;
 mod traces;
 
 ghost use Rattle.std.specs.Prelude.{◌≡◌, ◌≢◌, ◌<◌, length, Option, None, Some};

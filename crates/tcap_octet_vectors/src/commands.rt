@@ -6,7 +6,7 @@ use crate::elements::is_element;
 use crate::long::is_long_record;
 use crate::made::is_made;
 use crate::messages::{are_vectors, is_edited, is_long_message, is_message, is_refused};
-use crate::octets::{fault_of, octets_of};
+use crate::octets::fault_of;
 use crate::packing::{are_long_lines, are_unwritten, is_failing_pack};
 use crate::parts::has_parts;
 use crate::records::{
@@ -14,6 +14,7 @@ use crate::records::{
 };
 use crate::values::{are_in_order, are_limits, is_text, is_value};
 use std::alloc::Global;
+use tcap_vectors::octets_of;
 
 /// Returns whether a row of this command holds, whose columns begin with these octets.
 fn holds_of(alloc: Global, command: &str, octets: &[u8], columns: &[&str]) -> Option<bool> {

@@ -1,9 +1,9 @@
 //! Components made by hand, from the words of a row.
 
-use crate::octets::octets_of;
 use std::alloc::Global;
 use tcap_ber::{ObjectId, Raw, Small};
 use tcap_parts::{Code, Component, Portion, Problem, ResultBody};
+use tcap_vectors::octets_of;
 
 /// How the portion of a message is made of its components: of these, by a copy, of what they lend, or of what the portion lends, by
 /// index or in order.

@@ -4,7 +4,7 @@ use std::alloc::Global;
 use std::io;
 use std::io::ErrorKind;
 use tcap_ber::{Counted, Read, ReadError, Write, read_to_end};
-use tcap_msg_rows::Failing;
+use tcap_vectors::Failing;
 
 /// A device whose every second call is interrupted, and whose other calls move two octets at most. Each call fails if it is broken.
 #[derive(Drop)]

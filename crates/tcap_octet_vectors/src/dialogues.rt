@@ -1,10 +1,10 @@
 //! Dialogue portions: read and written alone, and in each message.
 
 use crate::messages::is_message;
-use crate::octets::octets_of;
 use std::alloc::Global;
 use tcap_ber::{Counted, Window};
 use tcap_parts::{len_dialogue, view_dialogue, write_dialogue};
+use tcap_vectors::octets_of;
 
 /// Messages that have room for a dialogue portion: the words before and after it, the line before its text, and the lines of the
 /// components.

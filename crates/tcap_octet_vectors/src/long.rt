@@ -4,8 +4,8 @@ use crate::octets::{fault_of, text_of};
 use std::alloc::Global;
 use tcap_ber::Counted;
 use tcap_lines::run_show;
-use tcap_msg_rows::Failing;
 use tcap_record::{Feeder, PIECE_LEN, read_record};
+use tcap_vectors::Failing;
 
 /// The count of octets that no writer reaches.
 const NEVER: usize = 1_000_000_000;

@@ -2,11 +2,11 @@
 
 use crate::answers::{counted, encoded_again, is_answered};
 use crate::components::{Way, object_of, portion_of, small_of};
-use crate::octets::octets_of;
 use std::alloc::Global;
 use tcap_ber::ObjectId;
 use tcap_msg::{AbortReason, Message, TransactionId};
 use tcap_parts::{Dialogue, Info, Portion, Source};
+use tcap_vectors::octets_of;
 
 /// Returns a message of this kind with these parts, `None` if it can't have them. It makes no Abort.
 pub(crate) fn message_of(

@@ -2,11 +2,11 @@
 
 use crate::answers::{encoded_again, is_answered, lent_again, lines_of, viewed};
 use crate::elements::{is_walked_in_pieces, needs_at_each};
-use crate::octets::{octets_of, text_of};
+use crate::octets::text_of;
 use crate::parts::has_parts;
 use std::alloc::Global;
 use tcap_msg::{EncodeFault, MessageParts, decode, encode, view};
-use tcap_msg_rows::{Failing, VECTORS};
+use tcap_vectors::{Failing, VECTORS, octets_of};
 
 /// Returns whether these octets are written of the message: of the one that `decode` gives, of the one that a view of the octets
 /// lends, and of the one that the message itself lends.

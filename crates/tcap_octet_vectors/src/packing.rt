@@ -4,8 +4,8 @@ use crate::octets::text_of;
 use std::alloc::Global;
 use tcap_ber::Counted;
 use tcap_lines::run_pack;
-use tcap_msg_rows::Failing;
 use tcap_record::{FeedFault, FeedReason, PackFault, pack};
+use tcap_vectors::Failing;
 
 /// Looks at a row of `long lines`.
 pub(crate) fn are_long_lines(

@@ -1,15 +1,15 @@
 //! Records that arrive in pieces: by frames that hold one entry, and by a feeder that keeps the entries.
 
 use crate::answers::shown;
-use crate::octets::{octets_of, text_of};
+use crate::octets::text_of;
 use std::alloc::Global;
 use tcap_ber::Counted;
 use tcap_lines::run_show;
-use tcap_msg_rows::Failing;
 use tcap_record::{
     BodyView, End, Entry, EntryView, FeedFault, FeedReason, Feeder, Frames, Record, push_view,
     read_record, show,
 };
+use tcap_vectors::{Failing, octets_of};
 
 /// Returns the lines of entries, which are dropped.
 fn lines_of(alloc: Global, entries: Vec<Entry>) -> Option<Vec<u8>> {

@@ -1,11 +1,11 @@
 //! Values that are made of octets and lists, and the texts for debugging.
 
-use crate::octets::octets_of;
 use std::alloc::Global;
 use tcap_ber::{CONTENT_LIMIT, DEPTH_LIMIT, ObjectId, Raw, Small};
 use tcap_msg::{TransactionId, view};
 use tcap_parts::{Info, InfoView, Portion, Source};
 use tcap_record::{BodyView, End, EntryView};
+use tcap_vectors::octets_of;
 
 /// Returns whether the octets are a transaction ID, if it is wanted, and the same one lent and made again.
 fn is_id(octets: &[u8], wanted: &str) -> bool {

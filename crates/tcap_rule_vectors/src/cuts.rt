@@ -1,0 +1,119 @@
+//! How a record is cut into dialogues.
+
+use std::alloc::Global;
+use std::collections::BTreeSet;
+use std::fmt::Write;
+use tcap_dialogues::{Cut, Gathered, HeadingView, Reuse};
+use tcap_msg::{Kind, TransactionId};
+use tcap_record::End;
+
+/// Returns the kind of a message of this letter.
+fn kind_of(letter: u8) -> Option<Kind> {
+    match letter {
+        b'u' => Some(Kind::Unidirectional),
+        b'b' => Some(Kind::Begin),
+        b'c' => Some(Kind::Continue),
+        b'e' => Some(Kind::End),
+        _ => None,
+    }
+}
+
+/// Returns the transaction ID of this octet, a dash for none.
+fn id_of(letter: u8) -> Option<TransactionId> {
+    if letter == b'-' {
+        None
+    } else {
+        TransactionId::new(&[letter])
+    }
+}
+
+/// Takes an entry. Returns whether it is the first of one more dialogue.
+fn take(cut: &mut Cut, word: &str, done: &mut Vec<Gathered>) -> Option<bool> {
+    let [sender, kind, from, to, rest @ ..] = word.as_bytes() else {
+        return None;
+    };
+    let otid = id_of(*from);
+    let dtid = id_of(*to);
+    let heading = HeadingView {
+        sender: if *sender == b'A' { End::A } else { End::B },
+        kind: kind_of(*kind),
+        otid: match &otid {
+            Some(id) => Some(id.view()),
+            None => None,
+        },
+        dtid: match &dtid {
+            Some(id) => Some(id.view()),
+            None => None,
+        },
+        under_way: matches!(rest, [b'w']),
+        known: matches!(rest, [b'k']),
+    };
+    cut.take(heading, done).ok()
+}
+
+/// Appends the numbers of the entries of a dialogue, and of the earlier one that had an ID of it.
+fn push_dialogue(text: &mut String, dialogue: &Gathered) -> Option<()> {
+    for number in &dialogue.numbers {
+        write!(text, "{number},").ok()?;
+    }
+    if let Some(earlier) = dialogue.earlier {
+        write!(text, "!{earlier}").ok()?;
+    }
+    if dialogue.unsettled {
+        text.push_str("?").ok()?;
+    }
+    text.push_str(" ").ok()
+}
+
+/// Appends the IDs from which an end sent.
+fn push_sent(alloc: Global, text: &mut String, cut: &Cut, end: End) -> Option<()> {
+    let mut ids = BTreeSet::new(alloc);
+    cut.sent_from(end, &mut ids).ok()?;
+    for id in &ids {
+        for octet in id.octets() {
+            text.push(char::from(*octet)).ok()?;
+        }
+    }
+    Some(())
+}
+
+/// Returns the dialogues, and how many entries are the first of one more dialogue and the IDs from which the ends sent, with semicolons
+/// between them.
+fn text_of(alloc: Global, done: &[Gathered], begun: u64, sent: &str) -> Option<String> {
+    let mut text = String::new(alloc);
+    for dialogue in done {
+        push_dialogue(&mut text, dialogue)?;
+    }
+    write!(text, ";{begun};{sent}").ok()?;
+    Some(text)
+}
+
+/// Cuts a record of these entries into dialogues, and returns the text of these.
+fn cut(alloc: Global, reuse: Reuse, entries: &str) -> Option<String> {
+    let mut cut = Cut::new(alloc, reuse);
+    let mut done = Vec::new(alloc);
+    let mut begun = 0_u64;
+    for word in entries.split(' ') {
+        if take(&mut cut, word, &mut done)? {
+            begun = begun.saturating_add(1);
+        }
+    }
+    let mut sent = String::new(alloc);
+    push_sent(alloc, &mut sent, &cut, End::A)?;
+    sent.push_str("/").ok()?;
+    push_sent(alloc, &mut sent, &cut, End::B)?;
+    cut.finish(&mut done).ok()?;
+    text_of(alloc, &done, begun, sent.as_str())
+}
+
+/// Looks at a row of `cuts`: for how many entries IDs linger, or `once`; entries; the dialogues; how many entries are the first of one
+/// more dialogue; the IDs from which A sent, and those from which B did.
+pub(crate) fn is_cut(alloc: Global, linger: &str, entries: &str, wanted: &[&str]) -> Option<bool> {
+    let reuse = match linger.parse::<u64>() {
+        Ok(linger) => Reuse::Again(linger),
+        Err(_) => Reuse::Once,
+    };
+    let text = cut(alloc, reuse, entries)?;
+    let columns: Vec<&str> = text.split(';').collect(alloc).ok()?;
+    Some(columns.as_slice() == wanted)
+}
