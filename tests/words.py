@@ -374,11 +374,11 @@ WRONG = [
 
 STATUSES = """Exit statuses:
   0  nothing is wrong: LAWFUL, or all was printed or packed
-  1  REFUTED; of `blame` only BLAMED
-  2  NOT SHOWN, UNDECIDED, or refuted where `blame` blames nobody
-  3  a line of fault was printed, or the output could not be written
-  4  the words of the command are wrong
-Of `test` 0 says that all pass, 1 that a dialogue fails, 2 that one is inconclusive, 3 that there is an error
+  1  REFUTED; for `blame`, only BLAMED
+  2  NOT SHOWN, UNDECIDED, or REFUTED and `blame` blames no end
+  3  a fault was printed, or the output could not be written
+  4  the command line is wrong
+For `test`: 0 if all pass, 1 if a dialogue fails, 2 if one is inconclusive, 3 if there is an error
 """
 # Words, and what the help of them ends with.
 HELP = [
@@ -402,7 +402,7 @@ SUBCOMMANDS = ["show", "pack", "check", "judge", "explain", "blame", "table", "t
 PRINTED = [
     (["explain", "--help"], "Says in words why a record is lawful, refuted or undecided\n"),
     (["explain", "--help"], "Usage: tcapjudge explain [OPTIONS] <RECORD> <TABLE> [CERT]\n"),
-    (["explain", "--help"], "Writes a chart of the run, a page of HTML, to that file"),
+    (["explain", "--help"], "Writes a chart of the run to this file, as a page of HTML"),
     (["explain", "--help"], "--end <END>"),
     (["explain", "--help"], "--chart <FILE>"),
     (["--help"], "Usage: tcapjudge"),
@@ -413,7 +413,7 @@ PRINTED = [
     (["pack", "--help"], "Usage: tcapjudge"),
     (["check", "--help"], "Usage: tcapjudge check [OPTIONS] <RECORD> <TABLE> <CERT>"),
     (["check", "--help"], "--end <END>"),
-    (["judge", "--help"], "Judges that end alone, whatever its peer sends"),
+    (["judge", "--help"], "Judges this end alone, whatever its peer sends"),
     (["help", "explain"], "--chart <FILE>"),
     (["explain", "-h"], "--end <END>"),
     (["--version"], "tcapjudge 0.1.0"),
@@ -430,7 +430,7 @@ PRINTED = [
     (["help", "test"], "Judges each dialogue of traces"),
     (["test", "-h"], "Example: tcapjudge test --table map.json traces/*.hex"),
     (["test", "--help"], "[possible values: again, settled, once]"),
-    (["test", "--help"], "Writes a page to that file, to look at the dialogues that do not pass"),
+    (["test", "--help"], "Writes a page with the dialogues that do not pass to this file"),
 ]
 
 # Words that are wrong, and what is said of them.

@@ -18,11 +18,11 @@ static VERSION: &str = "0.1.0 (proved, rattle-kit-13f logic dac8208d650f15bf)";
 /// What the exit statuses mean.
 static STATUSES: &str = "Exit statuses:
   0  nothing is wrong: LAWFUL, or all was printed or packed
-  1  REFUTED; of `blame` only BLAMED
-  2  NOT SHOWN, UNDECIDED, or refuted where `blame` blames nobody
-  3  a line of fault was printed, or the output could not be written
-  4  the words of the command are wrong
-Of `test` 0 says that all pass, 1 that a dialogue fails, 2 that one is inconclusive, 3 that there is an error";
+  1  REFUTED; for `blame`, only BLAMED
+  2  NOT SHOWN, UNDECIDED, or REFUTED and `blame` blames no end
+  3  a fault was printed, or the output could not be written
+  4  the command line is wrong
+For `test`: 0 if all pass, 1 if a dialogue fails, 2 if one is inconclusive, 3 if there is an error";
 
 /// A positional argument that may not be left out.
 fn needed_arg<'a>(alloc: Global, id: &'a str, text: &'a str) -> Arg<'a>
@@ -84,7 +84,7 @@ fn end_arg<'a>(alloc: Global) -> Arg<'a>
     ensures rule { placeless_rule (rule_of result) ≡ end_rule (codes "end") }
     ensures local { result.global ≡ false }
 {
-    let text = "Judges that end alone, whatever its peer sends";
+    let text = "Judges this end alone, whatever its peer sends";
     choice_arg(alloc, "end", "END", LETTERS.as_slice(), text)
 }
 
@@ -105,7 +105,7 @@ fn of_arg<'a>(alloc: Global) -> Arg<'a>
     ensures rule { placeless_rule (rule_of result) ≡ end_rule (codes "of") }
     ensures local { result.global ≡ false }
 {
-    let text = "Asks for the verdicts on that end alone; on both where it is left out";
+    let text = "Reports on this end alone; by default, on both";
     choice_arg(alloc, "of", "END", LETTERS.as_slice(), text)
 }
 
@@ -115,7 +115,7 @@ fn ids_arg<'a>(alloc: Global) -> Arg<'a>
     ensures local { result.global ≡ false }
 {
     let text =
-        "Says how the IDs of a dialogue that is over come again; `again` where it is left out";
+        "Says how IDs come again after a dialogue is over; by default, `again`";
     choice_arg(alloc, "ids", "WORD", IDS.as_slice(), text)
 }
 
@@ -128,7 +128,7 @@ fn tables_arg<'a>(alloc: Global) -> Arg<'a>
         .long("table")
         .action(ArgAction::Append)
         .value_name("FILE")
-        .help("The file of an operation table, or of a book of them; it may stand several times")
+        .help("The file of an operation table, or of a book of them; may be given several times")
 }
 
 /// The option `--linger`, whose value is a number.
@@ -141,7 +141,7 @@ fn linger_arg<'a>(alloc: Global) -> Arg<'a>
         .action(ArgAction::Set)
         .value_name("N")
         .value_parser(value_parser!(u64))
-        .help("Judges a dialogue that many entries after it is over; 10000 where it is left out")
+        .help("Judges a dialogue this many entries after it is over; by default, 10000")
 }
 
 /// The paths of traces, one or more.
@@ -152,7 +152,7 @@ fn traces_arg<'a>(alloc: Global) -> Arg<'a>
     Arg::new(alloc, "TRACE")
         .required(true)
         .action(ArgAction::Append)
-        .help("The file of a trace; the standard input where it is -")
+        .help("The file of a trace; - is the standard input")
 }
 
 /// The subcommand `check`.
@@ -177,7 +177,7 @@ fn judge_command<'a>(alloc: Global) -> Result<Command<'a>, AllocError>
 {
     let record = needed_arg(alloc, "RECORD", "The file of the record");
     let table = needed_arg(alloc, "TABLE", "The file of the operation table");
-    let cert = flag_arg(alloc, "cert", "Prints the certificate behind LAWFUL");
+    let cert = flag_arg(alloc, "cert", "Prints the certificate after LAWFUL");
     Command::new(alloc, "judge")
         .about("Judges a record")
         .after_help("Example: tcapjudge judge record table.json --cert")
@@ -196,12 +196,12 @@ fn explain_command<'a>(alloc: Global) -> Result<Command<'a>, AllocError>
     let cert = left_out_arg(
         alloc,
         "CERT",
-        "The file of a certificate to replay; one is searched for where it is left out",
+        "The file of a certificate to replay; by default, one is searched for",
     );
     let chart = file_arg(
         alloc,
         "chart",
-        "Writes a chart of the run, a page of HTML, to that file",
+        "Writes a chart of the run to this file, as a page of HTML",
     );
     Command::new(alloc, "explain")
         .about("Says in words why a record is lawful, refuted or undecided")
@@ -233,12 +233,12 @@ fn show_command<'a>(alloc: Global) -> Result<Command<'a>, AllocError>
     let record = left_out_arg(
         alloc,
         "RECORD",
-        "The file of the record; the standard input where it is left out",
+        "The file of the record; by default, the standard input",
     );
     let why = flag_arg(
         alloc,
         "why",
-        "Says in words why an entry or the record is refused",
+        "Explains why an entry or the record is refused",
     );
     let lines = flag_arg(alloc, "lines", "Takes lines of hex digits, as `pack` does");
     Command::new(alloc, "show")
@@ -257,7 +257,7 @@ fn pack_command<'a>(alloc: Global) -> Result<Command<'a>, AllocError>
     let lines = left_out_arg(
         alloc,
         "LINES",
-        "The file of the lines; the standard input where it is left out",
+        "The file of the lines; by default, the standard input",
     );
     Command::new(alloc, "pack")
         .about("Makes a record of lines of hex digits")
@@ -273,7 +273,7 @@ fn table_command<'a>(alloc: Global) -> Result<Command<'a>, AllocError>
     let table = left_out_arg(
         alloc,
         "TABLE",
-        "The file of an operation table, or of a book of them; the book that the program carries where it is left out",
+        "The file of an operation table, or of a book of them; by default, the book that the program carries",
     );
     Command::new(alloc, "table")
         .about("Prints the rows of an operation table, or of a book of them")
@@ -293,19 +293,19 @@ fn test_command<'a>(alloc: Global) -> Result<Command<'a>, AllocError>
     let json = file_arg(
         alloc,
         "json",
-        "Writes the verdicts to that file, as lines of JSON",
+        "Writes the verdicts to this file, as lines of JSON",
     );
     let junit = file_arg(
         alloc,
         "junit",
-        "Writes the verdicts to that file, as JUnit's XML",
+        "Writes the verdicts to this file, as JUnit XML",
     );
     let html = file_arg(
         alloc,
         "html",
-        "Writes a page to that file, to look at the dialogues that do not pass",
+        "Writes a page with the dialogues that do not pass to this file",
     );
-    let progress = flag_arg(alloc, "progress", "Says how far it is");
+    let progress = flag_arg(alloc, "progress", "Shows progress on standard error");
     Command::new(alloc, "test")
         .about("Judges each dialogue of traces")
         .after_help("Example: tcapjudge test --table map.json traces/*.hex")
