@@ -1,9 +1,9 @@
-"""Shows what inputs cost that are made to be slow: prints, for each, the processor time for n, for 2n and for 4n
-entries or octets, the two ratios, and what the program said; and stops with status 1 where twice the input takes more
-than LIMIT times as long, or where something else is said than what the input was made for. The start of the program,
-over an empty record and the same table, is taken off, and the least of several runs counts. Times below NOISE tell
-nothing: there n grows until its time is above it, up to what the limits of a record, of a table and of a certificate
-allow. `make attack` builds the program first; words behind it choose attacks by parts of their names."""
+"""Shows the cost of inputs that are made to be slow. For each it prints the processor time for n, 2n and 4n entries or
+octets, the two ratios, and the program's first line. The status is 1 if twice the input takes more than LIMIT times as
+long, or the program prints another line than the input was made for. The start of the program, over an empty record
+and the same table, is subtracted, and the least of several runs counts. Times below NOISE mean nothing: n grows until
+its time is above NOISE, as far as the limits of a record, a table and a certificate allow. `make attack` builds the
+program first; its words choose attacks by parts of their names."""
 
 import json
 import math
@@ -18,9 +18,9 @@ import judging
 from judging import A, B, MARK, PROGRAM, abort, begin, components, element, end, going_on, invoke, result, transaction
 
 LIMIT = 2.5
-# Seconds below which a time tells nothing, and above which no greater input is tried.
+# The seconds below which a time means nothing, and above which no greater input is tried.
 NOISE, MOST = 0.05, 15
-# The most entries of a record, and the greatest text of a table or a certificate.
+# The most entries of a record, and the longest text of a table or a certificate.
 ENTRIES, TEXT = 100_000, 67_108_864
 OPERATION = judging.TABLE
 EMPTY = b'{"operations":[]}'
@@ -29,12 +29,12 @@ EMPTY = b'{"operations":[]}'
 
 
 def integer(tag, value):
-    """An INTEGER of as few octets as it takes."""
+    """Returns an INTEGER with as few octets as possible."""
     return element(tag, value.to_bytes((value.bit_length() + 8) // 8, "big", signed=True))
 
 
 def invoke_of(number, code, linked=None):
-    """An Invoke of an operation: a number, or the octets of an OBJECT IDENTIFIER."""
+    """Returns an Invoke of an operation: a number, or the octets of an OBJECT IDENTIFIER."""
     link = b"" if linked is None else element(0x80, bytes([linked]))
     operation = element(6, code) if isinstance(code, bytes) else integer(2, code)
     return element(0xA1, element(2, bytes([number])), link, operation)
@@ -53,7 +53,7 @@ def unidirectional(*parts):
 
 
 def nested(depth, inside=b""):
-    """Elements of indefinite length in each other."""
+    """Returns nested elements of indefinite length."""
     return b"\x30\x80" * depth + inside + b"\0\0" * depth
 
 
@@ -73,12 +73,13 @@ def prompt(entries):
 USUAL = table(OPERATION["operations"])
 OPENED = [A + begin(1), B + going_on(1, 1)]
 
-# ---- the inputs: each makes, for n, the octets of a record, and of a table and a certificate where it takes them
+# ---- the inputs: each function makes, for n, the octets of a record, and of a table and a certificate if the command
+# takes them
 
 
 def cut_at_each_depth(n):
     """Nested indefinite lengths in a definite one, cut at each depth"""
-    # From the depth of 33 on it is too deep, and cut too.
+    # From the depth of 33 on it is too deep, and also cut.
     head = element(2, b"\x01") + element(2, b"\x2d")
     one = [A + begin(1, element(0xA1, head, b"\x30\x80" * depth)) for depth in range(1, 65)]
     entries = [one[at % len(one)] for at in range(n)]
@@ -134,7 +135,8 @@ def links_over_one_invoke_id(n):
 def rejects_over_one_invoke_id(n):
     """One invoke ID: Invokes without a link, and behind them linked ones that the peer rejects for their links"""
     entries = OPENED + [A + going_on(1, 1, invoke(1, 48)) for _ in range(n // 2)]
-    # A may link 48 to B's invocation 2 of 50. B has that no more as they come: its 2 is one of 51, which lists nothing.
+    # A may link 48 to B's invocation 2 of 50. When the links come, B no longer has it: its 2 is one of 51, which lists
+    # nothing.
     rows = OPERATION["operations"] + [{"class": 4, "code": 50, "linked": [48]}, {"class": 4, "code": 51}]
     entries += [B + going_on(1, 1, invoke(2, 50)), B + going_on(1, 1, invoke(2, 51))]
     count = (n - len(entries)) // 2
@@ -148,7 +150,7 @@ def grants_of_one_id(n):
     count = n // 3
     entries = OPENED + [A + going_on(1, 1, invoke(1, 45))]
     entries += [B + going_on(1, 1, result(1, last=False)) for _ in range(count)]
-    # The ID is invoked anew, of class 2: what B still answers of the first one is not expected.
+    # The ID is invoked again, with class 2: B's further answers to the first invocation are not expected.
     entries += [A + going_on(1, 1, invoke(1, 46))]
     entries += [B + going_on(1, 1, result(1, last=False)) for _ in range(count)]
     entries += [A + going_on(1, 1, reject(1, 0x82, 1)) for _ in range(min(count, n - len(entries)))]
@@ -167,7 +169,8 @@ def grants_in_few_messages(n):
 
 
 def global_code(length, number):
-    """The contents of an OBJECT IDENTIFIER of that length, which differs from others in its last two octets."""
+    """Returns the contents of an OBJECT IDENTIFIER of that length, which differs from others in its last two
+    octets."""
     return b"\x2a" * (length - 2) + bytes([0x80 | 1 + number // 128, number % 128])
 
 
@@ -385,7 +388,7 @@ def aborts_to_open_halves(n):
     """Halves that are surely open, Continues of one ID that go to each of them, and Aborts that ask whether all do"""
     count = n // 4
     entries = [B + begin(at) for at in range(count)] + [A + going_on(at, at) for at in range(count)]
-    # The last goes to an ID that A never used, so the Aborts answer something.
+    # The last one goes to an ID that A never used, so the Aborts answer something.
     entries += [B + going_on(0, at) for at in range(count)] + [B + going_on(0, 999_999_999)] * 2
     entries += [A + abort(0, 1) for _ in range(n - len(entries))]
     return b"".join(entries), USUAL
@@ -401,9 +404,10 @@ def links_to_many_operations(n):
 
 
 def rejects_of_links(codes, operations, count):
-    """The table has so many operations, which list so many codes. B begins, so that all of A's invocations are known: A
-    invokes 7 by each operation; B's Invokes of 1 are linked to that, of each code and behind them of one that is not
-    listed; and A rejects 1 so often for its unexpected link, which is so of the last alone."""
+    """Returns a record with `count` Rejects, and a table with this many operations, which list this many codes. B
+    begins, so that all of A's invocations are known. A invokes 7 with each operation. B's Invokes of 1 are linked to
+    7, one for each code and then some of a code that is not listed. A rejects 1 for its unexpected link, which is true
+    only of these last ones."""
     listed = list(range(2000, 2000 + codes))
     rows = [{"class": 4, "code": 1000 + at, "linked": listed} for at in range(operations)]
     entries = [B + begin(1), A + going_on(1, 1)]
@@ -480,7 +484,7 @@ def long_line(n):
     return b"A" * n
 
 
-# The word or words, the input, the greatest n, and what the first line begins with.
+# The word or words, the input, the greatest n, and the beginning of the first line.
 CHECK, ALL = ("check",), ("check", "judge", "blame")
 ATTACKS = [
     (("show", "judge", "blame"), cut_at_each_depth, ENTRIES, ("0 A FAULT 5", "REFUTED 0 F1", "REFUTED 0 F1")),
@@ -547,7 +551,7 @@ ATTACKS = [
 
 
 def cost(command):
-    """The processor seconds of a run, and the first line that it printed."""
+    """Returns the processor seconds of a run, and its first line."""
     with subprocess.Popen(command, stdout=subprocess.PIPE, stderr=subprocess.DEVNULL) as run:
         line = run.stdout.readline()
         while run.stdout.read(1 << 20):
@@ -558,7 +562,7 @@ def cost(command):
 
 
 def least(command, turns):
-    """The least of so many turns, fewer where they are long, and what the last one printed first."""
+    """Returns the least of this many runs, or of fewer if they are long, and the first line of the last."""
     times = []
     for _ in range(turns):
         seconds, line = cost(command)
@@ -569,7 +573,7 @@ def least(command, turns):
 
 
 def files(folder, given):
-    """The paths of a record, and of a table and a certificate where they are there."""
+    """Writes a record, and a table and a certificate if they are given. Returns their paths."""
     octets = (given,) if isinstance(given, bytes) else given
     return [judging.written(folder, name, text) for name, text in zip(("record", "table", "cert"), octets)]
 
@@ -579,7 +583,7 @@ def command_of(word, paths):
 
 
 def start_of(folder, word, make, turns):
-    """What the program takes without that: over an empty record, by the table for n = 1."""
+    """Returns the processor time of the program's start: over an empty record, with the table for n = 1."""
     given = make(1)
     given_table = EMPTY if isinstance(given, bytes) else given[1]
     paths = files(folder, (b"", given_table, certificate([])))
@@ -587,8 +591,8 @@ def start_of(folder, word, make, turns):
 
 
 def times_of(folder, word, make, count, turns, start):
-    """For so many, twice and four times as many the times, less that of the start, and what is printed of the last. It
-    goes no further behind a time that is too long."""
+    """Returns the times for `count`, twice and four times as much, without the time of the start, and the first line
+    of the last run. Stops after a time that is too long."""
     times, line = [], ""
     for factor in (1, 2, 4):
         seconds, line = least(command_of(word, files(folder, make(count * factor))), turns)
@@ -599,13 +603,14 @@ def times_of(folder, word, make, count, turns, start):
 
 
 def is_over(times):
-    """Whether they tell that twice the input takes too long."""
+    """Returns whether the times show that twice the input takes too long."""
     ratios = [after / before for before, after in zip(times, times[1:])]
     return max(times) >= NOISE and (len(times) < 3 or any(ratio > LIMIT for ratio in ratios))
 
 
 def attacked(folder, word, make, most):
-    """The n that is taken, the times for n, 2n and 4n, and the line. What seems to take too long is measured again."""
+    """Returns the n that was taken, the times for n, 2n and 4n, and the line. Times that seem too long are measured
+    again."""
     start, count = start_of(folder, word, make, 3), max(1, most // 64)
     while count * 8 <= most:
         if least(command_of(word, files(folder, make(count))), 3)[0] - start >= NOISE:

@@ -1,6 +1,7 @@
-"""Shows how much processor time tools/lines_of_capture.py takes beside the `tshark` that it runs, and how much memory each of
-both, over a capture of 100,000 frames of the network of tests/cases/made_network.py. The exit status is 1 where the tool takes over
-TIMES the processor time of tshark, or over MOST of memory, or loses messages. Where tshark is not installed it says so."""
+"""Measures tools/lines_of_capture.py: its processor time next to that of the `tshark` that it runs, and the memory of
+each, over a capture of 100,000 frames of the network of tests/cases/made_network.py. The exit status is 1 if the tool
+takes over TIMES the processor time of tshark or over MOST of memory, or loses messages. If tshark is not installed, it
+says so."""
 
 import shutil
 import subprocess
@@ -13,9 +14,11 @@ import made_captures as made
 import made_network
 
 FRAMES = 100_000
-# How many times the processor time of tshark the tool may take, and how much memory, without that of tshark, in MB (2^20 octets).
+# The greatest processor time of the tool, in times that of tshark, and its greatest memory without tshark, in MB (2^20
+# octets).
 TIMES, MOST = 2, 150
-# Runs the tool in a process of its own, and prints the processor times of it and of tshark, and the peaks of their memory.
+# Runs the tool in a separate process, and prints the processor times of the tool and of tshark, and the peaks of their
+# memory.
 RUN = """
 import resource, runpy, sys
 sys.argv, sys.path[0] = sys.argv[1:], "tools"

@@ -1,7 +1,7 @@
-"""Shows that `tcapjudge check`, `tcapjudge judge` and `tcapjudge blame` take time linear in the entries of a record, and how long
-they take beside `tcapjudge show` of the same record: prints, for records of several shapes, the time for 100,000 entries, how many times that
-of `show` it is, the ratios of the times for 25,000, 50,000 and 100,000 entries, and, of `check`, the peak of memory beside the
-greatest count of messages that wait. `make bench` builds the program first."""
+"""Shows that `tcapjudge check`, `tcapjudge judge` and `tcapjudge blame` take time linear in the entries of a record,
+and how long they take compared to `tcapjudge show`. For records of several shapes it prints the time for 100,000
+entries, that time divided by the time of `show`, the ratios of the times for 25,000, 50,000 and 100,000 entries, and,
+for `check`, the peak of memory with the greatest count of waiting messages. `make bench` builds the program first."""
 
 import json
 import os
@@ -18,7 +18,7 @@ TABLE = {"operations": [{"class": class_, "code": 44 + class_} for class_ in (1,
 
 
 def element(tag, *contents):
-    """An element of definite length."""
+    """Returns an element of definite length."""
     content = b"".join(contents)
     length = len(content)
     head = bytes([length]) if length < 128 else bytes([0x81, length]) if length < 256 else b"\x82" + length.to_bytes(2, "big")
@@ -65,7 +65,7 @@ def prompt(entries):
     return {"close": [], "expire": [], "fates": [at + 1 for at in range(len(entries))], "version": 1}
 
 
-# ---- records, each with a certificate that gives a run, and how many messages wait at most
+# ---- records, each with a certificate that gives a run, and the greatest count of waiting messages
 
 
 def in_turn(count):
@@ -175,7 +175,7 @@ ALONE = [short, many_open, one_dialogue, refused, rejected, unheard]
 
 
 def seconds(command):
-    """The least time of three runs, and what the run printed."""
+    """Returns the least time of three runs, and the output of the last."""
     times = []
     for _ in range(3):
         start = time.perf_counter()
@@ -192,7 +192,7 @@ print(resource.getrusage(resource.RUSAGE_CHILDREN).ru_maxrss)
 
 
 def peak(command):
-    """The greatest memory of a run, in kilobytes, or that of a small Python where it is less."""
+    """Returns the greatest memory of a run in kilobytes, or that of a small Python if that is more."""
     return int(subprocess.run([sys.executable, "-c", PEAK, *command], stdout=subprocess.PIPE, check=True).stdout)
 
 
@@ -204,7 +204,7 @@ def written(folder, name, octets):
 
 
 def compared(folder, words, entries, *certificate):
-    """The seconds of a command of these words over a record, those of `show`, what it printed first, and the command."""
+    """Runs a command on a record. Returns its seconds, the seconds of `show`, its first line and the command."""
     record = written(folder, "record", b"".join(entries))
     table = written(folder, "table", json.dumps(TABLE).encode())
     paths = [written(folder, "certificate", json.dumps(c, separators=(",", ":")).encode()) for c in certificate]

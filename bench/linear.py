@@ -1,11 +1,11 @@
-"""Shows that `tcapjudge show` and reading messages as views take time linear in the octets, and that `show` takes no more
-memory for a longer record: prints the ratio of the times, and the peak of memory, for an input and for one of twice and of
-four times as many entries or messages. The records are of entries of few octets,
-of many, of as many components as an entry can hold, and of dialogue portions; the messages that are viewed are those of
-the worked rows, one after the other. So it does for walks over an element of indefinite length that is made of elements
-of two octets, for framing a record, in one go and one octet at a time, and for an end that sends and one that receives a
-transaction of many Continues, each with an Invoke that is never answered. Where a C compiler is there, it prints how much
-longer `show` takes than a plain C program that prints the same lines. `make bench` builds the programs first."""
+"""Shows that `tcapjudge show` and reading messages as views take time linear in the octets, and that `show` takes no
+more memory for a longer record. It prints the ratios of the times, and the peaks of memory, for an input and for
+inputs with two and four times as many entries or messages. The records have short entries, long ones, entries with as
+many components as fit, and entries with dialogue portions. The viewed messages are those of the worked rows, one after
+the other. It does the same for walks over an element of indefinite length made of elements of two octets; for framing
+a record, at once and one octet at a time; and for an end that sends and one that receives a transaction of many
+Continues, each with an Invoke that is never answered. If there is a C compiler, it prints how much longer `show` takes
+than a plain C program that prints the same lines. `make bench` builds the programs first."""
 
 import re
 import shutil
@@ -28,18 +28,18 @@ DIALOGUE = bytes.fromhex(
 ROUNDS = 200
 
 with open("crates/tcap_vectors/src/vectors.rt") as file:
-    # The digits of a row stand behind its name.
+    # The digits of a row come after its name.
     DIGITS = re.findall(r'^\w+;([0-9a-f]+);', file.read(), re.MULTILINE)
 VECTORS = b"".join(bytes.fromhex(digits) for digits in DIGITS)
 
 
 def element(count):
-    """An element of indefinite length of so many elements of two octets."""
+    """Returns an element of indefinite length that has this many elements of two octets."""
     return bytes.fromhex("6280") + bytes.fromhex("0400") * count + bytes(2)
 
 
 def seconds(command, given):
-    """The least time of three runs over that input."""
+    """Returns the least time of three runs over that input."""
     times = []
     for _ in range(3):
         start = time.perf_counter()
@@ -48,8 +48,8 @@ def seconds(command, given):
     return min(times)
 
 
-# Runs a command and prints the greatest memory that it took. A small process of its own, since what the one that starts a
-# program takes is counted for the program too.
+# Runs a command and prints the greatest memory that it took. It is a separate small process, since the memory of the
+# process that starts a program counts for the program too.
 PEAK = """
 import resource, subprocess, sys
 subprocess.run(sys.argv[1:], stdout=subprocess.DEVNULL, check=True)
@@ -58,7 +58,7 @@ print(resource.getrusage(resource.RUSAGE_CHILDREN).ru_maxrss)
 
 
 def peak(command, given):
-    """The greatest memory of a run over that input, in kilobytes, or that of a small Python where it is less."""
+    """Returns the greatest memory of a run over that input in kilobytes, or that of a small Python if that is more."""
     with tempfile.TemporaryFile() as file:
         file.write(given)
         file.seek(0)
@@ -67,7 +67,7 @@ def peak(command, given):
 
 
 def growth(command, part, count):
-    """The times for so many parts one after the other, for twice as many and for four times as many."""
+    """Returns the times for this many parts one after the other, for twice and for four times as many."""
     return [seconds(command, part * (count * times)) for times in (1, 2, 4)]
 
 
@@ -120,7 +120,7 @@ if COMPILER:
         plain = f"{folder}/show_begins"
         subprocess.run([COMPILER, "-O2", "-o", plain, "bench/show_begins.c"], check=True)
         for name, entry in (("Begins", bytes.fromhex("416203480101")), ("Begins with an Invoke", SMALL)):
-            # By turns, since the speed of the machine may change.
+            # In turn, since the speed of the machine may change.
             turns = [[seconds(command, entry * 100_000) for command in (SHOW, [plain])] for _ in range(10)]
             ours, theirs = (min(times) for times in zip(*turns))
             print(f"show of 100000 {name}: {ours:.4f} s, {ours / theirs:.1f} times the {theirs:.4f} s of a plain C program")

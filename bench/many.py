@@ -1,5 +1,5 @@
-"""Shows how many records a second are judged by 1, 2 and 4 processes side by side, as docs/CAPTURES.md runs them: 1,000
-records, each in a file of its own, of short dialogues. `make bench` builds the program first."""
+"""Shows how many records a second are judged by 1, 2 and 4 processes at once, as docs/CAPTURES.md runs them: 1,000
+records of short dialogues, each in its own file. `make bench` builds the program first."""
 
 import json
 import os
@@ -11,14 +11,14 @@ import time
 import judging
 
 RECORDS = 1_000
-# Entries of each record.
+# The numbers of entries in a record.
 SIZES = 10, 1_000
 PROCESSES = 1, 2, 4
 
 
 def seconds(folder, count, line):
-    """The least time of three runs over the records of a folder, with so many processes side by side. Stops where not all
-    verdicts are that line."""
+    """Returns the least time of three runs over the records of a folder, with this many processes at once. Exits if
+    any verdict is not that line."""
     paths = b"".join(os.path.join(folder, f"{number}.record").encode() + b"\0" for number in range(RECORDS))
     words = ["xargs", "-0", "-P", str(count), "-I{}", judging.PROGRAM, "judge", "{}", f"{folder}/table.json"]
     times = []

@@ -1,12 +1,13 @@
-"""Lets each allocation of a proved program fail in turn, by a library that is preloaded before it (bench/fail_alloc.c;
-it takes a C compiler): of the words of `tcapjudge` over worked records, of a feeder that is fed a record one octet at a
-time, and of the worked lists of calls of one end.
+"""Lets each allocation of a proved program fail in turn, by a library that is preloaded (bench/fail_alloc.c, which
+needs a C compiler): in the words of `tcapjudge` over worked records, in a feeder that is fed one octet at a time, and
+in the worked lists of calls of one end.
 
-Each run has to say what it says without a failure, with that status; or that memory ran out, with status 3. `check`,
-`judge`, `blame` and `explain` have `FAULT 99 0` as their only line then. `show` has it behind the lines of the first entries, and
-`pack` on standard error, with the octets of the first lines on standard output. A run that finds no memory as it reads
-its words has it alone, on standard output. What is fed or called once more where memory ran out has to go on as if
-nothing had been. With an argument, only the program is tried: the one that TCAPJUDGE names, else the proved one."""
+Each run must give its output and its status without a failure, or report that memory ran out, with status 3. Then
+`check`, `judge`, `blame` and `explain` print only `FAULT 99 0`. `show` prints it after the lines of the first entries,
+and `pack` prints it on standard error after the octets of the first lines. A run that finds no memory while it reads
+its words prints only this line, on standard output. A feed or a call that is repeated after memory ran out must
+continue as if nothing had happened. With an argument, only the program is tried: the one in TCAPJUDGE, else the proved
+one."""
 
 import os
 import shutil
@@ -15,24 +16,24 @@ import sys
 import tempfile
 from collections import Counter
 
-# The program to try: the one that TCAPJUDGE names, else the proved one.
+# The program to try: the one in TCAPJUDGE, else the proved one.
 PROGRAM = os.environ.get("TCAPJUDGE") or "crates/tcapjudge/out/tcapjudge"
 BENCH = "crates/tcap_bench/out/tcap_bench"
 CALLS = "crates/tcap_rule_vectors"
 NO_MEMORY = b"FAULT 99 0\n"
 
-# Records in lines of hexadecimal digits, and tables and certificates for them.
+# Records as lines of hexadecimal digits, and tables and certificates for them.
 BEGIN, CONTINUE, END = "A 6203480101\n", "B 6506480102490101\n", "A 6403490102\n"
 INVOKE = "A 620D4801016C08A10602010102012D\n"
-# A dialogue that is asked for and confirmed.
+# A dialogue that is requested and confirmed.
 CONFIRMED = (
     "A 622D4801016B1E281C060700118605010101A011600F80020780A1090607040000010013026C08A10602010102012D\n"
     "B 65394801024901016B2A2828060700118605010101A01D611B80020780A109060704000001001302A203020100A305A103020100"
     "6C05A203020101\n" + END
 )
-# An End that a Continue crosses, which the provider answers.
+# A Continue that crosses an End, and the provider's answer to it.
 CROSSED = BEGIN + CONTINUE + END + CONTINUE + "A 67064901024A0101\n"
-# A result that is rejected, since its invocation had ended unseen.
+# A result that is rejected, since its invocation had expired.
 REJECTED = INVOKE + "B 650D4801024901016C05A203020101\nA 640D4901026C08A406020101820100\n"
 # An ID that is invoked twice: F10.
 TWICE = "A 62154801016C10A10602010102012DA10602010102012D\n"
@@ -58,7 +59,7 @@ SHOWN_COMPONENTS = [
 ]
 
 
-# An entry that is no message between two that are, and what is said of it.
+# An entry that is no message between two messages, and the output for it.
 BAD = BEGIN + "B 620D4801016C08A10602010130012D\n" + "A 6203480102\n"
 SHOWN_BAD = [
     "0 A Begin otid=01\n",
@@ -66,7 +67,7 @@ SHOWN_BAD = [
     "octets 01 6c 08 a1 06 02 01 01 [30] 01 2d; Begin otid=01\n",
     "2 A Begin otid=02\n",
 ]
-# The hint of `table` at a linked code that no row has.
+# The hint of `table` for a linked code that no row has.
 UNLISTED = b'  hint: row 5: "linked":["2a0305"] is the code of no row\n'
 TABLED = (
     "op=45 class=1\nop=46 class=2\nop=47 class=3\nop=48 class=4\nop=50 class=1 linked=48\n"
@@ -75,27 +76,27 @@ TABLED = (
 
 
 def octets_of(lines):
-    """The record of lines."""
+    """Returns the record of lines."""
     words = [line.split() for line in lines.splitlines() if not line.startswith("#")]
     return b"".join(end.encode() + bytes.fromhex(digits) for end, digits in words)
 
 
 def said(out, status, error=b""):
-    """What a run says: both streams, and its status."""
+    """Returns what a run gives: both streams, and its status."""
     return (out.encode() if isinstance(out, str) else out), error, status
 
 
 def cut(parts):
-    """What `show` says where memory runs out behind some of these parts."""
+    """Returns what `show` may give if memory runs out after some of these parts."""
     return [said("".join(parts[:count]).encode() + NO_MEMORY, 3) for count in range(len(parts) + 1)]
 
 
 def cut_pack(record):
-    """What `pack` says then of a record of that many octets: it may not yet have written all of what is before."""
+    """Returns what `pack` may give then for a record: it need not have written everything before the failure."""
     return [said(record[:count], 3, NO_MEMORY) for count in range(len(record) + 1)]
 
 
-# What `explain` prints.
+# The output of `explain`.
 WHY_REJECTED = """\
 LAWFUL 3
   one run that shows it:
@@ -141,10 +142,10 @@ LAWFUL 4 unheard 0
   B receives 2
 """
 
-# How many runs of the program were tried, each with every allocation failing in turn.
+# The number of runs that were tried, each with every allocation failing in turn.
 tried = 0
 
-# A word, its files, and what it has to say: the standard output and the status.
+# A word, its files, the standard output that it must give, and the status.
 CHECKED = [
     ("check", (REJECTED, TABLE, EXPIRED), "LAWFUL 3\n", 0),
     ("check", (CROSSED, TABLE, FOUND), "LAWFUL 5\n", 0),
@@ -166,7 +167,7 @@ CHECKED = [
 
 
 def answers(library, command, given):
-    """What the command says over that input: where no allocation fails, and where each fails in turn."""
+    """Returns what the command gives over that input if no allocation fails, and if each fails in turn."""
 
     def run(failing):
         environment = {**os.environ, "LD_PRELOAD": library, "FAIL_ALLOC": str(failing)}
@@ -180,8 +181,8 @@ def answers(library, command, given):
 
 
 def look(name, library, command, given, wanted, others):
-    """Stops where the command says anything else than what is wanted without a failure, or that or one of the others
-    with one. Counts what it says."""
+    """Exits if the command gives another answer than `wanted` without a failure, or another than `wanted` or one of
+    `others` with a failure. Returns the number of allocations and the counts of the answers."""
     whole, failed = answers(library, command, given)
     if whole != wanted:
         sys.exit(f"{name}: {whole}")
@@ -202,20 +203,20 @@ def tell(name, count, given, wanted):
 
 
 def look_at_runs(library, folder):
-    """The words of the program."""
+    """Tries the words of the program."""
     with open(COMPONENTS, encoding="utf-8") as file:
         components = file.read()
     for lines, shown in (CONFIRMED, SHOWN), (components, SHOWN_COMPONENTS):
         wanted, record = said("".join(shown), 0), octets_of(lines)
         tell("show", *look("show", library, [PROGRAM, "show"], record, wanted, cut(shown)), wanted)
-        # Where the words find no memory, its line is on standard output.
+        # If the words find no memory, the line is on standard output.
         wanted, others = said(record, 0), [*cut_pack(record), said(NO_MEMORY, 3)]
         tell("pack", *look("pack", library, [PROGRAM, "pack"], lines.encode(), wanted, others), wanted)
     wanted = said("".join(SHOWN_BAD), 3)
     for words, given in (["show", "--why"], octets_of(BAD)), (["show", "--lines", "--why"], BAD.encode()):
         name = " ".join(words)
         tell(name, *look(name, library, [PROGRAM, *words], given, wanted, cut(SHOWN_BAD)), wanted)
-    # What is behind the line of a fault of `pack` may be left out.
+    # The text after the line of a fault of `pack` may be missing.
     record, line = octets_of(BEGIN), b"FAULT 24 2\n"
     wanted = said(record, 3, line + b"  why: the element is cut; column 5\n")
     others = [*cut_pack(record), said(NO_MEMORY, 3), said(record, 3, line)]
@@ -238,7 +239,7 @@ def look_at_runs(library, folder):
 
 
 def look_at_calls(library):
-    """Feeding, and calls of an end."""
+    """Tries feeding, and calls of an end."""
     fed, again, neither = said("3 0 true\n", 0), said("3 1 true\n", 0), said("", 1)
     count, given = look("feeding", library, [BENCH, "feed"], octets_of(CONFIRMED), fed, [again, neither])
     print(

@@ -1,9 +1,9 @@
-"""Makes examples/tables/book.json, the book of operation tables that the program carries, and
+"""Makes examples/tables/book.json, the set of operation tables that the program carries, and
 crates/tcap_books/src/carried.rt, which has its text.
 
-The tables are examples/tables/map.json and cap.json; the names of their operations stand in the tables of map.md and cap.md, and
-the contexts in that of book.md. With --check nothing is written: it compares all these, and prints `N passed, M failed`. The exit
-status is 0 where none failed."""
+The tables are examples/tables/map.json and cap.json. The names of their operations are in the tables of map.md and
+cap.md, and the contexts in the table of book.md. With --check it writes nothing, compares all these, and prints `N
+passed, M failed`. The exit status is 0 if none failed."""
 
 import json
 import re
@@ -12,7 +12,7 @@ import sys
 FOLDER = "examples/tables"
 BOOK = f"{FOLDER}/book.json"
 CARRIED = "crates/tcap_books/src/carried.rt"
-# The file of each table, and its name in the book.
+# The file of each table, and the name of the table in the set.
 TABLES = {"map": "MAP", "cap": "CAP"}
 CARRIED_FORM = '''//! The book that the program carries: the text of examples/tables/book.json, word for word. dev/book.py writes this file.
 
@@ -22,7 +22,7 @@ pub const CARRIED_BOOK: &str = r#"{}"#;
 
 
 def text_of(path):
-    """The text of a file, nothing where there is none."""
+    """Returns the text of a file, or an empty text if there is no file."""
     try:
         with open(path, encoding="utf-8") as file:
             return file.read()
@@ -31,18 +31,18 @@ def text_of(path):
 
 
 def rows_of(page):
-    """The rows of the table of a page."""
+    """Returns the rows of the table on a page."""
     lines = re.findall(r"^\| (.*) \|$", text_of(f"{FOLDER}/{page}.md"), re.MULTILINE)
     return [line.split(" | ") for line in lines[1:]]
 
 
 def names_of(page):
-    """The names of the operations on a page, by their codes."""
+    """Returns the names of the operations on a page, by their codes."""
     return {int(row[0]): row[1] for row in rows_of(page)}
 
 
 def said_of(page):
-    """What a page says of each row: its code, class and linked codes."""
+    """Returns the code, the class and the linked codes in each row of a page."""
     def linked(words):
         return [] if words == "none" else [int(part.split()[0]) for part in words.split(", ")]
 
@@ -50,12 +50,12 @@ def said_of(page):
 
 
 def table_of(name):
-    """The table of that file."""
+    """Returns the table in the file of that name."""
     return json.loads(text_of(f"{FOLDER}/{name}.json"))
 
 
 def content_of(arcs):
-    """The hex digits of the content of an OBJECT IDENTIFIER (X.690 8.19)."""
+    """Returns the hex digits of the content of an OBJECT IDENTIFIER (X.690 8.19)."""
     first, second, *others = map(int, arcs.split("."))
     octets = []
     for arc in [40 * first + second, *others]:
@@ -67,17 +67,17 @@ def content_of(arcs):
 
 
 def contexts_of(name):
-    """The contexts of the table of that name."""
+    """Returns the application contexts of the table of that name."""
     return [row[1] for row in rows_of("book") if row[0] == name]
 
 
 def line_of(value):
-    """A value in one line."""
+    """Returns a value as JSON on one line."""
     return json.dumps(value, separators=(",", ":"))
 
 
 def book():
-    """The text of the book: a line for each row."""
+    """Returns the text of the table set, with a line for each row."""
     parts = []
     for file, name in TABLES.items():
         names, table = names_of(file), table_of(file)
@@ -90,7 +90,7 @@ def book():
 
 
 def checks():
-    """What is compared, with whether it holds."""
+    """Yields each comparison with whether it holds."""
     for name in [*TABLES, "ussd"]:
         rows = table_of(name)["operations"]
         found = [(row["code"], row["class"], row.get("linked", [])) for row in rows]
@@ -105,7 +105,7 @@ def checks():
 
 
 def check():
-    """Compares, and prints what does not hold and the counts. Returns the exit status."""
+    """Prints the comparisons that do not hold, and the counts. Returns the exit status."""
     held = []
     for what, holds in checks():
         held.append(holds)

@@ -1,8 +1,8 @@
-"""What `make changed` runs: proves and tests, in the kept copy (dev/kept.py), what changed since a commit: the one
-that is named, else origin/main, else HEAD~1. What is not committed yet counts too.
+"""Runs `make changed`: proves and tests, in the kept copy (dev/kept.py), what changed since a commit. That is the
+named commit, else origin/main, else HEAD~1. Changes that are not committed count too.
 
-It checks every crate, of which only what changed is proved again; it tries the edits that the changes touch, runs the
-programs that look at test vectors, builds the program and runs it. It is no gate: at its end it says what it left out."""
+It checks every crate, and so proves again those that changed. It tries the edits that the changes touch, runs the
+programs that look at test vectors, builds the program and runs it. It is no gate: at its end it prints what it left out."""
 
 import os
 import shutil
@@ -24,7 +24,7 @@ the other stored runs, the second compiler, feeding while an entry is lent, and 
 
 
 def base_of(names):
-    """The first of the names that is a commit, and the last commit that it and HEAD have in common."""
+    """Returns the first of the names that is a commit, and the last commit that it and HEAD have in common."""
     for name in names:
         run = subprocess.run(["git", "merge-base", name, "HEAD"], capture_output=True, text=True, check=False)
         if run.returncode == 0:
@@ -33,7 +33,7 @@ def base_of(names):
 
 
 def changes_since(base):
-    """The paths of the files that differ from that commit, but for edits that only moved."""
+    """Returns the paths of the files that differ from that commit, except edits that only moved."""
     paths = kept.listed_by_git("diff", "--name-only", "--no-renames", "-z", base)
     moved = kept.listed_by_git("diff", "--name-only", "-M100%", "--diff-filter=R", "-z", base)
     others = kept.listed_by_git("ls-files", "--others", "--exclude-standard", "-z")
@@ -41,8 +41,8 @@ def changes_since(base):
 
 
 def touched(rt, tree, crate, changes):
-    """The edits of the crate that the changes touch: all where its definitions changed, else those that are new or
-    changed, and those of a file that changed."""
+    """Returns the edits of the crate that the changes touch: all if its definitions changed, else those that are new
+    or changed, or edit a file that changed."""
     found = edits.edits_of(f"{tree}/{crate}")
     if any(path.startswith(f"{crate}/specs/") for path in changes):
         return found
@@ -55,7 +55,7 @@ def touched(rt, tree, crate, changes):
 
 
 def chosen_of(rt, copy, changes):
-    """The edits to try, by the names of the crates whose files changed."""
+    """Returns the edits to try, by the names of the crates whose files changed."""
     names = {path.split("/")[1] for path in changes if path.startswith("crates/")}
     there = sorted(name for name in names if os.path.isdir(f"{copy.tree}/crates/{name}/src"))
     print(f"{len(changes)} files changed, in the crates {' '.join(there) or '(none)'}", flush=True)
@@ -63,11 +63,11 @@ def chosen_of(rt, copy, changes):
 
 
 def main(names):
-    # Python would wait for the checks that run. They end with this process.
+    # Python would wait for the running checks. They end with this process.
     signal.signal(signal.SIGINT, signal.SIG_DFL)
     name, base = base_of(names or ["origin/main", "HEAD~1"])
     start, copy, rt, passed = time.monotonic(), kept.Kept(), kit.load_rt(), []
-    # What an interrupted run leaves there is removed by the next one.
+    # The next run removes what an interrupted run leaves there.
     tempfile.tempdir = copy.rooms
     print(f"What changed since {name}, from {base[:12]} on, is proved in {copy.tree}", flush=True)
     chosen = chosen_of(rt, copy, changes_since(base))

@@ -1,8 +1,8 @@
-"""What `make clib` runs: proves and builds crates/tcap_c, puts it with what it calls of the C library into
-clib/out/libtcapjudge.a, links clib/out/libtcapjudge.so and clib/out/example of that, and runs tests/clib.py.
+"""Runs `make clib`: proves and builds crates/tcap_c, puts it with the functions of the C library that it calls into
+clib/out/libtcapjudge.a, links clib/out/libtcapjudge.so and clib/out/example, and runs tests/clib.py.
 
-With --over-ci it proves crates/tcap_c over the libraries that `rt ci` has just built here, and nothing else; where it
-can't, it says so, and runs nothing. So the gate has it."""
+With --over-ci, as the gate calls it, it proves only crates/tcap_c over the libraries that `rt ci` has just built here.
+If it can't, it says so and runs nothing."""
 
 import glob
 import os
@@ -19,7 +19,7 @@ TOOLS = "cc", "ar"
 
 
 def run(*words, cwd=None):
-    """What a command prints. Stops with that where it fails."""
+    """Returns what a command prints. If the command fails, prints its output and exits."""
     ended = subprocess.run(words, cwd=cwd, capture_output=True, check=False)
     if ended.returncode:
         sys.stderr.buffer.write(ended.stdout + ended.stderr)
@@ -28,12 +28,13 @@ def run(*words, cwd=None):
 
 
 def library():
-    """The crate of the library, as the kit's command `rt` has it."""
+    """Returns the crate of the library, as the kit's command `rt` represents it."""
     return kit.load_rt().rtlib.Crate(os.path.abspath("crates/tcap_c"), os.path.abspath("."), {})
 
 
 def link():
-    """Makes both libraries and the example of what `rt lib` built and of the functions of the kit that it calls in C."""
+    """Makes both libraries and the example, from what `rt lib` built and the functions of the kit in C that it
+    calls."""
     kit = os.path.dirname(run("rt", "doc").strip())
     os.makedirs(OUT, exist_ok=True)
     with tempfile.TemporaryDirectory() as folder:

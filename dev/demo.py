@@ -1,5 +1,5 @@
-"""Judges the traces of examples/ by `tcapjudge test`, for `make demo`: by the table of these examples and by the tables of MAP and CAP.
-The program is compiled but not proved (dev/unproved.py)."""
+"""Judges the traces of examples/ by `tcapjudge test`, for `make demo`: by the table of these examples and by the
+tables of MAP and CAP. The program is compiled but not proved (dev/unproved.py)."""
 
 import glob
 import os
@@ -16,7 +16,7 @@ FAIL = (
     "negative_test_failed no_message quiet reject_not_allowed unknown_transaction wrong_dialogue wrong_half wrong_operation wrong_reply"
 ).split()
 INCONC = "dialogue late_result one_in_three open_at_mark reused_id two_begins".split()
-# The line of a trace, not of a dialogue in it.
+# The line of a trace, as opposed to the line of a dialogue.
 OF_TRACE = re.compile(r"^examples/(\w+)\.hex: (pass|inconc|fail|error)\b", re.MULTILINE)
 
 

@@ -1,12 +1,13 @@
-"""What `make edits` runs: tries all edits of the crates that are named, or of all crates. An edit is a wrong body of a function,
-in crates/NAME/edits, and the prover has to refuse it. With --gate it tries those of dev/gate_edits.txt; so it does with --beside-ci,
-while `rt ci` still proves other crates.
+"""Runs `make edits`: tries all edits of the named crates, or of all crates. An edit is a wrong body of a function, in
+crates/NAME/edits, which the prover must refuse. With --gate it tries the edits of dev/gate_edits.txt; with --beside-ci
+it does so while `rt ci` still proves other crates.
 
-A function is proved by what those that it calls promise, and not by their bodies. So edits of several functions are tried in one
-check, of these functions and of what they call; each is refused where the check does not prove its own function, and not only for
-want of one that it calls. What is not seen to be refused so is tried in a check of its own, and at last in a check of the whole
-crate, as the kit's command `rt must-fail` tries it. What is checked is a copy of the crate's files, over the libraries below it.
-Checks go side by side, as many as there are processors and memory, or as RT_JOBS says."""
+The proof of a function uses the contracts of the functions that it calls, and not their bodies. So edits of several
+functions are tried in one check of these functions and of those that they call. An edit counts as refused if the check
+fails to prove its own function for another reason than a callee without a proof. Other edits are tried again in a
+check each, and at last in a check of the whole crate, as the kit's command `rt must-fail` does. Checks work on a copy
+of the crate's files, over the libraries below it. As many checks run at once as there are processors and memory for,
+or as RT_JOBS says."""
 
 import contextlib
 import glob
@@ -22,17 +23,18 @@ import time
 import kept
 import kit
 
-# The edits that the gate tries: a crate's name, a colon, and the names of edits, on a line.
+# The edits that the gate tries: each line has a crate's name, a colon, and the names of edits.
 GATE = "dev/gate_edits.txt"
-# What `rt` says of an edit that is refused for a reason that says little.
+# What `rt` prints for an edit that is refused for a reason that proves little.
 SAYS_LITTLE = "only because a proof file names what the edit took away"
-# So many edits are tried in one check at the most.
+# The most edits that are tried in one check.
 TOGETHER = 14
 FUNCTION = re.compile(r"\s*(?:pub(?:\([a-z]+\))? )?(?:const )?(?:unsafe )?fn (\w+)")
 # A block of methods: of a type, of a trait for a type, or of a trait.
 IMPL = re.compile(r"(?:unsafe )?impl\b(?:<.*?>)? (?:(?P<trait>\w[^{]*?) for )?(?P<type>\w+)|pub (?:\([a-z]+\) )?trait (?P<own>\w+)")
 DECLARED = re.compile(r"^(?:pub(?:\([a-z]+\))? )?(?:struct|enum|trait) (\w+)", re.MULTILINE)
-# What a check says of a function, of a goal of one, and of an error in a file of its proof; and where that says little.
+# What a check prints about a function, about a goal of one, and about an error in a file of its proof; and the errors
+# that prove little.
 STATE = re.compile(r"fn (\S+): (?:no proof|not proved)(.*)")
 GOAL = re.compile(r"(?:note: )?(?:\./)?(src/\S+?):(\d+):\d+: .*is not proved")
 PROOF = re.compile(r"(?:\./)?proofs/(\S+)/\w+\.antt:\d+:\d+: error: (.*)")
@@ -41,7 +43,7 @@ UNKNOWN = re.compile(r"has no function `|fits several")
 
 
 def edits_of(crate):
-    """The edits of the crate in that folder, by their paths. Stops at what is no edit."""
+    """Returns the paths of the edits of the crate in that folder. Exits if another file is there."""
     found = sorted(glob.glob(f"{crate}/edits/*"))
     others = ["/".join(path.split("/")[-4:]) for path in found if not path.endswith((".edit", ".md"))]
     if others:
@@ -50,7 +52,7 @@ def edits_of(crate):
 
 
 def pairs_of(edit):
-    """The file, the old and the new text of each pair of an edit."""
+    """Returns the file, the old text and the new text of each pair of an edit."""
     path, old, pairs = None, None, []
     with open(edit, encoding="utf-8") as file:
         for line in file.read().split("\n"):
@@ -64,12 +66,12 @@ def pairs_of(edit):
 
 
 def module_of(path):
-    """The module that a file of src/ is, below its crate."""
+    """Returns the module that a file of src/ is, below its crate."""
     return [part for part in path[len("src/") : -len(".rt")].split("/") if part not in ("lib", "main", "mod")]
 
 
 def types_of(crate):
-    """The modules of the types and traits that a crate in that folder declares, by their names."""
+    """Returns the modules of the types and traits that a crate in that folder declares, by their names."""
     found = {}
     for path in glob.glob(f"{crate}/src/**/*.rt", recursive=True):
         with open(path, encoding="utf-8") as file:
@@ -79,9 +81,9 @@ def types_of(crate):
 
 
 def function_at(path, text, line, types):
-    """The function that a line of a file stands in, the lines counted from 0, by the name that a check gives it below its crate: the
-    module and the names of the type and of the trait that it is of, else its file's module; and its own name. None where the line
-    stands in no function. `types` are the modules of the crate's types."""
+    """Returns the function that a line of a file is in; lines count from 0. The name is the one that a check gives the
+    function below its crate: the module and the names of its type and its trait, else the module of the file; and its
+    own name. Returns None if the line is in no function. `types` are the modules of the crate's types."""
     lines = text.split("\n")
     while lines[line].lstrip().startswith("#["):
         line += 1
@@ -103,7 +105,7 @@ class Together:
         self.texts, self.functions, self.edits = {}, set(), []
 
     def text(self, path):
-        """A file, with the edits in it."""
+        """Returns the text of a file, with the edits in it."""
         if path in self.texts:
             return self.texts[path]
         with open(f"{self.folder}/{path}", encoding="utf-8") as file:
@@ -113,8 +115,8 @@ class Together:
         return function_at(path, text, line, self.types)
 
     def takes(self, edit):
-        """Takes an edit along, where each of its old texts stands once, in a function that no other edit here turns. Returns whether
-        it did."""
+        """Takes an edit along, if each of its old texts occurs once, in a function that no other edit here changes.
+        Returns whether it did."""
         texts, functions = dict(self.texts), set()
         for path, old, new in pairs_of(edit):
             text = texts.get(path) or self.text(path)
@@ -132,10 +134,10 @@ class Together:
         return True
 
     def refused(self, said):
-        """The edits one of whose functions a check refuses for its own sake. Of one that lacks nothing but the proof of another which
-        it calls, a check says that alone."""
+        """Returns the edits with a function that a check refuses for its own sake. If a function lacks only the proof
+        of a function that it calls, a check prints just that."""
         found = lambda pattern: [match for match in map(pattern.match, said.split("\n")) if match]
-        # The proofs of a function are in a folder of its name, below those of its type and of its file.
+        # The proofs of a function are in a folder with its name, below the folders of its file and its type.
         at_fault = {error[1].replace("/", "::") for error in found(PROOF) if not NAMES.search(error[2])}
         at_fault |= {self.function_at(goal[1], self.text(goal[1]), int(goal[2]) - 1) for goal in found(GOAL)}
         at_fault |= {state[1].partition("::")[2] for state in found(STATE) if "did not prove" in state[2]}
@@ -144,7 +146,7 @@ class Together:
 
 
 def together(crate, edits):
-    """The edits of a crate that each turn functions alone, in as few groups as can be tried together."""
+    """Returns the edits of a crate that change only functions, in as few groups as can be tried together."""
     groups = []
     for edit in edits:
         if not any(group.takes(edit) for group in groups):
@@ -155,7 +157,7 @@ def together(crate, edits):
 
 
 class Tries:
-    """The edits of a crate that are tried, some of them side by side, and what came of them."""
+    """The edits of a crate to try, some of them at the same time, and their results."""
 
     def __init__(self, rt, crate, edits, log):
         self.rt, self.crate, self.edits, self.log = rt, crate, edits, log
@@ -163,8 +165,8 @@ class Tries:
 
     @contextlib.contextmanager
     def kept_work(self):
-        """A copy of what the crate's own check keeps, so that stays as it is, and no edit is checked over another. None where it keeps
-        nothing."""
+        """Yields a copy of what the crate's own check keeps, so that the original does not change and no edit is
+        checked over another. Yields None if it keeps nothing."""
         self.start = self.start or time.monotonic()
         folder = f"{self.crate.folder}/out/incremental"
         if not os.path.isdir(folder):
@@ -175,15 +177,15 @@ class Tries:
             yield f"{room}/incremental"
 
     def check(self, texts, words):
-        """What a check of the crate says with these texts in place of its own."""
+        """Checks the crate with these texts in place of its own. Returns the check's result."""
         with self.kept_work() as work:
             return self.rt.checked(self.crate, texts, ["--jobs", "1", *words], work)
 
     def try_group(self, group):
-        """Tries edits together. Returns those that are seen to be refused."""
+        """Tries edits together. Returns those that are refused."""
         ran = self.check(group.texts, [f"--only={it}" for it in sorted(group.functions)])
         if ran.returncode == 2 and UNKNOWN.search(ran.stdout):
-            # A name that a check gives otherwise: the functions of these modules.
+            # A check gives some function another name: check all functions of these modules.
             modules = sorted({"::".join(module_of(path)) for path in group.texts})
             ran = self.check(group.texts, [f"--only={it}" for it in modules] if all(modules) else [])
         refused = group.refused(ran.stdout) if ran.returncode == 1 else []
@@ -191,8 +193,9 @@ class Tries:
         return refused
 
     def try_whole(self, edit):
-        """Tries an edit in a check of the whole crate, and where that does not refuse it over what is kept, from nothing. Says so where
-        it is not refused, or for a reason that says little. Returns whether it is refused."""
+        """Tries an edit in a check of the whole crate. If that does not refuse it over what is kept, tries it from
+        nothing. Prints the edit if it is not refused, or for a reason that proves little. Returns whether it is
+        refused."""
         with self.kept_work() as work:
             is_refused, said = self.rt.must_fail(self.crate, edit, ["--jobs", "1"], work)
         if work and not is_refused:
@@ -207,22 +210,22 @@ class Tries:
         return f"{self.crate.name}/{os.path.basename(edit).removesuffix('.edit')}"
 
     def note(self, lines):
-        """Writes lines into the log."""
+        """Writes lines to the log."""
         with self.lock, open(self.log, "a", encoding="utf-8") as log:
             print(*lines, sep="\n", end="\n" * bool(lines), file=log)
 
 
 def in_lanes(rt, tries, tasks):
-    """Runs tasks side by side, each a crate's name and a call that takes nothing. Returns what each gave."""
-    # In the words of `rt`, a task waits for nothing, is so long, takes so much memory, and is this call.
+    """Runs tasks at the same time; each is a crate's name and a call without arguments. Returns the result of each."""
+    # For `rt`, a task waits for nothing, has this size, takes this much memory, and is this call.
     size = lambda name: ([], tries[name].crate.count(rb"\n"), rt.need(tries[name].crate))
     lanes = {(name, "edits", at): (*size(name), lambda given, jobs, call=call: call()) for at, (name, call) in enumerate(tasks)}
     return [*rt.in_lanes(lanes).values()]
 
 
 def try_all(rt, tree, chosen, log):
-    """Tries the edits that are chosen of each crate, by its name, in a folder where the libraries below these crates are built.
-    Returns how many were not refused."""
+    """Tries the chosen edits of each crate, by its name, in a folder with the built libraries below these crates.
+    Returns how many edits were not refused."""
     crates = [it for it in rt.rtlib.crates_below(tree) if chosen.get(it.name)]
     tries = {it.name: Tries(rt, it, chosen[it.name], log) for it in crates}
     left = {it.name: [*chosen[it.name]] for it in crates}
@@ -238,7 +241,7 @@ def try_all(rt, tree, chosen, log):
 
 
 def counted(rt, tree, chosen, log, failed):
-    """Tries the edits that are chosen, says how that went, and returns the exit status."""
+    """Tries the chosen edits, prints how that went, and returns `failed` plus the number of edits not refused."""
     start, used = time.monotonic(), os.times()
     failed += try_all(rt, tree, chosen, log)
     seconds, now = time.monotonic() - start, os.times()
@@ -249,15 +252,15 @@ def counted(rt, tree, chosen, log, failed):
 
 
 def of_gate():
-    """The edits that the gate tries, by the names of their crates."""
+    """Returns the edits that the gate tries, by the names of their crates."""
     with open(GATE, encoding="utf-8") as file:
         lines = [line.split(":") for line in file.read().splitlines() if line and not line.startswith("#")]
     return {name: edits.split() for name, edits in lines}
 
 
 def try_for_gate(are_there):
-    """Tries those of the gate over the libraries that `rt ci` has built here: `are_there` says of a crate whether those below it are
-    there. Closes with the line of their counts."""
+    """Tries the edits of the gate over the libraries that `rt ci` has built here. `are_there` returns whether the
+    libraries below a crate are there. Ends with a line of the counts."""
     rt, tree, failed, chosen = kit.load_rt(), os.path.abspath("."), 0, of_gate()
     crates = {it.name: it for it in rt.rtlib.crates_below(tree)}
     for name, edits in [*chosen.items()]:
@@ -274,13 +277,13 @@ def try_for_gate(are_there):
 
 
 def made_there(crate):
-    """Whether the libraries below a crate are there once `rt ci` has ended. In a folder that the user has checked in, it leaves those of
-    these checks."""
+    """Returns whether the libraries below a crate are there after `rt ci` has ended. In the folder where the user
+    works, `rt ci` leaves the libraries of its own checks."""
     return kit.take_libraries(crate) or subprocess.run(["rt", "check"], cwd=crate.folder, stdout=subprocess.DEVNULL).returncode == 0
 
 
 def main(names):
-    # Python would wait for the checks that run. They end with this process.
+    # Python would wait for the running checks. They end with this process.
     signal.signal(signal.SIGINT, signal.SIG_DFL)
     if names == ["--gate"]:
         return try_for_gate(made_there)
@@ -290,7 +293,7 @@ def main(names):
     if lost:
         sys.exit(f"no such crate: {' '.join(lost)}")
     copy, failed = kept.Kept(), 0
-    # What an interrupted run leaves there is removed by the next one.
+    # The next run removes what an interrupted run leaves there.
     tempfile.tempdir = copy.rooms
     found = {name: edits_of(f"{copy.tree}/crates/{name}") for name in names or os.listdir(f"{copy.tree}/crates")}
     chosen = {name: edits for name, edits in sorted(found.items()) if edits}

@@ -1,15 +1,16 @@
-"""The gate, which `make test` runs: `rt ci`, as many tasks side by side as RT_JOBS says or as this machine has room for, then the
-tests of TESTS on the program that `rt ci` built, tests/borrows.py, dev/clib.py over the libraries that `rt ci` built,
-tests/titan.py over the library that this made, and bench/memory.py, which lets each allocation of a run of that program fail
-in turn; beside them wrong bodies (dev/edits.py), as soon as their crates are proved. What they print is passed on. Then it prints how
-many seconds each crate's proof and its tests' proof took, with their processor time, and closes with the line `N passed, M failed`, in
-which all are counted. The exit status is 0 where none failed.
+"""The gate, which `make test` runs. It runs `rt ci`, with as many tasks at once as RT_JOBS says or as this machine has
+room for. Then it runs the tests of TESTS on the program that `rt ci` built; tests/borrows.py; dev/clib.py over the
+libraries that `rt ci` built; tests/titan.py over the library that this made; and bench/memory.py, which lets each
+allocation of a run of the program fail in turn. Meanwhile it tries wrong bodies (dev/edits.py), as soon as their
+crates are proved. It passes on what all these print. Then it prints the seconds and the processor time of the proof of
+each crate and of its tests, and ends with the line `N passed, M failed`, which counts everything. The exit status is 0
+if none failed.
 
-`rt ci` does not say when a part begins and ends. So twice a second this looks in /proc for the runs of `rattle` that
-`rt ci` started, which a word in their environment marks, and takes a part to last from the first to the last time that
-it is seen: a run names its crate, and that of tests has the word --test. The
-processor time of a part is what its runs had when they were last seen, so it lacks up to half a second of each. That of
-`rt ci` is whole: it is what the system counts of the processes that have ended."""
+`rt ci` does not report when a part begins and ends. So twice a second the gate looks in /proc for the runs of `rattle`
+that `rt ci` started, which a word in their environment marks. A part lasts from the first to the last time that it is
+seen: a run names its crate, and the word --test marks the proof of tests. The processor time of a part is what its
+runs had used when they were last seen, so it lacks up to half a second of each. The processor time of `rt ci` is
+exact: the system counts it for processes that have ended."""
 
 import atexit
 import collections
@@ -27,13 +28,13 @@ import time
 
 import edits
 
-# What users run is in tools/.
+# The tools for users are in tools/.
 sys.path.append("tools")
 
 import machine  # noqa: E402
 
 PROGRAM = "crates/tcapjudge/out/tcapjudge"
-# The tests of tests/ that run the program, with what each counts.
+# The tests in tests/ that run the program, with what each counts.
 TESTS = {
     "program": "runs of the program",
     "words": "faults in words",
@@ -54,26 +55,28 @@ TESTS = {
 LARGEST = 5
 MARK = "GATE_RUN"
 COUNTS = re.compile(rb"(\d+) passed, (\d+) failed\n?")
-# What `rt ci` says of a crate that it has proved, now or earlier.
+# What `rt ci` prints for a crate that it has proved, now or earlier.
 PROVED = re.compile(rb"(?:rt: )?(\w+) (?:proved|is kept: .*)\n?")
-# Of each part that failed so many lines are printed once more at the end, cut at so many octets.
+# The number of lines of a failed part that are printed again at the end, and the number of octets at which they are
+# cut.
 LAST, WIDTH = 20, 400
-# What `rt ci` says of what failed has one of these words.
+# What `rt ci` prints about a failure has one of these words.
 FAILS = re.compile(rb"fail|not proved|no proof|killed|not run|differ|printed", re.IGNORECASE)
 TICKS = os.sysconf("SC_CLK_TCK")
 
 
 class Part:
-    """A part of `rt ci`: the seconds after the start at which it is first and last seen, and the processor seconds of
-    each of its processes when that was last seen."""
+    """A part of `rt ci`: the seconds after the start at which it is first and last seen, and the processor seconds
+    that each of its processes had when it was last seen."""
 
     def __init__(self, now):
         self.first, self.last, self.used = now, now, {}
 
 
 def run_at(process):
-    """The crate and the kind of the part that a process under /proc runs for, and then the process, by its number and
-    the time of its start, and its processor seconds so far. None where it is no run of `rattle` of this gate."""
+    """Returns the crate and the kind of the part that a process under /proc runs for; then the process, by its number
+    and the time of its start, and its processor seconds so far. Returns None if it is no run of `rattle` of this
+    gate."""
     with open(f"{process}/cmdline", "rb") as file:
         words = file.read().decode(errors="replace").split("\0")
     if not words[0].endswith("/rattle") or "--crate-name" not in words:
@@ -82,7 +85,7 @@ def run_at(process):
         if f"{MARK}={os.getpid()}".encode() not in file.read().split(b"\0"):
             return None
     with open(f"{process}/stat", "rb") as file:
-        # Behind the name, which is in parentheses, the fields are numbered from 3 on.
+        # After the name, which is in parentheses, the fields are numbered from 3 on.
         fields = file.read().rpartition(b") ")[2].split()
     kind = "tests' proof" if "--test" in words else "proof"
     part = words[words.index("--crate-name") + 1], kind
@@ -106,7 +109,7 @@ def watch(start, parts, is_over):
 
 
 class Counts:
-    """How many of a part passed and failed, and the last lines that speak of what failed."""
+    """How many checks of a part passed and failed, and the last lines about failures."""
 
     def __init__(self, passed=0, failed=0, told=()):
         self.passed, self.failed, self.told = passed, failed, told
@@ -116,9 +119,9 @@ class Counts:
 
 
 def counts_of(run, speaks=lambda line: True, look=lambda line: None):
-    """Passes on what a command that runs prints, but for its line of counts, and has `look` look at it. Returns the counts, with the last
-    of the other lines that `speaks` holds of."""
-    # What ends without its counts has failed.
+    """Passes on the output of a running command except its line of counts, and gives each line to `look`. Returns the
+    counts, with the last of the other lines that `speaks` accepts."""
+    # A command that ends without its counts has failed.
     passed, failed, told = 0, 1, collections.deque(maxlen=LAST)
     try:
         for line in run.stdout:
@@ -132,7 +135,7 @@ def counts_of(run, speaks=lambda line: True, look=lambda line: None):
                 if speaks(line):
                     told.append(line[:WIDTH].rstrip() + b"\n")
     except BaseException:
-        # At Ctrl-C a test ends by itself, and removes what it made.
+        # At Ctrl-C a test ends on its own, and removes what it made.
         with contextlib.suppress(subprocess.TimeoutExpired):
             run.wait(3)
         run.terminate()
@@ -141,31 +144,32 @@ def counts_of(run, speaks=lambda line: True, look=lambda line: None):
 
 
 def started(*words):
-    """A command that runs, and of which all that it prints is read."""
+    """Starts a command, with all its output in one pipe."""
     return subprocess.Popen(words, stdout=subprocess.PIPE, stderr=subprocess.STDOUT)
 
 
 def counts_of_script(path, *words):
-    """What `counts_of` returns of a program in Python."""
+    """Runs a program in Python. Returns its counts, as `counts_of` does."""
     return counts_of(started(sys.executable, path, *words))
 
 
 def used_by_ended():
-    """The processor seconds of all processes that this one, or one that it waited for, started and waited for."""
+    """Returns the processor seconds of all processes that this one, or one that it waited for, started and waited
+    for."""
     used = resource.getrusage(resource.RUSAGE_CHILDREN)
     return used.ru_utime + used.ru_stime
 
 
 class Edits:
-    """The run of dev/edits.py for the gate. Towards its end `rt ci` leaves processors idle, so this begins as soon as the crates whose
-    edits it tries are proved, with less right to a processor. It begins when `rt ci` has ended where memory is short, and where
-    earlier checks left libraries, which `rt ci` puts back then."""
+    """The run of dev/edits.py for the gate. Towards its end `rt ci` leaves processors idle, so this run begins as soon
+    as the crates whose edits it tries are proved, with less right to a processor. If memory is short, or earlier
+    checks left libraries that `rt ci` puts back at its end, it begins after `rt ci`."""
 
     def __init__(self):
         self.run, self.left = None, set(edits.of_gate())
 
     def look(self, line):
-        """Looks at what `rt ci` prints, and begins."""
+        """Looks at a line that `rt ci` prints, and begins if all crates are proved."""
         proved = PROVED.fullmatch(line)
         if self.run or not proved:
             return
@@ -178,12 +182,12 @@ class Edits:
             self.run = started(*words, sys.executable, "dev/edits.py", "--beside-ci")
 
     def begun(self):
-        """The run."""
+        """Returns the run, and begins it if it has not begun."""
         self.run = self.run or started(sys.executable, "dev/edits.py", "--gate")
         return self.run
 
     def end(self):
-        """Stops the run, where it goes on."""
+        """Stops the run if it is still going on."""
         if self.run and self.run.poll() is None:
             self.run.terminate()
 
@@ -201,7 +205,7 @@ def watched(command, look):
 
 
 def show_parts(parts, seconds, used):
-    """Prints how long each part took, the longest first, and the processor time of each and of each kind."""
+    """Prints how long each part took, the longest first, and the processor time of each part and each kind."""
     print(f"rt ci took {seconds:.0f} seconds, and {used:.0f} seconds of processor time. Its parts, side by side:")
     kinds = collections.Counter()
     for (crate, kind), part in sorted(parts.items(), key=lambda it: it[1].first - it[1].last):
@@ -214,7 +218,7 @@ def show_parts(parts, seconds, used):
 
 
 def show_failures(named):
-    """Prints what failed by the names of the parts, with its last lines, once more at the end, where a log that is cut has it."""
+    """Prints the last lines of failed parts again, so that a log that is cut at the front has them."""
     for name, counts in named:
         if counts.failed:
             print(f"{name}: {counts.failed} failed", flush=True)
@@ -223,7 +227,8 @@ def show_failures(named):
 
 
 def jobs():
-    """How many tasks of `rt ci` go side by side: one for each processor, as far as each has memory for the largest check."""
+    """Returns how many tasks of `rt ci` run at once: one for each processor, if there is memory for the largest check
+    on each."""
     return max(1, min(machine.cores(), int(machine.free_memory() // LARGEST)))
 
 
@@ -244,19 +249,19 @@ def refused_memory():
 
 def main():
     os.environ[MARK] = str(os.getpid())
-    # Stopped by make, it stops what it runs.
+    # If make stops the gate, the gate stops what it runs.
     signal.signal(signal.SIGTERM, lambda *_: sys.exit(1))
     os.environ["RT_JOBS"] = os.environ.get("RT_JOBS") or str(jobs())
     print(f"RT_JOBS={os.environ['RT_JOBS']}: so many checks go side by side under rt ci", flush=True)
     machine.say_if_short(LARGEST, "the largest check")
-    # What is run then is what this `rt ci` built, also where it stops early.
+    # The tests must run the program of this `rt ci`, and none if it stops early.
     os.environ.pop("TCAPJUDGE", None)
     if os.path.exists(PROGRAM):
         os.remove(PROGRAM)
     wrong = Edits()
     atexit.register(wrong.end)
     ci, parts, seconds, used = watched(["rt", "ci"], wrong.look)
-    # What that prints is little, so it waits for no reader.
+    # That run prints little, so it never waits for a reader.
     tried, others = wrong.begun(), []
     for name, what in TESTS.items():
         others.append(counts_of_script(f"tests/{name}.py"))

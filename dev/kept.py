@@ -1,6 +1,6 @@
-"""The kept copy of the repository, in which `make edits` and `make changed` work: a folder of the folder of temporary
-files that is named after the repository's place. So nothing is edited or proved among the user's own files, whatever
-interrupts a run. What is proved in the copy stays there, so that the next run proves only what changed since."""
+"""The kept copy of the repository, in which `make edits` and `make changed` work: a folder among the temporary files,
+named after the repository's place. So an interrupted run never leaves edits or proofs among the user's own files.
+Proofs stay in the copy, so the next run proves only what changed since."""
 
 import fcntl
 import filecmp
@@ -15,19 +15,20 @@ import time
 
 
 def listed_by_git(*words):
-    """The paths that a command of git lists, each ended by a zero octet."""
+    """Returns the paths that a command of git lists, each ended by a zero octet."""
     run = subprocess.run(["git", *words], stdout=subprocess.PIPE, check=True)
     return [path for path in os.fsdecode(run.stdout).split("\0") if path]
 
 
 def files_here():
-    """The paths of the repository's files as they are now, committed or not, without those that git ignores."""
+    """Returns the paths of the repository's files as they are now, committed or not, without those that git
+    ignores."""
     paths = listed_by_git("ls-files", "-z", "--cached", "--others", "--exclude-standard")
     return [path for path in paths if os.path.isfile(path)]
 
 
 def hold(folder, kind):
-    """Locks a folder until what this returns is closed, and says so where it has to wait."""
+    """Locks a folder until the descriptor that this returns is closed, and prints a line if it must wait."""
     held = os.open(folder, os.O_RDONLY)
     try:
         fcntl.flock(held, kind | fcntl.LOCK_NB)
@@ -38,8 +39,8 @@ def hold(folder, kind):
 
 
 class Kept:
-    """The copy, which is made to be as the repository is now: its `tree`, a folder `rooms` for what one run leaves
-    behind, and a `log` of what its steps printed."""
+    """The copy, which is brought to the repository's present state: its `tree`, a folder `rooms` for temporary files
+    of one run, and a `log` of the output of its steps."""
 
     def __init__(self):
         here = os.path.realpath(".")
@@ -62,7 +63,7 @@ class Kept:
         self.take_proofs()
 
     def drop_others(self, files):
-        """Removes what the repository no longer has, but not what was proved of the crates that are still there."""
+        """Removes what the repository no longer has, except the proofs of crates that are still there."""
         for at, folders, names in os.walk(self.tree):
             place = os.path.relpath(at, self.tree)
             folders[:] = [name for name in folders if name != "out"]
@@ -82,7 +83,7 @@ class Kept:
                 shutil.copy(path, copy)
 
     def take_proofs(self):
-        """Takes along what was proved among the user's own files of each crate of which nothing was proved here yet."""
+        """Copies the user's own proofs of each crate that has no proofs here yet."""
         for out in sorted(glob.glob("crates/*/out")):
             crate, copy = os.path.dirname(out), f"{self.tree}/{out}"
             if os.path.isdir(copy) or not os.path.isdir(os.path.dirname(copy)):
@@ -95,10 +96,11 @@ class Kept:
             os.rename(part, copy)
 
     def step(self, what, command, folder="."):
-        """Runs a command in a folder of the copy. Says how many seconds it took and, where it failed, what it printed
-        last. Returns whether it passed."""
+        """Runs a command in a folder of the copy. Prints how many seconds it took and, if it failed, its last output.
+        Returns whether it passed."""
         start, place = time.monotonic(), f"{self.tree}/{folder}"
-        # A `make` that this runs is none of the one that may have started it, and its program the one that is built there.
+        # A `make` that this runs must not inherit from the one that may have started it, and must use the program that
+        # is built there.
         others = "MAKE", "MFLAGS", "TCAPJUDGE"
         environment = {name: value for name, value in os.environ.items() if not name.startswith(others)}
         how = {"stdin": subprocess.DEVNULL, "stdout": subprocess.PIPE, "stderr": subprocess.STDOUT}

@@ -1,4 +1,4 @@
-"""The kit's command `rt`, as a module, and what `rt ci` built."""
+"""Loads the kit's command `rt` as a module, and finds the libraries that `rt ci` built."""
 
 import importlib.machinery
 import importlib.util
@@ -8,20 +8,21 @@ import sys
 
 
 def load_rt():
-    """The kit's command `rt`, as a module."""
+    """Returns the kit's command `rt` as a module."""
     path = shutil.which("rt")
     if not path:
         sys.exit("missing: rt")
     loader = importlib.machinery.SourceFileLoader("rt", os.path.realpath(path))
     rt = importlib.util.module_from_spec(importlib.util.spec_from_loader("rt", loader))
     loader.exec_module(rt)
-    # Its first call sets a signal's handler, which only the main thread may.
+    # Its first call sets a signal's handler, which only the main thread may do.
     rt.rtlib.guarded()
     return rt
 
 
 def take_libraries(crate):
-    """Has other commands of `rt` take the libraries below a crate that `rt ci` left without a stamp. Returns whether all are there."""
+    """Makes other commands of `rt` accept the libraries below a crate that `rt ci` left without a stamp. Returns
+    whether all are there."""
     stamps = {it: f"{it.folder}/out/rlib/stamp" for it in crate.below()}
     for library, path in stamps.items():
         if os.path.isdir(library.rlib) and not os.path.exists(path):
@@ -31,5 +32,5 @@ def take_libraries(crate):
 
 
 def has_libraries(crate):
-    """Whether the libraries below a crate are there."""
+    """Returns whether the libraries below a crate are there."""
     return all(os.path.isdir(it.rlib) for it in crate.below())

@@ -1,10 +1,10 @@
-"""Makes crates/tcap_page/src/frame.rt, the frame of the pages that `tcapjudge test --html` and `explain --chart` write, of the files in
-page/.
+"""Makes crates/tcap_page/src/frame.rt from the files in page/: the frame of the pages that `tcapjudge test --html` and
+`explain --chart` write.
 
-A page is the frame up to its marker, objects of JSON, and the rest of the frame. frame.html has a place for the style and one for
-the script, which is the files of SCRIPTS in this order. The page takes these alone for style and script, since its policy names
-their checksums (Content Security Policy, W3C). With --check nothing is written: it compares, and prints `N passed, M failed`.
-The exit status is 0 where none failed."""
+A page is the frame up to its marker, objects of JSON, and the rest of the frame. frame.html has a place for the style
+and one for the script, which is the files of SCRIPTS in this order. A browser accepts no other style or script, since
+the policy of the page has their checksums (Content Security Policy, W3C). With --check it writes nothing, compares,
+and prints `N passed, M failed`. The exit status is 0 if none failed."""
 
 import base64
 import hashlib
@@ -16,18 +16,18 @@ SCRIPTS = ["text", "report", "list", "filters", "ladder", "parts", "dialogue", "
 SCRIPT_FORM = '"use strict";\n(() => {{\n{}}})();\n'
 MARKER = "MARKER\n"
 POLICY = "default-src 'none'; base-uri 'none'; form-action 'none'; img-src data:; style-src '{}'; script-src '{}'"
-FORM = """//! The frame of a page, made of the files in page/. dev/page.py writes this file.
+FORM = """//! The frame of a page. dev/page.py writes this file from the files in page/.
 
-/// What stands before the objects of JSON: the style, the script and the places that it fills.
+/// The frame of a page before its objects of JSON: the style, the script, and the elements that the script fills.
 pub const FRAME_HEAD: &str = {};
 
-/// What stands behind them.
+/// The frame of a page after its objects of JSON.
 pub const FRAME_TAIL: &str = {};
 """
 
 
 def text_of(path):
-    """The text of a file, nothing where there is none."""
+    """Returns the text of a file, or an empty text if there is no file."""
     try:
         with open(path, encoding="utf-8") as file:
             return file.read()
@@ -36,12 +36,12 @@ def text_of(path):
 
 
 def checksum_of(text):
-    """The name that a policy has for a style or a script."""
+    """Returns the checksum of a style or a script, as a policy spells it."""
     return f"sha256-{base64.b64encode(hashlib.sha256(text.encode()).digest()).decode()}"
 
 
 def frame():
-    """What stands before a report, and what stands behind it."""
+    """Returns the text before a report and the text after it."""
     style = "\n" + text_of(f"{FOLDER}/frame.css")
     script = "\n" + SCRIPT_FORM.format("\n".join(text_of(f"{FOLDER}/{name}.js") for name in SCRIPTS))
     places = {"{policy}": POLICY.format(checksum_of(style), checksum_of(script)), "{style}": style, "{script}": script}
@@ -53,7 +53,7 @@ def frame():
 
 
 def raw(text):
-    """A text as a raw string, which ends where a quote has as many # behind it as its first one has before it."""
+    """Returns a text as a raw string, with enough signs # that no quote in the text ends it."""
     signs = "#"
     while f'"{signs}' in text:
         signs += "#"
@@ -61,13 +61,13 @@ def raw(text):
 
 
 def constants():
-    """The text of the file with the frame."""
+    """Returns the text of the file with the frame."""
     head, tail = frame()
     return FORM.format(raw(head), raw(tail))
 
 
 def checks():
-    """What is looked at, with whether it holds."""
+    """Yields each check with whether it holds."""
     head, tail = frame()
     parts = [text_of(f"{FOLDER}/{name}") for name in ["frame.css", *(f"{name}.js" for name in SCRIPTS)]]
     yield "each file of the frame is there", all(parts) and head != "" and tail != ""
@@ -77,7 +77,7 @@ def checks():
 
 
 def check():
-    """Compares, and prints what does not hold and the counts. Returns the exit status."""
+    """Prints the checks that do not hold, and the counts. Returns the exit status."""
     held = []
     for what, holds in checks():
         held.append(holds)

@@ -1,9 +1,9 @@
-"""Takes the pictures of docs/: report.png, of the page that `tcapjudge test --html` writes, and chart.png, of the one that `explain
---chart` writes. It is run by hand where page/ changes, and needs what tests/browser.py shows pages by; the program is that of
-tests/tested.py.
+"""Takes the pictures of docs/: report.png, of the page that `tcapjudge test --html` writes, and chart.png, of the page
+that `explain --chart` writes. Run it by hand if page/ changes. It needs what tests/browser.py shows pages with; the
+program is that of tests/tested.py.
 
-The report is over two dialogues of examples/ side by side, in one of which a fault is planted, and over some examples as they stand.
-The chart is the run that docs/FORMAT.md shows."""
+The report is over two dialogues of examples/ side by side, one of them with a planted fault, and over some unchanged
+examples. The chart is the run that docs/FORMAT.md shows."""
 
 import os
 import shutil
@@ -17,20 +17,21 @@ import browser  # noqa: E402
 from tested import PROGRAM  # noqa: E402
 
 CALLS, OTHERS = ["ussd", "announcement"], ["password", "dialogue", "no_message", "wrong_dialogue", "open_at_mark"]
-# The End of examples/ussd.hex, from its component portion on: it has the result of the first Invoke once, and with the fault twice.
+# The End of examples/ussd.hex from its component portion on: the result of the first Invoke once, and twice with the
+# fault.
 RESULT = "a21a020101301502013b301004010f040bc2303bec1e974137970c06"
 ONCE, TWICE = f"642449042f3b00016c1c{RESULT}", f"644049042f3b00016c38{RESULT}{RESULT}"
 
 
 def entries_of(name):
-    """The lines of an example that stand for messages."""
+    """Returns the lines of an example that are messages."""
     with open(f"examples/{name}.hex", encoding="utf-8") as file:
         return [line.strip() for line in file if line[:2] in ("A ", "B ")]
 
 
 def calls():
-    """Two dialogues side by side, the fault in one of them. Above each message stand a frame and a time, as the tool of captures has
-    them."""
+    """Returns two dialogues side by side, one of them with the fault. Above each message is a frame and a time, as the
+    tool for captures writes them."""
     turns = zip(*map(entries_of, CALLS), strict=True)
     lines = [line.replace(ONCE, TWICE) for turn in turns for line in turn]
     assert sum(TWICE in line for line in lines) == 1
@@ -38,14 +39,15 @@ def calls():
 
 
 def written(folder, status, *words):
-    """Has the program write a page, in a folder, and end with that status."""
+    """Runs the program, which must write a page in the folder and end with that status. Returns the address of the
+    page."""
     ran = subprocess.run([PROGRAM, *words, "page.html"], cwd=folder, stdout=subprocess.DEVNULL, check=False)
     assert ran.returncode == status
     return f"file://{folder}/page.html"
 
 
 def report(folder):
-    """The page of a report."""
+    """Writes the page of a report."""
     with open(f"{folder}/calls.hex", "w", encoding="utf-8") as file:
         file.write(calls())
     for name in OTHERS:
@@ -54,7 +56,7 @@ def report(folder):
 
 
 def chart(folder):
-    """The page of a run."""
+    """Writes the page of a run."""
     with open(f"{folder}/record", "wb") as file:
         subprocess.run([PROGRAM, "pack", "examples/crossing.hex"], stdout=file, check=True)
     return written(folder, 0, "explain", "record", os.path.abspath("examples/operations.json"), "--chart")

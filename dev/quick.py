@@ -1,9 +1,9 @@
-"""What `make quick` runs: each test of tests/ that needs the program and no proof, side by side, over the unproved program
-(dev/unproved.py). It prints what each counted, and after how many seconds; then what all that does not show, and the line
-`N passed, M failed`. The exit status is 0 where none failed.
+"""Runs `make quick`: all tests in tests/ that need the program and no proof, at the same time, with the unproved
+program (dev/unproved.py). It prints the counts and the seconds of each, then what these tests do not show, and the
+line `N passed, M failed`. The exit status is 0 if none failed.
 
-Each test works in folders of its own, so none is in another's way. tests/octets.py needs the program alone too, but runs it a
-hundred thousand times: it is left out."""
+Each test works in folders of its own, so the tests do not disturb each other. tests/octets.py also needs only the
+program, but runs it a hundred thousand times, so it is left out."""
 
 import contextlib
 import os
@@ -16,7 +16,7 @@ import time
 import gate
 import unproved
 
-# Random cases, for so many seconds: the first ones of this seed.
+# Random cases for this many seconds, with this seed.
 FUZZ = ["60", "1"]
 NOT_SHOWN = """Left to `make test`: proofs, wrong bodies, the tests within the crates, the stored runs, the second compiler,
 the library for C, its example for TTCN-3, and feeding while an entry is lent. What ran is not the
@@ -25,25 +25,26 @@ speed."""
 
 
 def begin(stack, path, words, env):
-    """Has a test run until it ends, or until the stack is closed. Returns the process and the file of what it prints."""
+    """Starts a test, which runs until it ends or the stack is closed. Returns the process and the file with its
+    output."""
     printed = stack.enter_context(tempfile.TemporaryFile())
     how = {"stdin": subprocess.DEVNULL, "stdout": printed, "stderr": printed, "env": env}
-    # A test that is interrupted removes what it made.
+    # An interrupted test removes what it made.
     return stack.enter_context(unproved.started([sys.executable, path, *words], signal.SIGINT, **how)), printed
 
 
 def counts_of(status, printed):
-    """How many passed and failed of a test that ended with that status, and the lines that it printed else."""
+    """Returns how many checks of a test passed and failed, and its other lines. The test ended with that status."""
     printed.seek(0)
     lines = [*printed]
     counts = [line for line in lines if gate.COUNTS.fullmatch(line)]
-    # What ends without its counts has failed.
+    # A test that ends without its counts has failed.
     passed, failed = map(int, gate.COUNTS.fullmatch(counts[-1]).groups()) if counts else (0, 1)
     return passed, max(failed, int(status != 0)), [line for line in lines if line not in counts]
 
 
 def run_all(env):
-    """Runs the tests, and prints of each what it counted. Returns how many passed and failed."""
+    """Runs the tests, and prints the counts of each. Returns how many passed and failed."""
     start, both = time.monotonic(), [0, 0]
     with contextlib.ExitStack() as stack:
         running = {what: begin(stack, f"tests/{name}.py", [], env) for name, what in gate.TESTS.items()}
@@ -67,7 +68,7 @@ def main():
     unproved.machine.end_in_order()
     start = time.monotonic()
     unproved.program()
-    # By its link, since help names the program as it was called.
+    # Called through its link, since help names the program as it was called.
     program = os.path.abspath(unproved.LINK)
     print(f"{time.monotonic() - start:6.0f} s  the program is compiled, unproved: {unproved.PROGRAM}", flush=True)
     passed, failed = run_all(os.environ | {"TCAPJUDGE": program})

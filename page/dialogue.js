@@ -1,9 +1,9 @@
-// What is shown of one dialogue, and of one trace.
+// Views of one dialogue and of one trace.
 
 const OCTETS_IN_ROW = 16;
 const KEPT = "\n";
 
-/** Octets, 16 in a row: their place, their digits, and those that are letters. */
+/** Returns a dump of octets, 16 in a row: their offset, their digits and their ASCII characters. */
 function dumpOf(digits) {
   const octets = digits.match(/../g) ?? [];
   const rows = [];
@@ -16,7 +16,7 @@ function dumpOf(digits) {
   return rows.join("\n");
 }
 
-/** What a click on a message opens: what `show` prints, and the octets, where they are told. */
+/** Returns what a click on a message opens: the text of `show`, and the octets if the report has them. */
 function detailOf(message) {
   const {show, octets, comment} = message;
   const dump = octets === undefined ? [] : [
@@ -26,22 +26,22 @@ function detailOf(message) {
   return [make("pre", {class: "show"}, seen(show.trimEnd(), KEPT)), ...dump, opening("The whole comment", comment ?? "")];
 }
 
-/** The IDs of a message. */
+/** Returns the transaction IDs of a message as a text. */
 function idsIn({otid, dtid}) {
   return [otid === undefined ? "" : `otid ${otid}`, dtid === undefined ? "" : `dtid ${dtid}`].join(" ").trim();
 }
 
-/** What `show` says of a message behind its IDs: a cause, and the dialogue portion. */
+/** Returns the rest of a message's line in `show` after its IDs: a cause and the dialogue portion. */
 function portionIn(show) {
   return /^\d+ [AB] \w+(?: [od]tid=\w*)*(.*)/.exec(show)?.[1].trim() ?? "";
 }
 
-/** The line of an entry, where its trace has lines, and the comment above it. */
+/** Returns the line number of an entry, if its trace has lines, and the comment above the line. */
 function placeOf(message) {
   return [message.line > 0 ? `line ${message.line}` : "", message.comment ?? ""].filter((it) => it !== "").join(": ");
 }
 
-/** The step of an entry. `operations` has the names of those of its dialogue, by their codes. */
+/** Returns the step of an entry. `operations` has the names of the dialogue's operations by their codes. */
 function stepOf(message, operations) {
   const {entry} = message;
   const step = {number: entry, label: String(entry), entry, from: message.end ?? null, ids: idsIn(message), more: "", tags: [],
@@ -51,7 +51,7 @@ function stepOf(message, operations) {
   return {...step, title: message.kind, more: portionIn(message.show)};
 }
 
-/** For each end at fault its join. */
+/** Returns a join for each end at fault, which ties the entry at fault to the entries that show the fault. */
 function joinsOf({head, blamed}) {
   return blamed.map((end) => {
     const {entry, kind, evidence, doubt} = head[end];
@@ -61,12 +61,12 @@ function joinsOf({head, blamed}) {
   });
 }
 
-/** A button that leads to an entry in the ladder. */
+/** Returns a button that leads to an entry in the ladder. */
 function leap(entry) {
   return make("button", {type: "button", class: "leap", "data-to": entry}, String(entry));
 }
 
-/** A line of a reason. Where it is one of what is shown, its entries are buttons, with how often it names each. */
+/** Returns a line of a reason. If the line is a fact of the evidence, its entries are buttons, each with its count. */
 function reasonLine(line, shows) {
   const found = shows.find((it) => it.entries.length > 0 && line.trimStart().startsWith(`${it.what}:`));
   if (found === undefined) return make("div", {class: "line"}, seen(line));
@@ -77,20 +77,20 @@ function reasonLine(line, shows) {
   return make("div", {class: "line"}, `${margin}${seen(found.what)}:`, ...entries, behind);
 }
 
-/** The words of a reason, without the blanks that all its lines begin with. */
+/** Returns the text of a reason, without the blanks that begin all its lines. */
 function reasonOf(text, evidence) {
   const lines = text.trimEnd().split("\n");
   const margin = lines.map((it) => it.search(/\S|$/)).reduce((one, other) => Math.min(one, other));
   return make("div", {class: "reason"}, ...lines.map((it) => reasonLine(it.slice(margin), evidence?.shows ?? [])));
 }
 
-/** Which fault of its kind it is; null where no line of the reason tells it. */
+/** Returns the lines of a reason that identify the fault within its kind, or null if there are none. */
 function tellingView(said) {
   const telling = tellingOf(said);
   return telling === "" ? null : make("span", {class: "telling"}, cut(seen(telling), LONG_TITLE));
 }
 
-/** What is said of an end, in one line. Of the other end `before` is the entry at fault, where it is one. */
+/** Returns the verdict on an end in one line. `before` is the entry at fault of the other end, if it has one. */
 function summaryOf(end, said, before) {
   if (said.kind !== undefined) {
     const place = placeOfFault(said), later = before < said.entry ? " It comes later and may follow from the first." : "";
@@ -103,12 +103,12 @@ function summaryOf(end, said, before) {
   return make("p", {class: "summary"}, badge(said.verdict), ` ${end}: ${words}`);
 }
 
-/** Whether more is to be said of an end than its summary has. */
+/** Returns whether there is more to show for an end than its summary. */
 function hasReason(said) {
   return said?.kind !== undefined || (said?.text ?? "").trimEnd().includes("\n");
 }
 
-/** Why, at length. */
+/** Returns the full reasons for the verdicts on the ends and on the dialogue. */
 function reasonsOf(head, ends) {
   const boxes = ends.filter((end) => hasReason(head[end])).map((end) => {
     const {text, evidence, doubt} = head[end];
@@ -122,18 +122,18 @@ function reasonsOf(head, ends) {
   return make("div", {class: "reasons"}, ...boxes);
 }
 
-/** A fact with its name. */
+/** Returns a fact with its name. */
 function fact(name, ...words) {
   return make("div", {}, make("dt", {}, name), make("dd", {}, ...words));
 }
 
-/** The IDs of an end. */
+/** Returns the IDs of an end as a fact. */
 function idsFact(end, ids) {
   const words = ids.join(" ");
   return fact(`IDs of ${end}`, make("code", {}, cut(words, LONG_NAME) || "none"), opening("All of them", words) ?? "");
 }
 
-/** The facts of a dialogue. */
+/** Returns the facts of a dialogue. */
 function factsOf(head) {
   const {entries, lines, ids, table, context} = head;
   const open = head.marked ? "open at the quiet mark after it" : "open at the end of its trace";
@@ -148,7 +148,7 @@ function factsOf(head) {
     fact("Entries", words), told.length > 0 ? fact("State", told.join("; ")) : null);
 }
 
-/** The ladder of a dialogue, and how much of it is not listed. */
+/** Returns the ladder of a dialogue, with a note if entries are not listed. */
 function ladderOf(dialogue) {
   const found = messagesOf(dialogue);
   if (found === null) return make("p", {class: "note"}, "The messages of this dialogue can't be read: its line is cut.");
@@ -162,13 +162,14 @@ function ladderOf(dialogue) {
   return make("div", {}, note, ladder("The entries of the dialogue", heads, steps, joins, count));
 }
 
-/** A heading with the name of a trace, which opens where it is long. */
+/** Returns a heading with the name of a trace, which can be opened if it is long. */
 function headingOf(trace, words, verdict) {
   const heading = make("h2", {tabindex: "-1"}, named(trace), words, verdict === null ? null : badge(verdict));
   return make("div", {class: "heading"}, heading, opening("The whole name", trace));
 }
 
-/** All that is shown of a dialogue: first of the end that is at fault, and where both are, of the one whose entry comes first. */
+/** Returns the view of a dialogue. The end at fault comes first; if both are, the one with the earlier entry at
+ * fault. */
 function dialogueView(dialogue) {
   const {head, blamed} = dialogue;
   const ends = [...blamed, ...ENDS.filter((end) => head[end] !== undefined && !blamed.includes(end))];
@@ -181,7 +182,7 @@ function dialogueView(dialogue) {
   return made;
 }
 
-/** The sums of a trace. */
+/** Returns the counts of a trace. */
 function traceSums(head) {
   if (head.verdict === null) {
     return make("p", {class: "note"}, "The run was stopped before this trace was judged to its end.");
@@ -191,14 +192,14 @@ function traceSums(head) {
     fact("Pass unheard or unanswered", head.unheard.toLocaleString("en")));
 }
 
-/** What became of the messages of a trace that is an error by itself. */
+/** Returns what happened to the messages of a trace that is itself in error. */
 function unjudgedWords({dialogues, messages}) {
   if (VERDICTS.some((it) => dialogues[it] > 0)) return "Dialogues that were open there may not be told.";
   if (messages === 0) return "";
   return messages === 1 ? "Its message was not judged." : `None of its ${messages.toLocaleString("en")} messages was judged.`;
 }
 
-/** All that is shown of a trace. `enter` lists its dialogues, and `note` is what else is to be known. */
+/** Returns the view of a trace. `enter` lists its dialogues, and `note` is a further note on it. */
 function traceView(trace, count, enter, note) {
   const {head} = trace, words = isInError(trace) ? unjudgedWords(head) : "";
   const notes = [note, words].filter((it) => it !== "").map((it) => make("p", {class: "note"}, it));

@@ -1,16 +1,17 @@
-// What is listed: the filters, and the search.
+// The filters and the search, which decide what is listed.
 
-// How many traces the filter of traces has; others are chosen in their list.
+// The most traces in the filter of traces; others can be chosen in the list of traces.
 const MOST_OPTIONS = 1000;
 
-/** How often each value stands in a list. */
+/** Returns how often each value occurs in a list. */
 function tally(values) {
   const counts = new Map();
   for (const value of values) counts.set(value, (counts.get(value) ?? 0) + 1);
   return counts;
 }
 
-/** Fills a choice: any, and one option for each pair of a value, or null, and its words. What was chosen stays. */
+/** Fills a choice with `any` and an option for each pair of a value and words; null makes a disabled option. Keeps
+ * the choice made. */
 function fillChoice(choice, options) {
   const {value} = choice;
   const made = options.map(([it, words]) => make("option", {value: it, disabled: it === null ? "" : null}, words));
@@ -18,14 +19,14 @@ function fillChoice(choice, options) {
   choice.value = value;
 }
 
-/** The options of kinds, each with its count and its sentence. */
+/** Returns the options for kinds of fault, each with its count and its sentence. */
 function kindOptions(dialogues) {
   const counts = tally(dialogues.flatMap(({head, blamed}) => [...new Set(blamed.map((end) => head[end].kind))]));
   const known = Object.keys(KINDS).filter((kind) => counts.has(kind));
   return known.map((kind) => [kind, `${kind} (${counts.get(kind)}): ${KINDS[kind][0]}`]);
 }
 
-/** The options of tables. A value has a letter before the name, since a name may be empty. */
+/** Returns the options for tables. A sign comes before the name in each value, since a name may be empty. */
 function tableOptions(dialogues) {
   const counts = [...tally(dialogues.map(({head}) => head.table))];
   const options = counts.map(([name, count]) =>
@@ -33,7 +34,7 @@ function tableOptions(dialogues) {
   return options.sort((one, other) => (one[1] < other[1] ? -1 : 1));
 }
 
-/** The options of the first traces that have a listed dialogue, and how many others there are. */
+/** Returns the options for the first traces with dialogues in the report, and an option that counts the others. */
 function traceOptions(report) {
   const counts = [...tally(report.dialogues.map((it) => it.trace))], others = counts.length - MOST_OPTIONS;
   const options = counts.slice(0, MOST_OPTIONS).map(([number, count]) =>
@@ -41,7 +42,7 @@ function traceOptions(report) {
   return others > 0 ? [...options, [null, `${others.toLocaleString("en")} more in the list of traces`]] : options;
 }
 
-/** Chooses a trace, which may be none of the first. */
+/** Chooses a trace, and adds an option for it if there is none. */
 function chooseTrace(form, {number, head}) {
   const choice = form.elements.trace, value = String(number);
   if ([...choice.options].every((it) => it.value !== value)) {
@@ -50,7 +51,7 @@ function chooseTrace(form, {number, head}) {
   choice.value = value;
 }
 
-/** Fills the filters with what the report has. */
+/** Fills the filters with the values in the report. */
 function fillFilters(form, report) {
   const {dialogues} = report;
   const verdicts = tally([...report.traces.filter(isInError), ...dialogues].map(({head}) => head.verdict));
@@ -64,9 +65,10 @@ function fillFilters(form, report) {
   fillChoice(trace, traceOptions(report));
 }
 
-/** A term of the search: `part`, of an ID or a name; `line`, its number, or null; `told`, whether comments have it; and `isWord`, whether
- * it may be one of a reason. In comments a number is no part of a longer one, since most of these are times; in reasons it may be one
- * of any thing, so that they are not asked. */
+/** Returns a term of the search. `part` is looked for in IDs, names and kinds; `line` is a line number, or null;
+ * `told` tests the comments; `isWord` is whether reasons are searched too. In comments a number must not be part of a
+ * longer one, since most of those are times. In reasons a number can mean anything, so they are not searched for
+ * numbers. */
 function termOf(part) {
   const [, name, digits] = /^(?:(line|frame)\s+)?([1-9]\d*)$/.exec(part) ?? [];
   if (digits === undefined) return {part, line: null, told: (comments) => comments.includes(part), isWord: !/^\d*$/.test(part)};
@@ -75,31 +77,31 @@ function termOf(part) {
   return {part, line: name === "frame" ? null : Number(digits), told, isWord: false};
 }
 
-/** What the filters ask for. */
+/** Returns the values of the filters and the terms of the search. */
 function askedOf(form) {
   const {verdict, end, kind, table, trace, words} = Object.fromEntries(new FormData(form));
   const terms = words.toLowerCase().match(/(?:line|frame)\s+\d+(?!\S)|\S+/g) ?? [];
   return {verdict, end, kind, table, trace, terms: terms.map(termOf)};
 }
 
-/** Whether an end at fault of a dialogue is one that is asked for, by a kind that is asked for. */
+/** Returns whether an end at fault of a dialogue and its kind are among those that the filters ask for. */
 function isBlamedSo({head, blamed}, {end, kind}) {
   if (end === "" && kind === "") return true;
   return blamed.some((it) => (end === "" || it === end) && (kind === "" || head[it].kind === kind));
 }
 
-/** Whether what is searched has a term. */
+/** Returns whether the searched texts have a term. */
 function hasTerm({ids, lines, kinds, names, comments, reasons}, {part, line, told, isWord}) {
   return names.includes(part) || ids.some((id) => id.includes(part)) || lines.includes(line) || told(comments)
     || kinds.includes(part) || (isWord && reasons.includes(part));
 }
 
-/** Whether a dialogue has each term. */
+/** Returns whether a dialogue has each term. */
 function hasTerms(dialogue, terms) {
   return terms.length === 0 || terms.every((it) => hasTerm(wordsOf(dialogue), it));
 }
 
-/** Whether a dialogue is listed. */
+/** Returns whether a dialogue is listed. */
 function isListed(dialogue, asked) {
   const {head, trace} = dialogue;
   return (asked.verdict === "" || head.verdict === asked.verdict) && (asked.trace === "" || String(trace) === asked.trace)
@@ -107,7 +109,7 @@ function isListed(dialogue, asked) {
     && isBlamedSo(dialogue, asked) && hasTerms(dialogue, asked.terms);
 }
 
-/** Whether a trace is listed by itself: where nothing is asked that only a dialogue has. */
+/** Returns whether a trace is listed for itself: the filters must not ask for anything that only a dialogue has. */
 function isTraceListed({head, number}, asked) {
   const reasons = [head.text ?? "", head.hint ?? "", head.unheard > 0 ? UNHEARD : ""].join("\n").toLowerCase();
   const words = {ids: [], lines: [head.line], kinds: [], names: head.trace.toLowerCase(), comments: "", reasons};
@@ -115,8 +117,8 @@ function isTraceListed({head, number}, asked) {
     && (asked.verdict === "" || head.verdict === asked.verdict) && asked.terms.every((it) => hasTerm(words, it));
 }
 
-/** The dialogues that are listed; `inError`, the traces that are listed before them since they are errors by themselves; `rows`, both;
- * and the traces in their own list: those by themselves, and those of which a dialogue is. */
+/** Returns the listed `dialogues`; `inError`, the traces that are themselves in error, which are listed before them;
+ * `rows`, both of these; and `traces`, the list of traces, which are listed for themselves or for their dialogues. */
 function listed(report, asked) {
   const dialogues = report.dialogues.filter((it) => isListed(it, asked));
   const having = new Set(dialogues.map((it) => it.trace)), alone = report.traces.filter((it) => isTraceListed(it, asked));

@@ -1,22 +1,22 @@
-// The page: joins the report, the filters, the lists and what is shown.
+// The page: connects the report, the filters, the lists and the views.
 
-// How many dialogues are printed at once.
+// The most items that are printed at once.
 const PRINTED = 500;
-// After how many milliseconds it is looked again whether something of the report has come.
+// The time in milliseconds between two looks at how much of the report has arrived.
 const PAUSE = 20;
-// After how many milliseconds a dialogue that is shown is named in the address.
+// The time in milliseconds after which the address names the item that is shown.
 const STAY = 300;
-// What of a step can have the focus.
+// The parts of a step that can have the focus.
 const WORKED = ":is(button, .still)";
-// Where the lists stand above what is shown; frame.css has the same.
+// The widths at which the lists are above the view; frame.css has the same.
 const NARROW = "(max-width: 820px)";
 
-/** The element of that ID. */
+/** Returns the element with this ID. */
 function byId(id) {
   return document.getElementById(id);
 }
 
-/** A text, as a button where there is something to list. */
+/** Returns a text, as a button if there is something to list. */
 function lister(words, title, list) {
   if (list === null) return words;
   const button = make("button", {type: "button", class: "lister", title, "aria-label": `${words}. ${title}`}, words);
@@ -24,7 +24,7 @@ function lister(words, title, list) {
   return button;
 }
 
-/** The table of sums. Where the lists have what is counted, a click on a count lists it, by the filter or the word that does. */
+/** Returns the table of counts. If a list has the items that a count is of, a click on the count lists them. */
 function sumsView(sums, list) {
   const head = make("tr", {}, ...["", ...VERDICTS.map(badge), "all"].map((it) => make("th", {scope: "col"}, it)));
   const rows = ["traces", "dialogues"].map((what) => {
@@ -39,7 +39,7 @@ function sumsView(sums, list) {
   return [make("table", {}, head, ...rows), make("p", {class: "small"}, `${counted(sums.messages, "message")}; `, unheard)];
 }
 
-/** What has to be known of a report that has not all. */
+/** Returns notes on a report that is incomplete. */
 function notesOn({dialogues, total, unread, isRead}) {
   const notes = [], count = dialogues.length.toLocaleString("en");
   if (!isRead) return [make("p", {class: "note"}, `The report is being read: ${count} dialogues so far.`)];
@@ -55,7 +55,7 @@ function notesOn({dialogues, total, unread, isRead}) {
   return notes.map((it) => make("p", {class: "note"}, it));
 }
 
-/** The kinds of fault, each with its words. */
+/** Returns the kinds of fault, each with its words. */
 function kindsView() {
   const rows = Object.keys(KINDS).map((kind) => make("div", {}, make("dt", {}, kind), make("dd", {}, wordsOfKind(kind))));
   return make("dl", {}, ...rows);
@@ -79,7 +79,7 @@ class Page {
     this.hear();
   }
 
-  /** Shows what there is of the report, and goes where the address leads as soon as that is there. */
+  /** Shows the report as far as it has arrived, and follows the address once its target has arrived. */
   renew() {
     if (this.report.run !== null) {
       this.showRun(this.report.run);
@@ -94,7 +94,7 @@ class Page {
     if (this.follow(this.fragment)) this.fragment = "";
   }
 
-  /** Has each control do what it is for. */
+  /** Connects each control with its action. */
   hear() {
     for (const name of ["click", "keydown", "input"]) document.addEventListener(name, () => (this.isUsed = true), {capture: true});
     for (const name of ["input", "change"]) this.form.addEventListener(name, () => this.ask());
@@ -110,25 +110,25 @@ class Page {
     window.addEventListener("afterprint", () => this.unprint());
   }
 
-  /** What the filters have, as a text. */
+  /** Returns the values of the filters as a text. */
   formText() {
     return String(new URLSearchParams(new FormData(this.form)));
   }
 
-  /** Lists anew where something else is asked. Behind `input` comes `change`, by a click on a row, too, which a list that is drawn anew
-   * would not hear. */
+  /** Lists again if the filters have changed. After `input` a click on a row also causes `change`, and a list that is
+   * drawn again would not notice the click. */
   ask() {
     if (this.formText() !== this.asked) this.refresh();
   }
 
-  /** At Enter in the search goes to the list. */
+  /** On Enter in the search, moves the focus to the list. */
   submit(event) {
     event.preventDefault();
     this.ask();
     this.list().box.focus();
   }
 
-  /** Lists what the filters ask for, and chooses what was chosen, or else the first. */
+  /** Lists the items that the filters ask for. Chooses the item that was chosen before, or else the first. */
   refresh() {
     const now = listed(this.report, askedOf(this.form));
     this.listed = now;
@@ -141,7 +141,7 @@ class Page {
     else this.choose(now.rows[at]);
   }
 
-  /** Says how many are listed. */
+  /** Shows how many items are listed. */
   tellCounts(now) {
     const inError = now.inError.length > 0 ? `, ${counted(now.inError.length, "trace")} in error` : "";
     const said = Object.keys(this.lists).map((name) => {
@@ -152,7 +152,7 @@ class Page {
     byId("listed").textContent = `${said.join(". ")}.`;
   }
 
-  /** Lists what a filter or a word leaves, in the list of dialogues or of traces. */
+  /** Lists the items that one filter or word leaves, in the list of dialogues or of traces. */
   listBy(name, filter, value) {
     this.form.reset();
     this.form.elements[filter].value = value;
@@ -161,8 +161,8 @@ class Page {
     this.list().box.focus();
   }
 
-  /** Shows a dialogue or a trace that is chosen, and names it in the address once it stays: browsers let that be changed so often and
-   * no more. */
+  /** Shows a chosen dialogue or trace. Names it in the address after a while, since browsers limit how often the
+   * address may change. */
   choose(item) {
     const {report} = this;
     if (this.listed.rows.includes(item)) this.chosen = item;
@@ -170,20 +170,20 @@ class Page {
     this.name(isTrace(item) ? fragmentOfTrace(item, report) : fragmentOf(item, report));
   }
 
-  /** Has the address have a fragment, soon. */
+  /** Writes a fragment into the address after a while. */
   name(fragment) {
     clearTimeout(this.timer);
     this.timer = setTimeout(() => window.history.replaceState(null, "", fragment), STAY);
   }
 
-  /** What is shown of a dialogue or a trace; `note` is what else is to be known of a trace. */
+  /** Returns the view of a dialogue or a trace; `note` is a further note on a trace. */
   viewOf(item, note) {
     if (!isTrace(item)) return dialogueView(item);
     const count = this.report.dialogues.filter((it) => it.trace === item.number).length;
     return traceView(item, count, () => this.listTrace(item), note);
   }
 
-  /** Shows a run, beside which nothing is listed. */
+  /** Shows a run, without lists. */
   showRun(run) {
     document.body.classList.add("of-run");
     document.title = run.title;
@@ -192,7 +192,7 @@ class Page {
     this.view(run, () => runView(run));
   }
 
-  /** Says that no dialogue is listed, and leads to the traces where there are such. */
+  /** Shows that no dialogue is listed, and offers the listed traces if there are any. */
   showNone() {
     const count = this.listed.traces.length, isAsked = [...new FormData(this.form).values()].some((it) => it !== "");
     const words = isAsked || this.report.dialogues.length > 0 ? "No dialogue is listed: the filters leave none."
@@ -204,14 +204,14 @@ class Page {
     this.view(null, () => make("p", {class: "empty"}, words, ...(isAsked && count > 0 ? [" ", button] : [])));
   }
 
-  /** Turns to the list of traces, and shows the first. */
+  /** Turns to the list of traces, and chooses the first. */
   turnToTraces() {
     this.turnTo("traces");
     this.lists.traces.choose(0);
     this.list().box.focus();
   }
 
-  /** Shows what is made of an item, but where it is shown already. */
+  /** Shows the view that `made` returns for an item, unless that item is shown already. */
   view(item, made) {
     if (item !== null && item === this.viewed) return;
     this.viewed = item;
@@ -219,22 +219,22 @@ class Page {
     this.shown.scrollTop = 0;
   }
 
-  /** Goes from the list to what is shown: to the message at fault, or else to the heading. */
+  /** Moves the focus from the list to the view: to the message at fault, or else to the heading. */
   enter() {
     (this.shown.querySelector(`.step.fault ${WORKED}`) ?? this.shown.querySelector("h2"))?.focus();
   }
 
-  /** Where what is shown stands below the list, goes there. */
+  /** Moves the focus to the view if the view is below the list. */
   uncover() {
     if (window.matchMedia(NARROW).matches) this.enter();
   }
 
-  /** At Escape goes from the list back to the search. */
+  /** On Escape, moves the focus from the list to the search. */
   leaveList(event) {
     if (event.key === "Escape") this.form.elements.words.focus();
   }
 
-  /** At Escape closes the message that has the focus, or else goes back to the list. */
+  /** On Escape, closes the message with the focus, or else moves the focus to the list. */
   leave(event) {
     if (event.key !== "Escape") return;
     const open = event.target.closest(".step")?.querySelector("button[aria-expanded=true]") ?? null;
@@ -243,12 +243,12 @@ class Page {
     open?.focus();
   }
 
-  /** The list that is in view. */
+  /** Returns the list in view. */
   list() {
     return byId("panel-traces").hidden ? this.lists.dialogues : this.lists.traces;
   }
 
-  /** Goes to the entry that a button names. */
+  /** Moves the focus to the entry that a button names. */
   leap(button) {
     if (!button.matches(".leap")) return;
     const step = button.closest("article").querySelector(`[data-entry="${button.dataset.to}"]`);
@@ -266,7 +266,7 @@ class Page {
     this.lists[name].reveal();
   }
 
-  /** Turns to the other list by an arrow. */
+  /** Turns to the other list on an arrow key. */
   turnBy(event) {
     if (event.key !== "ArrowLeft" && event.key !== "ArrowRight") return;
     const name = byId("panel-traces").hidden ? "traces" : "dialogues";
@@ -274,7 +274,7 @@ class Page {
     byId(`tab-${name}`).focus();
   }
 
-  /** Lists the dialogues of a trace that do not pass; goes to what is shown of it where there are none. */
+  /** Lists the dialogues of a trace that do not pass. If there are none, moves the focus to the view of the trace. */
   listTrace(trace) {
     if (!this.report.dialogues.some((it) => it.trace === trace.number)) {
       this.enter();
@@ -287,13 +287,14 @@ class Page {
     this.list().box.focus();
   }
 
-  /** Lists all. */
+  /** Clears the filters, and so lists everything. */
   clear() {
     this.form.reset();
     this.refresh();
   }
 
-  /** Goes to what a fragment names, and returns whether it is there. What has no dialogue may come yet, until all is read. */
+  /** Follows a fragment, and returns whether its target is there. Until the report is read, a missing target may
+   * still arrive. */
   follow(fragment) {
     const dialogue = dialogueAt(fragment, this.report), trace = traceAt(fragment, this.report);
     if (dialogue !== undefined) {
@@ -310,7 +311,7 @@ class Page {
     return true;
   }
 
-  /** Chooses a dialogue or a trace in its list, whatever is asked for. */
+  /** Chooses a dialogue or a trace in its list, and clears the filters if they leave it out. */
   goTo(name, item) {
     this.isUsed = true;
     const rows = () => (name === "traces" ? this.listed.traces : this.listed.rows);
@@ -319,7 +320,7 @@ class Page {
     this.lists[name].choose(rows().indexOf(item));
   }
 
-  /** Says that what a fragment names is not in the page, where it names something. */
+  /** Shows that the target of a fragment is not in the page, if the fragment names one. */
   sayMissing(fragment) {
     const words = missingAt(fragment);
     if (words === "") return;
@@ -327,13 +328,13 @@ class Page {
     this.tellMissing(fragment, () => make("p", {class: "note"}, words));
   }
 
-  /** Shows what is made of a fragment that names what is not in the page; the address keeps it. */
+  /** Shows a view for a fragment whose target is not in the page, and keeps the fragment in the address. */
   tellMissing(fragment, made) {
     this.view(null, made);
     this.name(fragment);
   }
 
-  /** Prints the traces in error and the dialogues that are listed. */
+  /** Prints the listed traces in error and dialogues, as far as PRINTED allows. */
   printListed() {
     const {rows} = this.listed;
     const note = rows.length > PRINTED
@@ -343,14 +344,14 @@ class Page {
     window.print();
   }
 
-  /** Takes away what was printed. */
+  /** Removes the printed items from the page. */
   unprint() {
     document.body.classList.remove("prints-listed");
     byId("printed").replaceChildren();
   }
 }
 
-/** Shows the first part of the report as soon as it has come, and the whole when all has. */
+/** Shows the first part of the report as soon as it has arrived, and the whole report at the end. */
 function begin() {
   const reader = new Reader(), page = new Page(reader.report);
   const textNow = () => byId("report")?.textContent ?? "";

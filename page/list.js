@@ -1,12 +1,12 @@
-// A list of which only the rows in view stand in the page.
+// A list that keeps only the rows in view in the page.
 
 // The height of a row in pixels; frame.css has the same.
 const ROW = 62;
-// How many rows are drawn above and below those in view.
+// The number of rows that are drawn above and below those in view.
 const BESIDE = 8;
 
-/** A listbox. `show.row` makes what a row has, `show.chosen` is told of what is chosen, `show.clicked` of a click on it, and
- * `show.entered` of Enter. */
+/** A listbox. `show.row` returns the content of a row. `show.chosen` is called when an item is chosen, `show.clicked`
+ * when it is clicked, and `show.entered` on Enter. */
 class RowList {
   constructor(box, show) {
     Object.assign(this, {box, show, items: [], at: -1});
@@ -18,7 +18,7 @@ class RowList {
     new ResizeObserver(() => this.draw()).observe(box);
   }
 
-  /** Lists items, of which that at a place is chosen; none where it is -1. */
+  /** Lists items. The item at this place is chosen, or none if the place is -1. */
   list(items, at) {
     const isMoved = at !== this.at;
     Object.assign(this, {items, at});
@@ -38,7 +38,7 @@ class RowList {
     else this.box.setAttribute("aria-activedescendant", `${this.box.id}-${this.at}`);
   }
 
-  /** The row at a place. */
+  /** Returns the row at a place. */
   rowAt(at) {
     const row = make("div", {
       id: `${this.box.id}-${at}`, class: "row", role: "option", "data-at": at,
@@ -55,7 +55,7 @@ class RowList {
     this.show.chosen(this.items[at]);
   }
 
-  /** Brings what is chosen into view, or else the first row. */
+  /** Scrolls the chosen row into view, or the first row if none is chosen. */
   reveal() {
     const {box} = this, at = Math.max(0, this.at);
     if (at * ROW < box.scrollTop) box.scrollTop = at * ROW;
@@ -63,7 +63,7 @@ class RowList {
     this.draw();
   }
 
-  /** Chooses the row that is clicked. */
+  /** Chooses the row that was clicked. */
   clicked(event) {
     const row = event.target.closest(".row");
     if (row === null) return;
@@ -71,7 +71,7 @@ class RowList {
     this.show.clicked();
   }
 
-  /** Chooses by a key. */
+  /** Chooses a row by a key. */
   pressed(event) {
     const {at} = this, last = this.items.length - 1;
     if (last < 0 || event.ctrlKey || event.altKey || event.metaKey) return;

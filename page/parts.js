@@ -1,13 +1,13 @@
-// The components of a message, in few words: what the report says of each, and of its line in what `show` prints what is not there.
+// The components of a message, in few words: from the report, and for the rest from their lines in `show`.
 
-// The components of which one answers the other: an Invoke has an invoke ID and its operation, an answer the ID alone.
+// The components of which one answers the other: an Invoke has an invoke ID and its operation, an answer only the ID.
 const INVOKE = /^Invoke (-?\d+) (.*)$/s;
 const ANSWER = /^(?:ReturnResultLast|ReturnResultNotLast|ReturnError) (-?\d+)$/;
-// What a reason says of the operation that a Return Result names.
+// The line of a reason that gives the operation which a Return Result names.
 const NAMED = /^ *the result names (.*)$/m;
-// What the line of a component has behind its invoke ID.
+// The fields after the invoke ID in the line of a component.
 const FIELD = / (linked|op|error|general|invoke|result)=(?:g:)?(\S*)/g;
-// The problems of a Reject, by the field that has their numbers (Q.773 4.2.2).
+// The problems of a Reject in the order of their numbers (Q.773 4.2.2), by the field that has the number.
 const PROBLEMS = {
   general: ["general problem", ["unrecognizedComponent", "mistypedComponent", "badlyStructuredComponent"]],
   invoke: ["invoke problem", ["duplicateInvokeID", "unrecognizedOperation", "mistypedParameter", "resourceLimitation",
@@ -17,7 +17,7 @@ const PROBLEMS = {
     "mistypedParameter"]],
 };
 
-/** The fields of the components of a message, from the lines that `show` prints below that of the message. */
+/** Returns the fields of the components of a message, from the lines of `show` after the first. */
 function fieldsOf(show) {
   return show.split("\n").slice(1).map((line) => {
     const [head] = line.split(" parameter=");
@@ -25,19 +25,20 @@ function fieldsOf(show) {
   });
 }
 
-/** The code of an operation, which stands behind its name where it has one. */
+/** Returns the code of an operation, which comes after its name if it has one. */
 function codeOf(operation) {
   return operation.split(" ").at(-1);
 }
 
-/** The names of operations with their codes, by the codes: those that messages invoke, and those that reasons say a result names. */
+/** Returns operations with their names, by their codes: those that messages invoke, and those that results name, as
+ * reasons report. */
 function operationsIn(messages, reasons = []) {
   const invoked = messages.flatMap((it) => it.components ?? []).map((it) => INVOKE.exec(it)?.[2]);
   const named = reasons.map((it) => NAMED.exec(it)?.[1]);
   return new Map([...invoked, ...named].filter((it) => it !== undefined).map((it) => [codeOf(it), it]));
 }
 
-/** The problem of a Reject. */
+/** Returns the problem of a Reject in words. */
 function problemIn(fields) {
   const [name] = Object.keys(PROBLEMS).filter((it) => it in fields);
   if (name === undefined) return "";
@@ -45,13 +46,14 @@ function problemIn(fields) {
   return ` with ${words} ${fields[name]}${problem === undefined ? "" : `, ${problem}`}`;
 }
 
-/** What a Return Result names, where that is not the operation that it answers. */
+/** Returns the operation that a Return Result names, in words, if it is not the operation that the result answers. */
 function namedIn({op}, answered, operations) {
   if (op === undefined || (answered !== null && codeOf(answered) === op)) return "";
   return `${answered === null ? "" : ", but"} names ${operations.get(op) ?? op}`;
 }
 
-/** A component: `fields` are those of its line, `answered` is the operation that it answers, or null. */
+/** Returns a component in words. `fields` are those of its line, and `answered` is the operation that it answers, or
+ * null. */
 function partWords(part, fields, answered, operations) {
   const [kind] = part.split(" "), answers = answered === null ? "" : ` answers ${answered}`;
   if (kind === "Invoke") return fields.linked === undefined ? part : `${part} linked to ${fields.linked}`;
@@ -60,20 +62,21 @@ function partWords(part, fields, answered, operations) {
   return part + answers + namedIn(fields, answered, operations);
 }
 
-/** The components of a message. */
+/** Returns the components of a message in words. */
 function partsIn({components, answered, show}, operations) {
   const fields = fieldsOf(show ?? "");
   return (components ?? []).map((it, at) => partWords(it, fields[at] ?? {}, answered?.[at] ?? null, operations));
 }
 
-/** The operation that a component answers, where that is sure; else null. */
+/** Returns the operation that a component answers, or null if that is uncertain. */
 function answeredBy(part, {end, dtid}, invokes) {
   const found = invokes.get(`${otherEnd(end)} ${ANSWER.exec(part)?.[1]}`) ?? null;
   return found !== null && found.otid === dtid ? found.operation : null;
 }
 
-/** Messages, of which the answers have their operations. One is sure where the other end sent but one Invoke of its ID before, from
- * the transaction ID to which the answer goes, and where no entry before it is left out or can't be read. */
+/** Adds to each message the operations that its components answer. An operation is certain if the other end sent
+ * exactly one Invoke with its ID before, from the transaction ID that the answer goes to, and no earlier entry is
+ * left out or unreadable. */
 function withOperations(messages) {
   const invokes = new Map();
   let isSure = true;

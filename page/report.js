@@ -1,11 +1,12 @@
-// The report: what the lines say that stand in the page. A run stands in a page by itself.
+// The report: the lines of JSON in the page. A run is alone in its page.
 
-// In a text of JSON a quote stands behind a backslash, so these octets are a key and the beginning of its list.
+// In a JSON text a quote in a string comes after a backslash, so these characters are always a key and the start of
+// its list.
 const MESSAGES = ',"messages":[';
-// What is said of dialogues that pass though an end did not hear all, or did not answer.
+// The words for dialogues that pass although an end did not hear everything or did not answer.
 const UNHEARD = "unheard or unanswered";
 
-/** The object of a line, null where it is none. */
+/** Returns the object in a line, or null if there is none. */
 function objectOf(line) {
   try {
     const found = JSON.parse(line);
@@ -15,28 +16,28 @@ function objectOf(line) {
   }
 }
 
-/** What a line says before its messages: they are read when they are asked for. */
+/** Returns the object in a line without its messages, which are read when they are needed. */
 function headOf(line) {
   const at = line.indexOf(MESSAGES);
   return objectOf(at < 0 ? line : `${line.slice(0, at)}}`);
 }
 
-/** Whether it is a trace; else it is a dialogue. */
+/** Returns whether an item is a trace; otherwise it is a dialogue. */
 function isTrace(item) {
   return item.line === undefined;
 }
 
-/** Whether a trace is an error by itself, and not by one of its dialogues. */
+/** Returns whether a trace is itself in error, and not only one of its dialogues. */
 function isInError({head}) {
   return head.verdict === "error" && head.text !== undefined;
 }
 
-/** The ends of a dialogue that a kind of fault is said of, by their entries at fault. */
+/** Returns the ends at fault of a dialogue, in the order of their entries at fault. */
 function blamedEnds(head) {
   return ENDS.filter((end) => head[end]?.kind !== undefined).sort((one, other) => head[one].entry - head[other].entry);
 }
 
-/** The trace of what is read next: the object of a trace stands behind its dialogues. */
+/** Returns the trace of the next object. The object of a trace comes after those of its dialogues. */
 function openTrace(report, name) {
   const last = report.traces.at(-1);
   if (last !== undefined && last.head.verdict === null) return last;
@@ -44,7 +45,7 @@ function openTrace(report, name) {
   return report.traces.at(-1);
 }
 
-/** Adds what a line says. */
+/** Adds the object in a line to the report. */
 function addLine(report, line) {
   const head = headOf(line);
   if (head === null) {
@@ -61,14 +62,14 @@ function addLine(report, line) {
   }
 }
 
-/** Reads a report as far as it has come. */
+/** A reader of a report that is still arriving. */
 class Reader {
   constructor() {
     this.report = {dialogues: [], traces: [], total: null, run: null, unread: 0, isRead: false};
     this.from = 0;
   }
 
-  /** Adds the lines that have come whole. */
+  /** Adds the lines that have arrived whole. */
   take(text) {
     for (let to = text.indexOf("\n", this.from); to >= 0; to = text.indexOf("\n", this.from)) {
       this.add(text.slice(this.from, to));
@@ -76,33 +77,33 @@ class Reader {
     }
   }
 
-  /** Adds what is left, when no more comes. */
+  /** Adds the rest after everything has arrived. */
   close(text) {
     this.take(text);
     this.add(text.slice(this.from));
     this.report.isRead = true;
   }
 
-  /** Adds a line, where it has something. */
+  /** Adds a line, unless it is empty. */
   add(line) {
     if (line !== "") addLine(this.report, line);
   }
 }
 
-/** The messages of a dialogue, and how many are left out; null where they can't be read. */
+/** Returns the messages of a dialogue and the count of those left out, or null if they can't be read. */
 function messagesOf(dialogue) {
   const whole = objectOf(dialogue.line);
   return whole && {messages: whole.messages ?? [], leftOut: whole.left_out ?? 0};
 }
 
-/** What the reasons of a dialogue say. */
+/** Returns the texts of the reasons of a dialogue. */
 function reasonsIn(head) {
   const ends = ENDS.map((end) => head[end]).filter((it) => it !== undefined);
   return [head.text ?? "", ...ends.flatMap(({text, doubt}) => [text ?? "", doubt ?? ""])];
 }
 
-/** What is searched of a dialogue: its IDs, its lines, and in lower case the kinds of fault, the names of its trace, its table and its
- * operations, the comments, and the reasons. */
+/** Returns the searched texts of a dialogue: its IDs and its lines, and in lower case its kinds of fault, the names
+ * of its trace, its table and its operations, the comments, and the reasons. */
 function wordsOf(dialogue) {
   if (dialogue.words === null) {
     const {head, blamed} = dialogue, messages = messagesOf(dialogue)?.messages ?? [];
@@ -116,12 +117,12 @@ function wordsOf(dialogue) {
   return dialogue.words;
 }
 
-/** No counts of verdicts. */
+/** Returns a count of 0 for each verdict. */
 function noCounts() {
   return Object.fromEntries(VERDICTS.map((it) => [it, 0]));
 }
 
-/** The sums: those at the end, or else of the traces that are there. */
+/** Returns the counts at the end of the report, or else those of the traces that have arrived. */
 function sumsOf(report) {
   if (report.total !== null) return report.total.total;
   const sums = {traces: noCounts(), dialogues: noCounts(), messages: 0, unheard: 0};

@@ -1,22 +1,23 @@
 // The rows of the lists.
 
-// How many IDs of an end a row has.
+// The number of IDs of an end in a row.
 const SOME_IDS = 4;
 
-/** What the row of a dialogue has of an end at fault: where, and which fault of its kind it is, or else what its kind means. */
+/** Returns the fault of an end for the row of a dialogue: its place, and the lines that identify it, or else the
+ * words of its kind. */
 function faultInRow(end, said, isAlone) {
   const place = [isAlone ? "" : end, placeOfFault(said)].filter((it) => it !== "").join(" ");
   const kind = wordsOfKind(said.kind), words = cut(seen(tellingOf(said)), LONG_TITLE) || kind;
   return make("span", {title: words === kind ? kind : `${kind} ${words}`}, place === "" ? words : `${place}: ${words}`);
 }
 
-/** What a dialogue without an end at fault is not judged for, or not decided, in a line. */
+/** Returns in one line why a dialogue without an end at fault was not judged or not decided. */
 function undecidedInRow(head) {
   const text = [head.text, ...ENDS.map((end) => head[end]?.text)].find((it) => it !== undefined) ?? "";
   return make("span", {class: "lower"}, make("span", {}, cut(seen(text.trim().split("\n")[0]), LONG_TITLE)));
 }
 
-/** The row of a dialogue. */
+/** Returns the row of a dialogue. */
 function dialogueRow({head, blamed}) {
   const ids = ENDS.map((end) => `${end} ${head.ids[end].slice(0, SOME_IDS).join(" ") || "-"}`).join("  ");
   const kinds = blamed.map((end) => make("b", {title: wordsOfKind(head[end].kind)}, `${end} ${head[end].kind}`));
@@ -29,13 +30,13 @@ function dialogueRow({head, blamed}) {
   ];
 }
 
-/** How many dialogues of a trace have each verdict, and how many pass that not all was heard of, or that an end did not answer. */
+/** Returns how many dialogues of a trace have each verdict, and how many pass unheard or unanswered. */
 function countsIn({dialogues, unheard}) {
   const counts = VERDICTS.filter((it) => dialogues[it] > 0).map((it) => `${dialogues[it].toLocaleString("en")} ${it}`);
   return unheard > 0 ? [...counts, `${unheard.toLocaleString("en")} pass ${UNHEARD}`] : counts;
 }
 
-/** The row of a trace. */
+/** Returns the row of a trace. */
 function traceRow({head}) {
   const {trace, verdict, text} = head;
   const counts = verdict === null ? ["not judged to its end"] : countsIn(head);
@@ -45,7 +46,7 @@ function traceRow({head}) {
   ];
 }
 
-/** The row of a dialogue, or of a trace that stands among them. */
+/** Returns the row of a dialogue, or of a trace among the dialogues. */
 function rowOf(item) {
   return isTrace(item) ? traceRow(item) : dialogueRow(item);
 }

@@ -1,18 +1,18 @@
-// What is shown of a run (Q.774 3.2 and 3.3), one way in which the entries of a record can have come about: its rows are steps of
-// the ladder. A message that is received right behind its sending is one row; one that is received later has a row where it leaves,
-// and one where it comes, and a line at the side of its receiver joins the two.
+// The view of a run (Q.774 3.2 and 3.3): one way in which the entries of a record can have come about. Its steps are
+// rows of the ladder. A message that is received directly after it is sent has one row. A message that is received
+// later has a row where it leaves and one where it arrives, and a line on the side of its receiver joins the two.
 
 const LEAVES = {from: 0, to: 50, tip: "head"};
 const COMES = {from: 50, to: 100, tip: "head"};
-// The class of a verdict's badge.
+// The class of the badge of each verdict.
 const BADGES = {LAWFUL: "pass", REFUTED: "fail", UNDECIDED: "inconc", "NOT SHOWN": "inconc"};
 
-/** The other end. */
+/** Returns the other end. */
 function otherEnd(end) {
   return end === "A" ? "B" : "A";
 }
 
-/** A word on what becomes of a message, or what it does. */
+/** Returns a tag with words on what a message does or what happens to it. */
 function tag(words) {
   return make("span", {class: "mark tag"}, words);
 }
@@ -32,25 +32,25 @@ class RunRows {
     return this.rows.at(-1);
   }
 
-  /** Adds a row of words. */
+  /** Adds a row of words, and returns it. */
   say(title, end) {
     return this.add({title, at: end});
   }
 
-  /** Adds the row of an entry, with an arrow and words. */
+  /** Adds the row of an entry, with an arrow and tags, and returns it. */
   send(number, arrow, ...words) {
     const row = this.add({...stepOf(this.messages.get(number), this.operations), arrow, tags: words.map(tag)});
     this.sent.set(number, row);
     return row;
   }
 
-  /** Adds the row of an entry that an end sends. What an end sends that is judged alone is not followed further. */
+  /** Adds the row of an entry that an end sends. If this end is judged alone, its message is not followed further. */
   sends({end, entry}, ...words) {
     const row = this.send(entry, end === this.of ? WHOLE : LEAVES, ...words);
     row.isOnItsWay = end !== this.of;
   }
 
-  /** Has a message come to an end: in its own row where that is the last one, else in a row that is added. */
+  /** Adds the arrival of a message: in the row of its sending if that is the last row, else in a new row. */
   come(end, number, tip, ...words) {
     const sent = this.sent.get(number), tags = words.map(tag);
     if (sent !== undefined) sent.isOnItsWay = false;
@@ -68,7 +68,7 @@ class RunRows {
     this.spans[end].push([sent.number, row.number]);
   }
 
-  /** Adds what a step shows. */
+  /** Adds a step of the run. */
   step(it) {
     const {step, end, entry} = it;
     if (step === "sends" || step === "tells") this.sends(it);
@@ -82,7 +82,7 @@ class RunRows {
     else this.send(entry, null);
   }
 
-  /** Has a message be lost. */
+  /** Marks a message as lost. */
   lose(end, number) {
     const sent = this.sent.get(number);
     if (sent === undefined || end === this.of) return;
@@ -91,55 +91,55 @@ class RunRows {
     sent.tags.push(tag(this.of === undefined ? "taken as lost" : `taken as lost before ${this.of}`));
   }
 
-  /** Adds the row of a provider's answer, behind the message that it answers. */
+  /** Adds the row of a provider's answer, after the arrival of the message that it answers. */
   reply(it) {
     this.come(it.end, it.answers, "head");
     this.sends(it, `${it.end}'s provider answers ${it.answers}`);
   }
 
-  /** Adds the row of an entry behind the last step. */
+  /** Adds the row of an entry after the last step. */
   stand(number) {
     if (!this.isStopped) this.say("The steps end here. The entries below stand as they are recorded.");
     this.isStopped = true;
     this.send(number, {...LEAVES, isDotted: true});
   }
 
-  /** Says of messages that they are on their way where the run ends. */
+  /** Tags the messages that are in transit at the end of the run. */
   end() {
     for (const row of this.rows.filter((it) => it.isOnItsWay)) row.tags.push(tag("on its way at the end"));
   }
 
-  /** Marks the entry where the verdict falls, by words. */
+  /** Marks the entry where the verdict falls, with words. */
   mark(number, kind, words) {
     const row = this.sent.get(number) ?? this.say("Behind the last entry");
     row.isMarked = kind;
     row.tags.unshift(make("strong", {class: `mark ${kind}`}, words));
   }
 
-  /** The lines beside the ladder, of the messages that come late. */
+  /** Returns the lines next to the ladder, for the messages that arrive late. */
   lines() {
     const ends = ENDS.filter((end) => this.spans[end].length > 0);
     return ends.map((end) => ({end, spans: this.spans[end], by: new Set(this.spans[end].flat())}));
   }
 }
 
-/** A row for steps that are left out, where there are some. */
+/** Adds a row that counts the steps left out, if there are any. */
 function sayLeftOut(made, count, where) {
   if (count > 0) made.say(`${counted(count, "step")} ${where} ${count === 1 ? "is" : "are"} left out.`);
 }
 
-/** The verdict of a run, as a word, and what stands behind it in its line. */
+/** Returns the word of a run's verdict, and the rest of its line. */
 function verdictOf(title) {
   const word = Object.keys(BADGES).find((it) => title.startsWith(it)) ?? "";
   return [word, title.slice(word.length)];
 }
 
-/** Why the verdict falls where it does: the first line of its reason. */
+/** Returns the first line of the reason for the verdict. */
 function whyOf(text) {
   return seen(text.trim().split("\n")[0].replace(/^why: /, ""));
 }
 
-/** The rows of a run. */
+/** Returns the rows of a run. */
 function rowsOf(run) {
   const made = new RunRows(run), [before, behind] = run.left_out;
   sayLeftOut(made, before, "above");
@@ -153,12 +153,12 @@ function rowsOf(run) {
   return made;
 }
 
-/** The words above the lifeline of an end. */
+/** Returns the words above the lifeline of an end. */
 function headOfEnd(end, of) {
   return end === of ? `${end}, judged alone` : end;
 }
 
-/** All that is shown of a run. */
+/** Returns the view of a run. */
 function runView(run) {
   const {title, of, count, text} = run, made = rowsOf(run), [word, more] = verdictOf(title);
   const heads = ENDS.map((end) => headOfEnd(end, of));

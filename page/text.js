@@ -1,6 +1,7 @@
-// Texts and elements. What comes of a trace is data: it is set as text, and never as markup.
+// Texts and elements. The content of a trace is data: it is set as text, and never as markup.
 
-// The kinds of fault, each with its words and where its rule stands; docs/VERDICTS.md says how each is found by hand.
+// The kinds of fault: the words for each, and the section of its rule. docs/VERDICTS.md says how to find each by
+// hand.
 const KINDS = {
   F1: ["Its octets are no message.", "Q.773, X.690"],
   F2: ["Its peer sent nothing from the destination ID that it could answer.", "Q.774 3.3"],
@@ -19,8 +20,8 @@ const KINDS = {
   F14: ["It is an Abort of the provider that answers nothing which is left.", "Q.774 3.3, abnormal procedures"],
   F15: ["It is a quiet mark, and a transaction of the end is surely open there.", "the bench's word that all was quiet"],
 };
-// The lines of a reason that say which fault of its kind it is, the most telling ones first; docs/TRACES.md has them, and
-// docs/FORMAT.md that of F8.
+// The lines of a reason that identify the fault within its kind, the most telling ones first. docs/TRACES.md has
+// them, and docs/FORMAT.md has the line of F8.
 const TELLING = {
   F1: [/^why: (.*)/],
   F6: [/^(the result names .*)/, /^(.* and a Unidirectional may invoke .*)/, /^(invocation -?\d+ in entry \d+ is of .*)/],
@@ -31,51 +32,51 @@ const ENDS = ["A", "B"];
 const VERDICTS = ["error", "fail", "inconc", "pass"];
 const SVG = "http://www.w3.org/2000/svg";
 
-// Controls, marks of direction, and what else shows nothing or moves its neighbours.
+// Control characters, direction marks, and other characters that are invisible or change their neighbours.
 const UNSEEN = /[\p{Cc}\p{Cf}\p{Zl}\p{Zp}]/gu;
 const LONG_NAME = 80;
 const LONG_TITLE = 1000;
 
-/** A text with the number of each character in it that is not seen, but for those that are kept. */
+/** Returns a text with each invisible character replaced by its number, except the characters in `kept`. */
 function seen(text, kept = "") {
   return text.replace(UNSEEN, (it) => (kept.includes(it) ? it : `\\u{${it.codePointAt(0).toString(16)}}`));
 }
 
-/** The beginning of a text that is too long. */
+/** Returns a text, cut if it is too long. */
 function cut(text, longest) {
   return text.length > longest ? `${text.slice(0, longest)}\u2026` : text;
 }
 
-/** A count with its word. */
+/** Returns a count with its word, in the plural unless the count is 1. */
 function counted(count, word) {
   return `${count.toLocaleString("en")} ${word}${count === 1 ? "" : "s"}`;
 }
 
-/** The words of a kind of fault, with where its rule stands. */
+/** Returns the words of a kind of fault, with the section of its rule. */
 function wordsOfKind(kind) {
   const [words, section] = KINDS[kind] ?? ["This page has no words for it.", kind];
   return `${words} (${section})`;
 }
 
-/** What of a reason tells which fault of its kind it is, in a line; nothing where no line does. */
+/** Returns, as one line, the lines of a reason that identify the fault within its kind; empty if there are none. */
 function tellingOf({kind, text}) {
   const lines = text.split("\n").map((it) => it.trim());
   return (TELLING[kind] ?? []).flatMap((form) => lines.map((it) => form.exec(it)?.[1])).filter((it) => it !== undefined).join("; ");
 }
 
-/** How often something is, in words, where it is more than once. */
+/** Returns in words how often something occurs, if it is more than once. */
 function often(count) {
   if (count < 2) return "";
   return count === 2 ? " (twice)" : ` (${count.toLocaleString("en")} times)`;
 }
 
-/** The line of an entry at fault, and the frame or frames that the comment above it names first, as far as there are such. */
+/** Returns the line of an entry at fault, and the frame or frames that its comment names first, if there are any. */
 function placeOfFault({line, comment}) {
   const frames = /\bframes? \d{1,15}\b(?: to \d{1,15}\b)?/i.exec(comment ?? "");
   return [line > 0 ? `line ${line}` : "", frames?.[0] ?? ""].filter((it) => it !== "").join(", ");
 }
 
-/** Sets attributes, leaves out those that are null, and appends children. */
+/** Sets the attributes that are not null, and appends the children. */
 function filled(made, attributes, children) {
   for (const [name, value] of Object.entries(attributes)) {
     if (value !== null) made.setAttribute(name, value);
@@ -84,30 +85,30 @@ function filled(made, attributes, children) {
   return made;
 }
 
-/** An element of HTML; a child that is a string becomes text. */
+/** Creates an HTML element. A child that is a string becomes text. */
 function make(tag, attributes, ...children) {
   return filled(document.createElement(tag), attributes, children);
 }
 
-/** An element of SVG. */
+/** Creates an SVG element. */
 function drawn(tag, attributes, ...children) {
   return filled(document.createElementNS(SVG, tag), attributes, children);
 }
 
-/** A name from a trace, cut where it is long; its title has more of it. */
+/** Returns a name from a trace, cut if it is long; its title has more of it. */
 function named(text, longest = LONG_NAME) {
   const all = seen(text);
   return make("bdi", {class: "name", title: all.length > longest ? cut(all, LONG_TITLE) : null}, cut(all, longest));
 }
 
-/** A text from a trace, which opens; null where it is not long. */
+/** Returns an element that opens to show a text from a trace, or null if the text is short. */
 function opening(words, text) {
   const all = seen(text);
   if (all.length <= LONG_NAME) return null;
   return make("details", {class: "long"}, make("summary", {}, words), make("bdi", {class: "name"}, all));
 }
 
-/** A verdict, as a word in a frame of its own. */
+/** Returns a verdict as a word in a frame. */
 function badge(verdict) {
   return make("span", {class: `badge ${verdict}`}, verdict);
 }

@@ -1,7 +1,8 @@
-"""Runs tools/judge_archive.py over an archive of 200 traces, on loopback, by two workers: what it prints and writes is what
-one run of `tcapjudge test` over all prints and writes, octet by octet, and so is the exit status. So it is where a worker
-dies, where the run is stopped and goes on, where a run of the program gives no verdict and is tried again, where a trace
-changes between, and where a table has a hint. Where distributed is not installed, or no worker of it can run a program, it says so, and counts nothing."""
+"""Runs tools/judge_archive.py over an archive of 200 traces, on loopback, with two workers. Its output and its file
+must be, octet by octet, those of one run of `tcapjudge test` over all traces, and so must the exit status. This must
+also hold if a worker dies, if the run is stopped and continued, if a run of the program gives no verdict and is tried
+again, if a trace changes in between, and if a table has a hint. If distributed is not installed, or none of its
+workers can run a program, it says so and counts nothing."""
 
 import concurrent.futures
 import contextlib
@@ -40,7 +41,7 @@ if __name__ == "__main__":
         print(cluster.scheduler_address, flush=True)
         sys.stdin.read()
 """
-# Has a worker run a program, and ends as that ends.
+# Has a worker run a program, and ends with its status.
 PROBE = """
 import distributed, subprocess, sys
 if __name__ == "__main__":
@@ -48,8 +49,8 @@ if __name__ == "__main__":
     with distributed.LocalCluster(**how) as cluster, distributed.Client(cluster) as client:
         sys.exit(client.submit(subprocess.call, ["setpriv", "--pdeathsig", "KILL", sys.argv[1]]).result(60))
 """
-# The program, which notes each trace; and, the first time of a trace of which that is asked, kills the worker that runs it,
-# or itself, or waits; or ends in another way than the program does (ENDS).
+# The program, which notes each trace. If a trace is asked for, the program, at its first run on that trace, kills its
+# worker or itself, or waits, or ends differently than the program does (ENDS).
 NOTING = """#!/bin/sh
 for name; do case $name in /dev/fd/*) json=$name;; esac; done
 name=${{name##*/}}
@@ -71,7 +72,7 @@ if [ -e "{folder}/once/$name" ] && read -r how < "{folder}/once/$name" && rm "{f
 fi
 exec {program} "$@"
 """
-# How a run of the program ends that gives no verdict, and what is said of the trace.
+# How a run without a verdict ends, and what is printed for the trace.
 MISSING = "no verdict, status {}, and a part of what the judge writes is missing"
 ENDS = {
     "itself": "the judge was killed by signal 9",
@@ -83,7 +84,7 @@ ENDS = {
     "no-status": "no verdict, status 9",
     "error": "no verdict, status 1: error: table.json: it is gone",
 }
-# A row at whose code standard error has a hint.
+# A row whose code causes a hint on standard error.
 HINTED = {"class": 1, "code": "45"}
 ODD = ["a b.hex", "it's \"so\" $(x).hex", "\u00e9\u2028.hex", "two\nlines.hex", "-x.rec", "DIGITS.HEX"]
 
@@ -115,13 +116,13 @@ class Archive:
 
     @staticmethod
     def trace(maker, number):
-        """A trace of a random dialogue, of which some have a fault; some have no entry, a line with a fault, or a comment
-        that is no text."""
+        """Returns a trace of a random dialogue, sometimes with a fault. Some have no entry, a line with a fault, or a
+        comment that is no text."""
         text = lines(*(f"{heading.end} {digits}" for heading, digits in maker.dialogue("own"))).encode()
         return {3: b"", 7: text + b"A 62", 11: b"# \xff\n" + text}.get(number % 20, text)
 
     def ask(self, name, how):
-        """Has the program do that the first time that it is given that trace."""
+        """Makes the program do that at its first run on that trace."""
         put(self.folder, f"once/{os.path.basename(name)}", f"{how}\n".encode())
 
     def noted(self):
@@ -131,7 +132,7 @@ class Archive:
         return ["--program", self.program, "--json", "out.json", "--table", "table.json", "--complete", *more]
 
     def run(self, *words, meanwhile=lambda running: None, **how):
-        """What the tool says, in a session of its own: its status, standard output and error."""
+        """Runs the tool in a new session. Returns its status, its standard output and its standard error."""
         streams = {"stdout": subprocess.PIPE, "stderr": subprocess.PIPE, "stdin": subprocess.DEVNULL}
         how = {"cwd": self.folder, **streams, **how}
         running = subprocess.Popen([sys.executable, TOOL, *words], start_new_session=True, **how)
@@ -144,20 +145,20 @@ class Archive:
         return running.returncode, out, error.decode()
 
     def look(self, checks, what, found, names):
-        """Looks whether the tool said and wrote what one run of the program over these traces says and writes."""
+        """Checks that the tool printed and wrote what one run of the program over these traces prints and writes."""
         words = [PROGRAM, "test", "--json", "wanted.json", "--table", "table.json", "--complete", "--"]
         wanted = subprocess.run([*words, *names], cwd=self.folder, capture_output=True, check=False)
         checks.same(f"{what}: status, {found[2]}", found[0], wanted.returncode)
         checks.holds(f"{what}: the text", found[1] == wanted.stdout and len(found[1]) > 1000)
         written, one = content(f"{self.folder}/out.json"), content(f"{self.folder}/wanted.json")
         checks.holds(f"{what}: the lines of JSON", written == one and len(written) > 1000)
-        # Of a worker that is lost distributed may say more.
+        # If a worker is lost, distributed may print more.
         checks.holds(f"{what}: no error: {found[2]}", TOOL not in found[2] and not re.search("^error: ", found[2], re.MULTILINE))
         checks.same(f"{what}: the hint at the table, once: {found[2]}", found[2].count(wanted.stderr.decode()), 1)
         checks.holds(f"{what}: there is a hint", b"hint: table.json: row " in wanted.stderr)
 
     def results(self):
-        """The paths of the results that are kept, by the names of their traces."""
+        """Returns the paths of the kept results, by the names of their traces."""
         folder, found = f"{self.folder}/out.json.results", {}
         for name in os.listdir(folder) if os.path.isdir(folder) else []:
             if "." not in name and name != "lines":
@@ -181,7 +182,7 @@ def archive_of_traces():
 
 @contextlib.contextmanager
 def cluster():
-    """The address of a scheduler with two workers, which are in another folder."""
+    """Yields the address of a scheduler with two workers, which are in another folder."""
     with tempfile.TemporaryDirectory() as folder:
         path = put(folder, "cluster.py", CLUSTER.encode())
         how = {"stdin": subprocess.PIPE, "stdout": subprocess.PIPE, "stderr": subprocess.DEVNULL, "cwd": folder}
@@ -191,12 +192,12 @@ def cluster():
             running.wait()
 
 
-# ---- what is looked at
+# ---- checks
 
 
 def a_worker_dies(archive):
-    """On this machine: a worker is killed while it judges; a trace is missing, one is named twice, there is a capture. Then
-    the one that was missing is there."""
+    """On this machine: a worker is killed while it judges. A trace is missing, one is named twice, and there is a
+    capture. Then the missing trace is there."""
     checks, victim, twice = Checks("a worker dies"), archive.names[TRACES // 2], archive.names[5]
     archive.ask(victim, "worker")
     wires = [capture_rows.Wire(), capture_rows.Wire(ends=((301, 8), (302, 6)), tag=9)]
@@ -224,13 +225,13 @@ def a_worker_dies(archive):
 
 
 def living(session):
-    """The processes of a session, but for those that have ended and that nobody waited for."""
+    """Returns the processes of a session, except ended ones that nobody has waited for."""
     listed = subprocess.run(["ps", "-o", "stat=,args=", "-s", str(session)], capture_output=True, check=False).stdout
     return [line for line in listed.decode().splitlines() if not line.startswith("Z")]
 
 
 def all_ends(archive):
-    """Ctrl-C at a terminal, while the program runs: what is judged is kept, and no process is left."""
+    """Ctrl-C at a terminal, while the program runs: the results so far are kept, and no process is left."""
     checks, sessions = Checks("Ctrl-C"), []
     archive.ask(archive.names[0], "wait")
 
@@ -250,7 +251,7 @@ def all_ends(archive):
 
 
 def stopped(checks, archive, words):
-    """Stops a run in the middle. Returns the names of the traces of which there are results."""
+    """Stops a run in the middle. Returns the names of the traces that have results."""
 
     def stop(running):
         checks.holds("some are judged", wait_until(lambda: len(archive.results()) >= ENOUGH))
@@ -265,7 +266,8 @@ def stopped(checks, archive, words):
 
 
 def goes_on(archive, address):
-    """On a cluster: a run is stopped. Then a result is cut, a trace changes, and a run of the program gives no verdict."""
+    """On a cluster: a run is stopped. Then a result is cut, a trace changes, and a run of the program gives no
+    verdict."""
     checks, words = Checks("a run that is stopped"), archive.words("--scheduler", address, "archive")
     kept = stopped(checks, archive, words)
     status, out, error = archive.run(*words)
@@ -279,7 +281,7 @@ def goes_on(archive, address):
     status, out, error = archive.run(*words, "--resume")
     said = status, out, f"error: {anew[0]}: {ENDS['itself']}" in error, os.path.exists(f"{archive.folder}/out.json")
     checks.same(f"no verdict of one: {error}", said, (3, b"", True, False))
-    # A name may have two lines, as it is noted.
+    # A name may contain a newline, and so be two lines in the notes.
     wanted = {part for name in anew for part in os.path.basename(name).split("\n")}
     checks.same("what is judged", {*archive.noted()} - {"null", ""}, wanted)
     os.remove(f"{archive.folder}/noted")
@@ -294,8 +296,8 @@ def goes_on(archive, address):
 
 
 def no_verdicts(archive, address):
-    """Runs of the program that give no verdict, each on a trace of its own: the trace is named, what came of it is not kept, and
-    it is judged again."""
+    """Runs of the program that give no verdict, each on its own trace: the tool names the trace, keeps no result for
+    it, and judges it again."""
     checks = Checks("no verdict")
     names = [*(f"ends/{how}.hex" for how in ENDS), "ends/whole.hex"]
     os.mkdir(f"{archive.folder}/ends")
@@ -319,7 +321,7 @@ def no_verdicts(archive, address):
 
 
 def of_an_older_tool(checks, archive, words, names):
-    """A result with no exit status, as an older tool kept, is judged again."""
+    """A result without an exit status, as an older tool kept it, is judged again."""
     path = archive.results()[names[0]]
     head, rest = content(path).split(b"\n", 1)
     head = {key: value for key, value in json.loads(head).items() if key != "status"}
@@ -330,7 +332,8 @@ def of_an_older_tool(checks, archive, words, names):
 
 
 def faulty_capture(archive, address):
-    """A capture with a fault is told, and what was written of it is judged; so is one that is missing."""
+    """A capture with a fault is reported, and the lines that were made from it are judged. A missing capture is
+    reported too."""
     checks, folder = Checks("captures with faults"), archive.folder
     whole = made_captures.pcap(capture_rows.Wire().all(capture_rows.DIALOGUE))
     put(folder, "cut.pcap", whole[:-1])
@@ -346,7 +349,7 @@ def faulty_capture(archive, address):
 
 
 def fault_rows(archive):
-    """Words, with the status and what is said."""
+    """Yields words, with the status and the words of the error."""
     with socket.socket() as closed:
         closed.bind(("127.0.0.1", 0))
         address = f"tcp://127.0.0.1:{closed.getsockname()[1]}"
@@ -383,7 +386,7 @@ def fault_rows(archive):
 
 
 def faults(archive):
-    """Words that are wrong, and what is not there."""
+    """Wrong words, and missing files."""
     checks = Checks("faults")
     for words, wanted, what in fault_rows(archive):
         status, out, error = archive.run(*words)
@@ -397,7 +400,7 @@ def faults(archive):
     status, _, error = archive.run(*words)
     os.close(held)
     checks.same(f"another run: {error}", (status, "another run writes" in error), (4, True))
-    # What python runs first takes distributed away.
+    # Python runs this first, and it hides distributed.
     put(folder, "sitecustomize.py", b"import sys\nsys.modules['distributed'] = None\n")
     status, _, error = archive.run(*words, env=os.environ | {"PYTHONPATH": folder})
     checks.same(f"no distributed: {error}", (status, "missing: distributed" in error), (3, True))
@@ -426,7 +429,7 @@ def on_a_cluster():
 
 
 def missing():
-    """Why no worker can run a program here. None where one can."""
+    """Returns why no worker can run a program here, or None if one can."""
     if subprocess.run([PYTHON, "-c", "import distributed"], capture_output=True, check=False).returncode:
         return "distributed is not installed (python3-distributed)"
     if not loopback.is_had():
@@ -440,7 +443,7 @@ def missing():
 
 
 def found_once_by(part):
-    """What a part finds, and that it ends as it should."""
+    """Returns the checks of a part, and that it ends normally."""
     found, checks = [], Checks(part.__name__)
     try:
         found += part()
@@ -450,8 +453,8 @@ def found_once_by(part):
 
 
 def found_by(part):
-    """What a part finds. Where something is wrong it is tried once more, since on a busy machine a worker may come too late; that
-    is said."""
+    """Returns the checks of a part. If one fails, the part is tried again and a line says so, since on a busy machine
+    a worker may come too late."""
     found = found_once_by(part)
     wrong = [line for checks in found for line in checks.wrong]
     if not wrong:

@@ -1,5 +1,5 @@
-"""Compares the operation tables of examples/tables, their pages, the book that is made of them, and the text of it that the program
-carries, as dev/book.py says."""
+"""Compares the operation tables of examples/tables, their pages, the table set that is made from them, and its text in
+the program, as dev/book.py does."""
 
 import sys
 

@@ -1,5 +1,5 @@
-"""Shows that feeding frames while an entry of them is lent does not compile: adds a function that does so to a copy of the
-crate, and looks for the borrow checker's refusal. The copy's files are links, so it takes no room."""
+"""Shows that feeding frames while one of their entries is lent does not compile: adds a function that does this to a
+copy of the crate, and looks for the error of the borrow checker. The copy's files are links, so it takes no room."""
 
 import os
 import shutil

@@ -1,5 +1,5 @@
-"""Chromium without a window, which shows pages to tests/page.py, by selenium: the packages chromium, chromium-driver and
-python3-selenium of Debian, of which the last is for /usr/bin/python3 alone."""
+"""Chromium without a window, which shows pages to tests/page.py. It is driven by selenium: Debian's packages chromium,
+chromium-driver and python3-selenium, the last of them only for /usr/bin/python3."""
 
 import contextlib
 import json
@@ -21,7 +21,7 @@ except ImportError:
     webdriver = Keys = None
 
 FLAGS = ["--headless=new", "--no-sandbox", "--hide-scrollbars", "--disable-background-networking"]
-# Notes when the first row of a list stands in the page, in milliseconds after the page was asked for.
+# Notes when the first row of a list is in the page, in milliseconds after the page was requested.
 OPENED = """new MutationObserver((_, observer) => {
   if (document.querySelector(".row") === null) return;
   window.openedAt = performance.now();
@@ -30,14 +30,14 @@ OPENED = """new MutationObserver((_, observer) => {
 
 
 def missing():
-    """What is not installed."""
+    """Returns what is not installed."""
     wanted = {"python3-selenium": webdriver, "chromium": shutil.which("chromium")}
     wanted["chromium-driver"] = shutil.which("chromedriver")
     return [name for name, found in wanted.items() if not found]
 
 
 class Browser:
-    """A browser that shows pages of a folder, and what is asked of the page that it shows."""
+    """A browser that shows the pages of a folder, and questions to the page that it shows."""
 
     def __init__(self, folder):
         self.folder, options = folder, webdriver.ChromeOptions()
@@ -51,38 +51,38 @@ class Browser:
         self.resize(1280, 900)
 
     def ask(self, what, **how):
-        """Asks by the browser's own protocol."""
+        """Sends a command of the browser's own protocol."""
         return self.driver.execute_cdp_cmd(what, how)
 
     def resize(self, width, height):
         self.ask("Emulation.setDeviceMetricsOverride", width=width, height=height, deviceScaleFactor=1, mobile=False)
 
     def show_as(self, medium="", scheme="light"):
-        """Shows pages as on that medium, with that scheme of colours."""
+        """Shows pages as on that medium, with that colour scheme."""
         self.ask("Emulation.setEmulatedMedia", media=medium, features=[{"name": "prefers-color-scheme", "value": scheme}])
 
     def put(self, name, text):
-        """Makes a file of a page, and returns where it is."""
+        """Makes a file with a page, and returns its address."""
         path = os.path.join(self.folder, f"{name}.html")
         with open(path, "w", encoding="utf-8") as file:
             file.write(text)
         return f"file://{path}"
 
     def open(self, address):
-        """Opens a page anew."""
+        """Opens a page from nothing."""
         self.driver.get("about:blank")
         self.driver.get(address)
         self.settle()
 
     def settle(self):
-        """Waits until what was done is drawn: a busy machine draws late."""
+        """Waits until everything is drawn: a busy machine draws late."""
         self.run("new Promise(done => requestAnimationFrame(() => requestAnimationFrame(done)))")
 
     def run(self, script, *given):
         return self.driver.execute_script(f"return {script}", *given)
 
     def texts(self, selector):
-        """The words of all that a selector finds, with one blank between two."""
+        """Returns the words of all that a selector finds, with one blank between two."""
         found = self.run("[...document.querySelectorAll(arguments[0])].map(it => it.innerText)", selector)
         return [" ".join(it.split()) for it in found]
 
@@ -93,7 +93,7 @@ class Browser:
         return self.driver.find_elements(By.CSS_SELECTOR, selector)
 
     def click(self, selector, at=0):
-        """Clicks an element. A list may draw its rows anew while it is found: then it is found again."""
+        """Clicks an element. If a list draws its rows again in the meantime, the element is searched again."""
         try:
             self.all(selector)[at].click()
         except StaleElementReferenceException:
@@ -113,15 +113,15 @@ class Browser:
         self.settle()
 
     def address(self):
-        """The fragment of the address, when it has had the time to change."""
+        """Returns the fragment of the address, after the time that it takes to change."""
         return self.run("new Promise(done => setTimeout(() => done(location.hash), 500))")
 
     def log(self):
-        """What the console has said since it was asked last."""
+        """Returns the messages on the console since the last call."""
         return [it["message"] for it in self.driver.get_log("browser")]
 
     def requests(self):
-        """What was asked for since that was asked last."""
+        """Returns the addresses requested since the last call."""
         events = [json.loads(it["message"])["message"] for it in self.driver.get_log("performance")]
         return [it["params"]["request"]["url"] for it in events if it["method"] == "Network.requestWillBeSent"]
 
@@ -130,12 +130,12 @@ class Browser:
 
 
 class NoBrowser(Exception):
-    """The browser does not start, and why."""
+    """The browser does not start, for this reason."""
 
 
 @contextlib.contextmanager
 def browser_of(folder):
-    """A browser, until this is left."""
+    """Yields a browser, which ends with the block."""
     try:
         browser = Browser(folder)
     except WebDriverException as error:

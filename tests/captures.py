@@ -1,6 +1,7 @@
-"""Makes captures (capture_rows.py, made_captures.py), lets tools/lines_of_capture.py make lines of them, packs and
-shows these by the built program, and compares. Then it compares what `tshark` and `tcapjudge show` say of every named
-vector and of random messages (wireshark.py). Where tshark is not installed it says so, and counts nothing."""
+"""Makes captures (capture_rows.py, made_captures.py), has tools/lines_of_capture.py make lines from them, packs and
+shows these with the built program, and compares. Then it compares the output of `tshark` and of `tcapjudge show` for
+every named vector and for random messages (wireshark.py). If tshark is not installed, it says so and counts
+nothing."""
 
 import concurrent.futures
 import contextlib
@@ -31,7 +32,7 @@ import wireshark
 TOOL = "tools/lines_of_capture.py"
 VECTORS = "crates/tcap_vectors/src/vectors.rt"
 DAMAGED = 3000
-# Of the network.
+# The number of messages of the network.
 MESSAGES = 3000
 
 
@@ -40,7 +41,7 @@ def run(*words, env=None):
 
 
 def lines_of(folder, capture, options):
-    """What the tool says of a capture, and all lines of each file that it wrote."""
+    """Returns the tool's run on a capture, and all lines of each file that it wrote."""
     path, out = f"{folder}/capture", f"{folder}/lines"
     shutil.rmtree(out, ignore_errors=True)
     if capture is not None:
@@ -55,12 +56,13 @@ def lines_of(folder, capture, options):
 
 
 def entries_of(lines):
-    """The lines of digits."""
+    """Returns the lines of digits."""
     return [line for line in lines if not line.startswith("#")]
 
 
 def are_commented(lines):
-    """Whether each line of digits has its entry in the comment above it, though what was sent earlier stands earlier."""
+    """Returns whether the comment above each line of digits has its entry, also if lines are in another order than
+    their frames."""
     at = [number for number, line in enumerate(lines) if not line.startswith("#")]
     entries = [re.fullmatch(r"# frames? .*, entry (\d+)(, sent before frame \d+)?", lines[one - 1]) for one in at]
     counted = [int(found[1]) if found else None for found in entries]
@@ -68,8 +70,9 @@ def are_commented(lines):
 
 
 def are_directed(path, lines, options, printed):
-    """Whether a file has these directives and no others: at its head what both ends are, as standard output says it, and that
-    dialogues were under way if that was asked; at its end perhaps that it is broken off, behind a comment."""
+    """Returns whether a file has these directives and no others: at its head both ends, as standard output describes
+    them, and that dialogues were under way if that was asked for; at its end perhaps that the trace is broken off,
+    after a comment."""
     first = next((number for number, line in enumerate(lines) if not line.startswith("#")), len(lines))
     head = [line for line in lines[:first] if line.startswith("#:")]
     a, b = ([line[5:] for line in head if line.startswith(f"#: {letter} ")] for letter in "AB")
@@ -81,13 +84,14 @@ def are_directed(path, lines, options, printed):
 
 
 def broken_of(lines):
-    """What stands after `#: broken off` at the end of a file; None if it is not broken off."""
+    """Returns the text after `#: broken off` at the end of a file, or None if it is not broken off."""
     found = re.fullmatch(r"#: broken off((?:, (?:1 message|\d+ messages) missing)?)", lines[-1])
     return found and found[1]
 
 
 def are_broken(row, files):
-    """Whether the files of a row are broken off as it wants, and the program judges what was read of such a file."""
+    """Returns whether the files of a row are broken off as the row says, and the program judges the rest of such a
+    file."""
     found = [broken_of(lines) for _, lines in files]
     if row.broken is not None and found != row.broken or row.status == 0 and any(it is not None for it in found):
         return False
@@ -101,19 +105,19 @@ def are_broken(row, files):
 
 
 def record_of(lines):
-    """The record that lines of digits stand for."""
+    """Returns the record that lines of digits spell."""
     return b"".join(line[:1].encode() + bytes.fromhex(line[2:]) for line in lines)
 
 
 def packed(path):
-    """The record that the program makes of a file of lines, and what it prints of that."""
+    """Returns the record that the program makes from a file of lines, and the lines that it shows for this record."""
     record = run(PROGRAM, "pack", path).stdout
     shown = subprocess.run([PROGRAM, "show"], input=record, capture_output=True, check=False)
     return record, shown.stdout
 
 
 def is_as_wanted(row):
-    """Whether the tool and the program do with a row what it wants. Prints what they do else."""
+    """Returns whether the tool and the program do what a row says. Otherwise prints what they do."""
     with tempfile.TemporaryDirectory() as folder:
         return is_so(row, *lines_of(folder, row.capture, row.options))
 
@@ -125,7 +129,7 @@ def is_so(row, said, files):
     holds = holds and all(are_commented(lines) for _, lines in files) and are_broken(row, files)
     holds = holds and all(are_directed(*file, row.options, said.stdout.decode()) for file in files)
     holds = holds and all(word in errors for word in row.said) and "Traceback" not in errors
-    # What is not foreseen is said by no run.
+    # Nothing unforeseen may be printed in any run.
     holds = holds and (row.said or not errors)
     holds = holds and all(packed(path)[0] == record_of(entries_of(lines)) for path, lines in files)
     if not holds:
@@ -134,7 +138,8 @@ def is_so(row, said, files):
 
 
 def is_shown_alike(folder, name, entries, frames, link):
-    """Whether the records of examples, each of a pair of ends, come back from one capture, and are shown alike."""
+    """Returns whether the records of examples, each of a pair of ends, come back from one capture, and are shown
+    alike."""
     said, files = lines_of(folder, made.pcap(frames, link), ["--apart"])
     found = {record_of(entries_of(lines)): packed(path) for path, lines in files}
     wanted = [record_of(lines) for lines in entries]
@@ -148,13 +153,13 @@ def is_shown_alike(folder, name, entries, frames, link):
 
 
 def named_by_beginning(lines):
-    """The lines with A for the end that begins first, as it is where the capture alone says which end is A."""
+    """Returns the lines with A for the end that begins first, as if only the capture decided which end is A."""
     first = next((line[0] for line in lines if line[2:4] == "62"), "A")
     return lines if first == "A" else [("B" if line[0] == "A" else "A") + line[1:] for line in lines]
 
 
 def example_lines():
-    """The lines of each example, without its quiet marks, which a capture has not."""
+    """Yields the lines of each example without its quiet marks, which a capture does not have."""
     for path in sorted(glob.glob("examples/*.hex")):
         with open(path, encoding="utf-8") as file:
             lines = file.read().splitlines()
@@ -162,7 +167,8 @@ def example_lines():
 
 
 def examples_come_back(folder):
-    """How many of three ways, SCCP over M3UA over SCTP, SCCP over MTP3, and TCAP alone, give back the examples."""
+    """Returns for each of three ways whether it gives back the examples: SCCP over M3UA over SCTP, SCCP over MTP3, and
+    TCAP alone."""
     entries = list(example_lines())
     numbers = range(1000, 1000 + 2 * len(entries), 2)
     wires = [capture_rows.Wire(ends=((n, 8), (n + 1, 6)), tag=n) for n in numbers]
@@ -174,14 +180,14 @@ def examples_come_back(folder):
 
 
 def vectors():
-    """The octets of each named vector, and what `show` prints of it."""
+    """Returns the octets of each named vector, and the lines that `show` prints for it."""
     with open(VECTORS, encoding="utf-8") as file:
         rows = [line.split(";") for line in file.read().splitlines() if line.count(";") == 3]
     return [(bytes.fromhex(row[1]), row[3].replace("\\n", "\n")) for row in rows if re.fullmatch("[0-9a-f]+", row[1])]
 
 
 def vectors_come_back(folder):
-    """Whether each named vector, sent by A, comes back from a capture, and is shown as its row says."""
+    """Returns whether each named vector, sent by A, comes back from a capture, and is shown as its row says."""
     wire = capture_rows.Wire()
     rows = vectors()
     lines = [f"A {octets.hex()}" for octets, _ in rows]
@@ -194,8 +200,8 @@ def vectors_come_back(folder):
 
 
 def is_network_lawful(folder):
-    """Whether all dialogues of a lawful network pass that shares load, translates titles, and repeats packets and has them come
-    late: each in the record of its register, and each message in one."""
+    """Returns whether all dialogues of a lawful network pass. The network shares load, translates titles, and repeats
+    and delays packets. Each dialogue must be in the record of its register, and each message in one record."""
     said, files = lines_of(folder, made.pcap(list(made_network.shaken(MESSAGES))), [])
     judged = run(PROGRAM, "test", *(name for name, _ in files))
     entries = sorted(len(entries_of(lines)) for _, lines in files)
@@ -207,7 +213,7 @@ def is_network_lawful(folder):
 
 
 def damaged_frames():
-    """Frames of damaged packets, with their octets."""
+    """Yields frames of damaged packets, with their octets."""
     chance, packets = random.Random(7), capture_rows.PACKETS
     for number in range(1, DAMAGED + 1):
         octets = bytearray(chance.choice(packets))
@@ -221,8 +227,8 @@ def damaged_frames():
 
 
 def is_steady():
-    """Whether the tool takes damaged packets, each alone and all in one capture, and says what is wrong, without an error of
-    its own."""
+    """Returns whether the tool takes damaged packets, each alone and all in one capture, and reports their faults
+    without an error of its own."""
     for octets, frame in damaged_frames():
         try:
             pairs_of_frames([frame], [])
@@ -239,7 +245,7 @@ def is_steady():
 
 
 def pairs_of_frames(frames, options):
-    """What the tool makes of frames."""
+    """Returns the lines that the tool makes from frames."""
     reader, words = capture_frames.Reader(), lines_of_capture.words_of(["capture", "folder", *options])
     for frame in frames:
         reader.take(frame)
@@ -249,7 +255,7 @@ def pairs_of_frames(frames, options):
 
 
 def is_progress_said(folder):
-    """Whether a run says how far it is once a second, and nothing where that is not asked."""
+    """Returns whether a run prints its progress once a second, and nothing if that is not asked for."""
     with open(f"{folder}/capture", "wb") as file:
         file.write(made.pcap(capture_rows.Wire().all(capture_rows.DIALOGUE)))
     ended = run(sys.executable, TOOL, f"{folder}/capture", f"{folder}/said", "--progress")
@@ -259,7 +265,7 @@ def is_progress_said(folder):
         progress, said = lines_of_capture.Progress(is_asked), io.StringIO()
         with contextlib.redirect_stderr(said):
             for number, _ in enumerate(progress.over("frames read", range(5))):
-                # The second is over while the second one is taken, and then not again.
+                # The second ends while the second item is taken, and then never again.
                 progress.due = 0 if number == 1 else float("inf")
         holds = holds and said.getvalue() == wanted
     if not holds:
@@ -268,7 +274,7 @@ def is_progress_said(folder):
 
 
 def words_are_refused(folder):
-    """Whether wrong words, a folder with files in it, and a missing tshark end with the statuses that they have."""
+    """Returns whether wrong words, a folder with files in it, and a missing tshark end with their statuses."""
     with open(f"{folder}/capture", "wb") as file:
         file.write(made.pcap([]))
     runs = [

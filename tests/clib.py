@@ -1,8 +1,9 @@
-"""The library for programs in C, which dev/clib.py built: of the records of judged.py, blamed.py, alone.py and examples/,
-and of octets that are none, it says what the program prints, of both ends and of one alone, with and without a certificate;
-of traces it says what the program writes as JSON (clib_traces.py); and so do its two examples, in C and in Python, which say of a
-file that it can't be read. Some answers are also compared with those that were worked out by hand. Where an allocation fails, the
-library says so, and gives back all that it took. Closes with `N passed, M failed`."""
+"""Tests the library for programs in C, which dev/clib.py built. For the records of judged.py, blamed.py, alone.py and
+examples/, and for octets that are no record, the library must answer what the program prints, for both ends and for
+one alone, with and without a certificate. For traces it must answer what the program writes as JSON (clib_traces.py).
+So must its two examples, in C and in Python, which also report a file that can't be read. Some answers are also
+compared with answers that were worked out by hand. If an allocation fails, the
+library must report it and free all its memory. Ends with `N passed, M failed`."""
 
 import ctypes
 import glob
@@ -45,7 +46,7 @@ class Answers(ctypes.Structure):
 
 
 def line_of(answer, end, is_alone):
-    """The line of an answer, with the letter of an end where it has one; none where nothing is said."""
+    """Returns the line of an answer, with the letter of an end if it has one. It is empty if there is no verdict."""
     name, entry, of_end = NAMES[answer.verdict], answer.entry, f"{end} " if end else ""
     reason = f"{answer.reason}/{answer.inner}" if answer.inner else f"{answer.reason}"
     rest = {
@@ -61,13 +62,14 @@ def line_of(answer, end, is_alone):
 
 
 class Library:
-    """The library, by ctypes."""
+    """The library, through ctypes."""
 
     def __init__(self):
         self.of = example.loaded()
 
     def call(self, word, kind, texts, end=None):
-        """What a word says of these texts, and its status. Fails where the octets beside the answer, or a text, change."""
+        """Returns the answer of a call for these texts, and its status. Fails if the octets around the answer, or a
+        text, change."""
         size = ctypes.sizeof(kind)
         room = ctypes.create_string_buffer(b"\xee" * (size + 16), size + 16)
         held = [ctypes.create_string_buffer(text, max(len(text), 1)) for text in texts]
@@ -79,16 +81,16 @@ class Library:
         return kind.from_buffer_copy(room.raw[8:-8]), status
 
     def test(self, trace, book, **asked):
-        """The lines of what `test` says, and its status."""
+        """Returns the lines of `test`, and its status."""
         return example.test(self.of, trace, book, **asked)
 
     def said(self, word, texts, end=""):
-        """The lines of what `judge` or `check` says, of both ends or of one, and its status."""
+        """Returns the line of `judge` or `check`, for both ends or for one, and its status."""
         answer, status = self.call(word, example.Answer, texts, ord(end) if end else 0)
         return line_of(answer, "", bool(end)).encode(), status
 
     def blamed(self, texts):
-        """The lines of what `blame` says, and its status. What is blamed stands first, the lower entry before the other."""
+        """Returns the lines of `blame`, and its status. Blamed ends come first, the lower entry before the other."""
         answers, status = self.call("blame", Answers, texts)
         ends = [("A", answers.a), ("B", answers.b)]
         ends.sort(key=lambda it: it[1].entry if NAMES[it[1].verdict] == "BLAMED" else 1 << 64)
@@ -97,7 +99,7 @@ class Library:
 
 
 class Count:
-    """How many comparisons held, and how many did not."""
+    """The numbers of comparisons that held and that did not."""
 
     def __init__(self):
         self.passed = self.failed = 0
@@ -110,7 +112,7 @@ class Count:
 
 
 def written(folder, texts):
-    """The paths of files with these octets."""
+    """Writes these octets to files, and returns the paths."""
     paths = [f"{folder}/{name}" for name in ("record", "table", "cert")[: len(texts)]]
     for path, text in zip(paths, texts):
         with open(path, "wb") as file:
@@ -119,7 +121,7 @@ def written(folder, texts):
 
 
 def printed(words, **how):
-    """What a program prints, and its status."""
+    """Returns the output of a program, and its status."""
     run = subprocess.run(words, capture_output=True, check=False, **how)
     return run.stdout, run.returncode
 
@@ -129,7 +131,7 @@ def flags_of(end):
 
 
 def packed(path):
-    """The octets of the record of a file of lines."""
+    """Returns the record that is packed from a file of lines."""
     return printed([PROGRAM, "pack", path])[0]
 
 
@@ -139,7 +141,7 @@ def octets_in(path):
 
 
 def examples():
-    """Of each example its name, its octets, those of its table, and those of its certificate, where it has its own."""
+    """Yields the name of each example, its record and its table, and its certificate if it has one."""
     for path in sorted(glob.glob("examples/*.hex")):
         own = path.removesuffix(".hex")
         yield own, packed(path), octets_in("examples/operations.json"), None
@@ -148,7 +150,7 @@ def examples():
 
 
 def rows():
-    """The same of each row, and of what is hostile."""
+    """Yields the same for each row, and for hostile octets."""
     for number, (record, table, *_) in enumerate([*judged.rows(), *blamed.rows()]):
         yield f"row {number}", record, table, None
     for number, (_, record, table, cert, *_) in enumerate(alone.rows()):
@@ -170,7 +172,7 @@ def rows():
 
 
 def compare(count, library, folder, name, record, table, cert):
-    """Compares all calls over a record with what the program prints."""
+    """Compares all calls for a record with what the program prints."""
     for end in ENDS:
         paths, flags = written(folder, [record, table]), flags_of(end)
         wanted = printed([PROGRAM, "judge", *flags, *paths])
@@ -183,7 +185,8 @@ def compare(count, library, folder, name, record, table, cert):
 
 
 def run_examples(count, folder, python):
-    """Compares what the two examples print of each record of examples/, and of each trace; that in Python from another folder."""
+    """Compares what the two examples print for each record of examples/ and for each trace. The one in Python runs in
+    another folder."""
     for name, record, table, cert in examples():
         if cert is not None:
             continue
@@ -202,11 +205,12 @@ def run_examples(count, folder, python):
 
 
 def long_files(folder):
-    """A record, a trace and a table of over a mebioctet, which are cut where that many octets of them are taken."""
+    """Writes a record, a trace and a table of over a mebioctet each. Returns their paths. Cut at that length, none of
+    them would be whole."""
     def element(tag, content):
         return bytes([tag, 0x82, *divmod(len(content), 256)]) + content
 
-    # Begins with Invokes of 45, from an ID each, whose parameters are long.
+    # Begins with Invokes of 45, each from its own ID, with long parameters.
     parts = element(0x6C, element(0xA1, bytes.fromhex("02010102012d") + element(0x04, bytes(60_000))))
     record = b"".join(b"A" + element(0x62, bytes([0x48, 1, number]) + parts) for number in range(20))
     trace = (b"# " + b"long " * 20_000 + b"\n") * 12 + octets_in("examples/answered_already.hex")
@@ -219,7 +223,7 @@ def long_files(folder):
 
 
 def files_of_examples(count, folder, python):
-    """The two examples read long files as a whole, and say of one that can't be read, and of wrong words."""
+    """The two examples must read long files whole, and report unreadable files and wrong words."""
     record, trace, table = long_files(folder)
     none, word = f"{folder}/none", clib_traces.Word(folder)
     for words in [EXAMPLE], python:
@@ -237,7 +241,7 @@ def files_of_examples(count, folder, python):
 
 
 def by_hand(count, library):
-    """The answers that were worked out by hand."""
+    """Compares the answers that were worked out by hand."""
     for word, texts, end, status, wanted in BY_HAND:
         said, found = library.call(word, Answers if word == "blame" else example.Answer, texts, end)
         parts = [said.both, said.a, said.b] if word == "blame" else [said]
@@ -246,7 +250,7 @@ def by_hand(count, library):
 
 
 def wrong_calls(count, library):
-    """An octet that names no end: nothing is said, and all of the answer is written."""
+    """An octet that is no end: the call gives no verdict, but writes the whole answer."""
     for word, texts in ("judge", [b"", b""]), ("check", [b"", b"", b""]):
         for end in range(256):
             if end not in (0, ord("A"), ord("B")):
@@ -256,7 +260,7 @@ def wrong_calls(count, library):
 
 
 def fails_each(count, folder):
-    """Lets each allocation fail in turn, by tests/clib_memory.c."""
+    """Lets each allocation fail in turn, with tests/clib_memory.c."""
     wraps = [f"-Wl,--wrap={name}" for name in ("malloc", "realloc", "free")]
     words = ["cc", "-O2", "-I", "clib", "tests/clib_memory.c", ARCHIVE, *wraps, "-o", f"{folder}/memory"]
     subprocess.run(words, check=True)

@@ -1,11 +1,12 @@
-"""Runs the built program's word `explain`, and looks at what it says. The texts of explained.py are printed of the records there,
-octet for octet. Of these and of further records, those of judged.py, blamed.py and alone.py and those of faults.json: the first
-line and the status are those of `judge`, of `judge --end`, or of `check` with the certificate that `judge` proposes, but LAWFUL where
-`blame` says it of both ends: then behind each of its lines stands what is said of that end alone; behind a line
-that is not LAWFUL stand the lines of `blame`; each line else begins with two blanks; under what is refuted or blamed that entry
-is named, and no entry that is not there; a run names each entry where it is sent, once and in order; and a chart is a page with one
-object, whose title is that line, and which says what is printed: of a run that is lawful its steps, else what stands behind the
-line. Two charts, and the rows of a long one that are told, are worked out by hand (made_reports.py)."""
+"""Runs the built program's word `explain`, and checks its output. For the records of explained.py it must print the
+texts there, octet for octet. For these and for further records, those of judged.py, blamed.py and alone.py and those
+of faults.json, it checks the following. The first line and the status are those of `judge`, of `judge --end`, or of
+`check` with the certificate that `judge` proposes, except that it is LAWFUL if `blame` says so of both ends; then the
+text on that end alone follows each of its lines. The lines of `blame` follow a first line that is not LAWFUL. Every
+other line begins with two blanks. The text under a refuted or blamed entry names that entry, and no entry that does
+not exist. A run names each entry once, where it is sent, in order. A chart is a page with one object, whose title is
+the first line and which has the printed content: the steps of a lawful run, else the text after the line. Two charts,
+and the listed rows of a long one, are worked out by hand (made_reports.py)."""
 
 import json
 import os
@@ -23,19 +24,19 @@ import made_reports
 from tested import PROGRAM
 from trace_page import TOLD_BY_NUMBER, lines_in
 
-# So many rows of a run are in its chart at most.
+# The most rows of a run in its chart.
 MOST = 2_000
 SENT = re.compile(r"^  (?:[AB] (?:sends|tells) (\d+) |[AB]'s provider answers \d+ by (\d+)$|(all is quiet)$)")
 
 
 def run(*words):
-    """What the program prints with these words, on both outputs, and its status."""
+    """Returns the program's output with these words, on both streams, and its status."""
     done = subprocess.run([PROGRAM, *words], capture_output=True, check=False)
     return done.stdout.decode(), done.stderr.decode(), done.returncode
 
 
 class Rows:
-    """How many rows passed and failed; those that failed are printed."""
+    """The counts of rows that passed and failed; those that failed are printed."""
 
     def __init__(self):
         self.passed, self.failed = 0, 0
@@ -67,7 +68,7 @@ class Files:
 
 
 def records():
-    """Of each record a name, its octets and those of its table."""
+    """Yields the name, the octets and the table of each record."""
     for entries, _, *table in judged.ROWS + blamed.ROWS:
         yield entries, judged.octets_of(entries), (table or [judged.TABLE])[0].encode()
     for entries, _, _, *table in alone.JUDGED:
@@ -77,7 +78,7 @@ def records():
 
 
 def worked(rows, files):
-    """What is printed of the worked records."""
+    """Compares the output for the worked records."""
     for entries, words, cert, status, text, *table in explained.ROWS:
         files.fill(judged.octets_of(entries), (table or [judged.TABLE])[0].encode(), cert and cert.encode())
         found = run("explain", files.record, files.table, *([files.cert] if cert else []), *words)
@@ -85,7 +86,7 @@ def worked(rows, files):
 
 
 def look_at_run(rows, name, lines, count):
-    """A run names each entry where it is sent, a mark by itself."""
+    """Checks that a run names each entry where it is sent, or has a mark alone."""
     sent = [SENT.match(line) for line in lines]
     numbers = [next(filter(None, found.groups())) for found in sent if found]
     wanted = [str(number) for number in range(count)]
@@ -93,7 +94,7 @@ def look_at_run(rows, name, lines, count):
 
 
 def look_at_facts(rows, name, lines, count):
-    """What is refuted or blamed is named under its line, and what is named is there."""
+    """Checks that each refuted or blamed entry is named under its line, and that named entries exist."""
     named = [int(number) for line in lines for number in re.findall(r"entr(?:y|ies) (\d+)", line)]
     rows.row(f"{name}: entries that are named", all(number < count for number in named))
     for place, line in enumerate(lines):
@@ -107,7 +108,7 @@ def look_at_facts(rows, name, lines, count):
 
 
 def look_at(rows, name, text, count, blame):
-    """The lines behind the first."""
+    """Checks the lines after the first."""
     lines = text.splitlines()
     plain = [line for line in lines[1:] if not line.startswith("  ")]
     rows.row(f"{name}: lines of blame", plain, blame)
@@ -119,14 +120,16 @@ def look_at(rows, name, text, count, blame):
 
 
 def chart_in(path):
-    """The object of a chart, and whether it stands alone in its page, with nothing in its texts that means something to HTML."""
+    """Returns the object of a chart, and whether it is the only one in its page, without texts that mean something to
+    HTML."""
     with open(path, encoding="utf-8") as file:
         lines = lines_in(file.read())
     return json.loads(lines[0])["run"], len(lines) == 1 and not TOLD_BY_NUMBER.search(lines[0])
 
 
 def printed_step(it, heads, of):
-    """The line that `explain` prints of a step of a chart, which has the lines of `show` of its entries; none where it prints none."""
+    """Returns the line that `explain` prints for a step of a chart, or nothing. `heads` are the lines of `show` for
+    its entries."""
     step, end, entry = it["step"], it.get("end"), it.get("entry")
     if step in ("sends", "tells"):
         return f"  {end} {step} {entry} {heads[entry].split(' ', 2)[2]}\n"
@@ -142,7 +145,8 @@ def printed_step(it, heads, of):
 
 
 def look_at_chart(rows, name, path, text, count, end=None, is_of_each=False):
-    """A chart says what is printed, of so many entries, of both ends or of one. Where each end has a run of its own it has no steps."""
+    """Checks that a chart has the printed content, with this many entries, for both ends or for one. If each end has
+    its own run, the chart has no steps."""
     run, is_alone = chart_in(path)
     title, _, behind = text.partition("\n")
     place = re.match(r"(?:REFUTED|UNDECIDED|NOT SHOWN) (\d+)", title)
@@ -161,13 +165,13 @@ def look_at_chart(rows, name, path, text, count, end=None, is_of_each=False):
 
 
 def charts(rows, files):
-    """The charts that are worked out by hand, and which rows of a long run are told."""
+    """Checks the charts that are worked out by hand, and which rows of a long run are listed."""
     worked_out = (made_reports.CROSSING_AND_LOSS, made_reports.lawful_run()), (made_reports.LATE_RESULT, made_reports.stopped_run())
     for entries, wanted in worked_out:
         files.fill(judged.octets_of(entries), judged.TABLE.encode())
         run("explain", files.record, files.table, "--chart", files.chart)
         rows.row(f"the chart of {entries}", chart_in(files.chart)[0], wanted["run"])
-    # Unidirectionals, of which each has two steps, and then a message to which nothing leads.
+    # Unidirectionals, which have two steps each, and then a message that answers nothing.
     many, last = f"A {judged.LONE} ", f"B {judged.TO_NINE} "
     for name, entries, left_out, told, marked in (
         ("2,000 steps", many * 1000, [0, 0], MOST, None), ("2,002 steps", many * 1001, [0, 2], MOST, None),
@@ -182,7 +186,7 @@ def charts(rows, files):
 
 
 def agrees(rows, files):
-    """The other words say the same."""
+    """Checks that the other words agree."""
     for name, record, table in records():
         files.fill(record, table)
         paths = files.record, files.table
@@ -216,7 +220,7 @@ def agrees(rows, files):
 
 
 def checks(rows, files):
-    """By a certificate the line is that of `check`."""
+    """Checks that with a certificate the first line is that of `check`."""
     for entries, cert, _, _, *table in alone.CHECKED:
         files.fill(judged.octets_of(entries), (table or [judged.TABLE])[0].encode(), cert.encode())
         paths = files.record, files.table, files.cert
@@ -227,7 +231,7 @@ def checks(rows, files):
 
 
 def faults(rows, files):
-    """What has a fault, a chart that can't be written, and files that are not there."""
+    """Checks faulty input, a chart that can't be written, and missing files."""
     files.fill(b"\x41\x62\x03\x48\x01\x01", judged.TABLE.encode(), b"{}")
     files.write(files.chart, b"old")
     why = "  why: {}\n".format

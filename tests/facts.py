@@ -1,8 +1,8 @@
-"""Runs the built program's word `explain` over records in which an entry is at fault, and looks at the lines behind
-REFUTED and BLAMED, which say what the fault rests on. Those of facts.json are written out, to be read beside what
-`show` prints: of each kind one at least, and each form of words. Those of the records of faults.json, each as it is,
-behind a mark, and twice, and of random records are those that tests/oracle/evidence.py and tests/oracle/unblamed.py have, of both ends and of each
-end alone."""
+"""Runs the built program's word `explain` over records with an entry at fault, and checks the lines after REFUTED and
+BLAMED, which give the evidence of the fault. Those of facts.json are written out by hand, to be read next to the
+output of `show`: at least one of each kind, and each form of words. For the records of faults.json, each as it is,
+after a mark, and twice, and for random records, the lines must be those that tests/oracle/evidence.py and
+tests/oracle/unblamed.py give, for both ends and for each end alone."""
 
 import json
 import os
@@ -24,14 +24,14 @@ from shown import Table, entries_in, printed
 from tested import PROGRAM
 
 FACTS = "tests/cases/facts.json"
-# How many random records, how many over IDs that may be tangled, and the seed.
+# The number of random records, the number of those with IDs that may be tangled, and the seed.
 RANDOM, TANGLED, SEED = 400, 300, "facts"
-# A uses 01 again, so that it is blamed for nothing behind that.
+# A uses 01 again, so it is blamed for nothing after that.
 AGAIN = "A 6203480101 B 6403490101 B 6203480107 B 6203480108 A 6506480101490107"
 
 
 class Rows:
-    """How many rows passed and failed; those that failed are printed."""
+    """The counts of rows that passed and failed; those that failed are printed."""
 
     def __init__(self):
         self.passed, self.failed = 0, 0
@@ -56,13 +56,13 @@ class Files:
                 file.write(octets)
 
     def explained(self, *options):
-        """What `explain` prints, by lines."""
+        """Returns the output of `explain` as lines."""
         done = subprocess.run([PROGRAM, "explain", *options, *self.paths], capture_output=True, check=False)
         return done.stdout.decode().splitlines()
 
 
 def told(lines):
-    """Of each line that says REFUTED or BLAMED the lines that stand behind it, without their blanks."""
+    """Returns the lines after each line with REFUTED or BLAMED, without their blanks."""
     found = {}
     for number, line in enumerate(lines):
         if re.match("REFUTED|BLAMED", line):
@@ -79,7 +79,7 @@ def written_out(rows, files):
     for row in records:
         files.fill(judged.octets_of(row["record"]), json.dumps(tables[row["table"]]).encode())
         found, (_, *end, entry, kind) = told(files.explained()), row["line"].split()
-        # What is blamed, and refutes the record, stands behind the first line alone.
+        # A blamed entry that also refutes the record has its lines only after the first line.
         words = found.get(f"REFUTED {entry} {kind}", found.get(row["line"]))
         rows.row(f"{row['record']}, {row['line']}", (row["line"] in found, words), (True, row["words"]))
         if end:
@@ -88,14 +88,14 @@ def written_out(rows, files):
 
 
 def wanted(entries, table, lines, end):
-    """The lines that have to stand behind each that says REFUTED or BLAMED, of one end alone or of both."""
+    """Returns the lines that must follow each line with REFUTED or BLAMED, for one end alone or for both."""
     found = {}
     for line in lines:
         verdict, *_, entry, kind = line.split()
         if verdict == "REFUTED" and end is None:
             found[line] = unblamed.refuted_lines(entries, table, int(entry), kind)
         elif f"REFUTED {entry} {kind}" in lines and end is None:
-            # What was said above is not said again.
+            # Lines that were printed above are not repeated.
             found[line] = []
         else:
             found[line] = evidence.lines(entries, table, end or line.split()[1], int(entry), kind)
@@ -103,7 +103,8 @@ def wanted(entries, table, lines, end):
 
 
 def compared(rows, files, name, record, table, read):
-    """The lines of a record are those of tests/oracle/evidence.py and tests/oracle/unblamed.py; `read` is the table as that has it."""
+    """Checks that the lines of a record are those of tests/oracle/evidence.py and tests/oracle/unblamed.py; `read` is
+    the table as these read it."""
     files.fill(record, table)
     entries = entries_in(record)
     found = told(files.explained())
@@ -122,7 +123,8 @@ def of_known(rows, files):
 
 
 def random_record(rng):
-    """A record of tests/oracle/random_dialogues.py, some with entries changed, or one of tests/fuzz.py; and its table."""
+    """Returns a record of tests/oracle/random_dialogues.py, sometimes with changed entries, or one of tests/fuzz.py;
+    and its table."""
     if rng.random() < 0.25:
         case = fuzz.Case(rng)
         return case.record, case.table
@@ -140,7 +142,8 @@ def of_random(rows, files):
 
 
 def any_message(rng):
-    """A Begin or a Continue over a few IDs, of which A gives two or three to one of B; some Continues of B answer what was never sent."""
+    """Returns a Begin or a Continue over a few IDs, where A gives two or three IDs to one ID of B; some Continues of B
+    answer what was never sent."""
     end, a = rng.choice("AAB"), rng.choice(["01", "02", "03", "04", "05"])
     b = "08" if a in ("03", "05") else "07"
     own, other = (a, b) if end == "A" else (b, a)
@@ -151,7 +154,7 @@ def any_message(rng):
 
 
 def of_tangled(rows, files):
-    """Records in which IDs are tangled, by an end that is blamed for nothing."""
+    """Checks records with tangled IDs, of an end that is blamed for nothing."""
     table = judged.TABLE.encode()
     read = Table(printed("table", table))
     for number in range(TANGLED):
@@ -161,8 +164,9 @@ def of_tangled(rows, files):
 
 
 def at_a_mark(rows):
-    """A half of A is open at the mark, and A is not blamed: it used 01 again in entry 2. `explain` says of no mark why; the worked
-    rows of crates/tcap_faults/specs/WorkedUnblamed.antt say it of this record, too."""
+    """Checks a record in which a half of A is open at the mark, and A is not blamed, since it used 01 again in entry
+    2. `explain` gives no reason for a mark; the worked rows of crates/tcap_faults/specs/WorkedUnblamed.antt have this
+    record too."""
     record = judged.octets_of(
         "A 6203480101 B 6403490101 A 6203480101 A 6203480103 B 6506480109490103 A 6506480103490109 Q A 6203480104"
     )

@@ -1,5 +1,5 @@
-"""Compares the faults that tests/oracle/kinds.py finds in the records of tests/cases/faults.json, each as it is, after a quiet mark, and
-twice, with those that are known: for each end the entry at fault and its kinds."""
+"""Compares the faults that tests/oracle/kinds.py finds in the records of tests/cases/faults.json, each as it is, after
+a quiet mark, and twice, with the known faults: for each end the entry at fault and its kinds."""
 
 import sys
 

@@ -1,24 +1,23 @@
-"""Random and mutated records, tables and certificates through the words of the built program, for so many seconds:
-`make fuzz SECONDS=60 SEED=1`. The same seed gives the same cases, one after the other. What fails is kept in a folder,
-which is named, with the words that show it.
+"""Runs the words of the built program over random and mutated records, tables and certificates, for a number of
+seconds: `make fuzz SECONDS=60 SEED=1`. The same seed gives the same cases in order. The files of a case that fails are
+kept in a folder, which is printed, with the words that show the failure.
 
-Most records are those of a run that tests/oracle/runs.py plays by the rules of docs/MODEL.md, written there anew: of two ends
-that keep them, or of one, whose peer sends what it likes. Others are such records with octets, entries or ends changed, or
-those of tests/oracle/random_dialogues.py.
-Of each it is looked at that
+Most records come from a run that tests/oracle/runs.py plays by the rules of docs/MODEL.md, which it implements
+independently: of two ends that keep the rules, or of one, whose peer sends anything. Others are such records with
+changed octets, entries or ends, or come from tests/oracle/random_dialogues.py. For each record it checks that
 
 - each run ends within a second, with a status and lines that docs/FORMAT.md and docs/VERDICTS.md define;
-- the certificate of the run of two ends is LAWFUL under `check`, no end of it is BLAMED, and it is not REFUTED; and
-  no end that kept the rules is BLAMED, whatever its peer sent;
-- what is LAWFUL under `judge --cert` is LAWFUL under `check` with that certificate;
-- what is REFUTED or BLAMED is not LAWFUL under any certificate that is tried;
-- what is REFUTED, and what is BLAMED on each end, is what tests/oracle/kinds.py finds, and nothing else;
+- the certificate of a run of two ends is LAWFUL under `check`, neither of its ends is BLAMED, and it is not REFUTED;
+  and no end that kept the rules is BLAMED, no matter what its peer sent;
+- a record that is LAWFUL under `judge --cert` is LAWFUL under `check` with that certificate;
+- a record that is REFUTED or BLAMED is not LAWFUL under any certificate that is tried;
+- the REFUTED entry, and the BLAMED entry of each end, are exactly those that tests/oracle/kinds.py finds;
 - the words agree on faults and on the first line;
-- the ends' letters turned round turn the lines of `blame` round, and change no other line;
-- standard input in pieces of any size gives the same as a file;
-- where the program has `--end`: what is LAWFUL of two ends is LAWFUL of each with the same certificate, the
-  certificate of the run is LAWFUL of the end that kept the rules, what `judge --end --cert` proposes is LAWFUL under
-  `check --end`, and no end is both BLAMED and LAWFUL, under any certificate that is tried."""
+- exchanging the letters of the ends exchanges the lines of `blame`, and changes no other line;
+- standard input in pieces of any size gives the same result as a file;
+- if the program has `--end`: a record that is LAWFUL for two ends is LAWFUL for each with the same certificate, the
+  certificate of the run is LAWFUL for the end that kept the rules, a certificate that `judge --end --cert` proposes is
+  LAWFUL under `check --end`, and no end is both BLAMED and LAWFUL, under any certificate that is tried."""
 
 import json
 import os
@@ -40,7 +39,7 @@ import runs
 import shown
 from tested import PROGRAM
 
-# The processor seconds that a run may take, and the seconds behind which it is stopped.
+# The processor seconds that a run may take, and the seconds after which it is stopped.
 MOST, HANGS = 1, 30
 REASON = r"(0|[1-9]\d*)(/[1-9]\d*)?"
 FAULT = r"FAULT [1-9]\d* \d+\n"
@@ -63,7 +62,7 @@ TURN = bytes.maketrans(b"AB", b"BA")
 
 
 class Wrong(Exception):
-    """What is not as it has to be."""
+    """Something is not as it must be."""
 
 
 def must(holds, what):
@@ -72,7 +71,7 @@ def must(holds, what):
 
 
 class Program:
-    """Runs the program over files of a folder, and counts what it says."""
+    """Runs the program over files of a folder, and counts its answers."""
 
     def __init__(self, folder):
         self.folder, self.said, self.count, self.longest = folder, Counter(), 0, 0
@@ -86,7 +85,7 @@ class Program:
         return path
 
     def run(self, word, *words, given=b""):
-        """What a run prints, as text and to both streams, and its status."""
+        """Runs a word. Returns both streams and the status."""
         before = resource.getrusage(resource.RUSAGE_CHILDREN)
         try:
             command = [PROGRAM, word, *words]
@@ -101,10 +100,10 @@ class Program:
         return ended.stdout, ended.stderr, ended.returncode
 
     def say(self, word, *words):
-        """The lines of a run over files: they are as they may be, and the status is theirs."""
+        """Runs a word over files. Returns its text, after checking its form and the status."""
         out, error, status = self.run(word, *words)
         text = out.decode()
-        # Hints may stand there, of files that begin as something else does.
+        # There may be hints for files that begin like something else.
         are_hints = status == 3 and re.fullmatch(rb"(  hint: [^\n]+: this looks like [^\n]+\n)+", error)
         must(error == b"" or are_hints, f"{word} {words} says {error} on standard error")
         must(re.fullmatch(LINES[word], text), f"{word} {words} prints {text!r}")
@@ -114,7 +113,7 @@ class Program:
         elif word == "blame" and re.search("^BLAMED", text, re.M):
             wanted = 1
         elif word == "blame" and first == "REFUTED":
-            # It is blamed on nobody.
+            # Nobody is blamed for it.
             wanted = 2
         else:
             wanted = STATUSES[first]
@@ -123,7 +122,7 @@ class Program:
         return text
 
     def note(self, word, words, text):
-        """Counts what was said: the verdict, with its kind or its reason."""
+        """Counts an answer: the verdict, with its kind or its reason."""
         if word == "show":
             self.said.update("show FAULT " + reason for reason in re.findall(r"FAULT (\d+)", text))
             self.said.update("show " + kind for kind in re.findall(r"^\d+ (?:[AB] )?([A-Z][a-z]+|Q)\b", text, re.M))
@@ -142,12 +141,12 @@ class Program:
 
 
 def other_letters(octets):
-    """A record's entry of the other end."""
+    """Returns a record's entry for the other end."""
     return octets[:1].translate(TURN) + octets[1:]
 
 
 def turned(given):
-    """A certificate with the letters turned round."""
+    """Returns a certificate with the letters of the ends exchanged."""
     swap = {"A": "B", "B": "A"}
     return {
         key: [{**row, "end": swap[row["end"]]} for row in value] if key in ("close", "expire") else value
@@ -164,7 +163,7 @@ def prompt(count):
 
 
 def changed_certificate(rng, given, count):
-    """A certificate with one thing changed, that may still give a run."""
+    """Returns a certificate with one change, which may still give a run."""
     made = json.loads(text_of(given))
     part = rng.randrange(5)
     if part < 3 and made["fates"]:
@@ -185,7 +184,7 @@ def changed_certificate(rng, given, count):
 
 
 def mutated(rng, octets):
-    """The octets, with some changed."""
+    """Returns the octets with some changes."""
     octets = bytearray(octets)
     for _ in range(rng.choice([1, 1, 1, 2, 3, 8])):
         at, way = rng.randrange(len(octets) + 1), rng.randrange(7)
@@ -213,7 +212,7 @@ TOKENS += [b"\xff", b"\\ud800", b" "]
 
 
 def mutated_text(rng, text):
-    """A text of JSON with a token changed, or octets."""
+    """Returns a JSON text with changed tokens or octets."""
     if rng.random() < 0.3:
         return mutated(rng, text)
     tokens = re.findall(rb'"[^"]*"|[-\d.e]+|\w+|\S|\s+', text)
@@ -231,7 +230,7 @@ def mutated_text(rng, text):
 
 
 def changed_entries(rng, entries):
-    """The entries, with some left out, doubled, in another order, or of the other end."""
+    """Returns the entries, with some left out, doubled, reordered, or given to the other end."""
     entries = list(entries)
     for _ in range(rng.choice([1, 1, 2])):
         if not entries:
@@ -251,8 +250,8 @@ def changed_entries(rng, entries):
 
 
 class Case:
-    """A record with its table, and what is known of it: its entries, the certificate of a run, and the ends that kept
-    the rules in that run."""
+    """A record with its table, and what is known about it: its entries, the certificate of a run, and the ends that
+    kept the rules in that run."""
 
     def __init__(self, rng):
         self.rng = rng
@@ -276,11 +275,11 @@ class Case:
             self.record, self.keepers, self.is_whole = mutated(rng, self.record), "", False
         self.table = runs.table_text(table)
         if rng.random() < 0.08:
-            # It may be another table then, by which other things are lawful.
+            # It may be another table then, with other lawful records.
             self.table, self.keepers = mutated_text(rng, self.table), ""
 
     def random_entries(self, table):
-        """Messages of any kind: of the grammar, or of few IDs."""
+        """Returns messages of any kind: random ones of the grammar, or ones with few IDs."""
         rng, entries = self.rng, []
         maker, writer = random_messages.Maker(rng.random()), runs.Writer(rng)
         for _ in range(rng.randint(1, 8)):
@@ -289,7 +288,7 @@ class Case:
         return entries
 
     def certificates(self):
-        """The certificates that are tried: that of the run stands first, where there is one."""
+        """Returns the certificates to try. That of the run is the first, if there is one."""
         count = len(self.entries)
         tried = [self.given] if self.given else []
         tried += [prompt(count), {**prompt(count), "fates": ["lost"] * count}]
@@ -298,11 +297,11 @@ class Case:
         return tried
 
 
-# ---- what has to be so
+# ---- what must hold
 
 
 def verdicts_of(blame):
-    """Of each end the entry that is blamed on it, None where none is."""
+    """Returns for each blamed end its entry at fault."""
     return {end: int(at) for end, at in re.findall(r"^BLAMED ([AB]) (\d+)", blame, re.M)}
 
 
@@ -311,13 +310,13 @@ def is_lawful(text):
 
 
 def first_of(line, blame):
-    """The first line of `blame`, by that of `judge`: that the record is lawful, where each end by itself is."""
+    """Returns the first line of `blame`, given that of `judge`: the record is lawful if each end on its own is."""
     both = re.findall(r"^LAWFUL [AB] (\d+) ", blame, re.M)
     return f"LAWFUL {both[0]}\n" if len(both) == 2 else line
 
 
 def look_at_kinds(program, paths, show, line, blame):
-    """What is refuted and what is blamed is what tests/oracle/kinds.py finds."""
+    """Checks that the refuted and blamed entries are what tests/oracle/kinds.py finds."""
     if line.startswith("FAULT"):
         return
     entries, table = shown.entries_of(show), shown.Table(program.run("table", paths[1])[0].decode())
@@ -368,7 +367,8 @@ def look_at_case(program, case):
 
 
 def look_at_faults(program, case, paths, show, line):
-    """A fault of the record is the last line of `show`, and the line of the others where the table is one."""
+    """Checks that a fault of the record is the last line of `show`, and the line of the others if the table has no
+    fault."""
     last = show.splitlines(keepends=True)[-1:]
     fault = last[0] if last and last[0].startswith("FAULT") else None
     is_table = not re.match("FAULT 3[0-4] ", line)
@@ -385,7 +385,7 @@ def look_at_faults(program, case, paths, show, line):
 
 
 def look_at_ends(program, case, paths, blamed, lines):
-    """What is said of one end alone."""
+    """Checks the answers for one end alone."""
     for end in "AB":
         words = ["--end", end, *paths]
         judge = program.say("judge", *words, "--cert")
@@ -410,7 +410,7 @@ def look_at_ends(program, case, paths, blamed, lines):
 
 
 def look_at_other_letters(program, case, line, blame, lines):
-    """The same with A for B and B for A."""
+    """Checks the answers with A and B exchanged."""
     paths = [program.file("turned", b"".join(map(other_letters, case.entries))), os.path.join(program.folder, "table")]
     said = program.say("blame", *paths)
     must(said.startswith(first_of(line, blame)), f"{line!r}, and turned round {said!r}")
@@ -423,7 +423,7 @@ def look_at_other_letters(program, case, line, blame, lines):
 
 
 def in_pieces(program, word, octets, rng):
-    """What a run prints whose standard input comes in pieces of random sizes."""
+    """Runs a word with the standard input in pieces of random sizes. Returns both streams and the status."""
     with subprocess.Popen(
         [PROGRAM, word], stdin=subprocess.PIPE, stdout=subprocess.PIPE, stderr=subprocess.PIPE, bufsize=0
     ) as run:
@@ -434,7 +434,7 @@ def in_pieces(program, word, octets, rng):
             try:
                 run.stdin.write(octets[at : at + size])
             except BrokenPipeError:
-                # What stands behind a fault is not read.
+                # What comes after a fault is not read.
                 break
             at += size
             if rng.random() < 0.3:
@@ -447,7 +447,7 @@ def in_pieces(program, word, octets, rng):
 
 
 def look_at_pieces(program, case):
-    """`show` and `pack` say the same of standard input, in one piece or many, and of a file."""
+    """Checks that `show` and `pack` answer alike for standard input, in one piece or many, and for a file."""
     rng = case.rng
     lines = lines_of(case)
     is_broken = rng.random() < 0.3
@@ -469,7 +469,7 @@ def look_at_pieces(program, case):
 
 
 def lines_of(case):
-    """The lines of the entries, with others between."""
+    """Returns the lines of the entries, with other lines between them."""
     rng, lines = case.rng, []
     for entry in case.entries:
         if rng.random() < 0.1:
@@ -483,7 +483,7 @@ def lines_of(case):
 
 
 def kept(program, folder, name, why):
-    """Keeps the files of a case that fails, and says where."""
+    """Keeps the files of a case that fails, and prints where."""
     place = os.path.join(folder, name)
     os.makedirs(place, exist_ok=True)
     for file in os.listdir(program.folder):

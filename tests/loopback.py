@@ -1,5 +1,5 @@
-"""The loopback interface of tests whose programs talk to each other over it. A sandbox without a network has none that is up: there
-such a test goes on in a network of its own.
+"""Gives tests a loopback interface, over which their programs talk to each other. In a sandbox without a network there
+is none that is up: there such a test continues in a new network.
 
     tests/loopback.py TEST [WORD..] sets up the interface of the network that it runs in, and then runs that test."""
 
@@ -11,14 +11,14 @@ import struct
 import subprocess
 import sys
 
-# Ways to run a command in a network of its own: as root, and as any user.
+# Ways to run a command in a new network: as root, and as any user.
 ALONE = ["unshare", "--net"], ["unshare", "--map-root-user", "--net"]
-# Of Linux's <net/if.h> and <linux/sockios.h>: that an interface is up, and the request that sets its flags.
+# From Linux's <net/if.h> and <linux/sockios.h>: the flag of an interface that is up, and the request that sets flags.
 IFF_UP, SIOCSIFFLAGS = 1, 0x8914
 
 
 def is_up():
-    """Whether something that listens on 127.0.0.1 can be reached."""
+    """Returns whether a listener on 127.0.0.1 can be reached."""
     try:
         with socket.create_server(("127.0.0.1", 0)) as server, socket.create_connection(server.getsockname(), 5):
             return True
@@ -27,7 +27,8 @@ def is_up():
 
 
 def is_had():
-    """Whether there is one. Where there is none, and a network of its own can be had, this test begins anew in such a one."""
+    """Returns whether there is a loopback interface. If there is none, and a new network is possible, this test starts
+    again in one."""
     if is_up():
         return True
     for alone in ALONE if shutil.which("unshare") else []:
@@ -40,7 +41,7 @@ def is_had():
 def main(words):
     with socket.socket(socket.AF_INET, socket.SOCK_DGRAM) as any_socket:
         fcntl.ioctl(any_socket, SIOCSIFFLAGS, struct.pack("16sh14x", b"lo", IFF_UP))
-    # Of itself it is asked whether that sets it up.
+    # Called on itself, it reports whether that sets up the interface.
     if os.path.samefile(words[0], __file__):
         return int(not is_up())
     os.execv(sys.executable, [sys.executable, *words])

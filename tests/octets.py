@@ -1,8 +1,8 @@
-"""The messages of crates/tcap_vectors cut behind each count of octets, and the two longest of them with each octet set
-to each value, through `show`, `check`, `judge` and `blame` of the built program, by as many processes as there are
-processors: `make octets`. A cut record is the fault 21 under each word. Of a changed one the words agree: on a fault of
-the record; on the first entry that is no message, which refutes the record but where its reason is a limit of the
-profile; and else each says one of its lines."""
+"""Runs the messages of crates/tcap_vectors, cut after each count of octets, and the two longest of them, with each
+octet set to each value, through `show`, `check`, `judge` and `blame` of the built program, with as many processes as
+there are processors (`make octets`). For each word a cut record is the fault 21. For a changed one the words must
+agree: on a fault of the record; on the first entry that is no message, which refutes the record unless its reason is a
+limit of the profile; and otherwise each word must print one of its lines."""
 
 import multiprocessing
 import os
@@ -16,7 +16,7 @@ from judged import TABLE
 
 # The reasons that are limits of the profile.
 LIMITS = (2, 3, 4, 12, 13, 16, 17, 18)
-# How many values a process looks at in one go.
+# The number of values that a process checks in one go.
 PART = 16
 
 
@@ -30,7 +30,8 @@ def with_octet(octets, at, value):
 
 
 def said_of(program, record, count):
-    """What the words say of a record: of `check` by the certificate that delivers each of so many messages at once."""
+    """Returns the output of each word for a record; `check` has the certificate that delivers each of `count` messages
+    at once."""
     paths = [program.file("record", record), program.file("table", TABLE.encode())]
     cert = program.file("cert", fuzz.text_of(fuzz.prompt(count)))
     show, judge = program.say("show", paths[0]), program.say("judge", *paths)
@@ -41,7 +42,7 @@ def said_of(program, record, count):
 
 
 def look_at_cut(program, record, count):
-    """The record's first octets, so many."""
+    """Checks the first `count` octets of the record."""
     show, check, judge, blame = said_of(program, record[:count], 0)
     if count == 0:
         wanted = "", "LAWFUL 0\n", "LAWFUL 0\n", "LAWFUL 0\nLAWFUL A 0 unheard 0\nLAWFUL B 0 unheard 0\n"
@@ -52,11 +53,11 @@ def look_at_cut(program, record, count):
 
 
 def look_at_changed(program, record, count):
-    """A record of so many entries, of which the last one may be no message any more."""
+    """Checks a record of `count` entries, whose last one may no longer be a message."""
     show, check, judge, blame = said_of(program, record, count)
     last = (show.splitlines() or [""])[-1]
     if last.startswith("FAULT"):
-        # What stands in an element of definite length makes a bad entry; the rest is a fault of the record.
+        # A fault within an element of definite length makes a bad entry; any other is a fault of the record.
         found = check, judge, blame
         fuzz.must(found == (last + "\n",) * 3, f"{record.hex()}: {last!r}, {found}")
         return
@@ -71,7 +72,7 @@ def look_at_changed(program, record, count):
 
 
 def look(part):
-    """How many of these are looked at, and what is wrong, and what was said."""
+    """Returns how many of these were checked, what is wrong, and the counts of the answers."""
     wrong = []
     with tempfile.TemporaryDirectory(dir="/dev/shm" if os.path.isdir("/dev/shm") else None) as folder:
         program = fuzz.Program(folder)
@@ -84,7 +85,7 @@ def look(part):
 
 
 def rows():
-    """The records, each with what is done with it."""
+    """Yields the records, each with the way to check it."""
     known = vectors()
     for octets in known.values():
         for count in range(len(octets) + 1):

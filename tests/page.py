@@ -1,7 +1,7 @@
-"""Compares the frame of a page with the files that it is made of (dev/page.py), and looks at pages of made reports
-and runs (made_reports.py), and at pages that the program writes, in a browser (browser.py): the cases are those of page_cases.py,
-page_parts.py, page_traces.py, page_limits.py and page_runs.py, and of page_written.py. Where there is no browser that starts, or no loopback interface, over which
-it is driven, it says so, and counts the frame alone."""
+"""Compares the frame of a page with the files that it is made from (dev/page.py). Then it checks pages of made reports
+and runs (made_reports.py), and pages that the program writes, in a browser (browser.py). The cases are those of
+page_cases.py, page_parts.py, page_traces.py, page_limits.py, page_runs.py and page_written.py. If no browser starts,
+or there is no loopback interface to drive it, it says so and counts only the frame."""
 
 import contextlib
 import signal
@@ -23,12 +23,12 @@ import page_written
 from made_reports import hostile, looked_like, open_at_end, planted
 from traced import SCHEMA, Checks, run
 
-# How often a case is looked at, at the most.
+# The most times that a case is checked.
 TURNS = 3
 
 
 def frame_checks():
-    """What dev/page.py compares."""
+    """Returns the checks of dev/page.py."""
     checks = Checks("frame")
     for what, holds in page.checks():
         checks.holds(what, holds)
@@ -36,8 +36,8 @@ def frame_checks():
 
 
 def made_checks():
-    """That the made objects are as docs/report.schema.json says, where there is something that looks at them by it, and that
-    the program shows the octets of planted messages as they say."""
+    """Checks that the made objects follow docs/report.schema.json, if a validator is installed, and that the program
+    shows the octets of planted messages as they say."""
     checks = Checks("made reports")
     for it in [*planted(), *hostile(), open_at_end(), looked_like("a capture")]:
         if SCHEMA is not None and "total" not in it:
@@ -50,14 +50,14 @@ def made_checks():
 
 
 def looked_at_once(shown, case):
-    """What a case finds, and that its pages say nothing to the console and ask for nothing but themselves."""
+    """Runs a case once. Its pages must print nothing on the console and request nothing but themselves."""
     checks = Checks(case.__name__)
     shown.resize(1280, 900)
     shown.show_as()
     try:
         case(checks, shown)
     except Exception as error:
-        # The page has not what the case looks for.
+        # The page does not have what the case looks for.
         checks.holds(f"it ends, and not by {error!r}"[:600], False)
     checks.same("said to the console", shown.log(), [])
     asked = [it for it in shown.requests() if not it.startswith((f"file://{shown.folder}/", "data:,", "about:"))]
@@ -66,7 +66,7 @@ def looked_at_once(shown, case):
 
 
 def looked_at(shown, case):
-    """What a case finds. Where something is wrong it is looked at again, since a busy machine may draw late; that is said."""
+    """Runs a case. If something is wrong, it is run again and a line says so, since a busy machine may draw late."""
     for _ in range(TURNS - 1):
         checks = looked_at_once(shown, case)
         if not checks.wrong:
@@ -76,7 +76,7 @@ def looked_at(shown, case):
 
 
 def main():
-    # Stopped by the gate, it ends its browser.
+    # If the gate stops this, it ends its browser.
     signal.signal(signal.SIGTERM, lambda *_: sys.exit(1))
     missing = browser.missing() or ([] if loopback.is_had() else ["a loopback interface"])
     found = [frame_checks(), made_checks()]

@@ -1,17 +1,17 @@
-"""Shows that what the pages show is so.
+"""Shows that the examples and commands in the pages are true.
 
-The example of each library's page is the one that is proved: the block of code in crates/tcap_NAME/README.md is, word for
-word, the file crates/tcap_uses/src/NAME.rt without its `ghost use` lines, which import the words of the clauses. So are the
-blocks of docs/LIBRARY.md, one behind the other.
+The example on each library's page is proved code: the block of code in crates/tcap_NAME/README.md is, word for word,
+the file crates/tcap_uses/src/NAME.rt without its `ghost use` lines, which import the words of the clauses. So are the
+blocks of docs/LIBRARY.md, in order.
 
-Each command in README.md and docs/*.md prints what the page says. A block between fences that has a line which begins with
-`$ ` is made of commands, each with what it prints below it. Behind a line that ends with a backslash a command goes on in the
-next one. A line `..` stands for lines that are left out there, one or more; a last line `[status N]` is not printed: it is the
-exit status, which is 0 where there is no such line. Nothing may go to standard error; what goes there is put elsewhere by the
-command. The commands of a page run one after the other, by bash with pipefail, in a folder of their own that has what is in
-COPIED. `tcapjudge` is the program that is tested (tests/tested.py).
+Each command in README.md and docs/*.md prints what the page says. A block between fences with a line that begins with
+`$ ` consists of commands, each followed by its output. A command whose line ends with a backslash continues in the
+next line. A line `..` stands for one or more lines that are left out. A last line `[status N]` is not output: it gives
+the exit status, which is 0 without such a line. A command must not print on standard error, but may redirect it. The
+commands of a page run one after the other, in bash with pipefail, in a new folder with copies of COPIED. `tcapjudge`
+is the program that is tested (tests/tested.py).
 
-Each link of a page leads to a file that is there, and to a heading of it; each `make WORD` names a target."""
+Each link of a page leads to an existing file and heading; each `make WORD` names a target."""
 
 import glob
 import itertools
@@ -30,7 +30,7 @@ PAGES["docs/LIBRARY.md"] = ["record", "msg", "end", "judge"]
 RUST = re.compile(r"^```rust\n(.*?)^```$", re.DOTALL | re.MULTILINE)
 
 COPIED = ["examples", "tools"]
-# What a page may take for a command, in seconds.
+# The most seconds that a command of a page may take.
 LIMIT = 60
 BLOCK = re.compile(r"^```\w*\n(.*?)^```$", re.DOTALL | re.MULTILINE)
 PROMPT = re.compile(r"^\$ ", re.MULTILINE)
@@ -41,7 +41,7 @@ TARGET = re.compile(r"`make ([a-z]+)|^make ([a-z]+)", re.MULTILINE)
 
 
 def text_of(path):
-    """The text of a file, nothing where there is none."""
+    """Returns the text of a file, or an empty text if there is no file."""
     try:
         with open(path, encoding="utf-8") as file:
             return file.read()
@@ -50,13 +50,13 @@ def text_of(path):
 
 
 def shown(source):
-    """What a page shows of a file of uses."""
+    """Returns what a page shows of a file of tcap_uses."""
     lines = source.splitlines(keepends=True)
     return "".join(line for line in lines if not line.startswith("ghost use ")).lstrip("\n")
 
 
 def is_proved(page, names):
-    """Whether the blocks of code of a page are what is proved."""
+    """Returns whether the blocks of code of a page are the proved code."""
     files = [f"crates/tcap_uses/src/{name}.rt" for name in names]
     sources = [text_of(file) for file in files]
     if all(sources) and RUST.findall(text_of(page)) == [shown(source) for source in sources]:
@@ -66,13 +66,13 @@ def is_proved(page, names):
 
 
 def headings_of(path):
-    """The headings of a page, as links name them."""
+    """Returns the headings of a page, as links name them."""
     titles = re.findall(r"^#+ (.*)$", text_of(path), re.MULTILINE)
     return {re.sub(r"[^\w\- ]", "", title.lower()).replace(" ", "-") for title in titles}
 
 
 def is_there(page, path, heading):
-    """Whether a link of a page leads somewhere."""
+    """Returns whether a link of a page leads somewhere."""
     if path.startswith("http"):
         return True
     to = os.path.join(os.path.dirname(page), path) if path else page
@@ -80,7 +80,8 @@ def is_there(page, path, heading):
 
 
 def is_sound(page):
-    """Whether the links of a page lead somewhere, the targets that it names are there, and each of its prompts is run."""
+    """Returns whether the links of a page lead somewhere, the targets that it names exist, and each of its prompts is
+    run."""
     text = text_of(page)
     wrong = ["#".join(link) for link in LINK.findall(text) if not is_there(page, *link)]
     targets = {word for pair in TARGET.findall(text) for word in pair if word}
@@ -95,7 +96,7 @@ def is_sound(page):
 
 
 def command_of(part):
-    """A command, as it is typed; what the page says that it prints; and its exit status."""
+    """Returns a command as it is typed; what the page says that it prints; and its exit status."""
     lines = part.splitlines()
     typed = 1 + sum(1 for _ in itertools.takewhile(lambda line: line.endswith("\\"), lines))
     status = STATUS.fullmatch(lines[-1]) if len(lines) > typed else None
@@ -104,22 +105,23 @@ def command_of(part):
 
 
 def commands_of(page):
-    """The commands of a page. What stands in a block before its first one is taken for what no command printed."""
+    """Returns the commands of a page. Text in a block before its first command counts as output of a command that
+    prints nothing."""
     blocks = [PROMPT.split(block) for block in BLOCK.findall(text_of(page))]
     parts = [part for first, *others in blocks if others for part in ([f":\n{first}"] if first else []) + others]
     return [command_of(part) for part in parts]
 
 
 def is_printed(printed, output):
-    """Whether the lines of a page say what was printed."""
+    """Returns whether the lines of a page are what was printed."""
     wanted = "".join("(?:.*\n)+" if line == ".." else re.escape(f"{line}\n") for line in printed)
     return re.fullmatch(wanted, output) is not None
 
 
 def is_so(page, command, how):
-    """Whether a command of a page does what the page says."""
+    """Returns whether a command of a page does what the page says."""
     typed, printed, status = command
-    # Where it takes too long, `timeout` ends what bash started too, with the status 124.
+    # If it takes too long, `timeout` also ends what bash started, with the status 124.
     words = ["timeout", str(LIMIT), "bash", "-c", f"set -o pipefail\n{typed}"]
     run = subprocess.run(words, stdin=subprocess.DEVNULL, capture_output=True, check=False, **how)
     output, error = run.stdout.decode(errors="replace"), run.stderr.decode(errors="replace")
@@ -130,7 +132,8 @@ def is_so(page, command, how):
 
 
 def runs_of(page, program):
-    """Of each command of a page whether it does what the page says. `program` is a folder that has the program."""
+    """Returns for each command of a page whether it does what the page says. `program` is a folder that has the
+    program."""
     with tempfile.TemporaryDirectory() as folder:
         for name in COPIED:
             shutil.copytree(name, f"{folder}/{name}")

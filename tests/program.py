@@ -1,4 +1,4 @@
-"""Runs the built program and looks at what no contract holds: to which stream it prints, and its exit status."""
+"""Runs the built program and checks what no contract covers: which stream it prints to, and its exit status."""
 
 import contextlib
 import os
@@ -21,14 +21,14 @@ TABLE = b'{"operations":[{"class":1,"code":45}]}'
 CERT = b'{"close":[],"expire":[],"fates":[1,2],"version":1}'
 # The greatest length of the text of a table or a certificate.
 LIMIT = 67_108_864
-# What a word of these names stands for: a file that holds this.
+# Words in rows that stand for files, with the content of each file.
 FILES = {
     "RECORD": BEGIN,
     "LINES": LINES,
     "DIALOGUE": DIALOGUE,
     "TABLE": TABLE,
     "CERT": CERT,
-    # The Begin is delivered behind the End.
+    # The Begin is delivered after the End.
     "LATE": CERT.replace(b"[1,2]", b"[2,2]"),
     "BROKEN": b"{",
     "CUT": DIALOGUE[:-1],
@@ -36,7 +36,7 @@ FILES = {
     "FULL_CERT": CERT.ljust(LIMIT),
     "LONG_TABLE": TABLE.ljust(LIMIT + 1),
     "LONG_CERT": CERT.ljust(LIMIT + 1),
-    # Keys of a million octets, in the object and in a row, and a code whose text is as long.
+    # Keys of a million octets, in the object and in a row, and a code with a text as long.
     "LONG_KEY": TABLE[:-1] + b',"' + b"k" * 1_000_000 + b'":0}',
     "LONG_ROW_KEY": b'{"operations":[{"class":1,"code":45,"' + b"k" * 1_000_000 + b'":0}]}',
     "LONG_CODE": TABLE[:-2] + b',{"class":1,"code":"' + b"2a" * 500_000 + b'"}]}',
@@ -49,15 +49,16 @@ FILES = {
     "LONG_UTF8": TABLE[:-1] + b',"\xc0\xaf":0}',
     "HALF_UTF8": TABLE[:-1] + b',"\xed\xa0\x80":0}',
     "NO_UTF8_CERT": CERT[:-1] + b',"\xff":0}',
-    # Lists in each other, closed or not.
+    # Nested lists, closed or not.
     "LISTS": b"[" * 200 + b"]" * 200,
     "OPEN_LISTS": b"[" * 1_000_000,
 }
 
 
 def version():
-    """Returns what `--version` prints: the kit that proved the program, which has to be the one that is here, or that it is not proved. If
-    the kit is another one, name it in VERSION of crates/tcap_words/src/command_line.rt."""
+    """Returns the required output of `--version`: the kit that proved the program, which must be the present one, or
+    that it is not proved. If the present kit is another one, name it in VERSION of
+    crates/tcap_words/src/command_line.rt."""
     if os.path.basename(os.path.realpath(PROGRAM)) == "tcapjudge-unproved":
         return b"tcapjudge 0.1.0 (not proved)\n"
     kit = subprocess.run(["rt", "version"], stdout=subprocess.PIPE, check=True).stdout.strip()
@@ -67,7 +68,7 @@ def version():
 NONE = "/no/such/file"
 SOME = object()
 
-# The words, the standard input, and then the standard output, the standard error and the exit status that are wanted.
+# The words, the standard input, and then the required standard output, standard error and exit status.
 ROWS = [
     (["show"], BEGIN, LINE, b"", 0),
     (["show"], b"", b"", b"", 0),
@@ -86,14 +87,14 @@ ROWS = [
     (["check", "DIALOGUE", "TABLE", "CERT"], b"", b"LAWFUL 2\n", b"", 0),
     (["check", "DIALOGUE", "TABLE", "LATE"], b"", b"NOT SHOWN 1 65/40\n", b"", 2),
     (["check", "RECORD", "TABLE", "CERT"], b"", b"NOT SHOWN 1 61\n", b"", 2),
-    # A fault of one of the three: the table, then the certificate, then the record.
+    # A fault in one of the three: the table comes first, then the certificate, then the record.
     (["check", "DIALOGUE", "BROKEN", "CERT"], b"", b"FAULT 30 0\n", b"", 3),
     (["check", "DIALOGUE", "TABLE", "BROKEN"], b"", b"FAULT 60 0\n", b"", 3),
     (["check", "CUT", "TABLE", "CERT"], b"", b"FAULT 21 28\n", b"", 3),
     (["check", "CUT", "TABLE", "LATE"], b"", b"FAULT 21 28\n", b"", 3),
     (["check", "CUT", "BROKEN", "BROKEN"], b"", b"FAULT 30 0\n", b"", 3),
     (["check", "CUT", "TABLE", "BROKEN"], b"", b"FAULT 60 0\n", b"", 3),
-    # Files that can't be opened, or read.
+    # Files that can't be opened or read.
     (["check", NONE, "TABLE", "CERT"], b"", b"FAULT 23 0\n", SOME, 3),
     (["check", "DIALOGUE", NONE, "CERT"], b"", b"FAULT 23 0\n", SOME, 3),
     (["check", "DIALOGUE", "TABLE", NONE], b"", b"FAULT 23 0\n", SOME, 3),
@@ -105,7 +106,7 @@ ROWS = [
     (["check", "DIALOGUE", "LONG_TABLE", "CERT"], b"", b"FAULT 30 0\n", b"", 3),
     (["check", "DIALOGUE", "TABLE", "LONG_CERT"], b"", b"FAULT 60 0\n", b"", 3),
     (["check", "DIALOGUE", "/dev/zero", "CERT"], b"", b"FAULT 30 0\n", b"", 3),
-    # Keys of a million octets, texts that are no UTF-8, and lists in each other.
+    # Keys of a million octets, texts that are no UTF-8, and nested lists.
     (["check", "DIALOGUE", "LONG_KEY", "CERT"], b"", b"FAULT 31 0\n", b"", 3),
     (["check", "DIALOGUE", "LONG_ROW_KEY", "CERT"], b"", b"FAULT 31 0\n", b"", 3),
     (["check", "DIALOGUE", "LONG_CODE", "CERT"], b"", b"LAWFUL 2\n", b"", 0),
@@ -121,7 +122,7 @@ ROWS = [
     (["judge", "DIALOGUE", "OPEN_LISTS"], b"", b"FAULT 30 0\n", b"", 3),
     (["check", "DIALOGUE", "TABLE", "LISTS"], b"", b"FAULT 60 0\n", b"", 3),
     (["check", "DIALOGUE", "TABLE", "OPEN_LISTS"], b"", b"FAULT 60 0\n", b"", 3),
-    # Without a certificate: a fault of one of the two, and the certificate that is proposed where it is asked for.
+    # Without a certificate: a fault in one of the two files, and the proposed certificate if it is asked for.
     (["judge", "DIALOGUE", "TABLE"], b"", b"LAWFUL 2\n", b"", 0),
     (["judge", "DIALOGUE", "TABLE", "--cert"], b"", b"LAWFUL 2\n" + CERT + b"\n", b"", 0),
     (["judge", "--cert", "DIALOGUE", "TABLE"], b"", b"LAWFUL 2\n" + CERT + b"\n", b"", 0),
@@ -134,7 +135,7 @@ ROWS = [
     (["judge", "DIALOGUE"], b"", b"", SOME, 4),
     (["judge", "DIALOGUE", "TABLE", "x"], b"", b"", SOME, 4),
     (["judge", "--help"], b"", SOME, b"", 0),
-    # The same, with what is blamed on each end.
+    # Without a certificate, with a verdict on each end.
     (["blame", "DIALOGUE", "TABLE"], b"", b"LAWFUL 2\nLAWFUL A 2 unheard 0\nLAWFUL B 2 unheard 0\n", b"", 0),
     (["blame", "DIALOGUE", "BROKEN"], b"", b"FAULT 30 0\n", b"", 3),
     (["blame", "CUT", "TABLE"], b"", b"FAULT 21 28\n", b"", 3),
@@ -180,7 +181,7 @@ ROWS = [
     (["check", "--help"], b"", SOME, b"", 0),
 ]
 
-# The same where the standard output takes nothing: a full device, and a pipe that no one reads.
+# Runs with a standard output that takes nothing: a full device, and a pipe that nobody reads.
 FULL = [
     (["pack"], LINES, 3),
     (["show"], BEGIN, 3),
@@ -198,7 +199,7 @@ FULL = [
     (["shew"], b"", 4),
 ]
 
-# An example, the table of examples/tables that it is judged by, what is printed, and the exit status.
+# An example, the table of examples/tables to judge it by, the output, and the exit status.
 TABLES = [
     ("ussd", "ussd", b"LAWFUL 4\n", 0),
     ("ussd", "map", b"LAWFUL 4\n", 0),
@@ -210,7 +211,7 @@ TABLES = [
 
 @contextlib.contextmanager
 def closed_pipe():
-    """The end of a pipe to which is written, where the other one is closed."""
+    """Yields the writing end of a pipe whose reading end is closed."""
     reading, writing = os.pipe()
     os.close(reading)
     with open(writing, "wb") as pipe:
@@ -218,7 +219,7 @@ def closed_pipe():
 
 
 def are_whole(folder, names):
-    """Whether these files hold what they held."""
+    """Returns whether these files still have their content."""
     for name in names:
         with open(f"{folder}/{name}", "rb") as file:
             if file.read() != FILES[name]:
@@ -234,20 +235,20 @@ def is_wanted(found, wanted):
 
 
 def run_with(folder, words, given, **how):
-    """What the program does with these words, where files of that folder stand in place of the names of FILES."""
+    """Runs the program with these words; names in FILES become files of that folder."""
     words = [f"{folder}/{word}" if word in FILES else word for word in words]
     return subprocess.run([PROGRAM, *words], input=given, check=False, **how)
 
 
 def wrong_in(folder):
-    """How many runs are not as they are wanted, each of which is printed."""
+    """Returns how many runs are wrong, and prints each of them."""
     wrong = 0
     for words, given, out, error, status in ROWS:
         run = run_with(folder, words, given, capture_output=True)
         if not (is_wanted(run.stdout, out) and is_wanted(run.stderr, error) and run.returncode == status):
             wrong += 1
             print(f"{words}: {run.returncode} {run.stdout} {run.stderr}")
-    # Where no standard stream is open, the files take their numbers: what is printed must not go into one of these.
+    # If no standard stream is open, files get their numbers: output must not go into one of these.
     for words, _, status in FULL:
         words = [f"{folder}/{word}" if word in FILES else word for word in words]
         run = subprocess.run(["sh", "-c", 'exec "$@" <&- >&- 2>&-', "sh", PROGRAM, *words], check=False)
@@ -258,11 +259,11 @@ def wrong_in(folder):
         for words, given, status in FULL:
             with device() as full:
                 run = run_with(folder, words, given, stdout=full, stderr=subprocess.PIPE)
-            # Behind the failure nothing is said, but what was wrong with the words.
+            # After the failure nothing may be printed, except what is wrong with the words.
             if run.returncode != status or (status != 4 and run.stderr):
                 wrong += 1
                 print(f"{words}, standard output {name}: {run.returncode} {run.stderr}")
-        # What was packed goes out where standard error takes nothing; wrong words are wrong all the same.
+        # Packed octets go out even if standard error takes nothing, and wrong words are still wrong.
         with device() as full:
             run = run_with(folder, ["pack"], LINES + b"x\n", stdout=subprocess.PIPE, stderr=full)
             words = run_with(folder, ["shew"], b"", stdout=subprocess.PIPE, stderr=full)
@@ -273,7 +274,7 @@ def wrong_in(folder):
 
 
 def written(folder, record, table):
-    """The paths of the files of a record and its operation table, with these octets."""
+    """Writes a record and its operation table to files, and returns the paths."""
     paths = [f"{folder}/judged", f"{folder}/judged.table"]
     for path, octets in zip(paths, (record, table)):
         with open(path, "wb") as file:
@@ -282,13 +283,13 @@ def written(folder, record, table):
 
 
 def said(words):
-    """What the program prints with these words, and its exit status."""
+    """Returns the program's output on both streams with these words, and its exit status."""
     run = subprocess.run([PROGRAM, *words], input=b"", capture_output=True, check=False)
     return run.stdout, run.stderr, run.returncode
 
 
 def misjudged_in(folder):
-    """How many rows of judged.py and blamed.py are not as they are wanted, each of which is printed."""
+    """Returns how many rows of judged.py and blamed.py are wrong, and prints each of them."""
     wrong = 0
     for rows, word, flags in (judged, "judge", ["--cert"]), (blamed, "blame", []):
         for number, (record, table, printed, status) in enumerate(rows.rows()):
@@ -300,7 +301,7 @@ def misjudged_in(folder):
 
 
 def misblamed_in(folder):
-    """How many records of faults.json are not as they are wanted, each of which is printed."""
+    """Returns how many records of faults.json are wrong, and prints each of them."""
     wrong = 0
     for name, record, table, faults in blamed.faults():
         paths = written(folder, record, table)
@@ -318,7 +319,7 @@ def misblamed_in(folder):
 
 
 def missaid_in(folder):
-    """How many rows of alone.py are not as they are wanted, each of which is printed."""
+    """Returns how many rows of alone.py are wrong, and prints each of them."""
     wrong = 0
     for number, (words, record, table, cert, printed, status) in enumerate(alone.rows()):
         paths = written(folder, record, table)
@@ -340,7 +341,7 @@ def missaid_in(folder):
 
 
 def unlawful_in(folder):
-    """How many rows of TABLES are not as they are wanted, each of which is printed."""
+    """Returns how many rows of TABLES are wrong, and prints each of them."""
     wrong = 0
     for name, table, printed, status in TABLES:
         with open(f"{folder}/tabled", "wb") as file:

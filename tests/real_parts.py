@@ -1,10 +1,10 @@
 """Has two ends, users of a real SCCP (tests/real/end.c, over libosmo-sigtran), exchange the dialogues of examples/ as
-unitdata over a real transfer point, osmo-stp, by M3UA and SCTP on a loopback interface; captures that beside each end
-(tests/real/on_loopback.py), lets tools/lines_of_capture.py make lines of it, and `tcapjudge test` judge them. The lines
-have to be those of the examples, and the verdicts those that the heads of the examples say. Where a part is missing it
-says which, and counts nothing.
+unitdata over a real transfer point, osmo-stp, by M3UA and SCTP on a loopback interface. It captures this at each end
+(tests/real/on_loopback.py), has tools/lines_of_capture.py make lines from the captures, and `tcapjudge test` judge
+them. The lines must be those of the examples, and the verdicts those in the heads of the examples. If a part is
+missing, it says which, and counts nothing.
 
-All of it runs in a network and among processes of its own, which end with it. Where the kernel has no SCTP, that is within
+Everything runs in a new network and among new processes, which end with it. If the kernel has no SCTP, that is inside
 user-mode Linux, which runs another kernel as a process."""
 
 import collections
@@ -30,14 +30,15 @@ import unproved
 
 TOOL, SOURCE, ON_LOOPBACK = "tools/lines_of_capture.py", "tests/real/end.c", "tests/real/on_loopback.py"
 LIBRARIES = "libosmo-sigtran", "libosmocore"
-# What a run takes is some ten seconds; it is ended behind so many.
+# A run takes some ten seconds. It is ended after this many.
 LIMIT = "300"
-# The status where this kernel can lose no packets, and where none was left.
+# The status if this kernel can't lose packets, and the one if no status was left.
 LOSSLESS, NO_STATUS = 5, 99
 ALONE = ["unshare", "--map-root-user", "--net", "--pid", "--fork", "--kill-child", "--mount-proc"]
 UML, MODULES, SBIN = "linux.uml", "/usr/lib/uml/modules", "/usr/sbin:/sbin"
 EXAMPLES = sorted(glob.glob("examples/*.hex"))
-# The addresses of end A and of end B in the dialogues of an example. Its number stands in them, for B counted from the third.
+# The addresses of end A and of end B in the dialogues of an example. Its number is in them, for B counted from the
+# third value.
 NUMBERS = "ni=0 pc=101 ssn=8", "ni=0 pc=202 ssn={}", 10
 TITLES = "ni=0 pc=101 ssn=8 gt=49170000{:02}", "ni=0 pc=202 ssn=6 gt=49172000{:02}", 0
 WAYS = {"numbers": NUMBERS, "titles": TITLES, "lossy": TITLES}
@@ -45,7 +46,7 @@ WAYS = {"numbers": NUMBERS, "titles": TITLES, "lossy": TITLES}
 Row = collections.namedtuple("Row", "name verdict blamed", defaults=["pass", None])
 
 # By the heads of the examples, under the words for their table: the lawful ones, and who is blamed for which entry of
-# its dialogue, of which kind.
+# its dialogue, and of which kind.
 ROWS = {
     (): [Row("announcement"), Row("password"), Row("ussd")],
     ("--table", "examples/operations.json"): [
@@ -76,14 +77,14 @@ def run(*words):
 
 
 def has_sctp():
-    """Whether the kernel has SCTP, and lets this process have a network of its own."""
+    """Returns whether the kernel has SCTP, and allows this process to make a new network."""
     with contextlib.suppress(OSError), socket.socket(socket.AF_INET, socket.SOCK_STREAM, socket.IPPROTO_SCTP):
         return run(*ALONE, "true").returncode == 0
     return False
 
 
 def missing(is_direct):
-    """The parts that are not installed."""
+    """Returns the parts that are not installed."""
     tools = ["cc", "pkg-config", "tshark", "dumpcap", "ip", "unshare", "osmo-stp"] + [UML, "modprobe"] * (not is_direct)
     lacking = [tool for tool in tools if not shutil.which(tool)]
     if "pkg-config" not in lacking:
@@ -92,7 +93,7 @@ def missing(is_direct):
 
 
 def version_of(*words):
-    """The first number with points that a command prints."""
+    """Returns the first number with points that a command prints."""
     said = run(*words)
     return re.search(rb"\d+(\.\d+)+", said.stdout + said.stderr)[0].decode()
 
@@ -118,8 +119,8 @@ sleep 9
 
 
 def within_uml(folder, words):
-    """The command that runs this one within user-mode Linux, which sees all files of this machine and writes into the
-    folder alone. A socket of SCTP that listens needs the module hmac."""
+    """Returns the command that runs this one inside user-mode Linux, which sees all files of this machine and writes
+    only to the folder. A listening socket of SCTP needs the module hmac."""
     os.makedirs(f"{folder}/lib", exist_ok=True)
     with contextlib.suppress(FileExistsError):
         os.symlink(MODULES, f"{folder}/lib/modules")
@@ -133,8 +134,8 @@ def within_uml(folder, words):
 
 
 def exchanged(folder, way, is_direct):
-    """Has the ends exchange the examples. Returns the version of the kernel whose SCTP that went over, None where it did
-    not start; and the status of that, 0 where all lines have passed."""
+    """Has the ends exchange the examples. Returns the version of the kernel whose SCTP was used, or None if it did not
+    start; and the status, which is 0 if all lines have passed."""
     words = [*ALONE, sys.executable, ON_LOOPBACK, folder, way, *EXAMPLES]
     paths = {name: f"{folder}/{name}" for name in ("kernel", "status", "said")}
     forget(paths.values())
@@ -164,16 +165,17 @@ def read(path):
     return ""
 
 
-# ---- what came of it
+# ---- the results
 
 
 def example_lines(path):
-    """The lines of an example without its quiet marks, which a capture has not."""
+    """Returns the lines of an example without its quiet marks, which a capture does not have."""
     return [line[:2] + line[2:].lower() for line in read(path).splitlines() if line[:1] in ("A", "B")]
 
 
 def files_of(folder, way, tap):
-    """The files that the tool made of a capture, each under the addresses of its ends, with its lines. What it says else."""
+    """Returns the tool's run on a capture, and the files that it made, by the addresses of their ends, with their
+    lines."""
     made = f"{folder}/{way}-{tap}"
     said = run(sys.executable, TOOL, f"{made}.pcapng", made, "--a", "ssn=8", "--whole")
     files = {}
@@ -190,7 +192,8 @@ def addresses_of(way, number):
 
 
 def lines_hold(folder, way, tap):
-    """Of each example whether its lines came back, in their order, and of the capture whether there is nothing else in it."""
+    """Returns for each example whether its lines came back in order, and for the capture whether it has nothing else;
+    and the files."""
     said, files = files_of(folder, way, tap)
     held = [said.returncode == 0 and len(files) == len(EXAMPLES)]
     for number, path in enumerate(EXAMPLES):
@@ -204,8 +207,8 @@ def lines_hold(folder, way, tap):
 
 
 def verdicts_of(folder, table, paths):
-    """The worst verdict on the dialogues of each trace, and the end, the entry and the kind of the first fault in one
-    that fails."""
+    """Returns the worst verdict on the dialogues of each trace, and the end, the entry and the kind of the first fault
+    in a dialogue that fails."""
     out, found = f"{folder}/verdicts", {}
     forget([out])
     run(PROGRAM, "test", *table, "--json", out, *paths)
@@ -220,7 +223,7 @@ def verdicts_of(folder, table, paths):
 
 
 def verdicts_hold(folder, way, files):
-    """Of each row whether its verdict is given of the lines of the capture, and of the example itself."""
+    """Returns for each row whether the lines of the capture, and the example itself, have its verdict."""
     held = []
     for table, rows in ROWS.items():
         paths = {row: f"examples/{row.name}.hex" for row in rows}
@@ -235,17 +238,18 @@ def verdicts_hold(folder, way, files):
 
 
 def held_of(folder, way):
-    """Whether each comparison holds of what was captured of one way."""
+    """Returns whether each comparison holds for the captures of one way."""
     held, files = lines_hold(folder, way, "A")
     held += lines_hold(folder, way, "B")[0] + verdicts_hold(folder, way, files)
     if way == "lossy":
-        # Of what was lost or overtaken some was put where it was sent.
+        # Some lost or overtaken messages must be back at the place where they were sent.
         held.append(any("sent before frame" in read(path) for path, _ in files.values()))
     return held
 
 
 def tried(folder, is_direct):
-    """Whether each comparison holds of each way, the ways that were tried, and the kernel: None where that does not start."""
+    """Returns whether each comparison holds, the ways that were tried, and the kernel, which is None if it does not
+    start."""
     held, ways, kernel = [], [], None
     for way in WAYS:
         kernel, status = exchanged(folder, way, is_direct)

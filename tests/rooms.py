@@ -1,4 +1,4 @@
-"""Lets the tests of this folder import what its folders oracle/ and cases/ have. Import it before those."""
+"""Lets the tests of this folder import the files of oracle/ and cases/. Import it before those."""
 
 import os
 import sys

@@ -1,5 +1,5 @@
-"""Runs `tcapjudge blame` over each example of docs/RULES.md: the end of its last line, or at a quiet mark one end, is blamed for that line,
-with the kind of the heading that it comes after."""
+"""Runs `tcapjudge blame` over each example of docs/RULES.md: the end of its last line, or at a quiet mark one end,
+must be blamed for that line, with the kind of the heading above it."""
 
 import re
 import subprocess
@@ -30,7 +30,7 @@ def run(words, given=b""):
 
 
 def is_blamed(kind, words, lines, folder):
-    """Returns whether the last line of an example is blamed as it has to be."""
+    """Returns whether the last line of an example is blamed as required."""
     record, table = f"{folder}/record", f"{folder}/table.json" if words.endswith("*") else TABLE
     with open(record, "wb") as file:
         file.write(run(["pack"], "".join(f"{line}\n" for line in lines).encode()))

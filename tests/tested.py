@@ -1,5 +1,5 @@
-"""The program that the tests run: the one that `make program` proves and builds, or that whose path the environment variable
-TCAPJUDGE holds."""
+"""The program that the tests run: the one that `make program` proves and builds, or the one whose path is in the
+environment variable TCAPJUDGE."""
 
 import os
 import sys

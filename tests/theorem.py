@@ -1,8 +1,9 @@
-"""Compares docs/THEOREM.md with the sources: the clauses that it quotes, and the definitions that each of them reaches, file by file in
-reading order, with the number of lines to read. `python3 tests/theorem.py --write` writes these parts of the page anew.
+"""Compares docs/THEOREM.md with the sources: the clauses that it quotes, and the definitions that each of them
+reaches, file by file in reading order, with the number of lines to read. `python3 tests/theorem.py --write` writes
+these parts of the page again.
 
-A definition reaches each definition of this repository that it names, and what that reaches. A list of the page leaves out what
-an earlier list has."""
+A definition reaches each definition of this repository that it names, and whatever these reach. A list of the page
+leaves out what an earlier list has."""
 
 import glob
 import itertools
@@ -10,7 +11,7 @@ import re
 import sys
 
 PAGE = "docs/THEOREM.md"
-# Of each part of the page: its name, the file and the clause that it quotes, and the definitions that it begins with.
+# For each part of the page: its name, the file and the clause that it quotes, and the definitions that it begins with.
 PARTS = [
     ("lawful", "crates/tcap_judge/src/checking.rt", "run_check", "lawful", [("tcap_judge.LawfulRecord", "FindsLawful")]),
     ("end", "crates/tcap_judge/src/checking.rt", "run_check", "lawful", [("tcap_judge.LawfulEnd", "FindsLawfulFor")]),
@@ -39,7 +40,7 @@ class Module:
             for name in names.split(","):
                 known, _, called = name.strip().partition(" as ")
                 self.imports[called or known] = f"{crate}.{module}", known
-        # Of each definition the first line, that of its comment if it has one, and the line after the last.
+        # For each definition: the first line, or that of its comment if it has one, and the line after the last.
         self.found, name = {}, None
         for number, line in enumerate(self.lines):
             if not line.strip() or line.startswith("--"):

@@ -1,6 +1,6 @@
-"""The example for TTCN-3, clib/titan: has its test case exchange the messages of examples/ over its ports, and compares the
-verdict that it sets with the one that the head of the example, or its own table, asks for. Where Eclipse Titan, or the
-library that `make clib` makes, is missing, it says so, and counts nothing."""
+"""Tests clib/titan, the example for TTCN-3: has its test case exchange the messages of examples/ over its ports, and
+compares the verdict that it sets with the one in the head of the example, or for its own table. If Eclipse Titan, or
+the library that `make clib` makes, is missing, it says so and counts nothing."""
 
 import collections
 import os
@@ -48,14 +48,14 @@ SUMMARY = re.compile(r"1 test case was executed\. Overall verdict: (\w+)")
 
 
 def lines_of(name):
-    """The lines of an example, as a value of TTCN-3."""
+    """Returns the lines of an example, as a value of TTCN-3."""
     with open(f"examples/{name}.hex", encoding="utf-8") as file:
         lines = [line.split() for line in file if line[:1] in ("A", "B")]
     return ", ".join(f"{{ {end}, '{digits}'O }}" for end, digits in lines)
 
 
 def said_of(folder, row):
-    """What the run of the test case prints."""
+    """Returns the output of a run of the test case."""
     path = f"{folder}/row.cfg"
     with open(path, "w", encoding="utf-8") as file:
         file.write(CONFIGURATION.format(table=row.table, judged=row.judged, lines=lines_of(row.name)))
@@ -64,7 +64,7 @@ def said_of(folder, row):
 
 
 def holds(folder, row):
-    """Whether a row has the verdict that it wants, for the reason that it wants."""
+    """Returns whether the test case sets the verdict of a row, for the row's reason."""
     said = said_of(folder, row)
     verdict = SUMMARY.search(said)
     is_so = verdict is not None and verdict[1] == row.verdict and row.reason in said
@@ -74,7 +74,7 @@ def holds(folder, row):
 
 
 def lacking():
-    """What is missing."""
+    """Returns what is missing."""
     return [tool for tool in TOOLS if not shutil.which(tool)] + [ARCHIVE] * (not os.path.exists(ARCHIVE))
 
 

@@ -1,5 +1,5 @@
-"""What `tcapjudge test` said of traces, for tests/traces.py: its text, its lines of JSON, JUnit's XML and the page, and
-whether these agree."""
+"""Reads what `tcapjudge test` printed and wrote for traces, for tests/traces.py: its text, its lines of JSON, JUnit's
+XML and the page; and checks that they agree."""
 
 import collections
 import contextlib
@@ -20,17 +20,17 @@ from trace_rows import CAME_AGAIN, OPERATIONS
 with contextlib.suppress(ImportError):
     import jsonschema
 with contextlib.suppress(ImportError):
-    # Debian has it for its own python alone.
+    # Debian has it only for its own python.
     sys.path.append("/usr/lib/python3/dist-packages")
     import junitparser
 
 VERDICTS = ["pass", "inconc", "fail", "error"]
 STATUS = {"pass": 0, "fail": 1, "inconc": 2, "error": 3}
-# Of a dialogue so many entries are looked at by the schema.
+# The most entries of a dialogue that are checked by the schema.
 MOST_LOOKED_AT = 1000
-# No message of a testcase is longer.
+# The length that no message of a testcase exceeds.
 LONGEST = 400
-# What is said of an end of a dialogue that is to be complete, at the end of its trace or at a quiet mark.
+# The text for an end of a dialogue that must be complete, at the end of its trace or at a quiet mark.
 OPEN, OPEN_AT_MARK = "the dialogue is open at the end of its trace", "the dialogue is open at the quiet mark after it"
 
 
@@ -57,7 +57,8 @@ def content(path):
 
 
 class Report:
-    """What a run said: its streams and status, the lines of JSON, of dialogues by their traces, JUnit's XML and the page."""
+    """The results of a run: its streams and status, the lines of JSON, the dialogues by trace, JUnit's XML and the
+    page."""
 
     def __init__(self, folder, flags, traces, given=b"", table=OPERATIONS):
         table = put(folder, "table.json", table.encode())
@@ -69,7 +70,7 @@ class Report:
         self.page = content(files["--html"]).decode()
         self.shown = lines_in(self.page)
         self.objects = [json.loads(line) for line in self.json.decode().split("\n") if line]
-        # A quiet mark is the last entry of the dialogues that it ends; the rows speak of their messages.
+        # A quiet mark is the last entry of the dialogues that it ends; the rows describe only their messages.
         for it in self.objects:
             if it.get("marked"):
                 it["mark"] = it["entries"].pop(), it["lines"].pop()
@@ -82,7 +83,7 @@ class Report:
 
 
 class Checks:
-    """What was looked at in a case, and what else was seen than was wanted."""
+    """The number of checks of a case, and what was found instead of what was wanted."""
 
     def __init__(self, name):
         self.name, self.count, self.wrong = name, 0, []
@@ -100,12 +101,12 @@ class Checks:
 
 
 def missing():
-    """The packages that look at what is written, and are not installed."""
+    """Returns the packages that check what is written, and are not installed."""
     return [name for name in ("jsonschema", "junitparser") if name not in globals()]
 
 
 def schema():
-    """The schema of the lines of JSON, where there is something that looks at them by it."""
+    """Returns a validator for the lines of JSON, or None if jsonschema is not installed."""
     if "jsonschema" not in globals():
         return None
     with open("docs/report.schema.json", encoding="utf-8") as file:
@@ -126,24 +127,25 @@ def counts(verdicts):
 
 
 def says_counts(text, found):
-    """Whether a line of text has these counts of verdicts."""
+    """Returns whether a line of text has these counts of verdicts."""
     return ", ".join(f"{found[verdict]} {verdict}" for verdict in VERDICTS) in text
 
 
 def is_unheard(it):
-    """Whether a dialogue passes of which an end that is asked did not hear all, or sent nothing."""
+    """Returns whether a dialogue passes although an end did not hear all messages, or sent nothing."""
     asked = [it[end] for end in "AB" if end in it]
     return it["verdict"] == "pass" and any(it["ids"].values()) and any(of["unheard"] or not of["sent"] for of in asked)
 
 
 def as_xml(name):
-    """A name as XML has it in an attribute: what XML has no sign for is told by U+FFFD, and a blank is a space."""
+    """Returns a name as XML has it in an attribute: U+FFFD for what XML has no sign for, and a space for each
+    blank."""
     return re.sub("[\x00-\x08\x0b-\x1f\ufffe\uffff]", "\ufffd", name).replace("\n", " ").replace("\t", " ")
 
 
 def look_by_schema(checks, report):
     for it in [*report.objects, *map(json.loads, report.shown[-1:])] if SCHEMA else []:
-        # Of a dialogue of very many entries the first ones: the others look alike, and take long.
+        # If a dialogue has very many entries, only the first ones: the others are alike, and take long.
         it = it | {key: it[key][:MOST_LOOKED_AT] for key in ("entries", "lines") if key in it}
         it.pop("mark", None)
         wrong = next(iter(SCHEMA.iter_errors(it)), None)
@@ -151,7 +153,8 @@ def look_by_schema(checks, report):
 
 
 def entries_in(text):
-    """The entries and marks of the lines of a trace: of each its end, its octets, its line and the comment above it."""
+    """Returns the entries and marks of the lines of a trace: the end, the octets, the line and the comment above
+    it."""
     found, comment = [], ""
     for number, line in enumerate(text.replace("\r\n", "\n").split("\n"), 1):
         if re.match("[ABQ]", line):
@@ -162,14 +165,15 @@ def entries_in(text):
 
 
 def show(folder, entries):
-    """What `show` prints of each of these entries, as one record."""
+    """Returns the text of `show` for each of these entries, as one record."""
     octets = b"".join(end.encode() + bytes.fromhex(digits) for end, digits, *_ in entries)
     printed = run(["show", put(folder, "dialogue", octets)]).stdout.decode()
     return re.findall(r"^\d.*\n(?:^ .*\n)*", printed, re.MULTILINE)
 
 
 def message_of(number, entry, shown, has_lines):
-    """What has to be told of an entry, but for its components and why it is no message."""
+    """Returns the object that the report must have for an entry, without its components and the reason why it is no
+    message."""
     end, digits, line, comment = entry
     wanted = {"entry": number, "line": line if has_lines else 0}
     if end == "Q":
@@ -182,7 +186,8 @@ def message_of(number, entry, shown, has_lines):
 
 
 def look_at_messages(checks, folder, it, text, has_lines=True):
-    """The messages of a dialogue are those of its trace, and `show` prints the same of each; of one that passes there are none."""
+    """Checks that the messages of a dialogue are those of its trace, with the text of `show` for each. A dialogue that
+    passes has none."""
     if it["verdict"] == "pass":
         checks.holds("no messages", "messages" not in it and "left_out" not in it)
         return
@@ -203,21 +208,22 @@ def look_at_messages(checks, folder, it, text, has_lines=True):
 
 
 def look_at_why(checks, folder, end, said, entry):
-    """What is said of octets that are no message is what `show --why` says of them."""
+    """Checks that the text for octets that are no message is that of `show --why`."""
     octets = entry[0].encode() + bytes.fromhex(entry[1])
     why = [line for line in run(["show", "--why", put(folder, "one", octets)]).stdout.decode().split("\n") if "why: " in line]
     checks.same("why it is none", said["text"].split("\n"), [f"  entry {said['entry']} of {end}: {WORDS['F1']}", *why, ""])
 
 
 def in_order(it):
-    """The ends of a dialogue in the order in which it is said of them: where both are blamed the lower entry stands first."""
+    """Returns the ends of a dialogue in the order of their verdicts: if both are blamed, the lower entry comes
+    first."""
     ends = [end for end in "AB" if end in it]
     both = all("kind" in it[end] for end in ends)
     return sorted(ends, key=lambda end: (it[end]["entry"] if both else 0, end))
 
 
 def headline(it):
-    """What the message of the testcase of a dialogue has to be."""
+    """Returns the message that the testcase of a dialogue must have."""
     end = next((end for end in in_order(it) if it[end]["verdict"] == it["verdict"]), None)
     if end is None:
         return it["text"].strip()
@@ -242,8 +248,8 @@ def open_words(it):
 
 
 def look_at_texts(checks, dialogues):
-    """A dialogue has a text by itself where it is an error, and where an end is said to be open; and of two ends at fault that of the
-    later entry names the other."""
+    """Checks that a dialogue has a text of its own if it is an error, or if an end is open; and that the verdict on
+    the later of two faults names the other end."""
     for it in dialogues:
         is_open = any(it.get(end, {}).get("text") == f"{open_words(it)}\n" for end in "AB")
         checks.same("a text of the dialogue", "text" in it, is_open or it["verdict"] == "error")
@@ -254,12 +260,12 @@ def look_at_texts(checks, dialogues):
 
 
 def look_at_trace(checks, trace, dialogues, suite):
-    """The line of a trace, and its testsuite, have the counts of its dialogues."""
+    """Checks that the line of a trace, and its testsuite, have the counts of its dialogues."""
     found = counts(it["verdict"] for it in dialogues)
     checks.same("the dialogues are numbered", [it["dialogue"] for it in dialogues], [min(it["entries"]) for it in dialogues])
     checks.same("counts of a trace", trace["dialogues"], found)
     checks.same("unheard", trace["unheard"], sum(map(is_unheard, dialogues)))
-    # An error of the trace by itself, and not of one of its dialogues, is said of the trace.
+    # An error of the trace itself, and not of one of its dialogues, is reported for the trace.
     is_wrong, of = "text" in trace, worst(it["verdict"] for it in dialogues)
     checks.same("verdict of a trace", trace["verdict"], "error" if is_wrong else of)
     failed, erred = found["fail"], found["inconc"] + found["error"] + is_wrong
@@ -293,7 +299,7 @@ def look_by_junitparser(checks, junit):
 
 
 def look_at_names(checks, dialogues):
-    """Where a dialogue has an ID of one that was judged before, and is inconclusive for that, both are named."""
+    """Checks that a dialogue that is inconclusive because it has an ID of an earlier dialogue names both dialogues."""
     ids, judged = {it["dialogue"]: {(end, id) for end in "AB" for id in it["ids"][end]} for it in dialogues}, set()
     for it in dialogues:
         for end in "AB":
@@ -307,7 +313,7 @@ def look_at_names(checks, dialogues):
 
 
 def agree(checks, report):
-    """What is said of the traces is said alike as JSON, as JUnit's XML and as text, and sums up."""
+    """Checks that JSON, JUnit's XML and the text agree on the traces, and add up."""
     look_by_schema(checks, report)
     look_at_page(checks, report.page, report.shown, report.json.decode())
     root = xml.etree.ElementTree.fromstring(report.junit)
@@ -331,7 +337,8 @@ def agree(checks, report):
 
 
 def end_of(it):
-    """What is said of an end: its verdict, and unheard, or the entry, the kind and the reason."""
+    """Returns the verdict on an end as a text: with the count of unheard messages, or with the entry, the kind and the
+    reason."""
     if it is None:
         return None
     if it["verdict"] == "pass":
@@ -342,7 +349,7 @@ def end_of(it):
 
 
 def is_end(found, wanted):
-    """Whether that is said of an end which is wanted, as trace_rows.py has it."""
+    """Returns whether the verdict on an end is the wanted one, as trace_rows.py spells it."""
     if wanted is None or found is None:
         return found == wanted
     blamed = re.match(r"inconc (\d+ F\d+) ", wanted)

@@ -1,11 +1,11 @@
 """Runs the built program's word `test` over traces. The rows of trace_rows.py, trace_again.py, trace_broken.py and
-trace_doubts.py have what must be said of each, and trace_files.py has cases of files, lines, comments and words,
-trace_outputs.py of files that are written, trace_messages.py of the messages of dialogues, trace_words.py of what is
-said of a blame, trace_waits.py of what an open dialogue waits for. Then traces of random dialogues: of each dialogue,
-by the cut of trace_cut.py, `test` says what `blame` says of the record of that dialogue alone. And nobody fails in
-the traces of lawful_traces.py, whose ends keep the rules. All that is written as JSON is looked at by
-docs/report.schema.json, where python's jsonschema is installed, and all that is JUnit's XML by junitparser, where
-that is."""
+trace_doubts.py have the verdicts on each trace. trace_files.py has cases of files, lines, comments and words,
+trace_outputs.py of written files, trace_messages.py of the messages of dialogues, trace_words.py of the words about a
+fault, and trace_waits.py of what an open dialogue waits for. Then come traces of random dialogues: for each dialogue,
+as trace_cut.py cuts it, `test` must give the verdict that `blame` gives for the record of that dialogue alone. And
+nobody may fail in the traces of lawful_traces.py, whose ends keep the rules. All JSON is checked against
+docs/report.schema.json if python's jsonschema is installed, and all JUnit XML with junitparser if that is
+installed."""
 
 import collections
 import concurrent.futures
@@ -33,8 +33,8 @@ from trace_rows import BEHIND, UNDECIDED, lines
 from traced import Checks, Report, agree, in_order, look_at_end, look_at_messages, missing, put, run, worst
 
 RANDOM_TRACES, SIDE_BY_SIDE = 30, 4
-# How a random trace is cut: the words, and how many entries a dialogue lingers. IDs are used once, may come again, or,
-# in one of two traces, have settled then.
+# How a random trace is cut: the words, and how many entries a dialogue lingers. IDs are used once, or may come again;
+# in one of two traces they have settled then.
 CUTS = [(["--ids", "once"], 0), (["--linger", "3"], 3), ([], 10_000)]
 SETTLED = ["--ids", "settled"]
 # The doubts whose dialogues are counted.
@@ -49,14 +49,14 @@ COUNTED = {
 
 
 def places_in(text):
-    """The lines of the entries and marks, counted from 1, and the numbers of the marks among these."""
+    """Returns the lines of the entries and marks, counted from 1, and the numbers of the marks among these."""
     found = [(number, line) for number, line in enumerate(text.split("\n"), 1) if re.match("[ABQ]", line)]
     marks = [number for number, (_, line) in enumerate(found) if line.startswith("Q")]
     return [number for number, _ in found], marks
 
 
 def look_at_places(checks, name, it, want, text):
-    """Looks at the lines of a dialogue, and of each entry at fault, which may be the mark that ends the segment."""
+    """Checks the lines of a dialogue, and of each entry at fault, which may be the mark that ends the segment."""
     at, marks = places_in(text)
     checks.same(f"{name}, lines", it["lines"], [at[entry] for entry in want.entries])
     entries = [*want.entries, *[mark for mark in marks if mark > want.entries[-1]][:1]]
@@ -68,7 +68,7 @@ def look_at_places(checks, name, it, want, text):
 
 
 def look_at_row(checks, row, report, path, has_lines):
-    """Looks at what is said of the trace of a row."""
+    """Checks the report on the trace of a row."""
     trace, found = report.traces[path], sorted(report.dialogues[path], key=lambda it: it["entries"])
     wanted = sorted(row.dialogues, key=lambda it: it.entries)
     checks.same("entries of the dialogues", [it["entries"] for it in found], [it.entries for it in wanted])
@@ -98,7 +98,7 @@ def look_at_row(checks, row, report, path, has_lines):
 
 
 def blocks(text):
-    """What is said as text of each dialogue that doesn't pass: by its number, its lines."""
+    """Returns the text for each dialogue that does not pass: its lines, by its number."""
     found, now = {}, None
     for line in text.splitlines():
         at = re.match(r".*: dialogue (\d+)", line)
@@ -110,7 +110,7 @@ def blocks(text):
 
 
 def look_at_text(checks, row, report, path):
-    """Looks at the text: it has a block for each dialogue that doesn't pass, with the ends that don't."""
+    """Checks the text: it has a block for each dialogue that does not pass, with the ends that do not."""
     found, said = sorted(report.dialogues[path], key=lambda it: it["entries"]), blocks(report.text)
     wrong = sorted(it["dialogue"] for it in found if it["verdict"] != "pass")
     checks.same("the dialogues in the text", sorted(said), wrong)
@@ -131,8 +131,7 @@ def look_at_text(checks, row, report, path):
 
 
 def look_at_order(checks, it, block):
-    """Looks at the order of the ends that are blamed: the lower entry stands first, and of the other it is said that
-    it is later."""
+    """Checks the order of blamed ends: the lower entry comes first, and the text says that the other comes later."""
     blamed = [end for end in in_order(it) if "kind" in it.get(end, {})]
     found = re.findall("^  ([AB]): [a-z]+ at entry .*, (F[0-9]+)(.*)$", block, re.MULTILINE)
     is_later = len({it[end]["entry"] for end in blamed}) > 1
@@ -142,7 +141,7 @@ def look_at_order(checks, it, block):
 
 
 def look_at_repeat(checks, block, wanted):
-    """Looks at the end, the ID and the line that are named where an ID comes again which was to come once."""
+    """Checks the end, the ID and the line that are named if an ID comes again that was to be used once."""
     if wanted is not None:
         end, id, line = wanted
         inconclusive = [it for it in block.splitlines() if re.match("  [AB]: inconc", it)]
@@ -151,7 +150,7 @@ def look_at_repeat(checks, block, wanted):
 
 
 def look_at(row, folder):
-    """A row, as lines and as a record."""
+    """Checks a row, as lines and as a record."""
     checks, octets = Checks(row.name), row.lines.encode()
     path = put(folder, "x.hex", octets)
     report = Report(folder, row.words.split(), [path], table=row.table)
@@ -176,8 +175,8 @@ def look_at(row, folder):
 
 
 def blamed(folder, record):
-    """What `blame` says of each end of a record: `blamed`, the entry and the kind; `lawful` and how many are unheard;
-    or `not blamed`, and how many entries were looked at."""
+    """Returns what `blame` says about each end of a record: `blamed`, the entry and the kind; `lawful` and the count
+    of unheard messages; or `not blamed`, and the count of entries that were looked at."""
     said = {}
     for line in run(["blame", put(folder, "one", record), f"{folder}/table.json"]).stdout.decode().splitlines()[1:]:
         words = line.split()
@@ -191,7 +190,7 @@ def blamed(folder, record):
 
 
 def is_heard(headings, end, id):
-    """Whether the peer sent something to an ID since its end began a transaction from it, or at all."""
+    """Returns whether the peer sent something to an ID since its end last began a transaction from it, or at all."""
     heard = False
     for heading in headings:
         if heading.end == end and heading.kind == "Begin" and heading.otid == id:
@@ -205,38 +204,39 @@ def octets_of(headed):
 
 
 def begins(headings):
-    """Whether a dialogue begins by a Begin."""
+    """Returns whether a dialogue starts with a Begin."""
     return headings[0].kind == "Begin"
 
 
 class Alone:
-    """A dialogue of a random trace as a record of its own, with the quiet mark behind it if it is not over at it."""
+    """A dialogue of a random trace as a separate record, with the quiet mark after it if the dialogue is not over
+    there."""
 
     def __init__(self, folder, table, headed, cut, is_marked, is_settled):
         self.table, self.cut, self.is_settled = table, cut, is_settled
         mine = [headed[number] for number in cut.numbers]
         self.headings, octets = [heading for heading, _ in mine], octets_of(mine)
         is_live = bool(cut.ids) and not cut.is_over
-        # By a table with prearranged ends it may have ended in silence before the mark.
+        # With a table with prearranged ends it may have ended in silence before the mark.
         self.is_open = is_live and not (is_marked and table.prearranged)
         self.said = blamed(folder, b"".join(octets) + b"Q" * (is_marked and is_live))
-        # Behind an entry that is no message nothing is looked at.
+        # Nothing after an entry that is no message is looked at.
         looked_at = [it[1] for it in self.said.values() if it[0] == "not blamed" and it[1] < len(octets)]
         self.before = blamed(folder, b"".join(octets[: looked_at[0]])) if looked_at else {}
         self.was_open = self.why_open()
 
     def why_open(self):
-        """Why the dialogue may have been under way before its first entry, if it may."""
+        """Returns why the dialogue may have been under way before its first entry, if it may."""
         if self.cut.late and not self.cut.again and self.headings[0].dtid is not None and self.begins_well():
             return trace_rows.UNDER_WAY
         return trace_doubts.EARLY if self.cut.in_use else None
 
     def begins_well(self):
-        """Whether the first entry is a message."""
+        """Returns whether the first entry is a message."""
         return not {("blamed", 0, "F1"), ("not blamed", 0)} & set(self.said.values())
 
     def doubt(self, end, entry, kind):
-        """What makes it inconclusive that an end is blamed, if something does."""
+        """Returns why it is inconclusive that an end is blamed, or None."""
         if self.was_open:
             return self.was_open
         if kind == "F15":
@@ -245,7 +245,7 @@ class Alone:
         if kind == "F3" and here.kind == "Begin":
             if self.table.prearranged or not is_heard(self.headings[:entry], end, here.otid):
                 return trace_rows.GIVEN_UP
-        # A dialogue without a Begin goes on with an earlier one: there no ID came again, and nothing has settled.
+        # A dialogue without a Begin continues an earlier one: no ID came again there, and nothing has settled.
         has_settled = self.is_settled and begins(self.headings) and not self.cut.unsettled
         if self.cut.again and not has_settled:
             return trace_rows.CAME_AGAIN
@@ -259,7 +259,7 @@ class Alone:
         return f"inconc {self.was_open}" if self.was_open else f"pass {unheard}"
 
     def wanted(self, end):
-        """What has to be said of an end."""
+        """Returns the verdict that an end must have."""
         verdict, *found = self.said[end]
         if verdict == "lawful":
             return self.passes(found[0])
@@ -275,7 +275,8 @@ class Alone:
 
 
 class RandomTrace:
-    """A random trace: its segments, which of them a quiet mark ends, the text, and the lines of entries and marks."""
+    """A random trace: its segments, which of them end with a quiet mark, the text, and the lines of entries and
+    marks."""
 
     def __init__(self, rng):
         maker = random_traces.Maker(rng)
@@ -284,7 +285,7 @@ class RandomTrace:
         self.first, self.at, self.text, self.segments = [], [], [], []
         for headed, marked in zip(self.headed, self.marked):
             self.first.append(len(self.at))
-            # Before which entry of the segment a line says that dialogues may have been under way.
+            # The entry of the segment before which a line says that dialogues may have been under way.
             under_way = rng.randrange(len(headed)) if headed and rng.random() < 0.3 else None
             self.segments.append(Segment([heading for heading, _ in headed], under_way))
             for number, (heading, digits) in enumerate(headed):
@@ -303,8 +304,8 @@ class RandomTrace:
         return b"".join(parts)
 
     def wanted(self, folder, flags, linger):
-        """The dialogues that are wanted: the numbers of their entries, their IDs, how they are cut, whether they are
-        open, and what is said of each end."""
+        """Yields the wanted dialogues: the numbers of their entries, their IDs, how they are cut, whether they are
+        open, and the verdict on each end."""
         cuts = trace_cut.cut(self.segments, "once" in flags, linger)
         for first, headed, marked, dialogues in zip(self.first, self.headed, self.marked, cuts):
             for cut in dialogues:
@@ -315,15 +316,15 @@ class RandomTrace:
 
 
 def look_at_in_use(checks, name, end, cut):
-    """The ID that is said to have been in use before a mark is one of those."""
+    """Checks that an ID that is reported as in use before a mark was in use."""
     named = re.search("ID ([0-9a-f]+) of ([AB]) was in use before it", end.get("doubt", end.get("text", "")))
     if named:
         checks.holds(f"{name}, {named[0]}", (named[2], bytes.fromhex(named[1])) in cut.in_use)
 
 
 def look_at_random(seed, folder):
-    """A random trace: its dialogues are those of the cut, and of each is said what `blame` says. Nobody fails in one
-    who may have kept the rules in the whole."""
+    """Checks a random trace: its dialogues are those of the cut, and each has the verdict of `blame`. Nobody fails who
+    may have kept the rules in the whole trace."""
     checks, seen, made = Checks(f"random trace {seed}"), collections.Counter(), RandomTrace(random.Random(seed))
     path, table = put(folder, "x.hex", lines(*made.text).encode()), runs.table_text(made.table).decode()
     whole = {}

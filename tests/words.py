@@ -1,7 +1,7 @@
-"""Runs the built program over planted faults, and looks at what it says of each in words: `show --why`, the rule and the
-column of `pack`, `show --lines`, `table`, the hints of files given by mistake, and help. What is wanted was worked out by hand from
-the standard. Then it changes messages at random: `show --why` prints the lines of `show`, and marks the octet at the
-place of each fault."""
+"""Runs the built program over planted faults, and checks its words about each: `show --why`, the rule and the column
+of `pack`, `show --lines`, `table`, the hints for files given by mistake, and help. The wanted texts were worked out by
+hand from the standard. Then it changes messages at random: `show --why` must print the lines of `show`, and mark the
+octet at the place of each fault."""
 
 import concurrent.futures
 import itertools
@@ -18,7 +18,7 @@ from looks import GIVEN, LOOKS, SHOWN_LOOKS, SWAPPED
 from table_rows import BOOKS, TABLES
 from tested import PROGRAM
 
-# So many octets are shown on each side of a place.
+# The number of octets that are shown on each side of a place.
 SIDE = 8
 
 INVOKE = "Begin / components / Invoke"
@@ -29,8 +29,8 @@ SYNTAX = "06 07 00 11 86 05 01 01 01"
 CONTEXT = "A1 09 06 07 04 00 00 01 00 13 02"
 OPEN = "30 80 " * 32
 
-# The number of a reason, its name, the octets of a message with the one at the fault's place in brackets, the path, and
-# the message's kind and IDs as far as they can be read.
+# The number of a reason, its name, the octets of a message with brackets around the one at the fault's place, the path,
+# and the message's kind and IDs as far as they can be read.
 BAD = [
     (2, "bad length octet", "62 03 48 [85] 01", "Begin / originating transaction ID", "Begin"),
     (2, "bad length octet", "62 07 48 01 01 6C 02 A1 [FF]", INVOKE, "Begin otid=01"),
@@ -279,7 +279,7 @@ BAD = [
     ),
 ]
 
-# Records with a fault of their own: the number, the name, and the octets with the one at the place in brackets.
+# Records with a fault of the record: the number, the name, and the octets with brackets around the one at the place.
 FRAMED = [
     (20, "no end and no quiet mark", "41 62 03 48 01 01 [43] 62 03"),
     (20, "no end and no quiet mark", "51 41 62 05 48 01 01 6C 00 51 51 42 62 03 48 01 02 [00]"),
@@ -307,7 +307,7 @@ FRAMED = [
 
 GOOD = "A 6203480101\n"
 SHOWN = "0 A Begin otid=01\n"
-# Lines of digits of which the last is bad: those lines, its number, what is wrong, and the column, from 1.
+# Lines of digits with a bad last line: the lines, its number, what is wrong, and the column, counted from 1.
 LINES = [
     ("C 6203480101", 1, "no end", 1),
     (f"{GOOD}a 6203480101", 2, "no end", 1),
@@ -345,13 +345,13 @@ ANSI_HINT = "  hint: this looks like TCAP of ANSI (T1.114), and a record holds t
 SCCP_HINT = "  hint: this looks like SCCP, and an entry of a record holds the TCAP message in it\n"
 M3UA_HINT = "  hint: this looks like M3UA, and an entry of a record holds the TCAP message in it\n"
 RECORD_HINT = "  hint: this looks like a record, which `tcapjudge show` prints\n"
-# What is given as a record, and the hint that is wanted.
+# Files given as a record, and the hint that is wanted.
 WRONG = [
     (GOOD.encode(), LINES_HINT),
     (b"# A record.\n\nB 6203480101\n", LINES_HINT),
     (b"Q\nA 6203480101\n", LINES_HINT),
     (b"# Nothing else.\n", LINES_HINT),
-    # Query with permission, and a response, of T1.114, with the octet of an end and without.
+    # Query with permission, and a response, of T1.114, with and without the octet of an end.
     (bytes.fromhex("41e206c70401020304"), ANSI_HINT),
     (bytes.fromhex("42e406c70401020304"), ANSI_HINT),
     (bytes.fromhex("e206c70401020304"), ANSI_HINT),
@@ -380,7 +380,7 @@ STATUSES = """Exit statuses:
   4  the command line is wrong
 For `test`: 0 if all pass, 1 if a dialogue fails, 2 if one is inconclusive, 3 if there is an error
 """
-# Words, and what the help of them ends with.
+# Words, and the end of their help.
 HELP = [
     (["help"], STATUSES),
     (["--help"], STATUSES),
@@ -398,7 +398,7 @@ HELP = [
 # The subcommands in the order in which the help of the program lists them.
 SUBCOMMANDS = ["show", "pack", "check", "judge", "explain", "blame", "table", "test", "help"]
 
-# Words by which help or the version is printed, and a part of that text.
+# Words that print help or the version, and a part of that text.
 PRINTED = [
     (["explain", "--help"], "Says in words why a record is lawful, refuted or undecided\n"),
     (["explain", "--help"], "Usage: tcapjudge explain [OPTIONS] <RECORD> <TABLE> [CERT]\n"),
@@ -433,7 +433,7 @@ PRINTED = [
     (["test", "--help"], "Writes a page with the dialogues that do not pass to this file"),
 ]
 
-# Words that are wrong, and what is said of them.
+# Wrong words, and a part of the error.
 REFUSED = [
     (["table", "x", "y"], "unexpected argument 'y'"),
     (["show", "--why", "--why"], "cannot be used multiple times"),
@@ -495,27 +495,27 @@ REFUSED = [
 
 
 def marked(digits):
-    """The octets of such digits, and the place of the brackets."""
+    """Returns the octets of such digits, and the place of the brackets."""
     words = digits.split()
     place = next(number for number, word in enumerate(words) if word.startswith("["))
     return bytes.fromhex("".join(words).replace("[", "").replace("]", "")), place
 
 
 def around(octets, place):
-    """The octets around a place, as they are printed."""
+    """Returns the octets around a place, as they are printed."""
     before = "".join(f"{octet:02x} " for octet in octets[max(0, place - SIDE) : place])
     behind = "".join(f" {octet:02x}" for octet in octets[place + 1 : place + 1 + SIDE])
     return f"{before}[{octets[place:place + 1].hex()}]{behind}"
 
 
 def run(words, given=b""):
-    """What the program prints with these words, and its status."""
+    """Returns the program's output with these words, and its status."""
     done = subprocess.run([PROGRAM, *words], input=given, capture_output=True, check=False)
     return done.stdout.decode(), done.stderr.decode(), done.returncode
 
 
 class Rows:
-    """How many rows passed and failed; those that failed are printed."""
+    """The counts of rows that passed and failed; those that failed are printed."""
 
     def __init__(self):
         self.passed, self.failed = 0, 0
@@ -529,7 +529,7 @@ class Rows:
 
 
 def bad_entries(rows):
-    """Each planted fault of a message: of an entry of A, and of the second entry, of B."""
+    """Checks each planted fault of a message: in an entry of A, and in a second entry, of B."""
     for reason, name, digits, path, kind in BAD:
         octets, place = marked(digits)
         parts = [name, f"place {place} of the message", path, f"octets {around(octets, place)}"]
@@ -541,7 +541,7 @@ def bad_entries(rows):
 
 
 def bad_records(rows):
-    """Each planted fault of a record; the entries before it are shown."""
+    """Checks each planted fault of a record. The entries before it are shown."""
     for reason, name, digits in FRAMED:
         octets, place = marked(digits)
         shown = run(["show"], octets)[0]
@@ -555,8 +555,8 @@ def bad_records(rows):
 
 
 def bad_lines(rows):
-    """Each bad line, to `pack` and to `show --lines`, with a newline behind it and without. They run side by side: behind a
-    million lines the unproved program takes its time."""
+    """Checks each bad line, with `pack` and with `show --lines`, with and without a newline after it. The runs are
+    parallel, since the unproved program takes long for a million lines."""
     asked = []
     for lines, number, rule, column in LINES:
         good = lines.startswith(GOOD)
@@ -576,7 +576,7 @@ def bad_lines(rows):
 
 
 def good_lines(rows, folder):
-    """What is packed and then shown, and what is shown in one step."""
+    """Checks that lines are shown alike after `pack` and in one step."""
     for name in sorted(os.listdir("examples")):
         if name.endswith(".hex"):
             path = f"{folder}/record"
@@ -596,7 +596,7 @@ def good_lines(rows, folder):
 
 
 def table_lines(number, table):
-    """The lines of a table of a book that has names, whose codes are all local."""
+    """Returns the lines of a table of the carried set, which has names and only local codes."""
     lines = [f'table {number} name="{table["name"]}"'] + [f"context={context}" for context in table["contexts"]]
     for row in sorted(table["operations"], key=lambda row: row["code"]):
         linked = " linked=" + ",".join(map(str, row["linked"])) if "linked" in row else ""
@@ -629,7 +629,7 @@ def wrong_input(rows):
         rows.row(f"hint of {octets[:20]}", shown[1:], (hint, 3))
         why = run(["show", "--why"], octets)
         rows.row(f"hint of {octets[:20]}, why", (why[0].endswith(f"\n{hint}"), "hint" in why[0], why[1:]), (True, hint != "", ("", 3)))
-    # Where there is no fault, nothing is told.
+    # Without a fault there is no hint.
     rows.row("no fault", run(["show"], b"Q"), ("0 Q\n", "", 0))
 
 
@@ -638,7 +638,7 @@ def told_as(path, look):
 
 
 def mistaken(rows, folder):
-    """Each file of LOOKS as each word takes it: where it is not what it should be, that is told, and the status is 3."""
+    """Gives each file of LOOKS to each word. If the file is of the wrong sort, a hint says so, and the status is 3."""
     for name, (octets, _, _) in LOOKS.items():
         with open(f"{folder}/{name}", "wb") as file:
             file.write(octets)
@@ -658,12 +658,12 @@ def mistaken(rows, folder):
         command, *others = asked.split()
         error, status = run([command, *(paths.get(word, word) for word in others)])[1:]
         rows.row(asked, (error, status), ("".join(told_as(paths[name], LOOKS[name][1]) for name in names), 3))
-    # The standard input has no path, and what `show --why` prints has none.
+    # The standard input has no path, and the hint of `show --why` has none.
     packed = run(["pack"], LOOKS["record"][0])
     rows.row("a record as lines", packed, ("", f"FAULT 24 1\n  why: no space behind the end; column 2\n{RECORD_HINT}", 3))
     why = run(["show", "--why", paths["lines"]])
     rows.row("lines as a record", (why[0].endswith(f"\n{LINES_HINT}"), why[1:]), (True, ("", 3)))
-    # A directory is told as such, and not more; a file that can't be opened too.
+    # A directory is only reported as such; so is a file that can't be opened.
     for path in folder, f"{folder}/none":
         told = run(["judge", path, paths["record"]])[1]
         rows.row(f"judge {path}", (told.count("\n"), told_as(paths["record"], LOOKS["record"][1]) in told), (2, True))
@@ -691,7 +691,7 @@ def vectors():
 
 
 def changed(octets, chance):
-    """A message of which some octets are changed, cut or said again."""
+    """Returns a message with some octets changed, removed or doubled."""
     octets = bytearray(octets)
     for _ in range(chance.randint(1, 3)):
         at = chance.randrange(len(octets))
@@ -723,7 +723,7 @@ def mutated(rows, chance, count):
                 octet = record[place : place + 1].hex()
                 front = record[: place].hex(" ")
                 is_there = found and (found[2] or "") == octet and front.endswith(found[1].strip()) if found else False
-                # Behind a whole bad entry stands the next one, of which nothing is shown.
+                # After a whole bad entry comes the next one, of which nothing is shown.
                 is_end = found and found[2] is None and place <= len(record) and front.endswith(found[1].strip())
                 rows.row(f"the mark in {record.hex()}, {line}{behind}", bool(is_there or is_end), True)
 

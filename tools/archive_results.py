@@ -1,10 +1,10 @@
-"""What tools/judge_archive.py takes for a verdict on a trace, and what it keeps of a run: a folder with a file for each trace
-that is judged and each capture of which lines are made. Each file is written whole or not at all, so a run that was stopped
-goes on from there.
+"""Decides what tools/judge_archive.py accepts as a verdict on a trace, and keeps the results of a run: a folder with a
+file for each judged trace and for each capture that was turned into lines. Each file is written whole or not at all,
+so a run can go on after it was stopped.
 
-Such a file has a line of JSON, with the name of what it is about, its stamp and how many octets each part has, and behind
-it the parts: of a trace the text and the lines of JSON that `tcapjudge test` gives of it, of a capture what
-tools/lines_of_capture.py said."""
+Such a file has a line of JSON with the name of its trace or capture, its stamp and the length of each part in octets.
+The parts follow: for a trace the text and the lines of JSON that `tcapjudge test` gives, for a capture the output of
+tools/lines_of_capture.py."""
 
 import collections
 import contextlib
@@ -17,12 +17,13 @@ import shutil
 
 VERDICTS = ["pass", "inconc", "fail", "error"]
 STATUS = {"pass": 0, "inconc": 2, "fail": 1, "error": 3}
-# What the line of a trace has, and that of a dialogue has not.
+# The fields that the line of a trace has and the line of a dialogue has not.
 SUMS = {"verdict", "messages", "dialogues", "unheard"}
 
 
 def stamp_of(path):
-    """What tells whether a file has changed: its size, and when it was last written. None where there is no such file."""
+    """Returns the size of a file and the time when it was last written, which show whether it has changed. Returns
+    None if there is no such file."""
     with contextlib.suppress(OSError):
         found = os.stat(path)
         return [found.st_size, found.st_mtime_ns]
@@ -30,7 +31,7 @@ def stamp_of(path):
 
 
 def content_of(path):
-    """What is in a file, nothing where it can't be read."""
+    """Returns the content of a file, or nothing if the file can't be read."""
     with contextlib.suppress(OSError), open(path, "rb") as file:
         return file.read()
     return b""
@@ -47,7 +48,7 @@ def write(path, octets):
     os.replace(f"{path}.part", path)
 
 
-# ---- what the program gives of a trace
+# ---- the program's results for a trace
 
 
 def last_line(octets):
@@ -55,7 +56,8 @@ def last_line(octets):
 
 
 def trace_of(lines):
-    """The object of the trace, which is the last of its lines of JSON. None if that line is not there as a whole."""
+    """Returns the object of the trace, which is the last of its lines of JSON, or None if that line is not there as a
+    whole."""
     with contextlib.suppress(ValueError):
         found = json.loads(last_line(lines)) if lines.endswith(b"\n") else None
         return found if isinstance(found, dict) and SUMS <= found.keys() else None
@@ -63,13 +65,14 @@ def trace_of(lines):
 
 
 def has_error(said):
-    """Whether standard error has an error: of a table, or of a file that can't be written. A hint is none."""
+    """Returns whether standard error has an error: in a table, or for a file that can't be written. A hint is no
+    error."""
     return re.search(rb"^error: ", said, re.MULTILINE) is not None
 
 
 def fault_of(status, text, said, lines):
-    """Why the program gave no verdict on a trace. None if it did: it ended by itself, with the status of that verdict, and all that it
-    prints and writes of one trace is there."""
+    """Returns why the program gave no verdict on a trace, or None if it gave one: it ended on its own with the status
+    of that verdict, and its output for one trace is complete."""
     if status < 0:
         return f"the judge was killed by signal {-status}"
     trace, why = trace_of(lines), said.decode(errors="replace").strip()
@@ -80,11 +83,11 @@ def fault_of(status, text, said, lines):
     return None
 
 
-# ---- what is kept
+# ---- kept results
 
 
 class Unfit(Exception):
-    """The folder can't be used, and why."""
+    """The folder can't be used, for this reason."""
 
 
 class Results:
@@ -115,7 +118,7 @@ class Results:
         write(self.path_of(name), b"".join([json.dumps(head).encode(), b"\n", *parts]))
 
     def head(self, name):
-        """The first line of a result. None where there is none, or it is not whole."""
+        """Returns the first line of a result, or None if there is no whole result."""
         with contextlib.suppress(OSError, ValueError), open(self.path_of(name), "rb") as file:
             first = file.readline()
             head = json.loads(first)
@@ -124,20 +127,22 @@ class Results:
         return None
 
     def holds(self, name):
-        """Whether there is a result of that file as it is now. One with no exit status is of an older tool, which looked at none."""
+        """Returns whether there is a result for the file as it is now. A result without an exit status is from an
+        older version of this tool."""
         head = self.head(name)
         if head is None or "status" not in head:
             return False
         return head["stamp"] == stamp_of(name) and all(map(os.path.exists, head.get("files", [])))
 
     def parts(self, name):
-        """The parts of a result."""
+        """Returns the parts of a result."""
         with open(self.path_of(name), "rb") as file:
             lengths = json.loads(file.readline())["parts"]
             return [file.read(length) for length in lengths]
 
     def keep_lines(self, name, stamp, files, said, status):
-        """Keeps the files of lines that were made of a capture, what was said of it, and the exit status."""
+        """Keeps the files of lines that were made from a capture, the output about the capture, and the exit
+        status."""
         folder = f"{self.folder}/lines{os.path.abspath(name)}"
         shutil.rmtree(folder, ignore_errors=True)
         os.makedirs(folder)
@@ -147,7 +152,7 @@ class Results:
 
 
 class Sum:
-    """The sum of traces: how many there are of each verdict, and of all that they have."""
+    """The counts over traces: how many have each verdict, and the sums of their own counts."""
 
     def __init__(self):
         self.traces, self.dialogues, self.messages, self.unheard = collections.Counter(), collections.Counter(), 0, 0
@@ -160,7 +165,7 @@ class Sum:
         self.unheard += trace["unheard"]
 
     def line(self):
-        """The line that `tcapjudge test` prints of them all."""
+        """Returns the line that `tcapjudge test` prints for all of them."""
 
         def all_of(counts, thing):
             each = ", ".join(f"{counts[verdict]} {verdict}" for verdict in VERDICTS)
@@ -170,7 +175,7 @@ class Sum:
         return f"{front}, {all_of(self.dialogues, 'dialogue')}; {self.unheard} pass unheard or unanswered\n"
 
     def status(self):
-        """The exit status of the worst verdict."""
+        """Returns the exit status of the worst verdict."""
         return STATUS[max(self.traces, key=VERDICTS.index, default="pass")]
 
 

@@ -1,4 +1,4 @@
-"""The words of tools/judge_archive.py, and the traces and captures that they name."""
+"""Reads the command line of tools/judge_archive.py, and finds the traces and captures that it names."""
 
 import argparse
 import itertools
@@ -10,12 +10,12 @@ import machine
 
 FAULTY, WRONG_WORDS = 3, 4
 CAPTURES = ".pcap", ".pcapng"
-# What is looked for below a folder.
+# The endings of the files that are taken from a folder.
 ENDINGS = ".hex", ".rec", ".record", *CAPTURES
 
 
 class Fault(Exception):
-    """Nothing can be judged: why, and the exit status."""
+    """Nothing can be judged, for this reason and with this exit status."""
 
     def __init__(self, why, status=FAULTY):
         super().__init__(why)
@@ -26,7 +26,7 @@ def say(text, end="\n"):
     print(text, end=end, file=sys.stderr, flush=True)
 
 
-# ---- words
+# ---- command line
 
 
 class Passed(argparse.Action):
@@ -59,7 +59,7 @@ def words_of(arguments):
             for name in names:
                 group.add_argument(name, action=Passed, dest=dest, default=argparse.SUPPRESS, **how)
     found = words.parse_args(arguments, argparse.Namespace(test=[], lines=[]))
-    # The parser would take a number that is its default as not given, and so let it stand beside --scheduler.
+    # The parser would take a number that equals its default as not given, and so accept it together with --scheduler.
     found.workers = machine.cores() if found.workers is None else found.workers
     if found.workers < 1:
         words.error("--workers: at least one")
@@ -68,11 +68,11 @@ def words_of(arguments):
     return found
 
 
-# ---- what is judged
+# ---- traces and captures
 
 
 def below(folder, results):
-    """The traces and captures below a folder, in the order of their paths, but for what is kept of a run."""
+    """Returns the traces and captures below a folder, ordered by path, without the kept results of a run."""
     found, others = [], 0
     for room, rooms, names in os.walk(folder):
         rooms[:] = [one for one in rooms if os.path.realpath(os.path.join(room, one)) != os.path.realpath(results)]
@@ -87,7 +87,7 @@ def below(folder, results):
 
 
 def lines_in(path):
-    """The paths in a list, each of which has a line."""
+    """Returns the paths in a list, which has one on each line."""
     try:
         with open(path, encoding="utf-8", errors="surrogateescape") as file:
             return [line for line in file.read().split("\n") if line]
@@ -96,7 +96,7 @@ def lines_in(path):
 
 
 def names_of(words, results):
-    """The names of the traces and captures, in the order given."""
+    """Returns the names of the traces and captures, in the order given."""
     given = [*words.traces, *itertools.chain(*map(lines_in, words.list))]
     names = [name for one in given for name in (below(one, results) if os.path.isdir(one) else [one])]
     if not names:
@@ -114,5 +114,5 @@ def is_capture(name):
 
 
 def tables_of(words):
-    """The paths of the tables."""
+    """Returns the paths of the tables."""
     return [path for option, path in zip(words.test, words.test[1:]) if option == "--table"]

@@ -1,14 +1,15 @@
-"""Whether a frame that was not captured whole may carry signalling, SCTP or MTP3, by the layers that `tshark` reads of it
-before the cut. What a whole frame of a kind is never read for, a cut one of that kind is not missed for."""
+"""Decides whether a frame that was not captured whole may carry signalling, SCTP or MTP3, by the layers that `tshark`
+reads of it before the cut. If whole frames of some kind are never read, cut frames of that kind are not missed."""
 
 SCTP_NUMBER = "132"
 SCCP_USER = 3
-# Over these stands no packet of SCTP, though what they carry may quote one.
+# These carry no packet of SCTP, though their content may quote one.
 ENDS = {"tcp", "arp", "icmp", "icmpv6", "lldp", "stp"}
-# Layers over each of which stands one other.
+# Layers that each carry one other layer.
 LINKS = {"eth", "sll", "ethertype", "vlan", "ieee8021ad", "llc", "osi"}
 UNDER_IP = LINKS | {"raw", "null", "mpls", "pppoes", "ppp"}
-# What tshark reads over LINKS (`tshark -G decodes`) that carries frames or packets of others: tags, tunnels and other links.
+# What tshark reads over LINKS (`tshark -G decodes`) that carries frames or packets of others: tags, tunnels and other
+# links.
 CARRIERS = set(
     """
     3comxns 6lowpan avsp awdl_data batadv bpq brcm-tag brdwlk btl2cap cesoeth cfp cl3 cmd comp_data crtp crtp_cntcp crtp_cs
@@ -18,19 +19,19 @@ CARRIERS = set(
     vines_ip vmlab vntag wcp wlan wlan_centrino wlccp wpan wreth x25 xip
     """.split()
 )
-# The types of Ethernet of two of them, MACsec and TDMoE, of which tshark takes what is cut for data of an unknown type.
+# The Ethernet types of two of them, MACsec and TDMoE. If they are cut, tshark takes them for data of an unknown type.
 TAKEN_FOR_DATA = {"0x88e5", "0xd00d"}
-# Where one of these stands over UDP, or over a link of another kind, a frame or packet of a tunnel has begun.
+# If one of these is over UDP, or over a link of another kind, a frame or packet of a tunnel has begun.
 BEGUN = {"eth", "ethertype", "llc", "ip", "ipv6", "mpls", "ppp", "vxlan", "geneve", "teredo", "nsh"}
-# The numbers (IANA) of the headers that stand between IPv6 and what it carries; and of what carries packets of others: IP, GRE,
-# Ethernet, PPP, MPLS and the like, and UDP, of which no header is read in a fragment.
+# The IANA numbers of the headers between IPv6 and its payload; and of protocols that carry packets of others: IP, GRE,
+# Ethernet, PPP, MPLS and the like, and UDP, whose header is not read in a fragment.
 EXTENSIONS = set("0 43 44 60 135 139 140".split())
 TUNNELS = set("4 17 41 47 51 53 55 61 80 93 94 97 98 99 106 108 115 136 137 141 142 143 144 145 173".split())
 
 
 def may_carry(layers, numbers, types, user):
-    """Whether such a frame may carry signalling: by the names of its layers, the numbers of what its headers of IP say stands
-    behind them, its types of Ethernet, and the user of MTP3, None where there is none."""
+    """Returns whether such a frame may carry signalling: by the names of its layers, the protocol numbers in its IP
+    headers, its Ethernet types, and the user of MTP3, or None if it has none."""
     names = set(layers)
     if user is not None:
         return user == SCCP_USER
@@ -53,5 +54,5 @@ def has_begun(layers):
 
 
 def first_over(under, layers):
-    """The first layer that is none of those; None where the cut stands before it."""
+    """Returns the first layer that is not in `under`, or None if the cut comes before it."""
     return next((name for name in layers if name not in under), None)

@@ -1,47 +1,49 @@
-"""Which addresses of a capture are one end, and whose ID a message goes to: docs/CAPTURES.md, "Ends", has the rules."""
+"""Decides which addresses of a capture are one end, and whose ID a message goes to. docs/CAPTURES.md, "Ends", has the
+rules."""
 
 import collections
 
 from capture_frames import Fault
 
 PARTS = "pc", "ssn", "gt"
-# An ID that more ends of one place have sent tells none of them: it is one of few IDs, which come again everywhere.
+# If more ends of one place than this have sent an ID, the ID identifies none of them: it is one of a few IDs that
+# everybody uses.
 MANY = 50
 # The most ends that a fault names.
 LISTED = 4
 
 
 def text_of(address):
-    """How an address is printed."""
+    """Returns an address as it is printed."""
     parts = ((part, getattr(address, part)) for part in ("ni", *PARTS, "side"))
     return " ".join(f"{part}={value}" for part, value in parts if value is not None)
 
 
 def places_of(address):
-    """Where an address is: its point code, and its title."""
+    """Returns where an address is: its point code and its title."""
     codes = [] if address.pc is None else [(address.ni, address.pc)]
     return codes if address.gt is None else [*codes, address.gt]
 
 
 def are_near(one, other):
-    """Whether two addresses have one point code, or one title."""
+    """Returns whether two addresses share a point code or a title."""
     return any(place in places_of(other) for place in places_of(one))
 
 
 def are_routes(one, other):
-    """Whether two addresses are one title and subsystem, reached by two point codes."""
+    """Returns whether two addresses have one title and subsystem, and so are reached through two point codes."""
     return one.gt is not None and (one.gt, one.ssn) == (other.gt, other.ssn)
 
 
 class Ends:
-    """Which addresses are one end. Each is known by what is looked at of it, and stands for itself until it is joined with
-    another."""
+    """Decides which addresses are one end. Each address is known by the parts that --by looks at, and stands for
+    itself until it is joined with another."""
 
     def __init__(self, by, addresses):
         self.by, self.addresses, self.named, self.members = by, addresses, [], None
 
     def name(self, address):
-        """What is looked at of an address; None where that is nothing."""
+        """Returns the parts of an address that --by looks at, as an address, or None if there are none."""
         if address.name is None:
             pc, ssn, gt = (getattr(address, part) if part in self.by else None for part in PARTS)
             if (pc, ssn, gt, address.side) == (None, None, None, None):
@@ -53,19 +55,19 @@ class Ends:
 
     @staticmethod
     def find(address):
-        """What stands for the end of an address."""
+        """Returns the representative of the end of an address."""
         while (parent := address.parent) is not address:
             address.parent = address = parent.parent
         return address
 
     def join(self, one, other):
-        """Makes one end of two. Returns what stands for it, and what stood for the other."""
+        """Makes two ends one. Returns the representative of the result, and the former representative of `one`."""
         kept, gone = self.find(other), self.find(one)
         gone.parent = kept
         return kept, gone
 
     def of(self, end):
-        """All addresses of an end, as they came. Nothing is joined from then on."""
+        """Returns all addresses of an end, in the order in which they came. Nothing may be joined after this."""
         if self.members is None:
             self.members = collections.defaultdict(list)
             for address in self.named:
@@ -73,12 +75,12 @@ class Ends:
         return self.members[self.find(end)]
 
     def names_of(self, end):
-        """All that is looked at of an end."""
+        """Returns the names of all addresses of an end, each once."""
         return list(dict.fromkeys(address.name for address in self.of(end)))
 
 
 class Sent:
-    """Who sent which ID, and to whom: each ID with the pairs of addresses in which it was sent."""
+    """Who sent which ID, and to whom: each ID with the pairs of addresses that it was sent between."""
 
     def __init__(self):
         self.pairs, self.indexed, self.at = collections.defaultdict(list), collections.Counter(), {}
@@ -87,7 +89,8 @@ class Sent:
         self.pairs[otid].append((sender, receiver))
 
     def near(self, which, address, otid):
-        """The pairs in which that ID was sent whose sender (0) or receiver (1) is near that address: of a place with many none."""
+        """Returns the pairs that the ID was sent between whose sender (0) or receiver (1) is near that address. A
+        place with too many pairs gives none."""
         pairs = self.pairs.get(otid, [])
         for pair in pairs[self.indexed[otid] :]:
             for side, one in enumerate(pair):
@@ -99,17 +102,18 @@ class Sent:
 
 
 class Answers:
-    """Takes the messages in their order, and joins the addresses that are one end by what is answered. What can't be
-    decided is the fault of a message, with the pairs to which it may belong."""
+    """Takes the messages in order, and joins the addresses that answers show to be one end. If an answer can't be
+    decided, that is the message's fault, with the pairs to which it may belong."""
 
     def __init__(self, ends, messages, words):
         self.ends, self.messages, self.words = ends, messages, words
-        # Of each end: the address to which it sent an ID last.
+        # For each end: the address to which it sent an ID last.
         self.called = collections.defaultdict(dict)
         # Earlier uses of an ID: the ID, and the addresses of its sender and of its receiver.
         self.earlier, self.sent = set(), Sent()
         self.speaking = {ends.find(message.sender) for message in messages}
-        # Of each end: each ID that it sent in the whole capture, with what tells the dialogues in which it did; where it is needed.
+        # For each end: each ID that it sent in the whole capture, with what identifies its dialogues. Made when it is
+        # needed.
         self.dialogues, self.clashing = None, set()
 
     def take(self, message):
@@ -145,13 +149,13 @@ class Answers:
                 self.refuse(message, [(receiver, called)])
 
     def is_late(self, message, sender, receiver, called):
-        """Whether a message goes to an ID that was sent to its sender before it was sent anew to another end. What never
-        speaks is no other end: it is a title that somebody answers for."""
+        """Returns whether a message goes to an ID that was sent to its sender before it was sent again to another end.
+        An end that never speaks does not count: it is a title that another end answers for."""
         is_known = (message.dtid, receiver, sender) in self.earlier and not are_routes(sender, called)
         return is_known and self.ends.find(called) in self.speaking
 
     def settle_strange(self, message, sender, receiver):
-        """Decides whose ID it is, where the receiver did not send it: another address of the receiver may have."""
+        """Decides whose ID it is if the receiver did not send it: another address of the receiver may have."""
         find = self.ends.find
         ends = find(sender), find(receiver)
         own, others = {}, {}
@@ -172,13 +176,14 @@ class Answers:
             self.settle_far(message, sender, receiver)
 
     def is_older(self, receiver, asker):
-        """Whether a message is rather one of a dialogue that is older than the capture, of a receiver that speaks for itself."""
+        """Returns whether a message more likely belongs to a dialogue older than the capture, of a receiver that
+        speaks for itself."""
         return self.words.under_way and self.ends.find(receiver) in self.speaking and not are_routes(receiver, asker)
 
     def settle_far(self, message, sender, receiver):
-        """Where nothing tells that the one who sent the ID is the receiver, but it was sent to the sender, and by one
-        end alone, it may be an answer: a node may have two point codes. Behind a beginning that was not captured it is
-        no wonder."""
+        """Refuses the message if nothing shows that the sender of the ID is the receiver, but only one end sent the ID
+        to the message's sender. It may then be an answer, since a node may have two point codes. With --under-way it
+        is accepted: its beginning may be older than the capture."""
         find = self.ends.find
         pairs = self.sent.near(1, sender, message.dtid)
         pairs = {find(asker): (asker, called) for asker, called in pairs if find(called) == find(sender)}
@@ -188,16 +193,16 @@ class Answers:
             self.refuse(message, list(pairs.values()))
 
     def is_pair(self, sender, receiver, asker, called):
-        """Whether a message from and to other addresses may go between these two ends."""
+        """Returns whether a message from and to other addresses may go between these two ends."""
         is_sender = self.ends.find(sender) == self.ends.find(called)
         return (is_sender or self.are_one(sender, called, called.gt is not None)) and self.are_one(receiver, asker)
 
     def are_one(self, one, other, is_translated=False):
-        """Whether two addresses may be taken as one end."""
+        """Returns whether two addresses may be taken as one end."""
         return are_routes(one, other) or ((is_translated or are_near(one, other)) and not self.clash(one, other))
 
     def clash(self, one, other):
-        """Whether two ends have sent one ID in different dialogues, as two do that do not know of each other."""
+        """Returns whether two ends have sent one ID in different dialogues, as two independent ends do."""
         roots = self.ends.find(one), self.ends.find(other)
         if not self.speaking.issuperset(roots) or frozenset(roots) in self.clashing:
             return frozenset(roots) in self.clashing
@@ -213,7 +218,7 @@ class Answers:
         return frozenset(roots) in self.clashing
 
     def join(self, one, other):
-        """Makes one end of two, where they are not."""
+        """Makes two ends one, if they are not yet."""
         if self.ends.find(one) == self.ends.find(other):
             return
         kept, gone = self.ends.join(one, other)

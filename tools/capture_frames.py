@@ -1,5 +1,5 @@
-"""From a capture to the messages that stand in it, in the order in which they were sent: runs `tshark` for the layers
-below SCTP and SCCP, and follows what goes over more than one frame, chunks of SCTP and segments of SCCP."""
+"""Finds the messages in a capture, in the order in which they were sent. Runs `tshark` for the layers below SCTP and
+SCCP, and follows what spans several frames: chunks of SCTP and segments of SCCP."""
 
 import collections
 import io
@@ -12,7 +12,7 @@ from capture_cuts import SCCP_USER, SCTP_NUMBER, may_carry
 from capture_sctp import Ways
 from signalling import Refused
 
-# What tshark is asked of each frame. What stands behind the octets is alike in many frames: their shape.
+# The fields that tshark is asked for. The fields after the octets are equal in many frames: they are a frame's shape.
 FIELDS = {
     "number": "frame.number",
     "time": "frame.time_epoch",
@@ -51,7 +51,7 @@ FIELDS = {
     "to": "exported_pdu.ss7_dpc",
 }
 OWN = list(FIELDS).index("link")
-# So tshark gives the octets of these whole, as data.
+# With these disabled, tshark gives their octets whole, as data.
 UNREAD = ["sctp", "sccp", "tcap"]
 NEXT_HEADERS = "ip", "ipv6", "hops", "options", "routing", "pieces"
 TYPES = "type", "tagged", "cooked", "snap"
@@ -60,14 +60,15 @@ SCCP_LINK = "101"
 MOST_CODE = 0x3FFF
 
 Frame = collections.namedtuple("Frame", [*list(FIELDS)[:OWN], "shape"])
-# What is wrong, and where; the labels that a message may have that is not known for that, None where it may have any; and of
-# which pairs it may be, beside its own.
+# A fault and its place; the labels that an unknown message may have, or None if it may have any; and the pairs that it
+# may be of, besides its own.
 Fault = collections.namedtuple("Fault", "place name why labels pairs", defaults=(None, ()))
 
 
 class Address:
-    """An address as the layers name it: one for each that is met, so that it is found by what it is. What is looked at of it
-    is an address, too; and each leads to another of its end, or to itself."""
+    """An address as the layers give it. There is one object for each address, so that addresses compare by identity.
+    `name` is the address of the parts that --by looks at; `parent` leads to another address of the same end, or to
+    itself."""
 
     __slots__ = "ni", "pc", "ssn", "gt", "side", "name", "parent"
 
@@ -90,8 +91,8 @@ class Addresses:
 
 
 class Message:
-    """A message of TCAP. Messages are sorted by their places: the frame, the number in it, and a TSN among those that are
-    put at one place."""
+    """A message of TCAP. Messages are sorted by place: the frame, the number in the frame, and a TSN among messages at
+    the same place."""
 
     __slots__ = "place", "frames", "sender", "receiver", "octets", "fault", "tag", "otid", "dtid"
 
@@ -102,7 +103,7 @@ class Message:
 
 
 class Shape:
-    """What frames have in common whose fields from the link on are the same."""
+    """What frames have in common if their fields from the link on are equal."""
 
     def __init__(self, text):
         fields = dict(zip(list(FIELDS)[OWN:], text.split("\t")))
@@ -130,7 +131,7 @@ class Shape:
 
 
 def octets_of(frame, shape):
-    """The octets that tshark gives of a frame: what lies above the layers that it reads."""
+    """Returns the octets that tshark gives of a frame: the content above the layers that it reads."""
     try:
         return bytes.fromhex(frame.octets.replace(":", ""))
     except ValueError:
@@ -139,18 +140,18 @@ def octets_of(frame, shape):
 
 
 def cut_of(frame):
-    """The fault of a frame that was not captured whole."""
+    """Returns the fault of a frame that was not captured whole."""
     return Refused("cut", f"{frame.kept} octets of {frame.length} were captured")
 
 
 def frames_of(path):
-    """The frames of a capture. Refused where tshark can't go on."""
+    """Yields the frames of a capture. Raises Refused if tshark can't go on."""
     words = ["tshark", "-n", "-r", path, "-T", "fields"]
     words += [word for how in ("separator=/t", "occurrence=a", "aggregator=,") for word in ("-E", how)]
     words += [word for name in UNREAD for word in ("--disable-protocol", name)]
     words += [word for field in FIELDS.values() for word in ("-e", field)]
     with tempfile.TemporaryDirectory() as folder, tempfile.TemporaryFile() as said:
-        # The preferences of who runs it are left out.
+        # The preferences of the user who runs it are ignored.
         env = os.environ | {"WIRESHARK_CONFIG_DIR": folder}
         how = {"encoding": "utf-8", "errors": "replace", "newline": "\n"}
         with subprocess.Popen(words, stdout=subprocess.PIPE, stderr=said, env=env) as run:
@@ -164,7 +165,7 @@ def frames_of(path):
 
 
 class Reader:
-    """Takes frames one after the other, and collects messages, faults, and what else has to be told."""
+    """Takes frames one after the other, and collects messages, faults, and notes."""
 
     def __init__(self):
         self.messages, self.faults, self.told = [], [], collections.Counter()
@@ -174,8 +175,8 @@ class Reader:
         self.shapes, self.number, self.times = {}, 0, {}
 
     def fault(self, place, refused, labels=None):
-        """Adds a fault of what may have these labels. Those of an association are found behind the last frame, by the hosts
-        and the head of a packet."""
+        """Adds a fault of messages that may have these labels. The labels of an association are found after the last
+        frame, by its hosts and the head of a packet."""
         self.faults.append(Fault(place, refused.name, refused.why, labels))
 
     def take(self, frame):
@@ -202,7 +203,7 @@ class Reader:
 
     @staticmethod
     def scope_of(frame, shape):
-        """The labels of what a frame may carry that can't be read."""
+        """Returns the labels of messages that an unreadable frame may carry."""
         if shape.label:
             return frozenset([shape.label])
         if not shape.has_hosts:
@@ -223,7 +224,7 @@ class Reader:
             self.told[f"left out: frames of the protocols {shape.protocols or 'that tshark does not know'}"] += 1
 
     def take_ip(self, frame, shape):
-        """Takes what IP carries: a packet of SCTP, or a fragment of one."""
+        """Takes the payload of IP: a packet of SCTP, or a fragment of one."""
         if parts := frame.parts or frame.parts6:
             for number in parts.split(","):
                 self.fragments.pop(int(number), None)
@@ -233,7 +234,7 @@ class Reader:
         self.take_packet(shape.hosts, octets_of(frame, shape))
 
     def take_packet(self, hosts, octets, cut=None):
-        """Takes a packet of SCTP, or what is left of one behind a cut."""
+        """Takes a packet of SCTP, or the part of one before a cut."""
         if len(octets) < signalling.SCTP_HEADER:
             raise cut or Refused("sctp", "the header of SCTP goes past the end")
         head, index = octets[:8], 0
@@ -274,7 +275,7 @@ class Reader:
                 self.told["left out: messages of M3UA that carry nothing of SCCP"] += 1
 
     def take_sccp(self, label, octets, place, frames):
-        """Takes a message of SCCP. What can't be read of it is of this label."""
+        """Takes a message of SCCP. If it can't be read, the fault has this label."""
         try:
             if label and (label.opc > MOST_CODE or label.dpc > MOST_CODE):
                 raise Refused("pc", f"the point code {max(label[1:])} has over 14 bits: it is not of ITU-T")
@@ -301,13 +302,13 @@ class Reader:
             self.segments.append((place, frames, sender, receiver, key, found))
 
     def address_of(self, label, code, party):
-        """An address, by the routing label, else by SCCP alone."""
+        """Returns an address, by the routing label if there is one, else by SCCP alone."""
         read = signalling.party(party)
         return self.addresses.of(label and label.ni, label[code] if label else read.pc, read.ssn, read.gt, None)
 
     def put_together(self):
-        """Puts together the segments of messages of SCCP, in the order in which they were sent: a chunk of SCTP may have been
-        captured behind a later one."""
+        """Puts together the segments of messages of SCCP, in the order in which they were sent: a chunk of SCTP may
+        have been captured after a later one."""
         open_ones = {}
         for place, frames, sender, receiver, key, found in sorted(self.segments, key=lambda one: one[0]):
             first, left, _ = found.segment
@@ -327,7 +328,7 @@ class Reader:
             self.messages.append(Message(place, frames, sender, receiver, octets, fault))
 
     def take_bare(self, shape, octets, place):
-        """Takes a message of TCAP alone. Its ends are told by point codes, or by whether it came in or went out."""
+        """Takes a message of TCAP alone. Its ends are known by point codes, or by whether it came in or went out."""
         if shape.label:
             ends = [self.addresses.of(None, code, None, None, None) for code in shape.label[1:]]
         elif shape.side:
@@ -337,7 +338,7 @@ class Reader:
         self.add(place, (self.number,), *ends, octets)
 
     def add(self, place, frames, sender, receiver, octets):
-        """Adds a message, with its fault where it has one."""
+        """Adds a message, with its fault if it has one."""
         fault = None
         try:
             signalling.refuse_no_message(octets)
@@ -346,7 +347,8 @@ class Reader:
         self.messages.append(Message(place, frames, sender, receiver, octets, fault))
 
     def close(self):
-        """Says what is missing behind the last frame, and finds the labels of the associations."""
+        """Adds the faults of parts that are still missing after the last frame, and finds the labels of the
+        associations."""
         for number, scope in self.fragments.items():
             self.fault((number, 0, 0), Refused("fragment", "a fragment of IP without the others"), scope)
         for direction, labels in self.ways.all():
@@ -362,7 +364,7 @@ class Reader:
         self.put_together()
 
     def gaps(self):
-        """The faults that stand where chunks of SCTP are missing."""
+        """Yields a fault for each place with missing chunks of SCTP."""
         for direction, labels in self.ways.all():
             for place, count, tsn in direction.gaps():
                 why = f"before it chunks of SCTP are missing in the capture, {count} from the TSN {tsn} on"

@@ -1,4 +1,4 @@
-"""The pairs of ends of a capture, each with what it sent up to the first fault that may be of it."""
+"""Finds the pairs of ends of a capture, each with its messages up to the first fault that may be of the pair."""
 
 import collections
 
@@ -7,38 +7,38 @@ from capture_frames import Fault
 from signalling import Label
 
 
-# By this fault of a message it is not known how many messages are missing: each of its segments may have it.
+# The number of missing messages is unknown after a message with this fault: each of its segments may have it.
 UNCOUNTED = "segment"
 
 
 class Pair:
-    """What one pair of ends sent, in its order, up to the first fault; and that fault."""
+    """The messages of one pair of ends, in order, up to the first fault; and that fault."""
 
     def __init__(self, ends):
         self.ends, self.messages, self.fault, self.behind, self.notes = ends, [], None, 0, []
-        # Whether each message that is missing for a fault is one of those that were found.
+        # Whether each message that is missing because of a fault is one that was found.
         self.is_counted = True
 
     def both(self):
-        """Its two ends, which may have one name."""
+        """Returns the two ends, which may have one name."""
         return min(self.ends, key=text_of), max(self.ends, key=text_of)
 
     def stop(self, fault, is_counted=False):
-        """Notes a fault, and whether it is of a message that was found: the first one counts."""
+        """Notes a fault, and whether it is of a message that was found. The first fault counts."""
         self.is_counted = self.is_counted and is_counted
         if self.fault is None or fault.place < self.fault.place:
             self.fault = fault
 
     def cut(self):
-        """Leaves what stands before the fault, and counts the rest."""
+        """Keeps the messages before the fault, and counts the others."""
         if self.fault:
             whole, self.messages = self.messages, [one for one in self.messages if one.place < self.fault.place]
             self.behind = len(whole) - len(self.messages)
 
 
 class Reach:
-    """By which point codes the messages of an end go: which of them no other title has, and whether it has a title itself, so
-    that any transfer point may be on the way."""
+    """The point codes by which the messages of an end go, those of them that no other title has, and whether the end
+    has a title itself, so that any transfer point may be on the way."""
 
     def __init__(self, addresses, titles):
         self.codes = {code_of(address) for address in addresses if address.pc is not None}
@@ -48,26 +48,27 @@ class Reach:
 
 
 def code_of(address):
-    """The point code of an address, with its network."""
+    """Returns the point code of an address, with its network."""
     return address.ni, address.pc
 
 
 class Labels:
-    """The labels that messages may have which can't be read: each two point codes with their network, in no order."""
+    """The labels that unreadable messages may have: each is two point codes with their network, in any order."""
 
     def __init__(self, labels):
         self.labels = {frozenset(((label.ni, label.opc), (label.ni, label.dpc))) for label in labels}
         self.codes = frozenset().union(*self.labels)
 
     def may_be_of(self, one, other):
-        """Whether one of them may be a message between two ends."""
+        """Returns whether a message with one of these labels may go between two ends."""
         if other.has_title and self.codes & one.own or one.has_title and self.codes & other.own:
             return True
         return any(frozenset((code, to)) in self.labels for code in one.codes for to in other.codes)
 
 
 def with_ends(messages, addresses, words):
-    """The messages of which the ends are known, with the faults of their answers; the ends; and the faults of the others."""
+    """Returns the messages with known ends, with the faults of answers in them; the ends; and the faults of the other
+    messages."""
     ends, known, faults = Ends(words.by, addresses), [], []
     for message in messages:
         sender, receiver = ends.name(message.sender), ends.name(message.receiver)
@@ -85,7 +86,7 @@ def with_ends(messages, addresses, words):
 
 
 def pairs_of(messages, ends):
-    """The pairs, in the order in which they are met, with their messages and the faults of these."""
+    """Returns the pairs in the order in which they occur, with their messages and the faults of these."""
     pairs, known = {}, {}
 
     def pair_of(*two):
@@ -107,8 +108,8 @@ def pairs_of(messages, ends):
 
 
 def stop_by(faults, pairs, ends):
-    """Has each fault of the capture end the pairs of which it may be, and each pair leave what stands behind its fault.
-    Returns how many pairs each fault may be of."""
+    """Ends each pair at each fault of the capture that it may have, and removes the pair's messages after its first
+    fault. Returns how many pairs each fault may be of."""
     titles = collections.defaultdict(set)
     for address in ends.named:
         titles[code_of(address)].add(address.gt)
@@ -126,7 +127,7 @@ def stop_by(faults, pairs, ends):
 
 
 def lone_of(pair, ends):
-    """The messages of a pair to IDs that their receiver did not send before."""
+    """Returns the messages of a pair to IDs that their receiver did not send before."""
     known, lone = set(), []
     for message in pair.messages:
         if message.dtid and (ends.find(message.receiver), message.dtid) not in known:

@@ -1,5 +1,5 @@
-"""What associations of SCTP (RFC 9260) carry: chunks of data in the order in which they were sent, each once, and put together
-where a message goes over several; and between which point codes an association carries messages."""
+"""Follows associations of SCTP (RFC 9260): puts their chunks of data in the order in which they were sent, each once,
+joins those that carry one message, and notes between which point codes an association carries messages."""
 
 import bisect
 import collections
@@ -11,11 +11,11 @@ class Direction:
     """What one end of an association sent: its chunks of data by their TSNs, which are counted on over 2^32."""
 
     def __init__(self):
-        # Of each chunk its TSN, its place and the hash of its octets, sorted by the TSNs.
+        # The TSN, the place and the hash of the octets of each chunk, sorted by TSN.
         self.tsns, self.places, self.hashes, self.pieces = [], [], [], {}
 
     def took(self, chunk, frame, index):
-        """The TSN of a chunk, counted, and its place; None where it came before."""
+        """Returns the counted TSN of a chunk and its place, or None if the chunk came before."""
         tsn, at = chunk.tsn, len(self.tsns)
         if at:
             last = self.tsns[-1]
@@ -28,7 +28,7 @@ class Direction:
                 raise Refused("tsn", f"the TSN {chunk.tsn} comes again, with other octets")
             return None
         else:
-            # It was sent before those of a greater TSN, though it was captured behind them.
+            # It was sent before the chunks with a greater TSN, though it was captured after them.
             place = *self.places[at][:2], tsn
         self.tsns.insert(at, tsn)
         self.places.insert(at, place)
@@ -36,8 +36,7 @@ class Direction:
         return tsn, place
 
     def whole(self, chunk, tsn, place, frame):
-        """The place, the frames and the octets of the message of which this chunk was the last that was missing, else
-        None."""
+        """Returns the place, the frames and the octets of a message if this chunk completes it, else None."""
         if chunk.first and chunk.last:
             return place, (frame,), chunk.payload
         self.pieces[tsn] = chunk, place, frame
@@ -52,15 +51,16 @@ class Direction:
         return taken[0][1], tuple(sorted({number for *_, number in taken})), b"".join(piece.payload for piece, *_ in taken)
 
     def gaps(self):
-        """The place of each chunk before which others are missing, how many, and the TSN of the first of them."""
+        """Yields the place of each chunk before which others are missing, how many, and the TSN of the first of
+        them."""
         for before, tsn, place in zip(self.tsns, self.tsns[1:], self.places[1:]):
             if tsn != before + 1:
                 yield place, tsn - before - 1, (before + 1) % 2**32
 
 
 class Way:
-    """The way that packets of one association go from one host to another: what was sent so, and the labels, pairs of point
-    codes, of all messages that the association carries."""
+    """The direction of an association's packets from one host to another: the chunks sent, and the labels, which are
+    pairs of point codes, of all messages that the association carries."""
 
     __slots__ = "direction", "labels"
 
@@ -69,19 +69,19 @@ class Way:
 
 
 class Ways:
-    """All ways of a capture. Packets are of one association where they have one verification tag and the same ports, or go
+    """All ways of a capture. Packets are of one association if they have the same verification tag and ports, or go
     between the same hosts and ports."""
 
     def __init__(self):
         self.ways, self.directions, self.labels = {}, collections.defaultdict(Direction), {}
 
     def of(self, hosts, head):
-        """The way of packets between these hosts, in that order, with that head: two ports and the tag."""
+        """Returns the way of packets between these hosts, in that order, with that head: two ports and the tag."""
         return self.ways.get((hosts, head)) or self.add(hosts, head)
 
     def add(self, hosts, head):
         tag, ports = head[4:], (head[:2], head[2:4])
-        # Packets that a tool made have no tag: then both directions have one name, but for their hosts.
+        # Packets that a tool made have no tag. Then only the hosts tell the two directions apart.
         direction = self.directions[head if any(tag) else (head, hosts[0])]
         names = [frozenset(zip(hosts, ports))] + ([head] if any(tag) else [])
         known = [self.labels[name] for name in names if name in self.labels]
@@ -93,20 +93,20 @@ class Ways:
         return self.ways[hosts, head]
 
     def make_one(self, labels, gone):
-        """Makes one association of two, of which these are the labels."""
+        """Makes one association of two that have these labels."""
         labels |= gone
         self.labels = {name: labels if found is gone else found for name, found in self.labels.items()}
         for way in self.ways.values():
             way.labels = labels if way.labels is gone else way.labels
 
     def all(self):
-        """Each direction, with the labels of its association."""
+        """Returns each direction, with the labels of its association."""
         ways = {id(way.direction): way for way in self.ways.values()}
         return [(way.direction, frozenset(way.labels)) for way in ways.values()]
 
     def labels_of(self, hosts, head):
-        """The labels of the association of such packets; where their head is not known, of all associations between
-        these hosts, as far as these are known."""
+        """Returns the labels of the association of such packets. If the head is unknown, returns those of all
+        associations between these hosts, as far as the hosts are known."""
         if (hosts, head) in self.ways:
             return self.ways[hosts, head].labels
         found = [way.labels for (between, _), way in self.ways.items() if are_of(hosts, between)]
@@ -114,12 +114,12 @@ class Ways:
 
 
 def are_of(hosts, between):
-    """Whether packets of these hosts may be of others: they are the same, in any order, or the outer ones of a tunnel, or one
-    of them is not known, since the header of IP was cut."""
+    """Returns whether packets between these hosts may be of the others: both are the same, in any order, or the outer
+    hosts of a tunnel, or a host is unknown since the header of IP was cut."""
     return begin(hosts, between) or begin(hosts, between[::-1])
 
 
 def begin(hosts, between):
-    """Whether each host is the other's, or stands before it, in a header of IP further out."""
+    """Returns whether each host is unknown, equals the other, or comes before it in an outer header of IP."""
     pairs = [pair for two in zip(hosts, between) for pair in zip(*two)]
     return all(not one or f"{other},".startswith(f"{one},") for one, other in pairs)

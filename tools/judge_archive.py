@@ -1,11 +1,11 @@
 #!/usr/bin/env python3
-"""Judges an archive of traces and captures by many workers side by side: docs/ARCHIVES.md says how.
+"""Judges an archive of traces and captures with many workers at once. docs/ARCHIVES.md describes it.
 
     tools/judge_archive.py --json FILE [--resume] [--list LIST].. [--workers N | --scheduler ADDRESS] [--program PATH]
         [--progress] [options of `tcapjudge test`] [options of tools/lines_of_capture.py] [TRACE..]
 
-The workers are those of Dask's distributed. What is printed and written is what one `tcapjudge test --json` over all
-the traces prints and writes, and so is the exit status; it is 3 too where something else went wrong, and 4 for wrong
+The workers are those of Dask's distributed. The output, the file and the exit status are those of one
+`tcapjudge test --json` over all the traces. The status is also 3 if something else went wrong, and 4 for wrong
 words."""
 
 import contextlib
@@ -30,10 +30,10 @@ from archive_results import stamp_of
 from archive_words import FAULTY, WRONG_WORDS, Fault, is_capture, say
 
 DEBIAN = "/usr/bin/python3"
-# So many traces are given out at once.
+# The number of traces that are given out at once.
 AHEAD = 1000
-# So many seconds a scheduler that is named and its first worker are waited for; and a worker of this machine, or another one
-# where all are gone.
+# The seconds to wait for a named scheduler and its first worker; and for a worker of this machine, or for another one
+# after all are lost.
 PATIENCE, LONGEST = 15, 60
 WIDTH = 40
 
@@ -42,30 +42,30 @@ WIDTH = 40
 
 
 def refused(status, why):
-    """Ends as the command ended that refused its options, with what it said."""
+    """Ends with the status of the command that refused its options, and prints its output."""
     sys.stderr.buffer.write(why)
     sys.exit(status)
 
 
 def program_of(words):
-    """The program and its words, of which it takes the options and the tables."""
+    """Returns the program and its words, after the program has accepted its options and its tables."""
     program = shutil.which(words.program)
     if not program:
         raise Fault(f"no program {words.program}: --program says where it is")
     command = [os.path.abspath(program), "test", *words.test]
-    # A trace without a message, of which the program says what is wrong with its options and its tables.
+    # A trace without a message, so that the program reports what is wrong with its options and its tables.
     status, _, why, _ = found = judged(command, os.getcwd(), os.devnull)
     if status == WRONG_WORDS or archive_results.has_error(why):
         refused(status, why)
     if fault := archive_results.fault_of(*found):
         raise Fault(f"{words.program}: {fault}")
-    # The hints at the tables, which each run gives: they are passed on once.
+    # Each run gives the hints about the tables: they are passed on once.
     say(why.decode(errors="replace"), "")
     return command
 
 
 def tool_of(words):
-    """The tool that makes lines of captures, and its words, of which it takes the options."""
+    """Returns the tool that makes lines of captures, and its words, after the tool has accepted its options."""
     command = [os.path.abspath(lines_of_capture.__file__), *words.lines]
     asked = subprocess.run([sys.executable, *command, "--help"], capture_output=True, check=False)
     if asked.returncode:
@@ -73,14 +73,14 @@ def tool_of(words):
     return command
 
 
-# ---- what the workers do: each function stands alone, and is sent to them
+# ---- what the workers do: each function needs nothing else of this file, and is sent to them
 
 
 def judged(command, folder, name):
-    """What the program says of a trace: its exit status, standard output and error, and lines of JSON. It ends with the
-    worker at the latest."""
+    """Runs the program on a trace. Returns its exit status, its standard output and error, and its lines of JSON. The
+    program ends when the worker ends, or before."""
     with tempfile.TemporaryFile() as lines:
-        # The program opens the file by that path, though it has no name.
+        # The program opens the file by that path, though the file has no name.
         words = ["setpriv", "--pdeathsig", "KILL", *command, "--json", f"/dev/fd/{lines.fileno()}", "--", name]
         how = {"cwd": folder, "stdin": subprocess.DEVNULL, "capture_output": True, "pass_fds": [lines.fileno()]}
         run = subprocess.run(words, check=False, **how)
@@ -89,24 +89,24 @@ def judged(command, folder, name):
 
 
 def lines_made(command, folder, name):
-    """The files of lines that are made of a capture, with their names; the exit status, and what is said of it."""
+    """Makes lines of a capture. Returns the exit status, the output, and the files with their names."""
     with tempfile.TemporaryDirectory() as room:
         words = [sys.executable, *command, "--", name, f"{room}/lines"]
         run = subprocess.run(words, cwd=folder, stdin=subprocess.DEVNULL, capture_output=True, check=False)
         files = []
         names = os.listdir(f"{room}/lines") if os.path.isdir(f"{room}/lines") else []
-        # pair-2.hex stands before pair-10.hex.
+        # pair-2.hex comes before pair-10.hex.
         for file in sorted(names, key=lambda file: (len(file), file)):
             with open(f"{room}/lines/{file}", "rb") as opened:
                 files.append((file, opened.read()))
         return run.returncode, run.stderr, files
 
 
-# ---- what is kept
+# ---- kept results
 
 
 def keep_verdict(results, name, stamp, found):
-    """Keeps what the program said of a trace, if it gave a verdict. Returns what is wrong, if it gave none."""
+    """Keeps the program's results for a trace, if it gave a verdict. Otherwise returns what is wrong."""
     if fault := archive_results.fault_of(*found):
         return fault
     status, text, _, lines = found
@@ -116,10 +116,10 @@ def keep_verdict(results, name, stamp, found):
 
 
 def keep_lines(results, name, stamp, found):
-    """Keeps the lines that were made of a capture. Returns what is wrong, where none could be made."""
+    """Keeps the lines that were made from a capture. Returns what is wrong if none could be made."""
     status, said, files = found
     text = said.decode(errors="replace").strip()
-    # That tool says of a capture NOTE and FAULT, and error of what it could not write.
+    # That tool prints NOTE and FAULT about a capture, and error for what it could not write.
     if status not in (0, lines_of_capture.FAULTY) or re.search("^error: ", text, re.MULTILINE):
         return f"no lines, status {status}: {text}"
     results.keep_lines(name, stamp, files, said, status)
@@ -130,8 +130,8 @@ def keep_lines(results, name, stamp, found):
 
 
 class Watch:
-    """Looks once a second after the workers, of whom `client` knows: lost ones are replaced by `replace`. It says on
-    standard error how far it is, where that is asked for, or where that is a terminal."""
+    """Looks once a second after the workers, which `client` knows; `replace` replaces lost ones. Prints progress on
+    standard error if that is asked for, or if standard error is a terminal."""
 
     def __init__(self, client, replace, is_told):
         self.client, self.replace, self.is_told = client, replace, is_told or sys.stderr.isatty()
@@ -139,11 +139,11 @@ class Watch:
         self.next = self.seen = time.monotonic()
 
     def of(self, what, before, all):
-        """What looks when so many more are done than there were before."""
+        """Returns a function that looks when this many more tasks are done than before."""
         return lambda count: self.look(what, before + count, all)
 
     def look(self, what, count, all):
-        """Looks, where a second has gone by, or all is done."""
+        """Looks if a second has passed, or all is done."""
         now = time.monotonic()
         if now < self.next and count < all:
             return
@@ -159,7 +159,7 @@ class Watch:
 
 
 def run_all(client, task, names, keep, look):
-    """Has the workers do a task for each name, and what comes of it kept. Returns what is wrong, by name."""
+    """Gives the workers a task for each name, and keeps the results. Returns what is wrong, by name."""
     import distributed
 
     wrong, under_way, waiting, count = {}, {}, iter(names), 0
@@ -176,10 +176,10 @@ def run_all(client, task, names, keep, look):
         ended = running.next_batch(block=False)
         for future, found in ended:
             name, stamp = under_way.pop(future.key)
-            # Its status is no guide: it is lost again where the worker that had done it died since.
+            # The future's status does not decide: a result is lost again if the worker that had it has died since.
             if isinstance(found, BaseException):
                 raise Fault("the scheduler is gone")
-            # An error comes as its type, itself and its place; a task has an exit status there.
+            # An error comes as its type, the error itself and its place; a task has an exit status there.
             is_error = isinstance(found[0], type)
             why = f"no worker could do it: {found[1]}" if is_error else keep(name, stamp, found)
             if why:
@@ -193,28 +193,28 @@ def run_all(client, task, names, keep, look):
 
 
 def quiet(*parts):
-    """Has these parts of distributed say nothing more."""
+    """Silences these parts of distributed."""
     for part in parts:
         logging.getLogger(f"distributed.{part}").setLevel(logging.CRITICAL)
 
 
 @contextlib.contextmanager
 def workers_of(words):
-    """A client of the cluster that is named, or of workers on this machine, which end with it; and what replaces workers
-    that are lost."""
+    """Yields a client of the named cluster, or of workers on this machine, which end with it; and a function that
+    replaces lost workers."""
     import distributed
 
-    # What is lost with a worker is done again; that it ended its nanny says.
+    # Tasks that are lost with a worker are done again; its nanny reports that the worker ended.
     quiet("client", "scheduler")
     with contextlib.ExitStack() as stack:
         address, replace = words.scheduler, lambda: None
         try:
             if not address:
                 room = stack.enter_context(tempfile.TemporaryDirectory())
-                # Ctrl-C at a terminal is for this process alone, which ends them.
+                # Ctrl-C at a terminal is for this process alone, which ends the workers.
                 handler = signal.signal(signal.SIGINT, signal.SIG_IGN)
                 how = {"threads_per_worker": 1, "memory_limit": None, "local_directory": room, "host": "127.0.0.1"}
-                # Without a dashboard there is a server of HTTP all the same.
+                # There is an HTTP server even without a dashboard.
                 how |= {"dashboard_address": None, "scheduler_kwargs": {"dashboard_address": "127.0.0.1:0"}}
                 address = stack.enter_context(distributed.LocalCluster(n_workers=words.workers, **how))
                 signal.signal(signal.SIGINT, handler)
@@ -227,13 +227,13 @@ def workers_of(words):
         stack.callback(quiet, "nanny")
         yield client, replace
         if not words.scheduler:
-            # A worker that is ended while it starts would say so at length.
+            # A worker that is ended while it starts would print long messages.
             with contextlib.suppress(distributed.TimeoutError):
                 client.wait_for_workers(words.workers, timeout=PATIENCE)
 
 
 def traces_of(names, results):
-    """The traces, in order: a capture stands for the files of lines that were made of it."""
+    """Yields the traces in order. A capture stands for the files of lines that were made from it."""
     for name in names:
         if not is_capture(name):
             yield name
@@ -242,7 +242,7 @@ def traces_of(names, results):
 
 
 def judge(words, names, tool, program, results):
-    """Has all judged that is not. Returns what is wrong, by name."""
+    """Judges everything that is not yet judged. Returns what is wrong, by name."""
     with workers_of(words) as (client, replace):
         watch = Watch(client, replace, words.progress)
 
@@ -258,7 +258,7 @@ def judge(words, names, tool, program, results):
 
 
 def said_of_captures(names, results):
-    """Passes on what was said of each capture. Returns whether one has a fault."""
+    """Passes on the output about each capture. Returns whether one has a fault."""
     has_fault = False
     for name in filter(is_capture, names):
         has_fault |= results.head(name)["status"] != 0
@@ -268,7 +268,7 @@ def said_of_captures(names, results):
 
 
 def put_out(names, results, path):
-    """Prints what is said of all traces, in order, and writes the lines of JSON. Returns the exit status."""
+    """Prints the verdicts on all traces, in order, and writes the lines of JSON. Returns the exit status."""
     total = archive_results.Sum()
     try:
         with open(f"{path}.part", "wb") as file, open(1, "wb", closefd=False) as out:
@@ -288,7 +288,7 @@ def put_out(names, results, path):
 
 
 def run_with_distributed():
-    """Goes on with Debian's python3 where that has distributed and this one has not."""
+    """Continues with Debian's python3 if it has distributed and this one has not."""
     if importlib.util.find_spec("distributed"):
         return
     asked = [DEBIAN, "-c", "import importlib.util, sys; sys.exit(not importlib.util.find_spec('distributed'))"]
@@ -298,7 +298,7 @@ def run_with_distributed():
 
 
 def results_of(words, names, program):
-    """What is kept of earlier runs with these words."""
+    """Returns the kept results of earlier runs with these words."""
     if os.path.exists(words.json):
         read = filter(os.path.exists, [*names, *archive_words.tables_of(words)])
         if not os.path.isfile(words.json) or any(os.path.samefile(words.json, path) for path in read):

@@ -1,10 +1,10 @@
-"""Makes lines for `tcapjudge pack` of a capture, one file for each pair of ends: docs/CAPTURES.md says how.
+"""Makes lines for `tcapjudge pack` from a capture, one file for each pair of ends. docs/CAPTURES.md describes it.
 
     python3 tools/lines_of_capture.py CAPTURE FOLDER [--a WHAT] [--by PARTS] [--join | --apart] [--under-way] [--whole]
         [--progress]
 
-Standard output has a line for each file; standard error has what was left out (NOTE) and what can't be told (FAULT).
-The exit status is 0, or 2 where tshark is not installed, or 3 where there was a fault, or 4 for wrong words."""
+Standard output has a line for each file. Standard error has what was left out (NOTE) and what could not be read or
+decided (FAULT). The exit status is 0, or 2 if tshark is not installed, 3 if there was a fault, or 4 for wrong words."""
 
 import argparse
 import datetime
@@ -25,7 +25,8 @@ NO_TSHARK, FAULTY, WRONG_WORDS = 2, 3, 4
 SHOWN = 10
 # The most addresses of one end that are printed.
 LISTED = 4
-# Directives of `tcapjudge test`: the Begin of a dialogue may not be in the trace; the trace ends before its messages do.
+# Directives of `tcapjudge test`: the Begin of a dialogue may be missing from the trace; the trace ends before its
+# messages do.
 UNDER_WAY, BROKEN_OFF = "#: under way", "#: broken off"
 
 
@@ -38,7 +39,7 @@ class Words(argparse.ArgumentParser):
 
 
 def parts_of(text):
-    """The parts of --by."""
+    """Reads the parts in --by."""
     parts = text.split(",")
     if not set(parts) <= set(PARTS):
         raise argparse.ArgumentTypeError(f"{text}: only {', '.join(PARTS)} may stand there, with commas between")
@@ -46,7 +47,7 @@ def parts_of(text):
 
 
 def wanted_of(text):
-    """What --a asks of an end: its parts with their values."""
+    """Reads what --a requires of an end: parts with their values."""
     wanted = {}
     for one in text.split(","):
         part, _, value = one.partition("=")
@@ -74,13 +75,13 @@ def words_of(arguments):
 
 
 class Progress:
-    """Says once a second how many frames were read and how many messages were written, where that is asked."""
+    """Prints once a second how many frames were read and how many messages were written, if that is asked for."""
 
     def __init__(self, is_asked):
         self.is_asked, self.counts, self.due = is_asked, {"frames read": 0, "messages written": 0}, time.monotonic() + 1
 
     def over(self, what, counted):
-        """The same things one after the other, counted."""
+        """Returns the same things one after the other, and counts them if progress is asked for."""
         return self.each(what, counted) if self.is_asked else counted
 
     def each(self, what, counted):
@@ -96,8 +97,8 @@ class Progress:
 
 
 def first_end(pair, ends, wanted):
-    """The end that is A: the one that --a asks for; where it fits none the first that begins, else the first that sends.
-    Where it fits both, that is the pair's fault."""
+    """Returns the end that is A: the one that --a asks for; if neither fits, the first that begins, else the first
+    that sends. If both fit, that is the pair's fault."""
     if wanted:
         fits = [end for end in pair.ends if any(is_wanted(one, wanted) for one in ends.names_of(end))]
         if len(fits) == 1:
@@ -126,17 +127,18 @@ def note_lone(pair, ends, is_begun):
         pair.notes.append(f"{which}: {len(lone)}{hint}")
 
 
-# ---- what is written
+# ---- output
 
 
 def frame_text(message):
-    """Where a message stands in the capture."""
+    """Returns the frames of a message in the capture."""
     first, last = message.frames[0], message.frames[-1]
     return f"frame {first}" if first == last else f"frames {first} to {last}"
 
 
 def stamps(times):
-    """Times of tshark, seconds since 1970, as ISO 8601 writes them, by the number of their frame."""
+    """Returns a function from the number of a frame to its time, which tshark gives in seconds since 1970, in ISO
+    8601."""
     known, text = None, ""
 
     def stamp(frame):
@@ -153,14 +155,14 @@ def stamps(times):
 
 
 def addresses_of(end, ends):
-    """The addresses of an end, a few of them where there are many: a line for `pack` is no longer than it takes."""
+    """Returns the addresses of an end, at most LISTED, since `pack` limits the length of a line."""
     names = ends.names_of(end)
     more = f", and {len(names) - LISTED} others" if len(names) > LISTED else ""
     return ", ".join(text_of(one) for one in names[:LISTED]) + more
 
 
 def head_of(pair, both, ends, words, title):
-    """The lines before the first message, of ends of which the first is A."""
+    """Yields the lines before the first message. The first of the two ends is A."""
     yield f"# {title}\n"
     for letter, end in zip("AB", both):
         yield f"#: {letter} {addresses_of(end, ends)}\n"
@@ -170,7 +172,7 @@ def head_of(pair, both, ends, words, title):
 
 
 def lines_of(pair, first, ends, times):
-    """The lines of each message."""
+    """Yields the lines of each message."""
     stamp = stamps(times)
     for entry, message in enumerate(pair.messages):
         moved = f", sent before frame {message.place[0]}" if message.place[0] < message.frames[0] else ""
@@ -180,7 +182,7 @@ def lines_of(pair, first, ends, times):
 
 
 def foot_of(pair, capture):
-    """The lines after the last message of a pair that has a fault."""
+    """Yields the lines after the last message of a pair that has a fault."""
     count = pair.behind
     missing = f", {count} message{'s' * (count != 1)} missing" if pair.is_counted else ""
     yield f"# {place_text(pair.fault, capture)}; messages that were found from there on, and are not in this file: {count}\n"
@@ -188,22 +190,22 @@ def foot_of(pair, capture):
 
 
 def name_of(path):
-    """The name of a file, as it can be printed."""
+    """Returns the name of a file with only printable characters."""
     return "".join(sign if sign.isprintable() else "?" for sign in os.path.basename(path))
 
 
 def place_text(fault, capture):
-    """What a fault is, and its frame."""
+    """Returns the name of a fault, its frame and its reason."""
     return f"{fault.name}, frame {fault.place[0]} of {name_of(capture)}: {fault.why}"
 
 
 def fault_text(fault, capture):
-    """What is printed of a fault."""
+    """Returns the line that is printed for a fault."""
     return f"FAULT {place_text(fault, capture)}"
 
 
 def write(pairs, ends, reader, words, progress):
-    """Writes the files, and says what is in them. A pair of which no message is left has none."""
+    """Writes the files, and prints what is in them. A pair without messages has no file."""
     told = set(map(id, reader.faults))
     for number, pair in enumerate(pairs, 1):
         note_lone(pair, ends, words.under_way)
@@ -229,7 +231,8 @@ def write(pairs, ends, reader, words, progress):
 
 
 def say(reader, counts, gaps, pairs, capture):
-    """Says what is wrong with the capture as a whole, of how many pairs it may be, and what of it was left out."""
+    """Prints what is wrong with the capture as a whole, with how many pairs each fault may be of, and what was left
+    out."""
     for fault, count in list(zip(reader.faults, counts))[:SHOWN]:
         print(f"{fault_text(fault, capture)}; pairs of which it may be: {count}", file=sys.stderr)
     if len(reader.faults) > SHOWN:
@@ -245,7 +248,7 @@ def say(reader, counts, gaps, pairs, capture):
 
 
 def read(words, progress):
-    """The reader behind the last frame of the capture."""
+    """Reads the capture. Returns the reader after the last frame."""
     reader = capture_frames.Reader()
     try:
         for frame in progress.over("frames read", capture_frames.frames_of(words.capture)):
@@ -257,7 +260,7 @@ def read(words, progress):
 
 
 def pairs_in(reader, gaps, words):
-    """The pairs of a capture that was read, its ends, and of how many pairs each of its faults may be."""
+    """Returns the pairs of a capture that was read, its ends, and how many pairs each of its faults may be of."""
     reader.messages.sort(key=lambda message: message.place)
     messages, ends, faults = with_ends(reader.messages, reader.addresses, words)
     reader.faults = sorted(reader.faults + faults + (gaps if words.whole else []), key=lambda fault: fault.place)
@@ -266,7 +269,7 @@ def pairs_in(reader, gaps, words):
 
 
 def lines_of_capture(words):
-    """Makes the files, and says of what. Returns the exit status."""
+    """Makes the files, and prints what they are. Returns the exit status."""
     progress = Progress(words.progress)
     reader = read(words, progress)
     gaps = list(reader.gaps())
@@ -296,7 +299,7 @@ def main(arguments):
     except OSError as error:
         print(f"error: {error}", file=sys.stderr)
         return WRONG_WORDS
-    # Few objects here are in circles, so they are not looked for: that takes time with each message that is kept.
+    # Few objects here form cycles. The search for these takes time with each message that is kept, so it is turned off.
     gc.disable()
     return lines_of_capture(words)
 

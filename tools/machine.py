@@ -1,4 +1,4 @@
-"""What a run may take of this machine, and how it ends if a signal comes."""
+"""Finds what a run may take of this machine, and makes a run end properly on a signal."""
 
 import os
 import signal
@@ -6,19 +6,19 @@ import sys
 
 
 def cores():
-    """How many processors this process may use, as `taskset` says too."""
+    """Returns how many processors this process may use, as `taskset` may have limited them."""
     return len(os.sched_getaffinity(0))
 
 
 def free_memory():
-    """How much memory is free, in GB (10^9 octets)."""
+    """Returns how much memory is free, in GB (10^9 octets)."""
     with open("/proc/meminfo", encoding="utf-8") as file:
         sizes = dict(line.split(":") for line in file)
     return int(sizes["MemAvailable"].split()[0]) * 1024 / 10**9
 
 
 def say_if_short(wanted, what):
-    """Says on standard error that less memory is free than what that takes, in GB."""
+    """Prints on standard error that a task takes more memory, in GB, than is free."""
     if free_memory() < wanted:
         print(
             f"{what} takes up to {wanted} GB of memory, and {free_memory():.1f} are free: it may be stopped for want of it",
@@ -28,8 +28,10 @@ def say_if_short(wanted, what):
 
 
 def end_in_order():
-    """Makes a signal that ends this process end it as an error does, so that the processes that it started end and its files are removed."""
-    # A shell has what it runs in the background ignore the first, and so would what this starts. `nohup` has it ignore the last.
+    """Makes the signals that end this process end it as an error does, so that its child processes end and its files
+    are removed."""
+    # A shell makes background commands ignore SIGINT, and their children would inherit that. `nohup` makes them ignore
+    # SIGHUP, and that stays.
     numbers = [signal.SIGINT, signal.SIGTERM] + [signal.SIGHUP] * (signal.getsignal(signal.SIGHUP) != signal.SIG_IGN)
 
     def end(number, _):

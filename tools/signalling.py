@@ -1,29 +1,29 @@
-"""Reads the octets of the layers below TCAP: packets of SCTP (RFC 9260), messages of M3UA (RFC 4666) and of SCCP (ITU-T
-Q.713), and the outside of a TCAP message (ITU-T Q.773, X.690). Nothing here keeps a state. What can't be read is
-refused by a name and in words."""
+"""Reads the octets of the layers below TCAP: packets of SCTP (RFC 9260), messages of M3UA (RFC 4666) and of SCCP
+(ITU-T Q.713), and the outside of a TCAP message (ITU-T Q.773, X.690). Nothing here keeps a state. What can't be read
+is refused with a name and a reason."""
 
 import collections
 import struct
 
 SCTP_HEADER = 12
-# What a chunk of SCTP carries, by its payload protocol identifier.
+# The payload protocol identifiers of chunks of SCTP, and the port of M3UA.
 M3UA, M2PA, M3UA_PORT = 3, 5, b"\x0b\x59"
 OTHERS = {2: "M2UA", 4: "SUA", M2PA: "M2PA"}
 # SCCP's own management, and the subsystems of 3GPP TS 23.003 that do not use TCAP: RANAP, RNSAP, BSSAP+ and the like.
 NO_TCAP = {1, 98, 142, 143, *range(249, 255)}
-# The kinds of Q.713 that carry data without a connection, with how many octets stand before the pointers, whether these
-# and the length of the data have two octets, and whether there is a pointer to an optional part.
+# The messages of Q.713 that carry data without a connection: the number of octets before the pointers, whether the
+# pointers and the length of the data have two octets, and whether there is a pointer to an optional part.
 FORMS = {0x09: (2, False, False), 0x11: (3, False, True), 0x13: (3, True, True)}
 FORMS |= {0x0A: (2, False, False), 0x12: (3, False, True), 0x14: (3, True, True)}
-# Those that bring a message back to its sender.
+# The messages that bring a message back to its sender.
 SERVICE = {0x0A, 0x12, 0x14}
 NAMES = {0x09: "UDT", 0x11: "XUDT", 0x13: "LUDT", 0x0A: "UDTS", 0x12: "XUDTS", 0x14: "LUDTS"}
 UNIDIRECTIONAL, BEGIN = 0x61, 0x62
 WITH_OTID, WITH_DTID = {0x62, 0x65}, {0x64, 0x65, 0x67}
 ANSI = {0xE1, 0xE2, 0xE3, 0xE4, 0xE5, 0xE6, 0xF6}
 
-# The head of a chunk; the TSN of one of data, and its payload protocol identifier; the head of a message of M3UA, and of a
-# parameter of it; of Protocol Data the point codes, the service indicator and the network indicator.
+# The head of a chunk; the TSN and the payload protocol identifier of a chunk of data; the head of a message of M3UA,
+# and of its parameters; and from Protocol Data the point codes, the service indicator and the network indicator.
 CHUNK, DATA = struct.Struct(">BBH"), struct.Struct(">I4xI")
 M3UA_HEAD, PARAMETER, LABEL = struct.Struct(">BxHI"), struct.Struct(">HH"), struct.Struct(">IIBB")
 
@@ -35,7 +35,7 @@ Unitdata = collections.namedtuple("Unitdata", "kind called calling content segme
 
 
 class Refused(Exception):
-    """What can't be read: the name of the fault, and why."""
+    """Octets that can't be read: the name of the fault, and the reason."""
 
     def __init__(self, name, why):
         super().__init__(f"{name}: {why}")
@@ -43,7 +43,7 @@ class Refused(Exception):
 
 
 def part(octets, at, count, name, what):
-    """So many octets from there on. Refused where there are less."""
+    """Returns this many octets from that place on. Raises Refused if there are fewer."""
     if at < 0 or at + count > len(octets):
         raise Refused(name, f"{what} goes past the end")
     return octets[at : at + count]
@@ -57,7 +57,7 @@ def number(octets, at, count, name, what, order="big"):
 
 
 def chunks_of(packet):
-    """The chunks of data of a packet, one after the other, behind its header."""
+    """Yields the chunks of data of a packet, after its header."""
     at, end = SCTP_HEADER, len(packet)
     while at < end:
         if at + 4 > end:
@@ -78,7 +78,8 @@ def chunks_of(packet):
 
 
 def cut_label(packet):
-    """The label of the message of M3UA in the midst of which a packet was cut; None where it stands behind the cut."""
+    """Returns the label of the message of M3UA that a cut in a packet goes through, or None if the label comes after
+    the cut."""
     at = SCTP_HEADER
     while at + 4 <= len(packet):
         kind, _, size = CHUNK.unpack_from(packet, at)
@@ -92,7 +93,7 @@ def cut_label(packet):
 
 
 def first_label(message):
-    """The label of a message of M3UA that may be cut; None where there is none before the cut."""
+    """Returns the label of a message of M3UA that may be cut, or None if there is none before the cut."""
     at = 8
     while at + 16 <= len(message):
         tag, size = PARAMETER.unpack_from(message, at)
@@ -104,7 +105,8 @@ def first_label(message):
 
 
 def m2pa_label(message):
-    """The label of what a message of M2PA carries (RFC 4165 2.3.1, Q.704 2.2); None where it carries nothing."""
+    """Returns the label of the content of a message of M2PA (RFC 4165 2.3.1, Q.704 2.2), or None if it has no
+    content."""
     if len(message) < 22 or message[2:4] != b"\x0b\x01":
         return None
     label = int.from_bytes(message[18:22], "little")
@@ -112,7 +114,7 @@ def m2pa_label(message):
 
 
 def protocol_data(message):
-    """The label and the message of SCCP that a message of M3UA carries; None where it carries none."""
+    """Returns the label and the message of SCCP that a message of M3UA carries, or None if it carries none."""
     if len(message) < 8:
         raise Refused("m3ua", "the header of M3UA goes past the end")
     version, kind, length = M3UA_HEAD.unpack_from(message)
@@ -144,7 +146,8 @@ def protocol_data(message):
 
 
 def digits_of(indicator, title):
-    """The digits of a global title, behind what its indicator says stands before them (Q.713 3.4.2.3)."""
+    """Returns the digits of a global title, which come after the octets that its indicator announces (Q.713
+    3.4.2.3)."""
     before = {1: 1, 2: 1, 3: 2, 4: 3}.get(indicator)
     if before is None:
         raise Refused("sccp", f"a global title with the indicator {indicator}")
@@ -155,7 +158,7 @@ def digits_of(indicator, title):
 
 
 def party(octets):
-    """A called or a calling party address (Q.713 3.4)."""
+    """Reads a called or a calling party address (Q.713 3.4)."""
     if not octets:
         raise Refused("sccp", "an address without its indicator")
     indicator, at, pc, ssn, gt = octets[0], 1, None, None, None
@@ -169,7 +172,7 @@ def party(octets):
 
 
 def segment_of(octets, at):
-    """The segmentation of an optional part that begins there; None where it has none."""
+    """Returns the segmentation of an optional part that begins there, or None if it has none."""
     while number(octets, at, 1, "sccp", "the optional part"):
         size = number(octets, at + 1, 1, "sccp", "an optional parameter")
         content = part(octets, at + 2, size, "sccp", "an optional parameter")
@@ -181,7 +184,8 @@ def segment_of(octets, at):
 
 
 def pointed(octets, at, kind, is_long, is_wide):
-    """The octets of the parameter to which the pointer there points: behind a length of two octets where it is wide."""
+    """Returns the octets of the parameter that the pointer there points to. If it is wide, its length has two
+    octets."""
     try:
         where = octets[at] | octets[at + 1] << 8 if is_long else octets[at]
         begin = at + is_long + where
@@ -196,7 +200,7 @@ def pointed(octets, at, kind, is_long, is_wide):
 
 
 def unitdata(octets):
-    """What a message of SCCP carries without a connection; None where it is of another kind."""
+    """Returns what a connectionless message of SCCP carries, or None if the message is of another kind."""
     if not octets:
         raise Refused("sccp", "a message of SCCP without octets")
     kind = octets[0]
@@ -218,7 +222,8 @@ def unitdata(octets):
 
 
 def header(octets, at):
-    """Where the content of the element there begins, and its length, None for an indefinite one (X.690 8.1)."""
+    """Returns where the content of the element there begins, and its length, or None for an indefinite length (X.690
+    8.1)."""
     begin = at
     try:
         if octets[at] & 31 == 31:
@@ -240,7 +245,7 @@ def header(octets, at):
 
 
 def end_of(octets):
-    """Where the element ends that stands at the front. Refused where the octets end before it does."""
+    """Returns where the element at the front ends. Raises Refused if the octets end before it does."""
     at, depth = 0, 0
     while True:
         if depth and octets[at : at + 2] == b"\0\0":
@@ -256,7 +261,8 @@ def end_of(octets):
 
 
 def refuse_no_message(octets):
-    """Refuses what `pack` takes for no entry, and what is another protocol's: all that is not one whole element."""
+    """Refuses what `pack` does not take as an entry, and messages of another protocol: all that is not one whole
+    element."""
     if octets[:1] and octets[0] in ANSI:
         raise Refused("ansi", f"a message of ANSI TCAP (tag {octets[0]:02x}), which the profile does not read")
     over = len(octets) - end_of(octets)
@@ -265,7 +271,7 @@ def refuse_no_message(octets):
 
 
 def id_at(octets, at, tag):
-    """The content of the element there where it has that tag, else None; and where it ends."""
+    """Returns the content of the element there if it has that tag, else None; and where it ends."""
     if at >= len(octets) or octets[at] != tag:
         return None, at
     begin, length = header(octets, at)
@@ -273,7 +279,8 @@ def id_at(octets, at, tag):
 
 
 def ids_of(octets):
-    """The tag of a message, its originating and its destination transaction ID: None for those that are not read."""
+    """Returns the tag of a message and its originating and destination transaction ID, with None for those that can't
+    be read."""
     tag, otid, dtid = octets[0] if octets else None, None, None
     try:
         at, _ = header(octets, 0)
@@ -282,6 +289,6 @@ def ids_of(octets):
         if tag in WITH_DTID:
             dtid, _ = id_at(octets, at, 0x49)
     except Refused:
-        # No message of the profile: `judge` says so of the entry.
+        # It is no message of the profile: `judge` reports that for the entry.
         pass
     return tag, otid, dtid

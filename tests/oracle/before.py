@@ -1,6 +1,6 @@
-"""What stands before an entry since the last quiet mark, for one end: which own IDs it uses again, which IDs are
-tangled, and over which half of a transaction a message goes (Q.774 3.3), as the first four questions of
-docs/VERDICTS.md ask it. For tests/oracle/kinds.py."""
+"""Answers the first four questions of docs/VERDICTS.md for one end, from the entries since the last quiet mark: which
+own IDs it uses again, which IDs are tangled, and over which half of a transaction a message goes (Q.774 3.3). For
+tests/oracle/kinds.py."""
 
 from dataclasses import dataclass
 
@@ -10,7 +10,7 @@ from shown import ABORT, BEGIN, CONTINUE, END, Entry
 @dataclass(frozen=True)
 class Half:
     """A half of a transaction: how it began; its own ID, if that is known; its Begin, the peer's or its own; the
-    messages that it heard; and those among which its own invocations are."""
+    messages that it heard; and the messages that may have its own invocations."""
 
     how: str = "none"
     own: str = None
@@ -23,7 +23,7 @@ NO_HALF = Half()
 
 
 def is_end(message):
-    """Whether it is an End, or an Abort of a user or of the dialogue service, which has no cause."""
+    """Returns whether a message is an End, or an Abort of a user or of the dialogue service, which has no cause."""
     return message.kind == END or message.kind == ABORT and message.cause is None
 
 
@@ -32,7 +32,7 @@ def is_request(message):
 
 
 class Before:
-    """What stands before an entry since the last quiet mark, for one end: its own messages and those of its peer."""
+    """The entries before a message since the last quiet mark, for one end: its own messages and those of its peer."""
 
     def __init__(self, table, end, entries):
         self.table, self.end, self.entries = table, end, entries
@@ -42,26 +42,26 @@ class Before:
         self.begun = {m.otid for m in self.own if m.kind == BEGIN}
         went = {(m.otid, m.dtid) for m in self.own if m.kind == CONTINUE}
         came = {(m.dtid, m.otid) for m in self.peer if m.kind == CONTINUE and m.dtid in self.used}
-        # An own ID and one of the peer that are joined.
+        # Pairs of an own ID and an ID of the peer that belong together.
         self.joined = went | came
 
     def there(self, peer):
-        """The peer's messages from that ID of its own."""
+        """Returns the peer's messages from that ID of the peer."""
         return [m for m in self.peer if m.otid is not None and m.otid == peer]
 
     def told(self, peer):
-        """The own messages to that ID of the peer, without the Aborts of the provider."""
+        """Returns the own messages to that ID of the peer, without the Aborts of the provider."""
         return [m for m in self.own if m.dtid is not None and m.dtid == peer and m.cause is None]
 
     def aborts(self, peer, cause):
-        """The Aborts of the own provider to that ID of the peer, with that cause."""
+        """Returns the Aborts of the own provider to that ID of the peer, with that cause."""
         return [m for m in self.own if m.dtid == peer and m.cause == cause]
 
     def has_ended(self, peer):
         return any(is_end(m) and m.dtid == peer for m in self.own)
 
     def was_ended(self, own):
-        """Whether the peer sent an End, or an Abort of any kind, to that own ID."""
+        """Returns whether the peer sent an End, or an Abort of any kind, to that own ID."""
         return any(m.kind in (END, ABORT) and m.dtid == own for m in self.peer)
 
     # -- own IDs that are used again
@@ -71,7 +71,7 @@ class Before:
         return self.table.is_prearranged or self.was_ended(own) or any((own, peer) in self.joined for peer in ended)
 
     def uses_again(self, message):
-        """Whether the message uses an own ID again whose transaction may be over."""
+        """Returns whether the message uses an own ID again whose transaction may be over."""
         own, peer = message.otid, message.dtid
         if own not in self.used or not self.may_be_over(own):
             return False
@@ -85,7 +85,7 @@ class Before:
         return sum(x == own for x, _ in self.joined) > 1
 
     def is_guessed(self, peer):
-        """Whether from that ID came a Begin, and behind it a Continue to an own ID that was not used by then."""
+        """Returns whether that ID sent a Begin, and later a Continue to an own ID that was not used by then."""
         used, has_begun = set(), False
         for m in self.entries:
             if m.end == self.end:
@@ -97,7 +97,7 @@ class Before:
         return False
 
     def is_tangled_there(self, peer):
-        """Whether an ID of the peer is tangled."""
+        """Returns whether an ID of the peer is tangled."""
         there = self.there(peer)
         begins = sum(m.kind == BEGIN for m in there)
         answers_own = any(m.kind == CONTINUE and m.dtid in self.begun for m in there)
@@ -105,7 +105,7 @@ class Before:
         return is_shared or begins > 1 or begins == 1 and answers_own or self.is_guessed(peer)
 
     def is_over_tangled(self, message):
-        """Whether the message goes over tangled IDs."""
+        """Returns whether the message goes over tangled IDs."""
         if message.dtid is None:
             return False
         near = {x for x, d in self.joined if d == message.dtid} | ({message.otid} - {None})
@@ -115,14 +115,15 @@ class Before:
     # -- halves
 
     def is_surely_open(self, own):
-        """Whether the half with that own ID is open for certain."""
+        """Returns whether the half with that own ID is certainly open."""
         first = next((m for m in self.own if m.kind == CONTINUE and m.otid == own), None)
         if first is None or self.table.is_prearranged:
             return False
         return not self.has_ended(first.dtid) and not self.was_ended(own)
 
     def is_answered_as_closed(self, own):
-        """Whether the provider answered, by an Abort with cause 1, a Continue that can only have gone to that ID."""
+        """Returns whether the provider answered, with an Abort with cause 1, a Continue that can only have gone to
+        that ID."""
         used = False
         for at, m in enumerate(self.entries):
             if m.end == self.end and m.cause == 1 and used:
@@ -133,7 +134,7 @@ class Before:
         return False
 
     def accepted(self, peer):
-        """The half that began by the peer's Begin."""
+        """Returns the half that began with the peer's Begin."""
         there, told = self.there(peer), self.told(peer)
         begin = next(m for m in there if m.kind == BEGIN)
         own = next((m.otid for m in told if m.kind == CONTINUE), None)
@@ -142,7 +143,7 @@ class Before:
         return Half(how, own, begin, (begin, *to_own), tuple(told))
 
     def begun_by(self, own, peer):
-        """The half that began by the own Begin from that ID."""
+        """Returns the half that began with the own Begin from that ID."""
         begin = next(m for m in self.own if m.kind == BEGIN and m.otid == own)
         heard = [m for m in self.there(peer) if m.kind == CONTINUE and m.dtid == own]
         while heard and is_request(begin) and heard[0].pdu != "AARE":
@@ -150,7 +151,7 @@ class Before:
         return Half("begun" if heard else "unanswered", own, begin, tuple(heard), (begin, *self.told(peer)))
 
     def half(self, peer):
-        """The half over which a message to that ID of the peer goes."""
+        """Returns the half over which a message to that ID of the peer goes."""
         there = self.there(peer)
         if any(m.kind == BEGIN for m in there):
             return self.accepted(peer)

@@ -1,15 +1,15 @@
 """One end of TCAP as docs/MODEL.md describes it (Q.774 3.2 and 3.3; Q.771, operation classes): what it may send, what
-it does with what it receives, what its provider replies, and what happens to it unseen. Written anew from that page,
-for tests/fuzz.py: it shares nothing with the code that is tested.
+it does with messages that it receives, what its provider replies, and its hidden steps. It was written from that page
+alone, for tests/fuzz.py, and shares nothing with the code under test.
 
-A message is a Message; a component is a tuple: ("invoke", id, linked, code), ("result", id, last, code), ("error", id,
-code) or ("reject", id, of, number), where a linked ID, the code of a result and the ID of a Reject may be None, and
-`of` is 0 to 3, the problem's kind: general, invoke, return result, return error."""
+A message is a Message. A component is a tuple: ("invoke", id, linked, code), ("result", id, last, code), ("error", id,
+code) or ("reject", id, of, number). A linked ID, the code of a result and the ID of a Reject may be None; `of` is 0 to
+3, the kind of the problem: general, invoke, return result, return error."""
 
 from dataclasses import dataclass, field
 
 GENERAL, INVOKE, RESULT, ERROR = range(4)
-# Which classes report success, and which failure.
+# The classes that report success, and those that report failure.
 SUCCESS, FAILURE = (1, 3), (1, 2)
 
 
@@ -19,8 +19,8 @@ class Refused(Exception):
 
 @dataclass
 class Message:
-    """The kind is "Unidirectional", "Begin", "Continue", "End" or "Abort"; a dialogue is ("AARQ",), ("AARE", result,
-    source, diagnostic), ("ABRT", source) or ("AUDT",)."""
+    """A message. The kind is "Unidirectional", "Begin", "Continue", "End" or "Abort". A dialogue is ("AARQ",),
+    ("AARE", result, source, diagnostic), ("ABRT", source) or ("AUDT",)."""
 
     kind: str
     otid: bytes = None
@@ -31,7 +31,7 @@ class Message:
 
 
 class Table:
-    """Operations by their codes: a class, the codes that may be linked, and whether an invocation may end unseen."""
+    """Operations by their codes: a class, the codes that may be linked, and whether an invocation may expire."""
 
     def __init__(self, operations, prearranged=False):
         self.operations, self.prearranged = operations, prearranged
@@ -57,11 +57,11 @@ class Half:
     def __init__(self, phase, own, peer, asked):
         self.phase, self.own, self.peer = phase, own, peer
         self.dialogue = "asked" if asked else "none"
-        # The number of the entry that is its Begin: it is noted by who plays a run.
+        # The number of the entry that is its Begin, which the player of a run notes.
         self.entry = None
         # Own invocations by their IDs: the code, and whether the last answer came.
         self.out = {}
-        # Invocations that came, and answers that came, by their IDs, from the oldest on.
+        # Received invocations, and received answers, by their IDs, the oldest first.
         self.inn, self.grants = {}, {}
 
     def copy(self):
@@ -167,7 +167,7 @@ class Half:
 
 
 def fits(half, message):
-    """Whether the dialogue portion may stand in a message that is sent over a half."""
+    """Returns whether a message that is sent over a half may have its dialogue portion."""
     dialogue = message.dialogue
     if message.kind == "Abort":
         if half.phase == "Received" and half.dialogue == "asked":
@@ -180,7 +180,7 @@ def fits(half, message):
 
 
 class End:
-    """One end: its halves since the last quiet mark, the closed ones too, from the oldest on."""
+    """One end: its halves since the last quiet mark, also closed ones, the oldest first."""
 
     def __init__(self, table):
         self.table, self.halves = table, []
@@ -203,7 +203,7 @@ class End:
     # ---- sending
 
     def send(self, message):
-        """The end sends it; else it is as it was, and Refused has the reason."""
+        """Sends a message. If it may not, raises Refused with the reason, and the end is unchanged."""
         before = [half.copy() for half in self.halves]
         try:
             self.try_to_send(message)
@@ -261,7 +261,7 @@ class End:
     # ---- receiving
 
     def receive(self, message):
-        """The end receives it; else it is as it was, and Refused has the reason."""
+        """Receives a message. If it can't, raises Refused with the reason, and the end is unchanged."""
         if message.kind == "Begin":
             needs(self.with_peer(message.otid) is None, 41)
             half = Half("Received", None, message.otid, message.dialogue == ("AARQ",))
@@ -284,10 +284,10 @@ class End:
         for component in message.components:
             half.receive(self.table, component)
 
-    # ---- replies, and what happens unseen
+    # ---- replies and hidden steps
 
     def reply_to(self, message):
-        """The cause of the Abort by which the provider may answer it, None where it may not."""
+        """Returns the cause of the Abort by which the provider may answer a message, or None if it may not."""
         if message.kind == "Begin" and self.with_peer(message.otid) is None:
             return 4
         if message.kind == "Continue" and not self.open_with_own(message.dtid):
@@ -304,7 +304,7 @@ class End:
         return not any(half.is_open() for half in self.halves)
 
     def make_room(self, message):
-        """Ends the invocations whose IDs the message invokes anew."""
+        """Ends the invocations whose IDs the message invokes again."""
         if message.kind == "Unidirectional":
             return
         half = self.with_peer(message.dtid) if message.kind == "End" else self.with_own(message.otid)

@@ -1,9 +1,9 @@
-"""What a fault of an end rests on, and the lines in which `tcapjudge explain` says so behind REFUTED and BLAMED: an own
-reading of docs/FORMAT.md (what `explain` prints) and docs/VERDICTS.md (the kinds), over what `show` and `table`
-print. It shares nothing else with the code that is tested; tests/facts.py compares the lines with what the program
-prints.
+"""Gives the evidence for a fault of an end, and the lines in which `tcapjudge explain` prints it after REFUTED and
+BLAMED. It is an independent reading of docs/FORMAT.md (what `explain` prints) and docs/VERDICTS.md (the kinds), over
+the output of `show` and `table`, and shares nothing else with the code under test. tests/facts.py compares the lines
+with what the program prints.
 
-Entries are named in their order; where components are counted, an entry as often as it has such a component."""
+Entries are named in order. If components are counted, an entry is named as often as it has such a component."""
 
 from dataclasses import dataclass
 
@@ -27,7 +27,7 @@ from shown import (
     RESULTS,
 )
 
-# What each kind says of an entry.
+# What each kind says about an entry.
 WORDS = {
     "F1": "its octets are no message",
     "F2": "its peer sent nothing from the destination ID that it could answer",
@@ -51,7 +51,7 @@ HALVES = {
     "unanswered": "began by its own Begin, which no Continue with an AARE answers",
     "none": "none",
 }
-# What else may be so.
+# Other possible causes.
 ELSE = {
     "F1": ["`tcapjudge show --why RECORD` says what is wrong with its octets"],
     "F2": ["it may be, too, that a message of the peer is missing from the record"],
@@ -59,7 +59,7 @@ ELSE = {
     "F15": ["it may be, too, that the mark was set too early, or that an End is missing from the record"],
 }
 OVER_HALF = {"F8", "F9", "F10", "F11", "F12", "F13"}
-# How many entries are named at most.
+# The most entries that are named.
 MOST = 8
 
 
@@ -68,7 +68,7 @@ MOST = 8
 
 @dataclass(frozen=True)
 class Ground:
-    """Entries of an end that show something. Where there are none that is told, or nothing is."""
+    """Entries of an end that show something. If there are none, a line says so, or there is no line."""
 
     end: str
     words: str
@@ -85,7 +85,8 @@ class Ground:
 
 
 def is_reject(of, *problems):
-    """A test: whether a component is a Reject with a problem of that, one of these where some are given."""
+    """Returns a test whether a component is a Reject with a problem of that kind, and with one of these problems if
+    any are given."""
     return lambda c: c.kind == REJECT and c.of == of and (not problems or c.problem in problems)
 
 
@@ -104,13 +105,13 @@ SORTS = {
     "Rejects with a return error problem": is_reject(OF_ERROR),
 }
 LASTING = "not expiring Invokes"
-# Of these it is told that the peer sent none.
+# For these a line says that the peer sent none.
 TOLD = {"Invokes", "linked Invokes", "Return Results", "Return Errors"}
 
 
 class Scene:
-    """A message at fault, the component at fault, and the invoke ID of which components are counted: of F11 the linked
-    ID."""
+    """A message at fault, the component at fault, and the invoke ID whose components are counted; for F11 that is the
+    linked ID."""
 
     def __init__(self, sending, at, kind):
         self.sending, self.at, self.table, self.half = sending, at, sending.table, sending.half
@@ -122,7 +123,7 @@ class Scene:
     # -- messages
 
     def from_there(self, words, passes):
-        """The peer's messages from the destination ID."""
+        """Returns the peer's messages from the destination ID."""
         numbers = [m.number for m in self.sending.there if passes(m)]
         return Ground(self.peer, f"{words} from its destination ID", numbers, True)
 
@@ -136,7 +137,7 @@ class Scene:
         return self.from_there("Continues", lambda m: m.kind == CONTINUE)
 
     def sent(self, words, passes, tells_none=False):
-        """The own messages."""
+        """Returns own messages."""
         return Ground(self.end, words, [m.number for m in self.before.own if passes(m)], tells_none)
 
     def used(self):
@@ -149,7 +150,7 @@ class Scene:
         return self.sent(words, lambda m: m.kind == CONTINUE and m.otid == otid and m.dtid != dtid)
 
     def own_begins(self, words="Begins", passes=lambda m: m.kind == BEGIN):
-        """The own Begins from the own ID of the half, or else from that of the message."""
+        """Returns the own Begins from the own ID of the half, or else from that of the message."""
         own = self.message.otid if self.half.own is None else self.half.own
         return self.sent(f"{words} from the own ID", lambda m: passes(m) and m.otid == own, True)
 
@@ -157,7 +158,7 @@ class Scene:
         return self.own_begins("Begins with AARQ", is_request)
 
     def told(self, words="messages", passes=lambda m: m.cause is None):
-        """The own messages to the destination ID."""
+        """Returns the own messages to the destination ID."""
         dtid = self.message.dtid
         return self.sent(f"{words} to its destination ID before it", lambda m: m.dtid == dtid and passes(m))
 
@@ -173,7 +174,7 @@ class Scene:
     # -- components of the invoke ID
 
     def counted(self, end, sort, messages, place, of_class=None):
-        """Components of that sort in these messages; Invokes of that class alone, where one is given."""
+        """Returns the components of that sort in these messages. If a class is given, only Invokes of that class."""
 
         def passes(c):
             is_lasting = c.kind == INVOKE and not self.table.expires(c.operation)
@@ -202,16 +203,16 @@ class Scene:
         return self.counted(self.end, sort, messages, "in its messages to there and in this one")
 
 
-# ---- what each kind rests on
+# ---- the evidence for each kind
 
 
 def of_classes(place):
-    """The Invokes in a place, of any class and of those of which something is reported."""
+    """Returns the Invokes in a place, of any class and of each class that reports something."""
     return [place("Invokes", of_class) for of_class in (None, 1, 2, 3)]
 
 
 def takings(s):
-    """What took an invocation before the component."""
+    """Returns what took an invocation before the component."""
     return [s.ahead(sort) for sort in ("Return Results Last", "Return Errors", "Rejects with an invoke problem")]
 
 
@@ -243,7 +244,7 @@ def in_use(s):
 
 
 def rejected_invoke(s):
-    """F13 of an invoke problem: duplicateInvokeID, or one of a link."""
+    """F13 for an invoke problem: duplicateInvokeID, or a problem of a link."""
     if s.component.problem == 0:
         return [s.heard("Invokes"), s.ahead("Rejects with duplicateInvokeID")]
     if s.component.problem in (5, 6, 7):
@@ -276,7 +277,7 @@ GROUNDS = {
     "F13": rejected,
     "F14": lambda s: [s.begins(), s.continues(), s.replies(4), s.replies(1), s.told()],
 }
-# The same of a message without destination ID; the other kinds show themselves there.
+# The evidence for a message without destination ID; the other kinds are evident there.
 ALONE = {"F3": lambda s: [s.used()], "F10": lambda s: [s.ahead("Invokes")]}
 
 
@@ -284,8 +285,8 @@ ALONE = {"F3": lambda s: [s.used()], "F10": lambda s: [s.ahead("Invokes")]}
 
 
 def compared(s, kind):
-    """The messages in which they stand: of F6, of an answer, those from the destination ID; of F10, and of a Reject of an
-    answer, those with own invocations; of F11, F12 and other Rejects those that the half heard."""
+    """Returns the messages that have them: for F6 of an answer, those from the destination ID; for F10, and for a
+    Reject of an answer, those with own invocations; for F11, F12 and other Rejects, those that the half heard."""
     if kind == "F6":
         return s.sending.there if s.component.kind in ANSWERS else []
     if kind == "F10" or (kind == "F13" and s.component.of in (OF_RESULT, OF_ERROR)):
@@ -300,20 +301,20 @@ def invocation_line(s, number, c):
 
 
 def invocation_lines(s, kind):
-    """In the order of their entries; of more than eight the first eight, and how many more."""
+    """Returns their lines in the order of their entries: the first eight, and how many more there are."""
     messages = sorted(compared(s, kind), key=lambda m: m.number)
     found = [(m.number, c) for m in messages for c in m.components if c.kind == INVOKE and c.id == s.id]
     more = [f"and {len(found) - MOST} more invocations of it"] if len(found) > MOST else []
     return [invocation_line(s, number, c) for number, c in found[:MOST]] + more
 
 
-# ---- what is known of an entry at fault
+# ---- what is known about an entry at fault
 
 
 @dataclass(frozen=True)
 class Evidence:
-    """What the fault of an entry rests on: the component at fault, the half over which its message would go, what shows it,
-    and the lines of the invocations whose operations and links are compared."""
+    """The evidence for the fault of an entry: the component at fault, the half over which its message would go, what
+    shows the fault, and the lines of the invocations whose operations and links are compared."""
 
     component: int = None
     half: Half = NO_HALF
@@ -322,19 +323,20 @@ class Evidence:
 
 
 def open_continues(before):
-    """F15: the Continues from IDs whose halves are open for certain."""
+    """F15: the Continues from IDs whose halves are certainly open."""
     found = [m.number for m in before.own if m.kind == CONTINUE and before.is_surely_open(m.otid)]
     return Ground(before.end, "Continues of transactions that are open", found)
 
 
 def since_mark(entries, number):
-    """The entries before that one, since the last quiet mark."""
+    """Returns the entries before that one, since the last quiet mark."""
     marks = [entry.number for entry in entries[:number] if entry.kind == QUIET]
     return entries[marks[-1] + 1 if marks else 0 : number]
 
 
 def evidence(entries, table, end, number, kind, of_both=False):
-    """What that kind of an entry rests on, for that end. Of both ends, F5 is asked as `judge` does."""
+    """Returns the evidence for that kind at an entry, for that end. If it is for both ends, F5 is asked as `judge`
+    does."""
     entry, before = entries[number], Before(table, end, since_mark(entries, number))
     if entry.kind == NO_MESSAGE:
         return Evidence()
@@ -351,7 +353,7 @@ def evidence(entries, table, end, number, kind, of_both=False):
 
 
 def message_lines(entry, component):
-    """The message, and the component, as `show` prints them."""
+    """Returns the lines of the message and of the component, as `show` prints them."""
     return [f"  {entry.head}"] + ([f"  {entry.components[component].line}"] if component is not None else [])
 
 
@@ -369,7 +371,7 @@ def else_lines(table, entry, kind, component):
 
 
 def lines(entries, table, end, number, kind, of_both=False):
-    """The lines of an entry at fault, without the two blanks before each."""
+    """Returns the lines of an entry at fault, without the two blanks before each."""
     entry, found = entries[number], evidence(entries, table, end, number, kind, of_both)
     shown = [line for ground in found.grounds for line in ground.lines()]
     if entry.kind == QUIET:

@@ -1,7 +1,8 @@
-"""What an end of TCAP dialogues does wrong: an own reading of the kinds F1 to F15 that docs/VERDICTS.md describes
-(Q.771, operation classes and linked operations; Q.773 4.2.2 and 4.2.3; Q.774 3.2 and 3.3). It goes by what
-`tcapjudge show` prints of a record and `tcapjudge table` of an operation table, and shares nothing else with the
-code that is tested. tests/fault_kinds.py compares what it finds in the records of tests/cases/faults.json, and tests/fuzz.py in random records, with what `judge` and `blame` name."""
+"""Finds the faults of an end of TCAP dialogues: an independent reading of the kinds F1 to F15 that docs/VERDICTS.md
+describes (Q.771, operation classes and linked operations; Q.773 4.2.2 and 4.2.3; Q.774 3.2 and 3.3). It reads the
+output of `tcapjudge show` for a record and of `tcapjudge table` for an operation table, and shares nothing else with
+the code under test. tests/fault_kinds.py compares its findings with the known faults of tests/cases/faults.json, and
+tests/fuzz.py compares them, for random records, with `judge` and `blame`."""
 
 from dataclasses import replace
 
@@ -34,14 +35,14 @@ from shown import (
     takes,
 )
 
-# The reasons of octets that go beyond a limit of this profile: they are no F1.
+# The reasons of octets beyond a limit of this profile: they are no F1.
 LIMITS = {2, 3, 4, 12, 13, 16, 17, 18}
 # The classes that report success, and those that report failure (Q.771).
 SUCCESS, FAILURE = (1, 3), (1, 2)
 
 
 class Sending:
-    """A message of an end, over what stands before it; one without destination ID goes over no half."""
+    """A message of an end, with the entries before it. A message without destination ID goes over no half."""
 
     def __init__(self, before, message):
         self.table, self.before, self.message = before.table, before, message
@@ -49,11 +50,11 @@ class Sending:
         self.half = before.half(message.dtid)
 
     def ahead_of(self, at):
-        """What the end told this ID ahead of that component: its messages, and this one up to there."""
+        """Returns what the end sent to this ID before that component: its messages, and this one up to there."""
         return [*self.told, replace(self.message, components=self.message.components[:at])]
 
     def own_of(self, id):
-        """The own invocations of that ID."""
+        """Returns the own invocations of that ID."""
         return of_id(self.half.invoked, id, INVOKE)
 
     def heard_of(self, id, *kinds):
@@ -83,8 +84,8 @@ def goes_on_after_end(s):
 
 
 def fits_response(s):
-    """Whether an AARE may stand in a Continue, an End or an Abort: it answers an AARQ, and accepts or refuses as that
-    message does (Q.773 4.2.3)."""
+    """Returns whether a Continue, an End or an Abort may have an AARE: it must answer an AARQ, and accept or refuse as
+    the message does (Q.773 4.2.3)."""
     m, user, provider = s.message, number_in(s.message.says, "user"), number_in(s.message.says, "provider")
     if m.kind == ABORT:
         fits = m.says["result"] == "1" and user in (0, 1, 2)
@@ -119,7 +120,7 @@ def has_no_half(s):
 
 
 def does_not_fit_dialogue(s):
-    """F9: the dialogue portion does not fit how the dialogue stands (Q.774 3.2, dialogues)."""
+    """F9: the dialogue portion does not fit the dialogue state (Q.774 3.2, dialogues)."""
     m, half = s.message, s.half
     is_first = half.how == "accepted" and not any(o.kind == CONTINUE for o in s.told)
     if m.kind in (CONTINUE, END):
@@ -129,7 +130,7 @@ def does_not_fit_dialogue(s):
 
 
 def replies_to_nothing(s):
-    """F14: an Abort of the provider answers nothing which is left (Q.774 3.3, abnormal procedures)."""
+    """F14: an Abort of the provider has no message left to answer (Q.774 3.3, abnormal procedures)."""
     before, is_accepted = s.before, s.half.how == "accepted"
     if s.message.cause == 4:
         return not is_accepted or bool(s.told)
@@ -140,7 +141,7 @@ def replies_to_nothing(s):
 
 
 def leaves_open(before):
-    """F15: a transaction of the end is open at a quiet mark behind these entries."""
+    """F15: a transaction of the end is open at a quiet mark after these entries."""
     continues = [m for m in before.own if m.kind == CONTINUE and before.is_surely_open(m.otid)]
     return any(not before.is_over_tangled(m) for m in continues)
 
@@ -149,8 +150,8 @@ def leaves_open(before):
 
 
 def is_unknown(s, c, of_both):
-    """Whether nothing that the peer sent from there is what a component answers or rejects. Of one end alone a stack
-    may have read otherwise what it calls mistyped or badly structured."""
+    """Returns whether the peer sent nothing from there that a component answers or rejects. For one end alone, a stack
+    may have read differently what it calls mistyped or badly structured."""
     if c.kind == INVOKE:
         return False
     if c.id is None or c.of == GENERAL:
@@ -219,7 +220,7 @@ def answers_again(s, at):
 
 
 def answers_operation_again(s, at):
-    """F12, of a Return Result that names an operation."""
+    """F12, for a Return Result that names an operation."""
     c = s.message.components[at]
     if c.operation is None:
         return False
@@ -228,12 +229,12 @@ def answers_operation_again(s, at):
 
 
 def rejects_invoke_badly(s, at):
-    """F13, of an invoke problem (Q.773 4.2.2)."""
+    """F13, for an invoke problem (Q.773 4.2.2)."""
     c = s.message.components[at]
     invokes, table = s.heard_of(c.id, INVOKE), s.table
     linked = [o for o in invokes if o.linked is not None]
     problems = [o.problem for o in rejects_of(s.ahead_of(at + 1), c.id, OF_INVOKE)]
-    # The lists of own invocations to which one of these is linked, with that one.
+    # The lists of own invocations that one of these is linked to, each with that one.
     links = [(table.linked(own.operation), o) for o in linked for own in s.own_of(o.linked)]
     if c.problem == 0:
         return problems.count(0) >= len(invokes)
@@ -245,7 +246,7 @@ def rejects_invoke_badly(s, at):
 
 
 def rejects_answer_badly(s, at):
-    """F13, of a result problem or an error problem (Q.773 4.2.2)."""
+    """F13, for a result problem or an error problem (Q.773 4.2.2)."""
     c = s.message.components[at]
     kinds, classes, last = (RESULTS, SUCCESS, 2) if c.of == OF_RESULT else ((ERROR,), FAILURE, 4)
     own, answers = s.own_of(c.id), s.heard_of(c.id, *ANSWERS)
@@ -266,7 +267,7 @@ def rejects_badly(s, at):
     return rejects_invoke_badly(s, at) if c.of == OF_INVOKE else rejects_answer_badly(s, at)
 
 
-# ---- what is found
+# ---- findings
 
 OF_MESSAGE = {
     "F2": answers_no_transaction,
@@ -289,7 +290,7 @@ LOW = ["F2", "F3", "F4", "F5", "F6", "F7"]
 
 
 def component_at_fault(s, kind, of_both=False):
-    """The number of the first component of a message that has a kind; None where none has."""
+    """Returns the number of the first component of a message that has a kind, or None if there is none."""
     if kind not in OF_COMPONENT:
         return None
     given = {"of_both": True} if of_both and kind == "F5" else {}
@@ -297,13 +298,13 @@ def component_at_fault(s, kind, of_both=False):
 
 
 def having(s, kinds, of_both=False):
-    """Those of these kinds that a message has."""
+    """Returns those of these kinds that a message has."""
     of_message = {kind for kind in kinds if kind in OF_MESSAGE and OF_MESSAGE[kind](s)}
     return [kind for kind in kinds if kind in of_message or component_at_fault(s, kind, of_both) is not None]
 
 
 def kinds_of(s):
-    """The kinds of a message: the lowest of F2 to F7, and all of F8 to F14."""
+    """Returns the kinds of a message: the lowest of F2 to F7, and all of F8 to F14."""
     if s.message.cause is not None:
         further = having(s, ["F14"])
     elif s.message.dtid is None:
@@ -314,20 +315,20 @@ def kinds_of(s):
 
 
 def kinds_behind(before, entry):
-    """The kinds of an entry, a message of the end or a quiet mark, over what stands before it."""
+    """Returns the kinds of an entry, a message of the end or a quiet mark, after the given entries."""
     if entry.kind == QUIET:
         return ["F15"] if leaves_open(before) else []
     return [] if before.is_over_tangled(entry) else kinds_of(Sending(before, entry))
 
 
 def breaks_grammar(entry):
-    """F1: octets are no message, by a reason that is no limit of this profile."""
+    """F1: the octets are no message, for a reason that is no limit of this profile."""
     return entry.reason not in LIMITS
 
 
 def faults_in(table, entries):
-    """Of each end the number of the entry at fault, with its kinds, the lowest of F1 to F7 and all of F8 to F15; None
-    where it has none."""
+    """Returns for each end the number of the entry at fault, with its kinds, the lowest of F1 to F7 and all of F8 to
+    F15; or None if it has no fault."""
     found, since, again = {"A": None, "B": None}, [], set()
     for entry in entries:
         if entry.kind == NO_MESSAGE:
@@ -346,8 +347,8 @@ def faults_in(table, entries):
 
 
 def refuted_in(table, entries):
-    """The number of the first entry that has one of F1 to F7, asked of both ends, and the lowest that it has; None
-    where none has."""
+    """Returns the number of the first entry that has one of F1 to F7, asked of both ends, and the lowest of these
+    kinds; or None."""
     since = []
     for entry in entries:
         if entry.kind == NO_MESSAGE:

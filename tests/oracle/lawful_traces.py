@@ -1,7 +1,7 @@
-"""Traces of two ends that keep the rules, for tests/traces.py, with what a bench may get wrong: quiet marks that come
-too early, and a trace that begins while dialogues are under way, which it says. Each end uses an ID again when its
-dialogue is over and no message of it is on its way; or, where that is said, behind a right mark alone. So no end
-fails."""
+"""Makes traces of two ends that keep the rules, for tests/traces.py, with the errors that a bench may make: quiet
+marks that come too early, and a trace that begins while dialogues are under way, with a line that says so. Each end
+uses an ID again when its dialogue is over and none of its messages is in transit; or, with `--ids once`, only after a
+right mark. So no end fails."""
 
 import random
 
@@ -9,29 +9,29 @@ import runs
 import trace_rows
 from traced import Checks, Report, agree, put
 
-# So many traces of one table are judged by one run; how many runs there are; and how many entries a trace has.
+# How many traces of one table a run judges; how many runs there are; and how many entries a trace has.
 TRACES, RUNS, ENTRIES = 12, 10, (10, 30, 90)
-# What is said of how IDs are used.
+# Options for how IDs are used.
 ONCE = ["--ids", "once"]
 FLAGS = [[], ["--ids", "settled"], ["--linger", "2"], ["--linger", "2", "--ids", "settled"], ONCE]
-# How the trace of a run is spoilt: by early marks, or by a beginning that it lacks. With both, a dialogue that was
-# under way at the beginning may be seen behind an early mark first, where no line says so.
+# How the trace of a run is spoilt: by early marks, or by a missing beginning. With both, a dialogue that was under way
+# at the beginning may first be seen after an early mark, where no line says so.
 SPOILT = [(True, False), (False, True)]
 
 
 def ids_in(sender, message):
-    """The IDs of a message, each with its end."""
+    """Returns the IDs of a message, each with its end."""
     ids = {(sender, message.otid)} if message.otid is not None else set()
     return ids | ({(runs.OTHER[sender], message.dtid)} if message.dtid is not None else set())
 
 
 def ids_of(side, half):
-    """Those of a half of a transaction."""
+    """Returns the IDs of a half of a transaction, each with its end."""
     return {(end, id) for end, id in ((side, half.own), (runs.OTHER[side], half.peer)) if id is not None}
 
 
 def joined(ids, groups):
-    """Those IDs, with all that are in a group with one of them, directly or over others."""
+    """Returns the IDs with all that share a group with one of them, directly or through others."""
     count = -1
     while count != len(ids):
         count, ids = len(ids), ids.union(*(group for group in groups if group & ids))
@@ -39,12 +39,12 @@ def joined(ids, groups):
 
 
 class Patient(runs.Play):
-    """A run whose ends forget a transaction, and use its IDs again, when it is closed at both, it ended by an End or
-    an Abort, and nothing of it is on its way."""
+    """A run whose ends forget a transaction, and use its IDs again, when it is closed at both, was ended by an End or
+    an Abort, and has nothing in transit."""
 
     def __init__(self, *how):
         super().__init__(*how)
-        # The IDs to which an End or an Abort went since they were used anew.
+        # The IDs to which an End or an Abort went since they were last used.
         self.ended = set()
 
     def add(self, side, message):
@@ -66,7 +66,7 @@ class Patient(runs.Play):
 
 
 def spoilt(rng, entries, has_early_marks, lacks_beginning):
-    """The lines of a trace of those entries."""
+    """Returns the lines of a trace of those entries."""
     made = [f"{chr(octets[0])} {octets[1:].hex()}".strip() for octets in entries]
     if has_early_marks:
         for _ in range(rng.choice([1, 1, 2, 3])):
@@ -77,7 +77,7 @@ def spoilt(rng, entries, has_early_marks, lacks_beginning):
 
 
 def played(rng, table, player):
-    """The entries of a run of two ends that keep the rules."""
+    """Returns the entries of a run of two ends that keep the rules."""
     made = []
     while not made:
         play = player(rng, table, "AB", rng.random() < 0.5)
@@ -87,14 +87,14 @@ def played(rng, table, player):
 
 
 def traces_of(seed, player=Patient):
-    """A table, and the lines of traces of it."""
+    """Returns a table, and the lines of traces of it."""
     rng = random.Random(seed)
     table = runs.usual_table(rng)
     return table, [spoilt(rng, played(rng, table, player), *rng.choice(SPOILT)) for _ in range(TRACES)]
 
 
 def nobody_fails(seed, folder):
-    """No end that keeps the rules fails."""
+    """Checks that no end that keeps the rules fails."""
     checks, flags = Checks(f"lawful traces {seed}"), FLAGS[seed % len(FLAGS)]
     table, traces = traces_of(seed, runs.Play if flags == ONCE else Patient)
     paths = [put(folder, f"x{at}.hex", trace_rows.lines(*lines).encode()) for at, lines in enumerate(traces)]
@@ -107,5 +107,5 @@ def nobody_fails(seed, folder):
 
 
 def jobs(seed):
-    """Each run, with its seed."""
+    """Yields each run, with its seed."""
     yield from ((nobody_fails, seed * 1000 + number) for number in range(RUNS))

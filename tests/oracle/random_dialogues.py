@@ -1,13 +1,13 @@
-"""Random dialogues of two ends, neither of which keeps all rules: for tests/fuzz.py and tests/facts.py. In some the
-messages go to and fro in one transaction, with components that mostly fit what came before, and often once too much;
-in others the ends have few transaction IDs, and send what they like. Of such records more have the kinds F8 to F15
+"""Makes random dialogues of two ends, neither of which keeps all rules, for tests/fuzz.py and tests/facts.py. In some,
+the messages go to and fro in one transaction, with components that mostly fit what came before, and often once too
+many; in others the ends have few transaction IDs, and send anything. More of these records have the kinds F8 to F15
 than of those that tests/oracle/runs.py plays."""
 
 import runs
 from ends import ERROR, GENERAL, INVOKE, RESULT, Message, Table
 
 CODES = [45, 46, 47, 48, 50]
-# The problems that are tried, those more often of which more is asked.
+# The problems that are tried; those with more conditions occur more often.
 PROBLEMS = {
     GENERAL: [0, 1, 1, 2, 2],
     INVOKE: [0, 1, 2, 3, 5, 5, 6, 6, 7, 7, 8],
@@ -18,7 +18,8 @@ ACCEPTED, REFUSED = ("AARE", 0, "user", 0), ("AARE", 1, "user", 1)
 
 
 def any_table(rng):
-    """An operation of each class, and one to which others may be linked; the invocations of some outlast the record."""
+    """Returns a table with an operation of each class, and one to which others may be linked. The invocations of some
+    never expire."""
     rows = {code: (code - 44, (), rng.random() < 0.6) for code in CODES[:4]}
     rows[50] = (rng.choice([1, 1, 2, 3, 4]), rng.choice([(48,), (45, 48), (47,)]), rng.random() < 0.6)
     return Table(rows, rng.random() < 0.2)
@@ -56,7 +57,7 @@ class Transaction:
         self.invoked, self.answered = {"A": [], "B": []}, {"A": [], "B": []}
 
     def answer(self, id, code, linked):
-        """What answers or rejects an invocation, mostly as its class allows."""
+        """Returns an answer to an invocation, or a Reject of it, mostly as its class allows."""
         rng, of_class = self.rng, self.table.class_of(code) if self.rng.random() < 0.9 else 1
         success, failure = of_class in (1, 3), of_class in (1, 2)
         kind = rng.choices(["result", "error", "reject"], [6 * success, 2 * failure, 2])[0]
@@ -68,7 +69,7 @@ class Transaction:
         return any_reject(rng, id, INVOKE) if linked or rng.random() < 0.4 else (kind, id, INVOKE, rng.randrange(5))
 
     def invoke(self, end, may_link):
-        """An Invoke whose ID is mostly a new one, and whose link is mostly allowed."""
+        """Returns an Invoke whose ID is mostly new, and whose link is mostly allowed."""
         rng = self.rng
         used = [id for id, _, _ in self.invoked[end]]
         new = [id for id in range(1, 8) if id not in used] or used
@@ -78,7 +79,7 @@ class Transaction:
         return ("invoke", id, linked, rng.choice(allowed or CODES))
 
     def component(self, end):
-        """A component of that end, which mostly fits what the other one sent."""
+        """Returns a component of that end, which mostly fits what the other end sent."""
         rng, other = self.rng, self.second if end == self.first else self.first
         invoked, answered, choice = self.invoked[other], self.answered[other], self.rng.random()
         if invoked and choice < 0.5:
@@ -94,7 +95,7 @@ class Transaction:
         return self.invoke(end, [])
 
     def components(self, end, make):
-        """Some components; what they invoke and answer can be answered and rejected by the next message."""
+        """Returns some components. The next message can answer and reject what they invoke and answer."""
         made = [make(end) for _ in range(self.rng.choice([0, 1, 1, 1, 2, 2, 3]))]
         for kind, id, *parts in made:
             if kind == "invoke":
@@ -104,7 +105,7 @@ class Transaction:
         return made
 
     def last(self, end, peer):
-        """A message that ends the transaction, or an Abort of the provider."""
+        """Returns a message that ends the transaction, or an Abort of the provider."""
         rng, choice = self.rng, self.rng.random()
         if choice < 0.5:
             return Message("End", dtid=peer, components=self.components(end, self.component))
@@ -133,7 +134,7 @@ class Transaction:
 
 
 class FewIds:
-    """Ends that have few transaction IDs, and mostly send from and to those that were used."""
+    """Ends that have few transaction IDs, and mostly send from and to used ones."""
 
     def __init__(self, rng):
         self.rng = rng
@@ -182,7 +183,7 @@ class FewIds:
 
 
 def entries(rng, table):
-    """The entries of a record, quiet marks among them."""
+    """Returns the entries of a record, with quiet marks among them."""
     writer = runs.Writer(rng, plain=True)
     dialogue = Transaction(rng, table) if rng.random() < 0.7 else FewIds(rng)
     made = []

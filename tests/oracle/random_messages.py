@@ -1,4 +1,4 @@
-"""Random messages of the grammar of docs/FORMAT.md, each the same in every run: for tests/captures.py."""
+"""Makes random messages of the grammar of docs/FORMAT.md, the same in every run, for tests/captures.py."""
 
 import random
 
@@ -13,7 +13,7 @@ class Maker:
         self.random = random.Random(seed)
 
     def element(self, tag, *contents, plain=False):
-        """An element of that tag around these."""
+        """Returns an element of that tag around these."""
         content = b"".join(contents)
         form = self.random.randrange(10)
         if form == 0 and tag & 0x20 and not plain:
@@ -30,18 +30,18 @@ class Maker:
         return self.random.randbytes(self.random.randint(least, most))
 
     def maybe(self, make, *given):
-        """What is made, or nothing."""
+        """Returns what `make` returns, or nothing."""
         return make(*given) if self.random.random() < 0.5 else b""
 
     def number(self, tag, most=127):
         return self.element(tag, bytes([self.random.randint(0, most)]))
 
     def small(self):
-        """A number of a dialogue portion."""
+        """Returns a number of a dialogue portion."""
         return self.number(2, self.random.choice([1, 2, 127]))
 
     def name(self):
-        """The contents of an object identifier, with subidentifiers of up to 28 bits."""
+        """Returns the contents of an object identifier, with subidentifiers of up to 28 bits."""
         parts = [self.random.choice([4, 40, 83, 120])]
         parts += [self.random.getrandbits(self.random.choice([3, 7, 14, 28])) for _ in range(self.random.randint(1, 7))]
         return b"".join(self.subidentifier(part) for part in parts)
@@ -54,7 +54,7 @@ class Maker:
         return bytes(reversed(octets))
 
     def parameter(self, depth=0):
-        """Any one element."""
+        """Returns any one element."""
         if depth == 3 or self.random.random() < 0.5:
             return self.element(self.random.choice([0x04, 0x0A, 0x80, 0x81, 0x9E]), self.octets(0, 20))
         tag = self.random.choice([0x30, 0xA0, 0xA3])
@@ -75,7 +75,7 @@ class Maker:
         return self.element(0x80, b"\x07\x80")
 
     def dialogue(self, pdu):
-        """A dialogue portion with one of the PDUs."""
+        """Returns a dialogue portion with that PDU."""
         if pdu in ("AARQ", "AUDT"):
             parts = [self.maybe(self.version), self.context(), self.maybe(self.information)]
             inner = self.element(0x60, *parts)
@@ -94,7 +94,7 @@ class Maker:
         return self.element(tag, self.octets(1, 1))
 
     def code(self):
-        """A local code of one octet, or of two that need both; or a global one."""
+        """Returns a local code of one octet, or of two that need both; or a global one."""
         if self.random.random() < 0.2:
             return self.element(6, self.name())
         longer = bytes([self.random.randint(1, 126)]) + self.octets(1, 1)
@@ -122,7 +122,7 @@ class Maker:
         return self.element(tag, self.octets(1, 4))
 
     def message(self):
-        """A message of one of the five kinds."""
+        """Returns a message of one of the five kinds."""
         kind = self.random.choice([0x61, 0x62, 0x62, 0x64, 0x64, 0x65, 0x65, 0x67, 0x67])
         otid = self.transaction(0x48) if kind in (0x62, 0x65) else b""
         dtid = self.transaction(0x49) if kind in (0x64, 0x65, 0x67) else b""

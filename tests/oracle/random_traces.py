@@ -1,5 +1,6 @@
-"""Random traces for tests/traces.py: dialogues of tests/oracle/random_dialogues.py, of which some are planted with a fault
-more, interleaved at random, with quiet marks between them or none. Their IDs are their own, come again, or are few."""
+"""Makes random traces for tests/traces.py: dialogues of tests/oracle/random_dialogues.py, some of them with a planted
+fault, interleaved at random, with or without quiet marks between them. Their IDs are their own, come again, or are
+few."""
 
 import random_dialogues
 import runs
@@ -8,14 +9,14 @@ from ends import FAILURE, SUCCESS, Table
 from trace_cut import Heading
 from trace_rows import element
 
-# Octets that are no message, of which the IDs can be read.
+# Octets that are no message, but whose IDs can be read.
 NO_MESSAGES = {
     "Begin": lambda own, peer: element("62", element("48", own), "6C00"),
     "Continue": lambda own, peer: element("65", element("48", own), element("49", peer), "6C00"),
     "End": lambda own, peer: element("64", element("49", peer), "6B00"),
     "Abort": lambda own, peer: element("67", element("49", peer), "4A0200FF"),
 }
-# The same of a limit of the profile: an operation code of five octets.
+# Messages beyond a limit of the profile: an operation code of five octets.
 WIDE = trace_rows.invoke("01", "0100000000")
 BEYOND = {
     "Begin": lambda own, peer: trace_rows.begin(own, WIDE),
@@ -26,19 +27,19 @@ UNREAD = [trace_rows.OTHER_TAG, trace_rows.NO_OCTETS, trace_rows.FIVE_OCTETS, tr
 
 
 def any_table(rng):
-    """An operation table that has each operation that is invoked."""
+    """Returns an operation table with each operation that is invoked."""
     table = random_dialogues.any_table(rng)
     return Table({**table.operations, 99: (rng.choice([1, 2, 3, 4]), (), True)}, table.prearranged)
 
 
 def sent(end, message, writer):
-    """A message's heading and digits."""
+    """Returns a message's heading and digits."""
     ids = (message.otid if message.kind in ("Begin", "Continue") else None, message.dtid)
     return Heading(end, message.kind, *ids), writer.message(message).hex()
 
 
 def no_message(rng, end, own, peer):
-    """An entry that is no message, of these IDs or of none that can be read."""
+    """Returns an entry that is no message, with these IDs or with none that can be read."""
     if rng.random() < 0.3:
         return Heading(end, None, None, None), rng.choice(UNREAD)
     kinds = NO_MESSAGES if rng.random() < 0.6 else BEYOND
@@ -48,8 +49,8 @@ def no_message(rng, end, own, peer):
 
 
 def planted(rng, entries):
-    """The entries of a dialogue with a fault: one is sent twice, is missing, is another end's, comes sooner, or is no
-    message."""
+    """Returns the entries of a dialogue with a fault: one is sent twice, is missing, is the other end's, comes sooner,
+    or is no message."""
     at, choice = rng.randrange(len(entries)), rng.random()
     if choice < 0.3:
         entries.insert(rng.randint(at, len(entries)), entries[at])
@@ -67,7 +68,7 @@ def planted(rng, entries):
 
 
 def answers_to(rng, table, invoked):
-    """What answers invocations as their classes allow: nothing may."""
+    """Returns answers to invocations as their classes allow; there may be none."""
     made = []
     for id, code in invoked:
         allowed = [("result", id, True, None)] * (table.class_of(code) in SUCCESS)
@@ -77,12 +78,13 @@ def answers_to(rng, table, invoked):
 
 
 def lawful(rng, table, ids):
-    """The messages of a dialogue in which both ends keep the rules: they send in turn, and each hears the other."""
+    """Yields the messages of a dialogue in which both ends keep the rules: they send in turn, and each hears the
+    other."""
     ends, asks = rng.sample("AB", 2), rng.random() < 0.3
     count, heard = rng.choice([1, 2, 2, 3, 4]), []
     for number in range(count):
         end, peer = ends[number % 2], ends[1 - number % 2]
-        # Each message has invoke IDs of its own.
+        # Each message has new invoke IDs.
         invoked = [(10 * number + at, rng.choice(random_dialogues.CODES)) for at in range(1, rng.choice([1, 2, 3]))]
         components = answers_to(rng, table, heard) + [("invoke", id, None, code) for id, code in invoked]
         dialogue = [("AARQ",), random_dialogues.ACCEPTED][number] if asks and number < 2 else None
@@ -119,7 +121,7 @@ class Maker:
         return planted(rng, entries) if rng.random() < 0.25 else entries
 
     def segment(self):
-        """The entries of a segment: dialogues side by side, or one after the other, or both."""
+        """Returns the entries of a segment: dialogues side by side, or one after the other, or both."""
         rng, how = self.rng, self.rng.choice(["own", "again", "again", "tangled"])
         dialogues = [self.dialogue(how) for _ in range(rng.choice([1, 2, 3, 4, 6, 8]))]
         side_by_side = {"own": 6, "again": 2, "tangled": 4}[how]
@@ -135,7 +137,7 @@ class Maker:
         return made
 
     def segments(self):
-        """What was to be a segment; or the parts of it, where a quiet mark comes too early."""
+        """Yields a segment, or its parts if quiet marks come too early."""
         made = self.segment()
         while len(made) > 1 and self.rng.random() < 0.3:
             at = self.rng.randrange(1, len(made))
@@ -144,6 +146,6 @@ class Maker:
         yield made
 
     def trace(self):
-        """The segments of a trace, with a quiet mark between two; and whether one comes after the last."""
+        """Returns the segments of a trace, with a quiet mark between two; and whether one comes after the last."""
         segments = [part for _ in range(self.rng.choice([1, 1, 2, 3])) for part in self.segments()]
         return segments, self.rng.random() < 0.3

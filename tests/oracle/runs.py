@@ -1,5 +1,5 @@
-"""Random runs of two ends, played by tests/oracle/ends.py, for tests/fuzz.py: records with the certificate that says what
-became of each message. Both ends keep the rules, or one of them, where the other sends what it likes."""
+"""Plays random runs of two ends with tests/oracle/ends.py, for tests/fuzz.py: records with the certificate of the
+fates of their messages. Both ends keep the rules, or only one of them, and the other sends anything."""
 
 import json
 
@@ -23,7 +23,7 @@ def code_text(code):
 
 
 def table_text(table):
-    """The text of a table."""
+    """Returns the text of a table."""
     rows = []
     for code, (operation_class, linked, expires) in table.operations.items():
         row = {"class": operation_class, "code": code_text(code)}
@@ -36,7 +36,8 @@ def table_text(table):
 
 
 def usual_table(rng):
-    """A table like that of the worked rows: an operation of each class, and one to which another may be linked."""
+    """Returns a table like that of the worked rows: an operation of each class, and one to which another may be
+    linked."""
     lasting = rng.choice([(), (45,), (45, 46, 48), (45, 46, 47, 48)])
     rows = {code: (code - 44, (), code not in lasting) for code in (45, 46, 47, 48)}
     rows[50] = (1, (48,), True)
@@ -129,7 +130,7 @@ class Writer:
         return self.element(TAGS[message.kind], *parts)
 
 
-# ---- what an end sends
+# ---- messages of an end that keeps the rules
 
 
 def invoke_for(rng, table, half):
@@ -143,7 +144,7 @@ def invoke_for(rng, table, half):
 
 
 def component_for(rng, table, half):
-    """A component that a half might send."""
+    """Returns a component that a half might send."""
     if half and half.inn and rng.random() < 0.5:
         id = rng.choice(list(half.inn))
         code, problems = rng.choice(half.inn[id])
@@ -167,7 +168,8 @@ def free_ids(end):
 
 
 def head_for(rng, end):
-    """A message without components that an end may send, and the half over which it goes; None where no ID is free."""
+    """Returns a message without components that an end may send, and the half over which it goes; or None if no ID is
+    free."""
     halves = [half for half in end.halves if half.phase in ("Received", "Active")]
     free = free_ids(end)
     choice = rng.random()
@@ -203,7 +205,7 @@ def may_send(end, message):
 
 
 def message_for(rng, end):
-    """A message that an end may send; None where none was found."""
+    """Returns a message that an end may send, or None if none was found."""
     made = head_for(rng, end)
     if made is None:
         return None
@@ -223,7 +225,7 @@ def message_for(rng, end):
     return message
 
 
-# ---- what an end sends that keeps no rules
+# ---- messages of an end that keeps no rules
 
 
 def any_dialogue(rng):
@@ -251,7 +253,7 @@ def any_component(rng, table):
 
 
 def any_message(rng, table, seen):
-    """A message of any kind, of IDs that were seen, or others."""
+    """Returns a message of any kind, with IDs that were seen, or others."""
     ids = (seen or IDS[:3]) + IDS[:4]
     kind = rng.choices(list(TAGS), [1, 3, 3, 8, 3])[0]
     dialogue = any_dialogue(rng) if rng.random() < 0.3 else None
@@ -266,7 +268,7 @@ def any_message(rng, table, seen):
 
 
 def with_other_part(rng, table, component, part):
-    """The component with its ID or another part as in another component of its kind."""
+    """Returns the component with one part, such as its ID, from another component of its kind."""
     others = [other for other in (any_component(rng, table) for _ in range(20)) if other[0] == component[0]]
     changed = list(component)
     changed[part] = others[0][part] if others else changed[part]
@@ -274,7 +276,7 @@ def with_other_part(rng, table, component, part):
 
 
 def any_reject(rng, half):
-    """A Reject of something that a half received, with a problem that it may not have."""
+    """Returns a Reject of something that a half received, with a problem that may not be allowed."""
     if half.inn and rng.random() < 0.6:
         return ("reject", rng.choice(list(half.inn)), INVOKE, rng.randrange(9))
     if half.grants:
@@ -284,7 +286,7 @@ def any_reject(rng, half):
 
 
 def with_fault(rng, end, message, seen):
-    """A message that is mostly that one, with one thing that may be wrong."""
+    """Changes one thing in a message, which may then be wrong. Returns the message."""
     table, half = end.table, end.with_peer(message.dtid) if message.dtid is not None else None
     part, components = rng.randrange(12), message.components
     if part in (10, 11) and half and message.kind != "Abort":
@@ -300,7 +302,7 @@ def with_fault(rng, end, message, seen):
     elif part == 3 and components:
         del components[at]
     elif part in (4, 5) and components:
-        # It comes twice, as it is or with another ID.
+        # The component comes twice, unchanged or with another ID.
         components.append(components[at] if part == 4 else with_other_part(rng, table, components[at], 1))
     elif part in (6, 7) and components:
         components[at] = with_other_part(rng, table, components[at], rng.choice([1, 2, -1]))
@@ -315,12 +317,12 @@ def with_fault(rng, end, message, seen):
 
 
 class Play:
-    """A run under way, and the record and the certificate that it makes."""
+    """A run in progress, and the record and the certificate that it makes."""
 
     def __init__(self, rng, table, keepers, calm):
         self.rng, self.table, self.keepers, self.calm = rng, table, keepers, calm
         self.ends = {"A": End(table), "B": End(table)}
-        # An entry is an end and a message, or None, a quiet mark.
+        # An entry is an end and a message, or None for a quiet mark.
         self.entries, self.fates, self.expire, self.close = [], [], [], []
         self.waiting, self.since = {"A": [], "B": []}, 0
 
@@ -339,7 +341,7 @@ class Play:
         self.deliver(last)
 
     def close_one(self, side):
-        """A half closes unseen."""
+        """Closes a half, in a hidden step."""
         may = [half for half in self.ends[side].halves if self.ends[side].may_close(half) and half.entry is not None]
         if may:
             half = self.rng.choice(may)
@@ -347,7 +349,7 @@ class Play:
             self.close.append({"at": len(self.entries), "end": side, "entry": half.entry})
 
     def expire_one(self, side):
-        """An invocation ends unseen: it is named by any Invoke of its ID in its half."""
+        """Lets an invocation expire. Any Invoke of its ID in its half identifies it."""
         end, may = self.ends[side], []
         for number in range(self.since, len(self.entries)):
             sender, message = self.entries[number]
@@ -361,7 +363,7 @@ class Play:
             self.expire.append({"at": len(self.entries), "component": place, "end": side, "entry": number})
 
     def deliver(self, last):
-        """Some of what waits comes, or is lost, by the numbers of the entries."""
+        """Delivers or loses some of the waiting messages, in the order of the entries."""
         stopped = {side: not last and self.chance(0.5) for side in "AB"}
         while True:
             heads = [self.waiting[side][0] for side in "AB" if self.waiting[side] and not stopped[side]]
@@ -374,7 +376,7 @@ class Play:
             elif self.receives(OTHER[sender], message, number):
                 self.take(sender, len(self.entries))
             elif last or OTHER[sender] not in self.keepers or self.chance(0.5):
-                # What can't be received is lost, now or later.
+                # A message that can't be received is lost, now or later.
                 self.take(sender, "lost")
             else:
                 stopped[sender] = True
@@ -402,7 +404,7 @@ class Play:
         self.fates.append("lost")
 
     def mark(self):
-        """A quiet mark, where all may be quiet: what waits is lost."""
+        """Adds a quiet mark, if all may be quiet: waiting messages are lost. Returns whether it did."""
         if not all(self.ends[side].is_quiet() for side in self.keepers):
             return False
         for side in "AB":
@@ -415,7 +417,7 @@ class Play:
         return True
 
     def reply(self, side):
-        """The provider of an end answers what waits first for it."""
+        """Has the provider of an end answer the first message that waits for it. Returns whether it did."""
         other = OTHER[side]
         if not self.waiting[other]:
             return False
@@ -428,12 +430,12 @@ class Play:
         return True
 
     def seen(self):
-        """The transaction IDs so far."""
+        """Returns the transaction IDs so far."""
         messages = [entry[1] for entry in self.entries if entry]
         return [id for message in messages for id in (message.otid, message.dtid) if id is not None]
 
     def tell(self, side):
-        """An end sends what it likes, and may well be as if it kept the rules."""
+        """Sends any message of an end, often one that the rules allow."""
         end, message = self.ends[side], None
         asked = [entry[1].otid for entry in self.entries[self.since :] if entry and entry[0] != side and entry[1].otid]
         if asked and self.rng.random() < 0.06:
@@ -468,7 +470,7 @@ class Play:
         return True
 
     def play_entry(self):
-        """One more entry; whether there is one."""
+        """Adds an entry. Returns whether it did."""
         side = self.rng.choice("AB")
         for _ in range(8):
             choice = self.rng.random()
@@ -484,7 +486,8 @@ class Play:
         return False
 
     def play(self, count):
-        """So many entries, or fewer where an end finds nothing to send: the gap that was passed then is the last."""
+        """Adds this many entries, or fewer if an end finds nothing to send; then the gap that was passed last is the
+        last one."""
         self.pass_gap(last=count == 0)
         for at in range(count):
             if not self.play_entry():
@@ -498,5 +501,5 @@ class Play:
         return {"close": self.close, "expire": self.expire, "fates": self.fates, "version": 1}
 
     def octets(self, writer):
-        """The octets of each entry."""
+        """Returns the octets of each entry."""
         return [b"\x51" if entry is None else entry[0].encode() + writer.message(entry[1]) for entry in self.entries]

@@ -1,4 +1,5 @@
-"""What `tcapjudge show` prints of a record, and `tcapjudge table` of an operation table, read for tests/oracle/kinds.py."""
+"""Reads the output of `tcapjudge show` for a record, and of `tcapjudge table` for an operation table, for
+tests/oracle/kinds.py."""
 
 import subprocess
 from dataclasses import dataclass, replace
@@ -9,16 +10,16 @@ UNIDIRECTIONAL, BEGIN, CONTINUE, END, ABORT = "Unidirectional", "Begin", "Contin
 QUIET, NO_MESSAGE = "Q", "FAULT"
 INVOKE, LAST, NOT_LAST, ERROR, REJECT = "Invoke", "ReturnResultLast", "ReturnResultNotLast", "ReturnError", "Reject"
 RESULTS, ANSWERS = (LAST, NOT_LAST), (LAST, NOT_LAST, ERROR)
-# The problems of a Reject, by what they are of, as `show` names that.
+# The problems of a Reject, by the component that they are about, as `show` names it.
 GENERAL, OF_INVOKE, OF_RESULT, OF_ERROR = "general", "invoke", "result", "error"
 
 
-# ---- what is read
+# ---- records and tables
 
 
 @dataclass(frozen=True)
 class Component:
-    """A component; the operation is the one that an Invoke or a Return Result names; a Reject has a problem of
+    """A component. The operation is the one that an Invoke or a Return Result names; a Reject has a problem `of`
     something."""
 
     line: str
@@ -42,14 +43,14 @@ class Entry:
     otid: str = None
     dtid: str = None
     cause: int = None
-    # The PDU of the dialogue portion, and what it says: `result`, `user` or `provider`, `source`.
+    # The PDU of the dialogue portion, and its values: `result`, `user` or `provider`, `source`.
     pdu: str = None
     says: dict = None
     components: tuple = ()
 
 
 def parts_of(words):
-    """What stands behind each name, of words NAME=WHAT."""
+    """Returns the values of words NAME=VALUE, by their names."""
     return dict(word.split("=", 1) for word in words if "=" in word)
 
 
@@ -60,14 +61,14 @@ def number_in(parts, name):
 def component_of(line):
     kind, *words = line.split()
     parts = parts_of(words)
-    # The code of a Return Error has the name of a problem of one.
+    # The code of a Return Error has the name of an error problem.
     of = next((of for of in (GENERAL, OF_INVOKE, OF_RESULT, OF_ERROR) if of in parts), None) if kind == REJECT else None
     id = None if parts["id"] == "null" else int(parts["id"])
     return Component(line, kind, id, number_in(parts, "linked"), parts.get("op"), of, number_in(parts, of))
 
 
 def entry_of(line):
-    """An entry without its components."""
+    """Returns an entry without its components."""
     number, end, *words = line.split()
     if end == QUIET:
         return Entry(int(number))
@@ -81,7 +82,7 @@ def entry_of(line):
 
 
 def entries_of(show):
-    """The entries of a record, by what `show` prints of it; None where the record itself has a fault."""
+    """Returns the entries of a record, from the output of `show`, or None if the record itself has a fault."""
     entries = []
     for line in show.splitlines():
         if line.startswith(NO_MESSAGE):
@@ -94,7 +95,7 @@ def entries_of(show):
 
 
 class Table:
-    """An operation table, by what `table` prints of it. An operation that it lacks has no class, lists nothing and does
+    """An operation table, from the output of `table`. An operation that it lacks has no class, lists nothing and does
     not expire."""
 
     def __init__(self, text):
@@ -109,7 +110,7 @@ class Table:
         return int(self.rows[operation]["class"]) if self.has(operation) else None
 
     def linked(self, operation):
-        """The operations that may be linked to it."""
+        """Returns the operations that may be linked to an operation."""
         listed = self.rows[operation].get("linked") if self.has(operation) else None
         return listed.split(",") if listed else []
 
@@ -117,33 +118,33 @@ class Table:
         return self.has(operation) and "expires" not in self.rows[operation]
 
 
-# ---- components that are counted
+# ---- counted components
 
 
 def of_id(messages, id, *kinds):
-    """The components of these kinds that have that invoke ID, in these messages."""
+    """Returns the components of these kinds with that invoke ID, in these messages."""
     return [c for message in messages for c in message.components if c.id == id and c.kind in kinds]
 
 
 def rejects_of(messages, id, *of):
-    """The Rejects of that invoke ID with a problem of these."""
+    """Returns the Rejects of that invoke ID with a problem of these."""
     return [c for c in of_id(messages, id, REJECT) if c.of in of]
 
 
 def takes(component):
-    """Whether it takes an invocation of its ID."""
+    """Returns whether a component takes an invocation of its ID."""
     is_reject = component.kind == REJECT and component.of == OF_INVOKE and component.id is not None
     return component.kind in (LAST, ERROR) or is_reject
 
 
-# ---- of octets
+# ---- octets
 
 
 def printed(word, octets):
-    """What the program prints of these octets with that word."""
+    """Returns the output of the program's word for these octets."""
     return subprocess.run([PROGRAM, word, "/dev/stdin"], input=octets, capture_output=True, check=False).stdout.decode()
 
 
 def entries_in(record):
-    """The entries of the octets of a record; None where the record itself has a fault."""
+    """Returns the entries of the octets of a record, or None if the record itself has a fault."""
     return entries_of(printed("show", record))

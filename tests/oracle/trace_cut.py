@@ -1,20 +1,20 @@
-"""How a trace is cut into dialogues, and what is noted of each: an own reading in Python for tests/traces.py. Within
-a segment between quiet marks, messages that share an ID of one end, directly or over others, are one dialogue. It
-shares nothing with the code that is tested."""
+"""Cuts a trace into dialogues, and notes facts about each: an independent reading in Python for tests/traces.py. In a
+segment between quiet marks, messages that share an ID of one end, directly or through others, are one dialogue. It
+shares nothing with the code under test."""
 
 import bisect
 from collections import namedtuple
 
-# What is read of an entry: who sent it, its kind, and its transaction IDs; if nothing can be read all but the first
+# What is read of an entry: who sent it, its kind, and its transaction IDs. If nothing can be read, all but the sender
 # are None.
 Heading = namedtuple("Heading", "end kind otid dtid")
-# The entries between two quiet marks; and the number of the first one after the directive `#: under way`, if there is
+# The entries between two quiet marks; and the number of the first entry after the directive `#: under way`, if there is
 # one.
 Segment = namedtuple("Segment", "headings under_way")
-# A dialogue. numbers: of its entries in the segment. ids: pairs of an end and octets. again: an ID of it came again.
-# unsettled: its owner may have had no part in the earlier use. is_over: an End or an Abort is in it. unread: the
-# number of the entry that can't be read and may have been of it. late: it begins after the directive. in_use: the IDs
-# by which it may have been under way at the mark before it.
+# A dialogue. numbers: its entries in the segment. ids: pairs of an end and octets. again: an ID of it came again.
+# unsettled: the ID's owner may have had no part in the earlier use. is_over: it has an End or an Abort. unread: the
+# number of the unreadable entry that may have been part of it. late: it begins after the directive. in_use: the IDs by
+# which it may have been under way at the mark before it.
 Cut = namedtuple("Cut", "numbers ids again unsettled is_over unread late in_use")
 OTHER = {"A": "B", "B": "A"}
 
@@ -28,7 +28,7 @@ def peers(heading):
 
 
 def ids_in(heading):
-    """The IDs of a message: its OTID is one of its sender's, its DTID one of its receiver's."""
+    """Returns the IDs of a message: its OTID belongs to its sender, its DTID to its receiver."""
     return own(heading) | peers(heading)
 
 
@@ -37,7 +37,7 @@ def is_last(heading):
 
 
 def sent_from(headings):
-    """The IDs from which their owners sent one of these."""
+    """Returns the IDs from which their owners sent one of these."""
     return set().union(*map(own, headings))
 
 
@@ -45,7 +45,7 @@ def sent_from(headings):
 
 
 def connected(headings):
-    """The connected parts, as lists of numbers: by a union-find over the entries, by way of their IDs."""
+    """Returns the connected parts, as lists of numbers, by a union-find over the entries through their IDs."""
     above, first = list(range(len(headings))), {}
 
     def root(number):
@@ -67,7 +67,7 @@ def connected(headings):
 
 
 class Course:
-    """A dialogue as it comes."""
+    """A dialogue as it develops."""
 
     def __init__(self):
         self.numbers, self.ids, self.used, self.begun, self.senders = [], set(), set(), set(), set()
@@ -94,8 +94,8 @@ class Course:
 
 class Coming:
     """The dialogues of a segment as its entries come: those whose IDs are free, and the others. `known` are the IDs
-    from which their owners sent in an earlier segment; dialogues may have been under way from the entry of that
-    number on."""
+    from which their owners sent in an earlier segment. Dialogues may have been under way from the entry `under_way`
+    on."""
 
     def __init__(self, known, under_way, linger):
         self.known, self.under_way, self.linger = known, under_way, linger
@@ -105,19 +105,19 @@ class Coming:
         return self.under_way is not None and number >= self.under_way
 
     def accepts(self, heading, course):
-        """Whether a message accepts the Begin of another dialogue, in which its sender sent nothing."""
+        """Returns whether a message accepts the Begin of another dialogue, in which its sender sent nothing."""
         begun = peers(heading) & course.begun and heading.end not in course.senders
         return begun and not own(heading) & course.ids
 
     def is_free(self, course, number, heading):
-        """Whether a message is the first of another dialogue that uses an ID of this one, which is over."""
+        """Returns whether a message is the first of another dialogue that uses an ID of this one, which is over."""
         if course.over is None or not own(heading) & course.ids:
             return False
         if heading.kind == "Begin":
             return True
         if heading.kind != "Continue":
             return False
-        # It may be of a dialogue that began before the segment: nobody named its destination ID in it.
+        # It may be part of a dialogue that began before the segment, if nobody named its destination ID in the segment.
         may_go_on = self.is_late(number) or peers(heading) & self.known
         is_new = bool(course.begun) and not peers(heading) & self.named
         return any(self.accepts(heading, it) for it in self.live) or may_go_on and is_new
@@ -137,8 +137,8 @@ class Coming:
         self.named |= ids_in(heading)
 
     def note(self, here, new):
-        """Notes which of these IDs came again, and whether their owners had sent from them. Of a dialogue that may
-        have been under way, what was sent from them may be missing."""
+        """Notes which of these IDs came again, and whether their owners had sent from them. In a dialogue that may
+        have been under way, messages sent from them may be missing."""
         earlier = [(it, it.ids & new) for it in self.done]
         came = set().union(*(ids for _, ids in earlier))
         firm = set().union(*(ids if self.is_late(min(it.numbers)) else ids & it.used for it, ids in earlier))
@@ -147,35 +147,35 @@ class Coming:
 
 
 def coming(segment, known, linger):
-    """The dialogues as they come."""
+    """Returns the dialogues as they come."""
     courses = Coming(known, segment.under_way, linger)
     for number, heading in enumerate(segment.headings):
         courses.take(number, heading)
     return [(sorted(it.numbers), it.again, it.unsettled) for it in courses.done + courses.live]
 
 
-# ---- what is noted of a dialogue
+# ---- facts about a dialogue
 
 
 def unread_of(headings, unread, first):
-    """The entry that can't be read and may have been of a dialogue with that first entry."""
+    """Returns the unreadable entry that may have been part of a dialogue with that first entry."""
     at = bisect.bisect(unread, first) if headings[first].kind == "Begin" else 0
     return unread[at] if at < len(unread) else None
 
 
 class Before:
-    """What is known of the earlier segments: the IDs from which their owners sent, and those that may be in use over
-    a mark."""
+    """What is known about earlier segments: the IDs from which their owners sent, and those that may be in use over a
+    mark."""
 
     def __init__(self):
         self.sent, self.in_use = set(), set()
 
     def in_use_of(self, headings, ids):
-        """The IDs by which a dialogue may be one that was under way at the mark before it."""
+        """Returns the IDs by which a dialogue may be one that was under way at the mark before it."""
         return peers(headings[0]) & self.sent | ids & self.in_use
 
     def add(self, segment, cuts):
-        """A segment more, with its dialogues."""
+        """Adds a segment with its dialogues."""
         self.sent |= sent_from(segment.headings)
         self.in_use -= set().union(*(it.ids for it in cuts))
         for it in cuts:
@@ -185,7 +185,7 @@ class Before:
 
 
 def cut_segment(segment, before, is_once, linger):
-    """The dialogues of a segment, by their entries."""
+    """Returns the dialogues of a segment, by their entries."""
     headings, found = segment.headings, []
     unread = [number for number, heading in enumerate(headings) if heading.kind is None]
     for numbers, again, unsettled in connected(headings) if is_once else coming(segment, before.sent, linger):
@@ -199,7 +199,7 @@ def cut_segment(segment, before, is_once, linger):
 
 
 def cut(segments, is_once, linger=10_000):
-    """The dialogues of each segment of a trace."""
+    """Yields the dialogues of each segment of a trace."""
     before = Before()
     for segment in segments:
         cuts = cut_segment(segment, before, is_once, linger)

@@ -1,19 +1,19 @@
-"""The page that `tcapjudge test --html` writes, for tests/traces.py: what a reader of HTML finds in its frame, and whether
-that agrees with the lines of JSON."""
+"""Reads the page that `tcapjudge test --html` writes, for tests/traces.py: what an HTML parser finds in its frame, and
+whether that agrees with the lines of JSON."""
 
 import html.parser
 import itertools
 import json
 import re
 
-# So many dialogues that don't pass are in a page.
+# The most dialogues that do not pass in a page.
 MOST = 10_000
-# What stands in no text of JSON but by its number: what begins a tag, and what controls a line or a text.
+# The characters that a JSON text must escape: the start of a tag, and control characters of lines and texts.
 TOLD_BY_NUMBER = re.compile("[<\x00-\x09\x0b-\x1f\x7f-\x9f\u2028\u2029]")
 
 
 class Script(html.parser.HTMLParser):
-    """What stands in the script that has the report."""
+    """The content of the script element that has the report."""
 
     def __init__(self, page):
         super().__init__(convert_charrefs=False)
@@ -33,12 +33,12 @@ class Script(html.parser.HTMLParser):
 
 
 def lines_in(page):
-    """The lines of objects that a page has."""
+    """Returns the lines of objects in a page."""
     return [line for line in "".join(Script(page).held).split("\n") if line]
 
 
 def sum_of(traces):
-    """What is said of all traces, by what is said of each."""
+    """Returns the sums over all traces."""
     of, verdicts = [it["dialogues"] for it in traces], [it["verdict"] for it in traces]
     return {
         "traces": {verdict: verdicts.count(verdict) for verdict in ("pass", "inconc", "fail", "error")},
@@ -49,7 +49,7 @@ def sum_of(traces):
 
 
 def shown(lines):
-    """Of lines of JSON those that are in the page, and how many of dialogues that don't pass aren't."""
+    """Returns the lines of JSON that belong in the page, and how many dialogues that do not pass are left out."""
     kept, room = [], itertools.count(1)
     for line in lines:
         it = json.loads(line)
@@ -59,7 +59,7 @@ def shown(lines):
 
 
 def look_at_page(checks, page, found, text):
-    """The page has the lines of JSON of what doesn't pass and of the traces, and the sum of all behind them."""
+    """Checks that the page has the lines of JSON of traces and of dialogues that do not pass, and then the sum."""
     lines = [line for line in text.split("\n") if line]
     checks.holds("JSON has nothing that means something to HTML", not TOLD_BY_NUMBER.search(text))
     wanted, left_out = shown(lines)

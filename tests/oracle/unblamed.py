@@ -1,6 +1,6 @@
-"""Why nobody is blamed for an entry that is refuted, and the lines in which `tcapjudge explain` says so: an own reading of
-docs/FORMAT.md (what `explain` prints) and docs/VERDICTS.md (the first two questions). tests/facts.py compares the lines with what the
-program prints."""
+"""Finds why nobody is blamed for a refuted entry, and the lines in which `tcapjudge explain` says so: an independent
+reading of docs/FORMAT.md (what `explain` prints) and docs/VERDICTS.md (the first two questions). tests/facts.py
+compares the lines with the program's."""
 
 from before import Before
 from evidence import MOST, Scene, lines, since_mark
@@ -17,8 +17,8 @@ TANGLED = {
 
 
 def used_again(entries, table, end, number):
-    """The first entry since the last quiet mark, up to that one, in which the end used an own ID again whose
-    transaction may have been over; None where none did."""
+    """Returns the first entry since the last quiet mark, up to that one, in which the end used an own ID again whose
+    transaction may have been over; or None."""
     for entry in [*since_mark(entries, number), entries[number]]:
         if entry.end == end and Before(table, end, since_mark(entries, entry.number)).uses_again(entry):
             return entry.number
@@ -26,7 +26,7 @@ def used_again(entries, table, end, number):
 
 
 def why_there(before, peer):
-    """Why an ID of the peer is tangled; None where it is not. The first reason is given."""
+    """Returns the first reason why an ID of the peer is tangled, or None if it is not."""
     there = before.there(peer)
     begins = sum(m.kind == BEGIN for m in there)
     reasons = {
@@ -39,8 +39,9 @@ def why_there(before, peer):
 
 
 def tangled_ids(before, message):
-    """The tangled IDs that a message goes over, each with its end and why: its destination ID; own IDs that are joined with it, and its
-    originating ID; IDs of the peer that are joined with one of these. None where it goes over none."""
+    """Yields the IDs that a message goes over, each with its end and the reason why it is tangled, or None if it is
+    not: its destination ID; own IDs that belong with it, and its originating ID; and IDs of the peer that belong with
+    one of these."""
     peer = "B" if before.end == "A" else "A"
     near = sorted(x for x, d in before.joined if d == message.dtid) + [message.otid]
     far = [d for x in near for d in sorted(d for y, d in before.joined if y == x)]
@@ -50,8 +51,9 @@ def tangled_ids(before, message):
 
 
 def pairing(stretch, end, one):
-    """Of the entries of a stretch those that begin an ID of that end; and of the Continues from it, as of those to it, the first behind
-    each of these, and each in which it stands with another ID of the other end than in the one before."""
+    """Returns the entries of a segment that tie an ID of an end to IDs of the other end: the ID's Begins; and, of the
+    Continues from it and of those to it, the first, the first after each Begin, and each with another ID of the other
+    end than the one before."""
     found, last = [], {}
     for m in stretch:
         own, other = (m.otid, m.dtid) if m.end == end else (m.dtid, m.otid)
@@ -65,7 +67,7 @@ def pairing(stretch, end, one):
 
 
 def tangled_line(before, message):
-    """Which ID is tangled."""
+    """Returns the line that names the tangled ID."""
     end, one, why = next(found for found in tangled_ids(before, message) if found[2])
     named = pairing(before.entries, end, one)
     text = f"transaction ID {one} of {end} is tangled ({TANGLED[why]}): "
@@ -74,7 +76,7 @@ def tangled_line(before, message):
 
 
 def unblamed_lines(entries, table, number):
-    """Why nobody is blamed for an entry that is refuted."""
+    """Returns the lines that say why nobody is blamed for a refuted entry."""
     entry = entries[number]
     before, again = Before(table, entry.end, since_mark(entries, number)), used_again(entries, table, entry.end, number)
     why = "nobody is blamed for it: "
@@ -88,7 +90,7 @@ def unblamed_lines(entries, table, number):
 
 
 def refuted_lines(entries, table, number, kind):
-    """The lines behind REFUTED of both ends."""
+    """Returns the lines after REFUTED for both ends."""
     told = lines(entries, table, entries[number].end, number, kind, of_both=True)
     is_blamed = any(found and found[0] <= number for found in faults_in(table, entries).values())
     return told + ([] if is_blamed else unblamed_lines(entries, table, number))

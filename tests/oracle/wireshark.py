@@ -1,4 +1,4 @@
-"""Compares what `tshark` and `tcapjudge show` say of messages, field by field: for tests/captures.py."""
+"""Compares the output of `tshark` and of `tcapjudge show` for messages, field by field, for tests/captures.py."""
 
 import collections
 import re
@@ -9,7 +9,7 @@ import random_messages
 import signalling
 
 RANDOM = 2000
-# What of a line of `show` is compared with which field of tshark.
+# The parts of a line of `show`, with the field of tshark for each.
 FIELDS = {
     "otid": "tcap.otid",
     "dtid": "tcap.dtid",
@@ -28,18 +28,18 @@ KINDS = {
     "Abort": "tcap.abort_element",
 }
 
-# Party addresses of SCCP: with and without a point code, a subsystem number, and each form of a global title, of an
-# even and of an odd count of digits.
+# Party addresses of SCCP: with and without a point code, a subsystem number, and each form of a global title, with an
+# even and an odd count of digits.
 ADDRESSES = (
     "00 10001204214365 420a 416500 4365000a 06080421436587 06088421436507 0a080021436587 0e08001221436587"
     " 0e08001121430587 1208001204214365 1208001104214305 136500080011042103"
 ).split()
-# An address against which the others are called.
+# The calling address for all of these.
 CALLING = "4208"
 
 
 def dotted(contents):
-    """An object identifier as Wireshark prints it, from the octets of its contents (X.690 8.19)."""
+    """Returns an object identifier as Wireshark prints it, from the octets of its contents (X.690 8.19)."""
     parts, value = [], 0
     for octet in contents:
         value = value << 7 | octet & 127
@@ -50,7 +50,7 @@ def dotted(contents):
 
 
 def shown(program, messages):
-    """What `show` says of each message: its kind and its fields; None where it says a fault."""
+    """Returns for each message its kind and its fields in the output of `show`, or None if it has a fault."""
     record = b"".join(b"A" + octets for octets in messages)
     run = subprocess.run([program, "show"], input=record, capture_output=True, check=False)
     said = []
@@ -65,7 +65,7 @@ def shown(program, messages):
 
 
 def told_by_tshark(path, capture, fields):
-    """The values of the fields of each frame of a capture."""
+    """Returns the values of the fields of each frame of a capture."""
     with open(path, "wb") as file:
         file.write(capture)
     words = ["tshark", "-n", "-r", path, "-T", "fields", "-E", "separator=/t"]
@@ -75,7 +75,7 @@ def told_by_tshark(path, capture, fields):
 
 
 def addresses_agree(folder):
-    """Whether tshark and the tool read the same in addresses."""
+    """Returns whether tshark and the tool read addresses alike."""
     called, calling = [bytes.fromhex(one) for one in ADDRESSES], bytes.fromhex(CALLING)
     capture = made.pcap([made.mtp3(made.udt(b"", one, calling)) for one in called], made.MTP3)
     fields = ["sccp.called.pc", "sccp.called.ssn", "sccp.called.digits"]
@@ -87,7 +87,7 @@ def addresses_agree(folder):
 
 
 def read_by_tshark(path, messages):
-    """What tshark says of each message."""
+    """Yields for each message what tshark reads."""
     capture = made.pcap([made.exported(octets) for octets in messages], made.EXPORTED)
     for line in told_by_tshark(path, capture, [*FIELDS.values(), *KINDS.values()]):
         values = dict(zip([*FIELDS, *KINDS], line))
@@ -96,8 +96,8 @@ def read_by_tshark(path, messages):
 
 
 def agreements(program, folder, messages):
-    """Of each field whether both say the same of all messages: those that are given, but for those that `show` does not
-    read, and random ones, all of which it reads. What differs is printed."""
+    """Returns for each field whether both read it alike in all messages: the given ones, except those that `show` does
+    not read, and random ones, all of which it must read. Prints what differs."""
     maker = random_messages.Maker()
     made_up = [maker.message() for _ in range(RANDOM)]
     ours = shown(program, [*messages, *made_up])

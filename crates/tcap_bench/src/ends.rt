@@ -1,4 +1,4 @@
-//! One end, for the program: a record goes over it.
+//! Gives a record to one end.
 
 use std::alloc::Global;
 use tcap_end::{EndState, HalfName, Table};
@@ -10,8 +10,8 @@ const TABLE: &str =
     r#"{"operations":[{"class":1,"code":45},{"class":2,"code":46},{"class":3,"code":47},
     {"class":4,"code":48}]}"#;
 
-/// Gives the end an entry: what end A sent it sends, and what end B sent it receives. Before it sends what has an originating ID,
-/// the invocation of ID 1 of that transaction ends unseen. Whether it was taken.
+/// Gives the end an entry: it sends what end A sent, and receives what end B sent. Before it sends a message with an
+/// originating ID, the invocation with ID 1 of that transaction expires. Returns whether the end took the entry.
 fn step(end: &mut EndState, table: &Table, entry_side: Option<End>, body: BodyView) -> bool {
     match (entry_side, body) {
         (Some(End::A), BodyView::Good(message)) => {
@@ -25,7 +25,7 @@ fn step(end: &mut EndState, table: &Table, entry_side: Option<End>, body: BodyVi
     }
 }
 
-/// How many entries of a record an end took, by that table; `None` where there is no memory for the table.
+/// Returns how many entries of a record an end takes, or `None` if there is no memory for the table.
 pub(crate) fn count_taken(alloc: Global, octets: &[u8]) -> Option<usize> {
     let table = Table::from_json(alloc, TABLE.as_bytes()).ok()?;
     let mut end = EndState::new(alloc);

@@ -1,9 +1,13 @@
-//! A program for `make bench`: it reads the messages on standard input, one after the other, as views, round by
-//! round, and prints how many it read. With the word `walk` it walks the element on standard input instead, and with
-//! `octets` it does so one octet at a time; then it prints how many octets the element has in all rounds. With `frames` it
-//! frames the record on standard input in pieces, with `frames-octets` one octet at a time, and prints how many entries it
-//! has. For `make memory`, with `feed` it feeds the record one octet at a time, each once more where memory ran out, and
-//! prints how many entries it took, how often memory ran out, and whether the record ended well. With `end` it gives an end the record on standard input, and prints how many entries it took.
+//! A program for `make bench` and `make memory`, which works on standard input.
+//!
+//! Without a word it reads the messages there as views, in `ROUNDS` rounds, and prints how many it read. With `walk`
+//! or `octets` it walks the element there, at once or one octet at a time, and prints its length summed over all
+//! rounds. With `frames` or `frames-octets` it frames the record there, at once or one octet at a time, and prints
+//! the number of its entries.
+//!
+//! With `feed` it feeds the record one octet at a time, and each octet once more if memory runs out. It prints how
+//! many entries it took, how often memory ran out, and whether the record ended well. With `end` it gives the record
+//! to one end, and prints how many entries that end took.
 #![tactic(auto)]
 
 mod ends;
@@ -23,7 +27,7 @@ use tcap_record::{FeedReason, Feeder, Frames};
 /// How often the octets are read.
 const ROUNDS: u32 = 200;
 
-/// How many messages stand in `octets` one after the other, up to the first fault or the end.
+/// Returns the number of consecutive messages in `octets`, up to the first fault or the end.
 fn count_messages(octets: &[u8]) -> usize {
     let mut rest = octets;
     let mut count: usize = 0;
@@ -34,7 +38,7 @@ fn count_messages(octets: &[u8]) -> usize {
     count
 }
 
-/// How many messages were read of those in `octets`, in all rounds.
+/// Returns the number of messages that were read in all rounds.
 fn count_rounds(octets: &[u8]) -> usize {
     let mut count: usize = 0;
     for _ in 0..ROUNDS {
@@ -43,7 +47,7 @@ fn count_rounds(octets: &[u8]) -> usize {
     count
 }
 
-/// How many octets the element has, or 0 where it is not whole.
+/// Returns the length of the element, or 0 if it is not whole.
 fn whole_len(answer: Result<Outer, Fault>) -> usize
     ensures { result ≡ whole_len answer }
 {
@@ -53,7 +57,7 @@ fn whole_len(answer: Result<Outer, Fault>) -> usize
     }
 }
 
-/// How many octets the element has that begins `octets`, by a walk over them one at a time; 0 where none is whole.
+/// Walks `octets` one at a time. Returns the length of the whole element at their front, or 0 if there is none.
 fn count_walked(octets: &[u8]) -> usize
     ensures { result ≡ whole_len (outer_at octets.now) }
 {
@@ -68,7 +72,7 @@ fn count_walked(octets: &[u8]) -> usize
     len
 }
 
-/// How many octets the elements have that were walked in all rounds, one octet at a time or not.
+/// Returns the length of the element at the front of `octets`, summed over all rounds.
 fn count_walks(octets: &[u8], one_at_a_time: bool) -> usize {
     let mut count: usize = 0;
     for _ in 0..ROUNDS {
@@ -82,7 +86,7 @@ fn count_walks(octets: &[u8], one_at_a_time: bool) -> usize {
     count
 }
 
-/// How many entries begin the record, up to the first fault, framed in one piece or one octet at a time.
+/// Returns the number of entries of the record up to the first fault, framed at once or one octet at a time.
 fn count_entries(alloc: Global, octets: &[u8], one_at_a_time: bool) -> usize {
     let mut frames = Frames::new(alloc);
     let len = if one_at_a_time {
@@ -105,8 +109,8 @@ fn count_entries(alloc: Global, octets: &[u8], one_at_a_time: bool) -> usize {
     frames.dropped()
 }
 
-/// Feeds the record one octet at a time, each once more where memory ran out. How many entries were taken, how often memory
-/// ran out, and whether the record may end so.
+/// Feeds the record one octet at a time, and each octet once more if memory runs out. Returns how many entries were
+/// taken, how often memory ran out, and whether the record may end there.
 fn feed_octets(alloc: Global, octets: &[u8]) -> (usize, usize, bool) {
     let mut feeder = Feeder::new(alloc);
     let mut taken: usize = 0;
@@ -126,7 +130,7 @@ fn feed_octets(alloc: Global, octets: &[u8]) -> (usize, usize, bool) {
     (taken, failed, feeder.finish().is_ok())
 }
 
-/// The word behind the program's name, if there is one.
+/// Returns the first word after the program's name, if there is one.
 fn word(rt: &HostRuntime) -> io::Result<Option<String>> {
     let texts: Vec<String> = env::args(rt)?.collect(rt.alloc())?;
     let mut texts = texts.into_iter();

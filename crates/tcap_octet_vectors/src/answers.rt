@@ -1,4 +1,4 @@
-//! The answers of the public calls over messages. A message is dropped in the function that made it, by one call of `drop`.
+//! Returns the answers of the public calls over messages. Each message is dropped in the function that made it.
 
 use std::alloc::Global;
 use tcap_ber::Counted;
@@ -7,7 +7,7 @@ use tcap_msg::{
     DecodeFault, EncodeFault, Message, MessageParts, decode, encode, encoded_len, view,
 };
 
-/// The count of octets of the message at the front of octets, or the number and the place of its fault.
+/// The length of the message at the front of octets, or the number and the place of its fault.
 pub(crate) type Answer = Result<usize, (u8, u64)>;
 
 /// Returns the answer of `view`.
@@ -30,13 +30,13 @@ fn decoded(alloc: Global, octets: &[u8]) -> Option<Answer> {
     }
 }
 
-/// Returns whether `view` and `decode` give this answer.
+/// Returns whether both `view` and `decode` give this answer, or `None` if memory runs out.
 pub(crate) fn is_answered(alloc: Global, octets: &[u8], wanted: Answer) -> Option<bool> {
     Some(viewed(octets) == wanted && decoded(alloc, octets)? == wanted)
 }
 
-/// Writes a message. Returns the octets that `encoded_len` counts and that are written, or `None` and no octets if the message is
-/// too long.
+/// Encodes a message. Returns its length by `encoded_len` and the octets written, or no length and no octets if it is
+/// too long. Returns `None` if `encode` and `encoded_len` disagree.
 pub(crate) fn counted(alloc: Global, message: Message) -> Option<(Option<usize>, Vec<u8>)> {
     let mut writer = Counted::new(Vec::new(alloc));
     let answer = encode(&message, &mut writer);
@@ -53,7 +53,7 @@ pub(crate) fn counted(alloc: Global, message: Message) -> Option<(Option<usize>,
     Some((len, writer.into_inner()))
 }
 
-/// Returns what is written of a message, which has to be as many octets as `encoded_len` counts.
+/// Encodes a message. Returns the octets, or `None` if their count is not what `encoded_len` gives.
 pub(crate) fn written(alloc: Global, message: Message) -> Option<Vec<u8>> {
     let (len, octets) = counted(alloc, message)?;
     if len == Some(octets.len()) {
@@ -63,13 +63,13 @@ pub(crate) fn written(alloc: Global, message: Message) -> Option<Vec<u8>> {
     }
 }
 
-/// Returns what is written of the message at the front of the octets.
+/// Decodes the message at the front of the octets, and encodes it again.
 pub(crate) fn encoded_again(alloc: Global, octets: &[u8]) -> Option<Vec<u8>> {
     let (message, _) = decode(alloc, octets).ok()?;
     written(alloc, message)
 }
 
-/// Returns what is written of the message that a view of the octets lends, and of the message that the message itself lends.
+/// Encodes the message that is made from a view of the octets, and the one that is made from the message's own view.
 pub(crate) fn lent_again(alloc: Global, octets: &[u8]) -> Option<(Vec<u8>, Vec<u8>)> {
     let (lent, _) = view(octets).ok()?;
     let of_view = written(alloc, lent.to_message(alloc).ok()?)?;
@@ -79,7 +79,7 @@ pub(crate) fn lent_again(alloc: Global, octets: &[u8]) -> Option<(Vec<u8>, Vec<u
     Some((of_view, written(alloc, made.ok()?)?))
 }
 
-/// Returns what `run_show` prints of a record, and the number of its status.
+/// Returns the text that `run_show` prints for a record, and the number of its status.
 pub(crate) fn shown(alloc: Global, record: &[u8]) -> Option<(Vec<u8>, u8)> {
     let mut writer = Counted::new(Vec::new(alloc));
     let status = run_show(alloc, &mut Counted::new(record), &mut writer);

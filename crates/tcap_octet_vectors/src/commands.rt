@@ -1,4 +1,4 @@
-//! The commands of rows.
+//! Dispatches the rows by their commands.
 
 use crate::devices::{is_device, is_failing_device};
 use crate::dialogues::is_dialogue_portion;
@@ -16,7 +16,7 @@ use crate::values::{are_in_order, are_limits, is_text, is_value};
 use std::alloc::Global;
 use tcap_vectors::octets_of;
 
-/// Returns whether a row of this command holds, whose columns begin with these octets.
+/// Returns whether a row of this command holds; its first column is these octets.
 fn holds_of(alloc: Global, command: &str, octets: &[u8], columns: &[&str]) -> Option<bool> {
     match (command, columns) {
         ("[elements]", wanted) => is_element(alloc, octets, wanted),

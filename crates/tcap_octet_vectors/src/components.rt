@@ -5,8 +5,8 @@ use tcap_ber::{ObjectId, Raw, Small};
 use tcap_parts::{Code, Component, Portion, Problem, ResultBody};
 use tcap_vectors::octets_of;
 
-/// How the portion of a message is made of its components: of these, by a copy, of what they lend, or of what the portion lends, by
-/// index or in order.
+/// A way to make the portion of a message: from the components themselves, from copies, from views of them, or from
+/// the views that the portion lends, by index or in order.
 #[derive(Clone, Copy)]
 pub(crate) enum Way {
     Made,
@@ -16,17 +16,17 @@ pub(crate) enum Way {
     LentInOrder,
 }
 
-/// Returns a small number from its decimal digits.
+/// Reads a small number from its decimal digits.
 pub(crate) fn small_of(text: &str) -> Option<Small> {
     Small::new(text.parse::<u8>().ok()?)
 }
 
-/// Returns the OBJECT IDENTIFIER of these digits.
+/// Reads an OBJECT IDENTIFIER from the octets of its content.
 pub(crate) fn object_of(alloc: Global, digits: &str) -> Option<ObjectId> {
     ObjectId::new(alloc, &octets_of(alloc, digits)?).ok()?
 }
 
-/// Returns a local code from its decimal digits, or a global one from `g:` and hexadecimal digits, copied.
+/// Reads a code: decimal digits for a local one, or `g:` and hexadecimal digits for a global one.
 fn code_of(alloc: Global, text: &str) -> Option<Code> {
     let code = match text.strip_prefix("g:") {
         Some(digits) => Code::Global(object_of(alloc, digits)?),
@@ -37,7 +37,7 @@ fn code_of(alloc: Global, text: &str) -> Option<Code> {
     copy.ok()
 }
 
-/// Returns the parameter of these octets, a dash for none.
+/// Reads a parameter from its octets; a dash is for none.
 fn parameter_of(alloc: Global, octets: &str) -> Option<Option<Raw>> {
     if octets == "-" {
         return Some(None);
@@ -45,7 +45,7 @@ fn parameter_of(alloc: Global, octets: &str) -> Option<Option<Raw>> {
     Some(Some(Raw::new(alloc, &octets_of(alloc, octets)?).ok()??))
 }
 
-/// Returns the invoke ID of these digits, a dash for none.
+/// Reads an invoke ID from its decimal digits; a dash is for none.
 fn invoke_id_of(text: &str) -> Option<Option<i8>> {
     if text == "-" {
         return Some(None);
@@ -53,7 +53,7 @@ fn invoke_id_of(text: &str) -> Option<Option<i8>> {
     Some(Some(text.parse::<i8>().ok()?))
 }
 
-/// Returns the problem of this kind and this number.
+/// Returns the problem with this kind and number.
 fn problem_of(kind: &str, number: &str) -> Option<Problem> {
     let number = small_of(number)?;
     match kind {
@@ -65,14 +65,14 @@ fn problem_of(kind: &str, number: &str) -> Option<Problem> {
     }
 }
 
-/// Returns what a Return Result carries, with this code and this parameter.
+/// Returns the body of a Return Result, with this code and parameter.
 fn body_of(alloc: Global, code: &str, parameter: &str) -> Option<ResultBody> {
     let parameter = parameter_of(alloc, parameter)?;
     let code = code_of(alloc, code)?;
     Some(ResultBody { code, parameter })
 }
 
-/// Returns the component of these words: its kind, its invoke ID, and what this kind has.
+/// Reads a component from its words: its kind, its invoke ID, and the fields of its kind.
 fn component_of(alloc: Global, words: &[&str]) -> Option<Component> {
     let [kind, id, others @ ..] = words else {
         return None;
@@ -117,7 +117,7 @@ fn component_of(alloc: Global, words: &[&str]) -> Option<Component> {
     }
 }
 
-/// Returns a portion with the components of this one, made in this way.
+/// Returns a copy of the portion, made in this way.
 fn portion_again(alloc: Global, portion: &Portion, way: Way) -> Option<Portion> {
     let lent = portion.view();
     let mut components = Vec::new(alloc);
@@ -146,7 +146,7 @@ fn portion_again(alloc: Global, portion: &Portion, way: Way) -> Option<Portion> 
     Portion::new(components)
 }
 
-/// Returns the portion of the components of a column, which have bars between them, a dash for none.
+/// Reads a portion from a column of components, separated by bars; a dash is for none.
 pub(crate) fn portion_of(alloc: Global, column: &str, way: Way) -> Option<Option<Portion>> {
     if column == "-" {
         return Some(None);

@@ -1,4 +1,4 @@
-//! Devices: interrupted calls, and calls that fail.
+//! Looks at devices whose calls are interrupted or fail.
 
 use std::alloc::Global;
 use std::io;
@@ -6,7 +6,8 @@ use std::io::ErrorKind;
 use tcap_ber::{Counted, Read, ReadError, Write, read_to_end};
 use tcap_vectors::Failing;
 
-/// A device whose every second call is interrupted, and whose other calls move two octets at most. Each call fails if it is broken.
+/// A device that interrupts every second call and moves at most two octets in each other call. If it is broken, each
+/// call fails.
 #[derive(Drop)]
 struct Unsteady<T> {
     inner: T,
@@ -47,7 +48,7 @@ impl<T: io::Write> io::Write for Unsteady<T> {
     }
 }
 
-/// Looks at a row of `devices`. No call of an interrupted device fails, and each call of a broken one.
+/// Looks at a row of `devices`. An interrupted device must cause no failure, and a broken one must fail at each call.
 pub(crate) fn is_device(alloc: Global, octets: &[u8]) -> Option<bool> {
     for is_broken in [false, true] {
         let failures = u64::from(is_broken);
@@ -78,7 +79,7 @@ pub(crate) fn is_device(alloc: Global, octets: &[u8]) -> Option<bool> {
     Some(true)
 }
 
-/// Looks at a row of `failing devices`. Reading and writing go on after the call that fails.
+/// Looks at a row of `failing devices`. After the call that fails, reading and writing continue.
 pub(crate) fn is_failing_device(alloc: Global, octets: &[u8], count: usize) -> Option<bool> {
     let mut source = Failing::new(octets, count);
     let mut taken = Vec::new(alloc);

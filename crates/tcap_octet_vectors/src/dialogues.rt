@@ -1,4 +1,4 @@
-//! Dialogue portions: read and written alone, and in each message.
+//! Looks at dialogue portions: read and written alone, and in each kind of message.
 
 use crate::messages::is_message;
 use std::alloc::Global;
@@ -6,8 +6,8 @@ use tcap_ber::{Counted, Window};
 use tcap_parts::{len_dialogue, view_dialogue, write_dialogue};
 use tcap_vectors::octets_of;
 
-/// Messages that have room for a dialogue portion: the words before and after it, the line before its text, and the lines of the
-/// components.
+/// Messages with room for a dialogue portion: the words before and after it, the line before its text, and the lines
+/// of the components.
 const AROUND: &str = r"
 61( 6b(;) 6c05a203020101 );Unidirectional;  ReturnResultLast id=1\n
 62( 480101 6b(;) 6c05a203020101 );Begin otid=01;  ReturnResultLast id=1\n
@@ -15,7 +15,8 @@ const AROUND: &str = r"
 65( 480102 490101 6b(;) );Continue otid=02 dtid=01;
 67( 490101 6b(;) );Abort dtid=01;";
 
-/// Returns the octets that are written of the content of a dialogue portion, `None` if they are not those that are counted.
+/// Writes the content of a dialogue portion again. Returns `None` if the count of octets is not what `len_dialogue`
+/// gives.
 fn portion_again(alloc: Global, content: &[u8]) -> Option<Vec<u8>> {
     let mut writer = Counted::new(Vec::new(alloc));
     let dialogue = view_dialogue(Window::new(content)).ok()?;

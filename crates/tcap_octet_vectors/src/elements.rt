@@ -1,13 +1,13 @@
-//! Elements: what octets begin with, all at once and walked in pieces.
+//! Looks at elements: at the front of octets, and walked in pieces.
 
 use crate::octets::fault_of;
 use std::alloc::Global;
 use tcap_ber::{Outer, Walk, outer};
 
-/// Up to so many octets, elements are looked at at each octet, and walked in small pieces.
+/// The greatest count of octets for which an element is cut at each octet, and walked in small pieces.
 const SHORT: usize = 1_000;
 
-/// Returns whether each cut of the octets needs more of them, but no more than they are.
+/// Returns whether each proper prefix of the octets needs more octets, but no more than there are.
 pub(crate) fn needs_at_each(octets: &[u8]) -> bool {
     for count in 0..octets.len() {
         let Some(cut) = octets.get(..count) else {
@@ -24,8 +24,8 @@ pub(crate) fn needs_at_each(octets: &[u8]) -> bool {
     true
 }
 
-/// Returns whether a walk that takes the octets in pieces of this size, and no octets after each, answers as `outer` does of all
-/// that it took.
+/// Returns whether a walk over the octets, in pieces of this size with an empty piece after each, answers as `outer`
+/// does for the octets so far.
 fn is_walked(octets: &[u8], size: usize) -> bool {
     let mut walk = Walk::new();
     let mut count = 0_usize;
@@ -50,7 +50,8 @@ fn is_walked(octets: &[u8], size: usize) -> bool {
     octets.is_empty()
 }
 
-/// Returns whether the octets are walked so in pieces of several sizes, alone and with others after them.
+/// Returns whether the octets are walked like this in pieces of several sizes, alone and with other octets after
+/// them.
 pub(crate) fn is_walked_in_pieces(alloc: Global, octets: &[u8]) -> Option<bool> {
     let mut more = octets.to_vec(alloc).ok()?;
     more.extend_from_slice(&[0, 0, 0x30, 0x80, 0xFF, 0, 0])
@@ -64,7 +65,7 @@ pub(crate) fn is_walked_in_pieces(alloc: Global, octets: &[u8]) -> Option<bool> 
     Some(true)
 }
 
-/// Returns whether the octets begin with what is wanted: a whole element, which they are, a fault, or neither yet.
+/// Returns whether `outer` gives the answer of the row: a whole element of all octets, a fault, or a need for more.
 fn is_begun(octets: &[u8], wanted: &[&str]) -> Option<bool> {
     let found = outer(octets);
     match wanted {
@@ -81,7 +82,7 @@ fn is_begun(octets: &[u8], wanted: &[&str]) -> Option<bool> {
     }
 }
 
-/// Looks at a row of `elements`. Other octets after a whole element or a fault change nothing.
+/// Looks at a row of `elements`. Octets after a whole element or a fault must not change the answer.
 pub(crate) fn is_element(alloc: Global, octets: &[u8], wanted: &[&str]) -> Option<bool> {
     let mut more = octets.to_vec(alloc).ok()?;
     more.extend_from_slice(&[0, 0, 0x30, 0x80, 0xFF]).ok()?;

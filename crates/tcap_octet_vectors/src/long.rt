@@ -1,4 +1,4 @@
-//! Long records: those of the greatest count of entries and of more, and how far a reader is read.
+//! Looks at records with the greatest count of entries and more, and at how far a reader is read.
 
 use crate::octets::{fault_of, text_of};
 use std::alloc::Global;
@@ -7,13 +7,14 @@ use tcap_lines::run_show;
 use tcap_record::{Feeder, PIECE_LEN, read_record};
 use tcap_vectors::Failing;
 
-/// The count of octets that no writer reaches.
+/// A count of octets that no writer reaches.
 const NEVER: usize = 1_000_000_000;
 
-/// What is read of a record: the count of entries, the number and the place of the fault, and the count of octets that are left.
+/// The result of reading a record: the count of entries, the number and the place of the fault, and the count of
+/// octets left.
 type Reading = (Option<usize>, Option<(u8, u64)>, usize);
 
-/// Returns what `read_record` reads. It gives no entries of a faulty record.
+/// Returns the result of `read_record`, which gives no entries for a faulty record.
 fn read(alloc: Global, octets: &[u8]) -> Reading {
     let mut reader = Counted::new(octets);
     let answer = read_record(alloc, &mut reader);
@@ -28,7 +29,7 @@ fn read(alloc: Global, octets: &[u8]) -> Reading {
     }
 }
 
-/// Returns the count of the entries of a feeder that takes all octets at once, and its fault.
+/// Feeds all octets at once. Returns the count of entries that the feeder has then, and its fault.
 fn fed(alloc: Global, octets: &[u8]) -> (usize, Option<(u8, u64)>) {
     let mut feeder = Feeder::new(alloc);
     let fault = match feeder.feed(octets) {
@@ -48,8 +49,8 @@ fn fed(alloc: Global, octets: &[u8]) -> (usize, Option<(u8, u64)>) {
     (count, fault)
 }
 
-/// Shows a record to a writer that fails after so many octets. Returns the printed octets, the number of the status, and the count
-/// of octets that are left.
+/// Shows a record to a writer that fails after this many octets. Returns the printed octets, the number of the
+/// status, and the count of octets left.
 fn show(alloc: Global, octets: &[u8], after: usize) -> (Vec<u8>, Option<u8>, usize) {
     let mut reader = Counted::new(octets);
     let mut writer = Failing::new(Vec::new(alloc), after);
@@ -60,7 +61,7 @@ fn show(alloc: Global, octets: &[u8], after: usize) -> (Vec<u8>, Option<u8>, usi
     (writer.into_inner(), status, reader.into_inner().len())
 }
 
-/// Looks at a row of `long records`. Each entry has one line. If the writer fails at once, one piece is read.
+/// Looks at a row of `long records`. Each entry has one line. If the writer fails at once, only one piece is read.
 pub(crate) fn is_long_record(alloc: Global, octets: &[u8], columns: &[&str]) -> Option<bool> {
     let [count, last, number, place, left] = columns else {
         return None;

@@ -1,4 +1,4 @@
-//! Messages made by hand, from the words of a row.
+//! Makes messages by hand, from the words of a row.
 
 use crate::answers::{counted, encoded_again, is_answered};
 use crate::components::{Way, object_of, portion_of, small_of};
@@ -8,7 +8,7 @@ use tcap_msg::{AbortReason, Message, TransactionId};
 use tcap_parts::{Dialogue, Info, Portion, Source};
 use tcap_vectors::octets_of;
 
-/// Returns a message of this kind with these parts, `None` if it can't have them. It makes no Abort.
+/// Returns a message of this kind, which is no Abort, with these parts. Returns `None` if the kind can't have them.
 pub(crate) fn message_of(
     kind: &str,
     (otid, dtid): (Option<TransactionId>, Option<TransactionId>),
@@ -44,7 +44,7 @@ pub(crate) fn message_of(
     }
 }
 
-/// Returns the transaction ID of these digits, a dash for none.
+/// Reads a transaction ID from its digits; a dash is for none.
 fn id_of(alloc: Global, digits: &str) -> Option<Option<TransactionId>> {
     if digits == "-" {
         return Some(None);
@@ -52,7 +52,7 @@ fn id_of(alloc: Global, digits: &str) -> Option<Option<TransactionId>> {
     Some(Some(TransactionId::new(&octets_of(alloc, digits)?)?))
 }
 
-/// Returns the user information of these octets, a dash for none.
+/// Reads user information from its octets; a dash is for none.
 fn info_of(alloc: Global, octets: &str) -> Option<Option<Info>> {
     if octets == "-" {
         return Some(None);
@@ -60,8 +60,8 @@ fn info_of(alloc: Global, octets: &str) -> Option<Option<Info>> {
     Some(Some(Info::new(octets_of(alloc, octets)?)?))
 }
 
-/// Returns a dialogue response with this context and this user information; the words are its result, and the source and the number
-/// of its diagnostic.
+/// Returns a dialogue response with this context and user information. The words are its result, and the source and
+/// the number of its diagnostic.
 fn response_of(context: ObjectId, info: Option<Info>, words: &[&str]) -> Option<Dialogue> {
     let [result, source, number] = words else {
         return None;
@@ -81,7 +81,8 @@ fn response_of(context: ObjectId, info: Option<Info>, words: &[&str]) -> Option<
     })
 }
 
-/// Returns the PDU of these words: its kind, its application context name, its user information, and what this kind has.
+/// Reads a PDU from its words: its kind, its application context name, its user information, and the fields of its
+/// kind.
 fn pdu_of(alloc: Global, words: &[&str]) -> Option<Dialogue> {
     let [kind, context, info, others @ ..] = words else {
         return None;
@@ -99,7 +100,7 @@ fn pdu_of(alloc: Global, words: &[&str]) -> Option<Dialogue> {
     }
 }
 
-/// Returns the PDU of a column, lent and made again unless it is to be as it was made.
+/// Reads the PDU of a column. Unless the way is `Made`, it is made again from its view.
 fn dialogue_of(alloc: Global, column: &str, way: Way) -> Option<Dialogue> {
     let words: Vec<&str> = column.split(',').collect(alloc).ok()?;
     let dialogue = pdu_of(alloc, &words)?;
@@ -111,7 +112,7 @@ fn dialogue_of(alloc: Global, column: &str, way: Way) -> Option<Dialogue> {
     again.ok()
 }
 
-/// Returns the reason of an Abort, a cause or a PDU, lent and made again unless it is to be as it was made.
+/// Reads the reason of an Abort, a cause or a PDU. Unless the way is `Made`, it is made again from its view.
 fn reason_of(alloc: Global, column: &str, way: Way) -> Option<AbortReason> {
     let reason = match small_of(column) {
         Some(cause) => AbortReason::Cause(cause),
@@ -125,7 +126,7 @@ fn reason_of(alloc: Global, column: &str, way: Way) -> Option<AbortReason> {
     again.ok()
 }
 
-/// Makes the Abort of a row, and writes it.
+/// Makes the Abort of a row, and encodes it.
 fn abort_made(
     alloc: Global,
     dtid: TransactionId,
@@ -140,7 +141,7 @@ fn abort_made(
     counted(alloc, Message::Abort { dtid, reason })
 }
 
-/// Makes the message of a row, and writes it. The words are its dialogue portion and its components.
+/// Makes the message of a row, and encodes it. `words` are its dialogue portion and its components.
 fn made(
     alloc: Global,
     kind: &str,

@@ -1,6 +1,6 @@
-//! Test vectors of elements, parts, messages, records and printed lines, as data: the program reads rows on standard input, looks
-//! at each, prints the number of each line whose row does not hold or can't be read, and then how many rows there are. `stdin`
-//! begins with a description of its rows.
+//! Checks test vectors of elements, parts, messages, records and printed lines. The program reads rows on standard
+//! input, prints the number of each line whose row does not hold or can't be read, and then the count of rows.
+//! `stdin` begins with a description of its rows.
 #![tactic(auto)]
 
 mod answers;
@@ -23,7 +23,7 @@ use std::io;
 use std::process::ExitCode;
 use tcap_ber::{Counted, read_to_end};
 
-/// Looks at each row of the sheet. Prints the lines of those that do not hold, and the count of rows.
+/// Checks each row of the sheet. Prints the numbers of the lines whose row does not hold, and the count of rows.
 fn look(rt: &HostRuntime, sheet: &str) -> io::Result<()> {
     let mut command = "";
     let mut count = 0_usize;

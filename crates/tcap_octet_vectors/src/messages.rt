@@ -1,4 +1,4 @@
-//! Messages: read, shown, written, cut, edited and refused.
+//! Looks at messages: reads, shows, writes, cuts, edits and refuses them.
 
 use crate::answers::{encoded_again, is_answered, lent_again, lines_of, viewed};
 use crate::elements::{is_walked_in_pieces, needs_at_each};
@@ -8,8 +8,8 @@ use std::alloc::Global;
 use tcap_msg::{EncodeFault, MessageParts, decode, encode, view};
 use tcap_vectors::{Failing, VECTORS, octets_of};
 
-/// Returns whether these octets are written of the message: of the one that `decode` gives, of the one that a view of the octets
-/// lends, and of the one that the message itself lends.
+/// Returns whether `encode` writes these octets for the message, whether `decode` gives it, or it is made from the
+/// view of the octets or from its own view.
 fn is_written(alloc: Global, octets: &[u8], wanted: &[u8]) -> Option<bool> {
     let (of_view, of_lent) = lent_again(alloc, octets)?;
     Some(
@@ -19,7 +19,7 @@ fn is_written(alloc: Global, octets: &[u8], wanted: &[u8]) -> Option<bool> {
     )
 }
 
-/// Returns whether `encode` answers that the writer failed, and the writer took exactly `count` of the wanted octets.
+/// Returns whether `encode` reports that the writer failed after it took exactly the first `count` of these octets.
 fn fails_at(alloc: Global, octets: &[u8], wanted: &[u8], count: usize) -> Option<bool> {
     let (message, _) = decode(alloc, octets).ok()?;
     let mut writer = Failing::new(Vec::new(alloc), count);
@@ -29,8 +29,8 @@ fn fails_at(alloc: Global, octets: &[u8], wanted: &[u8], count: usize) -> Option
     Some(answer == Err(EncodeFault::Write) && wanted.get(..count) == Some(taken.as_slice()))
 }
 
-/// Returns whether each cut of the octets is refused as cut, at the count of its octets, and the writer of the wanted octets may fail
-/// at each count.
+/// Returns whether each proper prefix of the octets is refused as cut, at its end, and the writer of `wanted` may
+/// fail after each octet.
 fn is_cut_at_each(alloc: Global, octets: &[u8], wanted: &[u8]) -> Option<bool> {
     for count in 0..octets.len() {
         if !is_answered(alloc, octets.get(..count)?, Err((1, count as u64)))? {
@@ -45,7 +45,7 @@ fn is_cut_at_each(alloc: Global, octets: &[u8], wanted: &[u8]) -> Option<bool> {
     Some(true)
 }
 
-/// Looks at a row of `messages`. The octets are also read with others after them.
+/// Looks at a row of `messages`. The octets are also read with other octets after them.
 pub(crate) fn is_message(alloc: Global, octets: &[u8], wanted: &str, lines: &str) -> Option<bool> {
     let wanted = octets_of(alloc, wanted)?;
     let mut more = octets.to_vec(alloc).ok()?;
@@ -63,7 +63,7 @@ pub(crate) fn is_message(alloc: Global, octets: &[u8], wanted: &str, lines: &str
     )
 }
 
-/// Looks at a row of `vectors`. The padded vector is written as another one.
+/// Looks at a row of `vectors`. The padded vector is written as another vector.
 pub(crate) fn are_vectors(alloc: Global, wanted: &str) -> Option<bool> {
     let mut count = 0_usize;
     for vector in VECTORS.lines() {
@@ -110,8 +110,8 @@ pub(crate) fn is_refused(alloc: Global, octets: &[u8], fault: (u8, u64)) -> Opti
     Some(is_answered(alloc, octets, Err(fault))? && is_walked_in_pieces(alloc, octets)?)
 }
 
-/// Returns whether `view` and `decode` answer the same of the octets. If they are a message, what is written of it has to be the
-/// same again, with the same lines.
+/// Returns whether `view` and `decode` give the same answer. If it is a message, the octets that are written of it
+/// must give the same message again, with the same lines.
 fn is_same_again(alloc: Global, octets: &[u8]) -> Option<bool> {
     let answer = viewed(octets);
     if !is_answered(alloc, octets, answer)? {

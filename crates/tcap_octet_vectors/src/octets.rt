@@ -1,4 +1,4 @@
-//! The columns of rows: texts and faults.
+//! Reads the columns of rows: texts and faults.
 
 use std::alloc::Global;
 

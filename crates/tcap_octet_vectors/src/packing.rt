@@ -1,4 +1,4 @@
-//! Lines of hexadecimal digits that are packed by readers and writers that fail, and how far a reader is read.
+//! Looks at `pack` with readers and writers that fail, and at how far a reader is read.
 
 use crate::octets::text_of;
 use std::alloc::Global;

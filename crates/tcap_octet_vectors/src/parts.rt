@@ -1,4 +1,4 @@
-//! The parts of messages, read by the trait alone, from views of octets and from values.
+//! Looks at the parts of messages, read through the trait alone, from views and from values.
 
 use crate::answers::{encoded_again, written};
 use crate::made::message_of;
@@ -6,7 +6,7 @@ use std::alloc::Global;
 use tcap_msg::{AbortReason, Kind, Message, MessageParts, TransactionIdView, decode, view};
 use tcap_parts::{Component, Portion};
 
-/// Returns the digits of a transaction ID, a dash for none.
+/// Returns the digits of a transaction ID, or a dash for none.
 fn id_text(alloc: Global, id: Option<TransactionIdView>) -> Option<String> {
     match id {
         Some(id) => hex::encode(alloc, id.octets).ok(),
@@ -14,8 +14,8 @@ fn id_text(alloc: Global, id: Option<TransactionIdView>) -> Option<String> {
     }
 }
 
-/// Returns the parts of a message as rows give them: the kind, the originating and the destination transaction ID, the cause,
-/// whether there is a dialogue portion, and the count of components.
+/// Returns the parts of a message as a row gives them: the kind, the originating and the destination transaction ID,
+/// the cause, whether there is a dialogue portion, and the count of components.
 fn head_of<M: MessageParts>(alloc: Global, message: &M) -> Option<String> {
     let kind = message.kind();
     let otid = id_text(alloc, message.otid())?;
@@ -35,7 +35,7 @@ fn head_of<M: MessageParts>(alloc: Global, message: &M) -> Option<String> {
     }
 }
 
-/// Returns what is written of an Abort with the transaction ID and the reason of this one.
+/// Encodes an Abort with the transaction ID and the reason of this one.
 fn abort_again<M: MessageParts>(alloc: Global, message: &M) -> Option<Vec<u8>> {
     let dtid = message.dtid()?.to_transaction_id();
     let reason = match message.dialogue() {
@@ -48,7 +48,7 @@ fn abort_again<M: MessageParts>(alloc: Global, message: &M) -> Option<Vec<u8>> {
     written(alloc, Message::Abort { dtid, reason })
 }
 
-/// Returns what is written of a message with the parts of this one and these components.
+/// Encodes a message with the parts of this one and these components.
 fn made_again<M: MessageParts>(
     alloc: Global,
     message: &M,
@@ -79,7 +79,7 @@ fn made_again<M: MessageParts>(
     )
 }
 
-/// Returns what is written of a message with the parts of this one, its components taken in order or each by its index.
+/// Encodes a message with the parts of this one; its components are taken in order, or each by its index.
 fn made_of_parts<M: MessageParts>(
     alloc: Global,
     message: &M,
@@ -99,7 +99,7 @@ fn made_of_parts<M: MessageParts>(
     made_again(alloc, message, components)
 }
 
-/// Returns whether each way to take the parts of the message gives this head and writes these octets.
+/// Returns whether each way to take the parts of the message gives this head and these octets.
 fn is_made_of<M: MessageParts>(
     alloc: Global,
     message: &M,
@@ -114,7 +114,7 @@ fn is_made_of<M: MessageParts>(
     )
 }
 
-/// Returns whether the message as a value, and the view that it lends, give this head and write these octets.
+/// Returns whether the message as a value, and the view of that value, give this head and these octets.
 fn is_value_made_of(alloc: Global, octets: &[u8], head: &str, wanted: &[u8]) -> Option<bool> {
     let (message, _) = decode(alloc, octets).ok()?;
     let of_value = is_made_of(alloc, &message, head, wanted);
@@ -123,7 +123,7 @@ fn is_value_made_of(alloc: Global, octets: &[u8], head: &str, wanted: &[u8]) -> 
     Some(of_value? && of_view?)
 }
 
-/// Looks at a row of `parts`, read from a view of the octets and from a value.
+/// Looks at a row of `parts`, from a view of the octets and from a value.
 pub(crate) fn has_parts(alloc: Global, octets: &[u8], head: &str) -> Option<bool> {
     let wanted = encoded_again(alloc, octets)?;
     let (lent, _) = view(octets).ok()?;

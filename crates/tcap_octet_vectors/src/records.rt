@@ -1,4 +1,5 @@
-//! Records that arrive in pieces: by frames that hold one entry, and by a feeder that keeps the entries.
+//! Looks at records that arrive in pieces: with frames, which hold one entry, and with a feeder, which keeps the
+//! entries.
 
 use crate::answers::shown;
 use crate::octets::text_of;
@@ -11,7 +12,7 @@ use tcap_record::{
 };
 use tcap_vectors::{Failing, octets_of};
 
-/// Returns the lines of entries, which are dropped.
+/// Returns the lines of these entries.
 fn lines_of(alloc: Global, entries: Vec<Entry>) -> Option<Vec<u8>> {
     let record = Record { entries };
     let mut writer = Counted::new(Vec::new(alloc));
@@ -21,7 +22,7 @@ fn lines_of(alloc: Global, entries: Vec<Entry>) -> Option<Vec<u8>> {
     Some(writer.into_inner())
 }
 
-/// Takes all entries that a feeder keeps, at most so many.
+/// Takes all entries that a feeder keeps, of which there are at most `most`.
 fn take_all(feeder: &mut Feeder, entries: &mut Vec<Entry>, most: usize) -> Option<()> {
     for _ in 0..=most {
         let Some(entry) = feeder.take() else {
@@ -32,7 +33,7 @@ fn take_all(feeder: &mut Feeder, entries: &mut Vec<Entry>, most: usize) -> Optio
     None
 }
 
-/// Feeds the octets in pieces of this size until a fault, and takes entries after each piece if `is_taken`.
+/// Feeds the octets in pieces of `len` octets until a fault, and takes entries after each piece if `is_taken` is set.
 fn feed_pieces(
     feeder: &mut Feeder,
     entries: &mut Vec<Entry>,
@@ -52,7 +53,7 @@ fn feed_pieces(
     Some(feeder.finish())
 }
 
-/// Feeds a new feeder so. Returns the lines of the entries, and the fault.
+/// Feeds a new feeder in pieces of `len` octets. Returns the lines of the entries, and the fault.
 fn fed(alloc: Global, octets: &[u8], len: usize) -> Option<(Vec<u8>, Result<(), FeedFault>)> {
     let mut feeder = Feeder::new(alloc);
     let mut entries = Vec::new(alloc);
@@ -61,7 +62,7 @@ fn fed(alloc: Global, octets: &[u8], len: usize) -> Option<(Vec<u8>, Result<(), 
     Some((lines_of(alloc, entries)?, end?))
 }
 
-/// Feeds frames the octets in pieces of this size, and drops each entry. Returns the lines of the entries, and the fault.
+/// Feeds frames in pieces of `len` octets, and drops each entry. Returns the lines of the entries, and the fault.
 fn framed(
     alloc: Global,
     frames: &mut Frames,
@@ -86,7 +87,7 @@ fn framed(
     Some((text, frames.finish()))
 }
 
-/// Returns whether the octets, in pieces of this size, have these lines and end in this way, by a feeder and by frames.
+/// Returns whether a feeder and frames give these lines and this end for the octets in pieces of `len` octets.
 fn ends_with(
     alloc: Global,
     octets: &[u8],
@@ -101,8 +102,8 @@ fn ends_with(
     )
 }
 
-/// Returns whether a feeder and frames answer the fault of the octets, of a quiet mark and of no octets, and at the end after each,
-/// and frames have no entry at the front.
+/// Returns whether a feeder and frames report the fault again for the octets, a quiet mark and no octets, and at the
+/// end after each; and whether frames have no entry at the front.
 fn is_final(feeder: &mut Feeder, frames: &mut Frames, octets: &[u8], fault: FeedFault) -> bool {
     for more in [octets, &[0x51], &[]] {
         if feeder.feed(more) != Err(fault) || feeder.finish() != Err(fault) {
@@ -118,7 +119,8 @@ fn is_final(feeder: &mut Feeder, frames: &mut Frames, octets: &[u8], fault: Feed
     true
 }
 
-/// Returns whether a fault stays, in pieces of this size. The entries before it can still be taken from a feeder.
+/// Returns whether a fault stays after pieces of `len` octets, and whether the feeder still gives the entries before
+/// it.
 fn stays(
     alloc: Global,
     octets: &[u8],
@@ -147,7 +149,8 @@ fn stays(
     )
 }
 
-/// Returns whether the record with its first `count` octets has this fault, and is cut with one octet less, whatever the pieces.
+/// Returns whether the first `count` octets have this fault, and one octet less is a cut record, in pieces of each
+/// size.
 fn is_known_with(
     alloc: Global,
     octets: &[u8],
@@ -170,7 +173,7 @@ fn is_known_with(
     Some(true)
 }
 
-/// Returns whether `run_show` prints this text of a record, with the status that it has then.
+/// Returns whether `run_show` prints this text for a record, with the status that goes with the text.
 fn is_shown(alloc: Global, octets: &[u8], wanted: &str) -> Option<bool> {
     let (printed, status) = shown(alloc, octets)?;
     let wanted_status = if wanted.contains("FAULT") { 3 } else { 0 };
@@ -215,8 +218,8 @@ pub(crate) fn is_faulty_record(
     )
 }
 
-/// Returns whether the first `count` octets are a record, if an entry ends there, and else are a cut one. Their lines are also those
-/// of a reader that fails there.
+/// Returns whether the first `count` octets are a record if an entry ends there, and else a cut one. A reader that
+/// fails there must give the same lines.
 fn is_cut_at(alloc: Global, octets: &[u8], count: usize, is_end: bool) -> Option<bool> {
     let cut = octets.get(..count)?;
     let mut fault = FeedFault {
@@ -277,8 +280,8 @@ pub(crate) fn is_failing_writer(alloc: Global, octets: &[u8], wanted: &str) -> O
     Some(true)
 }
 
-/// Returns what frames hold: the count of octets that are held, of those that were taken, and of entries that were dropped; and the
-/// end and the place of the message at the front.
+/// Returns the state of frames: the counts of octets held, of octets taken and of entries dropped, and the end and
+/// the place of the message at the front.
 fn state_of(frames: &Frames) -> (usize, u64, usize, Option<(End, u64)>) {
     let front = match frames.front() {
         Some(
@@ -293,7 +296,8 @@ fn state_of(frames: &Frames) -> (usize, u64, usize, Option<(End, u64)>) {
     (frames.buffered(), frames.taken(), frames.dropped(), front)
 }
 
-/// Looks at a row of `held entries`. Frames take the first entry in two pieces, and the second one when the first one is dropped.
+/// Looks at a row of `held entries`. Frames take the first entry in two pieces, and the second entry after the first
+/// is dropped.
 pub(crate) fn is_held(alloc: Global, first: &[u8], second: &str) -> Option<bool> {
     let second = octets_of(alloc, second)?;
     let (len, others) = (first.len(), second.len());

@@ -1,4 +1,4 @@
-//! Values that are made of octets and lists, and the texts for debugging.
+//! Looks at values that are made from octets and lists, and at the texts for debugging.
 
 use std::alloc::Global;
 use tcap_ber::{CONTENT_LIMIT, DEPTH_LIMIT, ObjectId, Raw, Small};
@@ -7,7 +7,7 @@ use tcap_parts::{Info, InfoView, Portion, Source};
 use tcap_record::{BodyView, End, EntryView};
 use tcap_vectors::octets_of;
 
-/// Returns whether the octets are a transaction ID, if it is wanted, and the same one lent and made again.
+/// Returns whether the octets are a transaction ID as the row says, and its view makes the same ID again.
 fn is_id(octets: &[u8], wanted: &str) -> bool {
     match TransactionId::new(octets) {
         Some(id) => {
@@ -20,7 +20,7 @@ fn is_id(octets: &[u8], wanted: &str) -> bool {
     }
 }
 
-/// Returns whether the octets are one whole element, if it is wanted.
+/// Returns whether the octets are one whole element as the row says.
 fn is_raw(alloc: Global, octets: &[u8], wanted: &str) -> Option<bool> {
     Some(match Raw::new(alloc, octets).ok()? {
         Some(raw) => wanted == "yes" && raw.octets() == octets,
@@ -28,7 +28,8 @@ fn is_raw(alloc: Global, octets: &[u8], wanted: &str) -> Option<bool> {
     })
 }
 
-/// Returns whether the octets are an OBJECT IDENTIFIER, if it is wanted, and the same one copied, and not the one of the octet 2A.
+/// Returns whether the octets are an OBJECT IDENTIFIER as the row says, which equals its copy and not the one of the
+/// octet 2A.
 fn is_object(alloc: Global, octets: &[u8], wanted: &str) -> Option<bool> {
     let other = ObjectId::new(alloc, &[0x2A]).ok()??;
     Some(match ObjectId::new(alloc, octets).ok()? {
@@ -43,7 +44,8 @@ fn is_object(alloc: Global, octets: &[u8], wanted: &str) -> Option<bool> {
     })
 }
 
-/// Returns whether the octets are user information with so many EXTERNALs, owned and lent, and the same one made again.
+/// Returns whether the octets are user information with as many EXTERNALs as the row says, owned and lent, and its
+/// view makes the same value again.
 fn is_info(alloc: Global, octets: &[u8], wanted: &str) -> Option<bool> {
     let wanted = if wanted == "no" {
         None
@@ -67,8 +69,8 @@ fn is_info(alloc: Global, octets: &[u8], wanted: &str) -> Option<bool> {
     )
 }
 
-/// Returns whether the octet is a small number, if it is wanted, and the same one lent and made again. It makes two diagnostics, of
-/// the user and of the provider.
+/// Returns whether the octet is a small number as the row says, and its view makes the same number again, and two
+/// diagnostics, of the user and of the provider.
 fn is_small(octets: &[u8], wanted: &str) -> Option<bool> {
     let [number] = octets else {
         return None;
@@ -101,7 +103,7 @@ pub(crate) fn is_value(alloc: Global, kind: &str, octets: &str, wanted: &str) ->
     }
 }
 
-/// Returns whether two transaction IDs compare as their places do.
+/// Returns whether two transaction IDs compare as their places in the row do.
 fn compare_as(alloc: Global, ids: (&str, &str), places: (usize, usize)) -> Option<bool> {
     let id = TransactionId::new(&octets_of(alloc, ids.0)?)?;
     let other = TransactionId::new(&octets_of(alloc, ids.1)?)?;
@@ -126,7 +128,7 @@ pub(crate) fn are_in_order(alloc: Global, ids: &str) -> Option<bool> {
     Some(true)
 }
 
-/// Looks at a row of `limits`. A portion has at least one component.
+/// Looks at a row of `limits`, and at a portion without components, which is refused.
 pub(crate) fn are_limits(alloc: Global, depth: &str, content: &str) -> Option<bool> {
     Some(
         depth.parse::<usize>().ok()? == DEPTH_LIMIT

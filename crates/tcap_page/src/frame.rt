@@ -1,12 +1,12 @@
-//! The frame of a page, made of the files in page/. dev/page.py writes this file.
+//! The frame of a page. dev/page.py writes this file from the files in page/.
 
-/// What stands before the objects of JSON: the style, the script and the places that it fills.
+/// The frame of a page before its objects of JSON: the style, the script, and the elements that the script fills.
 pub const FRAME_HEAD: &str = r##"<!doctype html>
 <html lang="en">
 <head>
 <meta charset="utf-8">
 <meta name="viewport" content="width=device-width, initial-scale=1">
-<meta http-equiv="Content-Security-Policy" content="default-src 'none'; base-uri 'none'; form-action 'none'; img-src data:; style-src 'sha256-b0zgqhZQcEiID3cAmXbQG5ZjidSJJ+1gn/Cjo2FQ6OU='; script-src 'sha256-C5q5tPmQXMOLabQBVTDUfDjHXccMqR9OfvNs080TeKU='">
+<meta http-equiv="Content-Security-Policy" content="default-src 'none'; base-uri 'none'; form-action 'none'; img-src data:; style-src 'sha256-b0zgqhZQcEiID3cAmXbQG5ZjidSJJ+1gn/Cjo2FQ6OU='; script-src 'sha256-WYHptVLNLCwU150nCZdjofgZcxE4+jo/Du+v1BQl5KY='">
 <meta name="referrer" content="no-referrer">
 <title>TCAP dialogues, judged</title>
 <link rel="icon" href="data:,">
@@ -354,9 +354,10 @@ article > button { justify-self: start; }
 <script>
 "use strict";
 (() => {
-// Texts and elements. What comes of a trace is data: it is set as text, and never as markup.
+// Texts and elements. The content of a trace is data: it is set as text, and never as markup.
 
-// The kinds of fault, each with its words and where its rule stands; docs/VERDICTS.md says how each is found by hand.
+// The kinds of fault: the words for each, and the section of its rule. docs/VERDICTS.md says how to find each by
+// hand.
 const KINDS = {
   F1: ["Its octets are no message.", "Q.773, X.690"],
   F2: ["Its peer sent nothing from the destination ID that it could answer.", "Q.774 3.3"],
@@ -375,8 +376,8 @@ const KINDS = {
   F14: ["It is an Abort of the provider that answers nothing which is left.", "Q.774 3.3, abnormal procedures"],
   F15: ["It is a quiet mark, and a transaction of the end is surely open there.", "the bench's word that all was quiet"],
 };
-// The lines of a reason that say which fault of its kind it is, the most telling ones first; docs/TRACES.md has them, and
-// docs/FORMAT.md that of F8.
+// The lines of a reason that identify the fault within its kind, the most telling ones first. docs/TRACES.md has
+// them, and docs/FORMAT.md has the line of F8.
 const TELLING = {
   F1: [/^why: (.*)/],
   F6: [/^(the result names .*)/, /^(.* and a Unidirectional may invoke .*)/, /^(invocation -?\d+ in entry \d+ is of .*)/],
@@ -387,51 +388,51 @@ const ENDS = ["A", "B"];
 const VERDICTS = ["error", "fail", "inconc", "pass"];
 const SVG = "http://www.w3.org/2000/svg";
 
-// Controls, marks of direction, and what else shows nothing or moves its neighbours.
+// Control characters, direction marks, and other characters that are invisible or change their neighbours.
 const UNSEEN = /[\p{Cc}\p{Cf}\p{Zl}\p{Zp}]/gu;
 const LONG_NAME = 80;
 const LONG_TITLE = 1000;
 
-/** A text with the number of each character in it that is not seen, but for those that are kept. */
+/** Returns a text with each invisible character replaced by its number, except the characters in `kept`. */
 function seen(text, kept = "") {
   return text.replace(UNSEEN, (it) => (kept.includes(it) ? it : `\\u{${it.codePointAt(0).toString(16)}}`));
 }
 
-/** The beginning of a text that is too long. */
+/** Returns a text, cut if it is too long. */
 function cut(text, longest) {
   return text.length > longest ? `${text.slice(0, longest)}\u2026` : text;
 }
 
-/** A count with its word. */
+/** Returns a count with its word, in the plural unless the count is 1. */
 function counted(count, word) {
   return `${count.toLocaleString("en")} ${word}${count === 1 ? "" : "s"}`;
 }
 
-/** The words of a kind of fault, with where its rule stands. */
+/** Returns the words of a kind of fault, with the section of its rule. */
 function wordsOfKind(kind) {
   const [words, section] = KINDS[kind] ?? ["This page has no words for it.", kind];
   return `${words} (${section})`;
 }
 
-/** What of a reason tells which fault of its kind it is, in a line; nothing where no line does. */
+/** Returns, as one line, the lines of a reason that identify the fault within its kind; empty if there are none. */
 function tellingOf({kind, text}) {
   const lines = text.split("\n").map((it) => it.trim());
   return (TELLING[kind] ?? []).flatMap((form) => lines.map((it) => form.exec(it)?.[1])).filter((it) => it !== undefined).join("; ");
 }
 
-/** How often something is, in words, where it is more than once. */
+/** Returns in words how often something occurs, if it is more than once. */
 function often(count) {
   if (count < 2) return "";
   return count === 2 ? " (twice)" : ` (${count.toLocaleString("en")} times)`;
 }
 
-/** The line of an entry at fault, and the frame or frames that the comment above it names first, as far as there are such. */
+/** Returns the line of an entry at fault, and the frame or frames that its comment names first, if there are any. */
 function placeOfFault({line, comment}) {
   const frames = /\bframes? \d{1,15}\b(?: to \d{1,15}\b)?/i.exec(comment ?? "");
   return [line > 0 ? `line ${line}` : "", frames?.[0] ?? ""].filter((it) => it !== "").join(", ");
 }
 
-/** Sets attributes, leaves out those that are null, and appends children. */
+/** Sets the attributes that are not null, and appends the children. */
 function filled(made, attributes, children) {
   for (const [name, value] of Object.entries(attributes)) {
     if (value !== null) made.setAttribute(name, value);
@@ -440,42 +441,43 @@ function filled(made, attributes, children) {
   return made;
 }
 
-/** An element of HTML; a child that is a string becomes text. */
+/** Creates an HTML element. A child that is a string becomes text. */
 function make(tag, attributes, ...children) {
   return filled(document.createElement(tag), attributes, children);
 }
 
-/** An element of SVG. */
+/** Creates an SVG element. */
 function drawn(tag, attributes, ...children) {
   return filled(document.createElementNS(SVG, tag), attributes, children);
 }
 
-/** A name from a trace, cut where it is long; its title has more of it. */
+/** Returns a name from a trace, cut if it is long; its title has more of it. */
 function named(text, longest = LONG_NAME) {
   const all = seen(text);
   return make("bdi", {class: "name", title: all.length > longest ? cut(all, LONG_TITLE) : null}, cut(all, longest));
 }
 
-/** A text from a trace, which opens; null where it is not long. */
+/** Returns an element that opens to show a text from a trace, or null if the text is short. */
 function opening(words, text) {
   const all = seen(text);
   if (all.length <= LONG_NAME) return null;
   return make("details", {class: "long"}, make("summary", {}, words), make("bdi", {class: "name"}, all));
 }
 
-/** A verdict, as a word in a frame of its own. */
+/** Returns a verdict as a word in a frame. */
 function badge(verdict) {
   return make("span", {class: `badge ${verdict}`}, verdict);
 }
 
-// The report: what the lines say that stand in the page. A run stands in a page by itself.
+// The report: the lines of JSON in the page. A run is alone in its page.
 
-// In a text of JSON a quote stands behind a backslash, so these octets are a key and the beginning of its list.
+// In a JSON text a quote in a string comes after a backslash, so these characters are always a key and the start of
+// its list.
 const MESSAGES = ',"messages":[';
-// What is said of dialogues that pass though an end did not hear all, or did not answer.
+// The words for dialogues that pass although an end did not hear everything or did not answer.
 const UNHEARD = "unheard or unanswered";
 
-/** The object of a line, null where it is none. */
+/** Returns the object in a line, or null if there is none. */
 function objectOf(line) {
   try {
     const found = JSON.parse(line);
@@ -485,28 +487,28 @@ function objectOf(line) {
   }
 }
 
-/** What a line says before its messages: they are read when they are asked for. */
+/** Returns the object in a line without its messages, which are read when they are needed. */
 function headOf(line) {
   const at = line.indexOf(MESSAGES);
   return objectOf(at < 0 ? line : `${line.slice(0, at)}}`);
 }
 
-/** Whether it is a trace; else it is a dialogue. */
+/** Returns whether an item is a trace; otherwise it is a dialogue. */
 function isTrace(item) {
   return item.line === undefined;
 }
 
-/** Whether a trace is an error by itself, and not by one of its dialogues. */
+/** Returns whether a trace is itself in error, and not only one of its dialogues. */
 function isInError({head}) {
   return head.verdict === "error" && head.text !== undefined;
 }
 
-/** The ends of a dialogue that a kind of fault is said of, by their entries at fault. */
+/** Returns the ends at fault of a dialogue, in the order of their entries at fault. */
 function blamedEnds(head) {
   return ENDS.filter((end) => head[end]?.kind !== undefined).sort((one, other) => head[one].entry - head[other].entry);
 }
 
-/** The trace of what is read next: the object of a trace stands behind its dialogues. */
+/** Returns the trace of the next object. The object of a trace comes after those of its dialogues. */
 function openTrace(report, name) {
   const last = report.traces.at(-1);
   if (last !== undefined && last.head.verdict === null) return last;
@@ -514,7 +516,7 @@ function openTrace(report, name) {
   return report.traces.at(-1);
 }
 
-/** Adds what a line says. */
+/** Adds the object in a line to the report. */
 function addLine(report, line) {
   const head = headOf(line);
   if (head === null) {
@@ -531,14 +533,14 @@ function addLine(report, line) {
   }
 }
 
-/** Reads a report as far as it has come. */
+/** A reader of a report that is still arriving. */
 class Reader {
   constructor() {
     this.report = {dialogues: [], traces: [], total: null, run: null, unread: 0, isRead: false};
     this.from = 0;
   }
 
-  /** Adds the lines that have come whole. */
+  /** Adds the lines that have arrived whole. */
   take(text) {
     for (let to = text.indexOf("\n", this.from); to >= 0; to = text.indexOf("\n", this.from)) {
       this.add(text.slice(this.from, to));
@@ -546,33 +548,33 @@ class Reader {
     }
   }
 
-  /** Adds what is left, when no more comes. */
+  /** Adds the rest after everything has arrived. */
   close(text) {
     this.take(text);
     this.add(text.slice(this.from));
     this.report.isRead = true;
   }
 
-  /** Adds a line, where it has something. */
+  /** Adds a line, unless it is empty. */
   add(line) {
     if (line !== "") addLine(this.report, line);
   }
 }
 
-/** The messages of a dialogue, and how many are left out; null where they can't be read. */
+/** Returns the messages of a dialogue and the count of those left out, or null if they can't be read. */
 function messagesOf(dialogue) {
   const whole = objectOf(dialogue.line);
   return whole && {messages: whole.messages ?? [], leftOut: whole.left_out ?? 0};
 }
 
-/** What the reasons of a dialogue say. */
+/** Returns the texts of the reasons of a dialogue. */
 function reasonsIn(head) {
   const ends = ENDS.map((end) => head[end]).filter((it) => it !== undefined);
   return [head.text ?? "", ...ends.flatMap(({text, doubt}) => [text ?? "", doubt ?? ""])];
 }
 
-/** What is searched of a dialogue: its IDs, its lines, and in lower case the kinds of fault, the names of its trace, its table and its
- * operations, the comments, and the reasons. */
+/** Returns the searched texts of a dialogue: its IDs and its lines, and in lower case its kinds of fault, the names
+ * of its trace, its table and its operations, the comments, and the reasons. */
 function wordsOf(dialogue) {
   if (dialogue.words === null) {
     const {head, blamed} = dialogue, messages = messagesOf(dialogue)?.messages ?? [];
@@ -586,12 +588,12 @@ function wordsOf(dialogue) {
   return dialogue.words;
 }
 
-/** No counts of verdicts. */
+/** Returns a count of 0 for each verdict. */
 function noCounts() {
   return Object.fromEntries(VERDICTS.map((it) => [it, 0]));
 }
 
-/** The sums: those at the end, or else of the traces that are there. */
+/** Returns the counts at the end of the report, or else those of the traces that have arrived. */
 function sumsOf(report) {
   if (report.total !== null) return report.total.total;
   const sums = {traces: noCounts(), dialogues: noCounts(), messages: 0, unheard: 0};
@@ -604,15 +606,15 @@ function sumsOf(report) {
   return sums;
 }
 
-// A list of which only the rows in view stand in the page.
+// A list that keeps only the rows in view in the page.
 
 // The height of a row in pixels; frame.css has the same.
 const ROW = 62;
-// How many rows are drawn above and below those in view.
+// The number of rows that are drawn above and below those in view.
 const BESIDE = 8;
 
-/** A listbox. `show.row` makes what a row has, `show.chosen` is told of what is chosen, `show.clicked` of a click on it, and
- * `show.entered` of Enter. */
+/** A listbox. `show.row` returns the content of a row. `show.chosen` is called when an item is chosen, `show.clicked`
+ * when it is clicked, and `show.entered` on Enter. */
 class RowList {
   constructor(box, show) {
     Object.assign(this, {box, show, items: [], at: -1});
@@ -624,7 +626,7 @@ class RowList {
     new ResizeObserver(() => this.draw()).observe(box);
   }
 
-  /** Lists items, of which that at a place is chosen; none where it is -1. */
+  /** Lists items. The item at this place is chosen, or none if the place is -1. */
   list(items, at) {
     const isMoved = at !== this.at;
     Object.assign(this, {items, at});
@@ -644,7 +646,7 @@ class RowList {
     else this.box.setAttribute("aria-activedescendant", `${this.box.id}-${this.at}`);
   }
 
-  /** The row at a place. */
+  /** Returns the row at a place. */
   rowAt(at) {
     const row = make("div", {
       id: `${this.box.id}-${at}`, class: "row", role: "option", "data-at": at,
@@ -661,7 +663,7 @@ class RowList {
     this.show.chosen(this.items[at]);
   }
 
-  /** Brings what is chosen into view, or else the first row. */
+  /** Scrolls the chosen row into view, or the first row if none is chosen. */
   reveal() {
     const {box} = this, at = Math.max(0, this.at);
     if (at * ROW < box.scrollTop) box.scrollTop = at * ROW;
@@ -669,7 +671,7 @@ class RowList {
     this.draw();
   }
 
-  /** Chooses the row that is clicked. */
+  /** Chooses the row that was clicked. */
   clicked(event) {
     const row = event.target.closest(".row");
     if (row === null) return;
@@ -677,7 +679,7 @@ class RowList {
     this.show.clicked();
   }
 
-  /** Chooses by a key. */
+  /** Chooses a row by a key. */
   pressed(event) {
     const {at} = this, last = this.items.length - 1;
     if (last < 0 || event.ctrlKey || event.altKey || event.metaKey) return;
@@ -690,19 +692,20 @@ class RowList {
   }
 }
 
-// What is listed: the filters, and the search.
+// The filters and the search, which decide what is listed.
 
-// How many traces the filter of traces has; others are chosen in their list.
+// The most traces in the filter of traces; others can be chosen in the list of traces.
 const MOST_OPTIONS = 1000;
 
-/** How often each value stands in a list. */
+/** Returns how often each value occurs in a list. */
 function tally(values) {
   const counts = new Map();
   for (const value of values) counts.set(value, (counts.get(value) ?? 0) + 1);
   return counts;
 }
 
-/** Fills a choice: any, and one option for each pair of a value, or null, and its words. What was chosen stays. */
+/** Fills a choice with `any` and an option for each pair of a value and words; null makes a disabled option. Keeps
+ * the choice made. */
 function fillChoice(choice, options) {
   const {value} = choice;
   const made = options.map(([it, words]) => make("option", {value: it, disabled: it === null ? "" : null}, words));
@@ -710,14 +713,14 @@ function fillChoice(choice, options) {
   choice.value = value;
 }
 
-/** The options of kinds, each with its count and its sentence. */
+/** Returns the options for kinds of fault, each with its count and its sentence. */
 function kindOptions(dialogues) {
   const counts = tally(dialogues.flatMap(({head, blamed}) => [...new Set(blamed.map((end) => head[end].kind))]));
   const known = Object.keys(KINDS).filter((kind) => counts.has(kind));
   return known.map((kind) => [kind, `${kind} (${counts.get(kind)}): ${KINDS[kind][0]}`]);
 }
 
-/** The options of tables. A value has a letter before the name, since a name may be empty. */
+/** Returns the options for tables. A sign comes before the name in each value, since a name may be empty. */
 function tableOptions(dialogues) {
   const counts = [...tally(dialogues.map(({head}) => head.table))];
   const options = counts.map(([name, count]) =>
@@ -725,7 +728,7 @@ function tableOptions(dialogues) {
   return options.sort((one, other) => (one[1] < other[1] ? -1 : 1));
 }
 
-/** The options of the first traces that have a listed dialogue, and how many others there are. */
+/** Returns the options for the first traces with dialogues in the report, and an option that counts the others. */
 function traceOptions(report) {
   const counts = [...tally(report.dialogues.map((it) => it.trace))], others = counts.length - MOST_OPTIONS;
   const options = counts.slice(0, MOST_OPTIONS).map(([number, count]) =>
@@ -733,7 +736,7 @@ function traceOptions(report) {
   return others > 0 ? [...options, [null, `${others.toLocaleString("en")} more in the list of traces`]] : options;
 }
 
-/** Chooses a trace, which may be none of the first. */
+/** Chooses a trace, and adds an option for it if there is none. */
 function chooseTrace(form, {number, head}) {
   const choice = form.elements.trace, value = String(number);
   if ([...choice.options].every((it) => it.value !== value)) {
@@ -742,7 +745,7 @@ function chooseTrace(form, {number, head}) {
   choice.value = value;
 }
 
-/** Fills the filters with what the report has. */
+/** Fills the filters with the values in the report. */
 function fillFilters(form, report) {
   const {dialogues} = report;
   const verdicts = tally([...report.traces.filter(isInError), ...dialogues].map(({head}) => head.verdict));
@@ -756,9 +759,10 @@ function fillFilters(form, report) {
   fillChoice(trace, traceOptions(report));
 }
 
-/** A term of the search: `part`, of an ID or a name; `line`, its number, or null; `told`, whether comments have it; and `isWord`, whether
- * it may be one of a reason. In comments a number is no part of a longer one, since most of these are times; in reasons it may be one
- * of any thing, so that they are not asked. */
+/** Returns a term of the search. `part` is looked for in IDs, names and kinds; `line` is a line number, or null;
+ * `told` tests the comments; `isWord` is whether reasons are searched too. In comments a number must not be part of a
+ * longer one, since most of those are times. In reasons a number can mean anything, so they are not searched for
+ * numbers. */
 function termOf(part) {
   const [, name, digits] = /^(?:(line|frame)\s+)?([1-9]\d*)$/.exec(part) ?? [];
   if (digits === undefined) return {part, line: null, told: (comments) => comments.includes(part), isWord: !/^\d*$/.test(part)};
@@ -767,31 +771,31 @@ function termOf(part) {
   return {part, line: name === "frame" ? null : Number(digits), told, isWord: false};
 }
 
-/** What the filters ask for. */
+/** Returns the values of the filters and the terms of the search. */
 function askedOf(form) {
   const {verdict, end, kind, table, trace, words} = Object.fromEntries(new FormData(form));
   const terms = words.toLowerCase().match(/(?:line|frame)\s+\d+(?!\S)|\S+/g) ?? [];
   return {verdict, end, kind, table, trace, terms: terms.map(termOf)};
 }
 
-/** Whether an end at fault of a dialogue is one that is asked for, by a kind that is asked for. */
+/** Returns whether an end at fault of a dialogue and its kind are among those that the filters ask for. */
 function isBlamedSo({head, blamed}, {end, kind}) {
   if (end === "" && kind === "") return true;
   return blamed.some((it) => (end === "" || it === end) && (kind === "" || head[it].kind === kind));
 }
 
-/** Whether what is searched has a term. */
+/** Returns whether the searched texts have a term. */
 function hasTerm({ids, lines, kinds, names, comments, reasons}, {part, line, told, isWord}) {
   return names.includes(part) || ids.some((id) => id.includes(part)) || lines.includes(line) || told(comments)
     || kinds.includes(part) || (isWord && reasons.includes(part));
 }
 
-/** Whether a dialogue has each term. */
+/** Returns whether a dialogue has each term. */
 function hasTerms(dialogue, terms) {
   return terms.length === 0 || terms.every((it) => hasTerm(wordsOf(dialogue), it));
 }
 
-/** Whether a dialogue is listed. */
+/** Returns whether a dialogue is listed. */
 function isListed(dialogue, asked) {
   const {head, trace} = dialogue;
   return (asked.verdict === "" || head.verdict === asked.verdict) && (asked.trace === "" || String(trace) === asked.trace)
@@ -799,7 +803,7 @@ function isListed(dialogue, asked) {
     && isBlamedSo(dialogue, asked) && hasTerms(dialogue, asked.terms);
 }
 
-/** Whether a trace is listed by itself: where nothing is asked that only a dialogue has. */
+/** Returns whether a trace is listed for itself: the filters must not ask for anything that only a dialogue has. */
 function isTraceListed({head, number}, asked) {
   const reasons = [head.text ?? "", head.hint ?? "", head.unheard > 0 ? UNHEARD : ""].join("\n").toLowerCase();
   const words = {ids: [], lines: [head.line], kinds: [], names: head.trace.toLowerCase(), comments: "", reasons};
@@ -807,8 +811,8 @@ function isTraceListed({head, number}, asked) {
     && (asked.verdict === "" || head.verdict === asked.verdict) && asked.terms.every((it) => hasTerm(words, it));
 }
 
-/** The dialogues that are listed; `inError`, the traces that are listed before them since they are errors by themselves; `rows`, both;
- * and the traces in their own list: those by themselves, and those of which a dialogue is. */
+/** Returns the listed `dialogues`; `inError`, the traces that are themselves in error, which are listed before them;
+ * `rows`, both of these; and `traces`, the list of traces, which are listed for themselves or for their dialogues. */
 function listed(report, asked) {
   const dialogues = report.dialogues.filter((it) => isListed(it, asked));
   const having = new Set(dialogues.map((it) => it.trace)), alone = report.traces.filter((it) => isTraceListed(it, asked));
@@ -817,37 +821,40 @@ function listed(report, asked) {
   return {dialogues, inError, rows: [...inError, ...dialogues], traces};
 }
 
-// The ladder: two lifelines, and a step for each message, from the top down.
+// The ladder: two lifelines, with a step for each message, from the top down.
 //
-// A step has `number`, its place in the ladder; `label`, the number that is seen; `entry`, that by which a button leads to it, or
-// null; `from`, the end that sends it, or null, and then `at`, the end where it happens, if it is one; the texts `title`, `ids`,
-// `more` and `place`; `parts`, texts in lines of their own; `tags`, elements behind its title; `isMarked`, by which mark, where it has
-// one, `fault` or `doubtful`; `arrow`; `way`, the words for it, where they are others; and `detail`, which makes what a click opens. A
-// join is a line beside the ladder: `end`, at whose side it is drawn; `by`, a set of the numbers that it ties; and `spans`, the first
-// and the last number of each of its pieces. One that ties the step at fault, which is open at once, to those that show it has `kind`;
-// `isDoubtful`; `at`, the number of that step; and `part`, that of its part at fault, or null; its span is that of what it ties.
+// A step has these fields: `number`, its place in the ladder; `label`, the number that is shown; `entry`, the entry
+// that buttons lead to, or null; `from`, the end that sends it, or null; `at`, if `from` is null, the end where it
+// happens, if there is one; the texts `title`, `ids`, `more` and `place`; `parts`, texts on separate lines; `tags`,
+// elements after its title; `isMarked`, its mark, if it has one: `fault` or `doubtful`; `arrow`; `way`, the words for
+// the arrow, if they are not the usual ones; and `detail`, a function that makes what a click opens.
+//
+// A join is a line next to the ladder: `end` is the side where it is drawn, `by` the set of numbers that it ties, and
+// `spans` the first and the last number of each of its pieces. A join for a fault ties the step at fault, which is
+// open from the start, to the steps that show the fault. It has `kind`; `isDoubtful`; `at`, the number of the step at
+// fault; and `part`, the index of its part at fault, or null. It spans everything that it ties.
 
-// How many parts of a step are drawn.
+// The most parts of a step that are drawn.
 const MOST_PARTS = 12;
-// An arrow, from the left to the right: where it begins and ends, in parts of a hundred, and its tip, which may be a cross.
+// An arrow from left to right: where it begins and ends, in percent of the width, and its tip, which may be a cross.
 const WHOLE = {from: 0, to: 100, tip: "head"};
 const TIPS = {head: "M0 6 L-11 1.5 V10.5 Z", cross: "M-5 1 L5 11 M-5 11 L5 1"};
 
-/** An arrow; frame.css turns that of B. */
+/** Returns an arrow; frame.css turns the arrows of B. */
 function arrowView({from, to, tip, isDotted}) {
   const end = drawn("svg", {x: `${to}%`, y: "0", overflow: "visible"}, drawn("path", {class: tip, d: TIPS[tip]}));
   return drawn("svg", {class: isDotted ? "arrow dotted" : "arrow", height: "12", "aria-hidden": "true"},
     drawn("line", {x1: `${from}%`, y1: "6", x2: `${to}%`, y2: "6"}), end);
 }
 
-/** What a join makes of a step: at fault, tied by it, passed by its line, or nothing. */
+/** Returns the role of a step in a join: at fault, shown as evidence, passed by its line, or none. */
 function partIn(join, number) {
   if (!join.spans.some(([first, last]) => first <= number && number <= last)) return "";
   if (number === join.at) return "fault";
   return join.by.has(number) ? "shows" : "passed";
 }
 
-/** A piece of a join's line beside a step. */
+/** Returns a piece of a join's line next to a step. */
 function lane(join, number, side) {
   const classes = ["lane", side];
   const part = join === undefined ? "" : partIn(join, number);
@@ -861,19 +868,20 @@ function lane(join, number, side) {
   return make("span", {class: classes.join(" "), "aria-hidden": "true"});
 }
 
-/** Whether what a join says of a step at fault is in doubt, as far as any says so. */
+/** Returns whether all joins that have a step at fault are in doubt. */
 function isInDoubt(joins, number) {
   const found = joins.filter((it) => it.at === number);
   return found.length > 0 && found.every((it) => it.isDoubtful === true);
 }
 
-/** The mark of what a join says is at fault: where that is inconclusive, it is in doubt. */
+/** Returns the mark of what a join has at fault, between two texts. If the join is inconclusive, the mark says "in
+ * doubt". */
 function faultMark(join, before, behind) {
   const [kind, words] = join.isDoubtful ? ["doubtful", "in doubt"] : ["fault", "at fault"];
   return make("strong", {class: `mark ${kind}`}, `${before}${words}${behind}`);
 }
 
-/** The marks of what the joins make of a step. */
+/** Returns the marks that the joins give to a step. */
 function marks(joins, number) {
   const found = [];
   for (const join of joins.filter((it) => it.kind !== undefined)) {
@@ -883,14 +891,14 @@ function marks(joins, number) {
   return found;
 }
 
-/** A part of a step, which a join may say is at fault. */
+/** Returns a part of a step. `join` is the join that has it at fault, if there is one. */
 function partView(part, join) {
   const words = cut(seen(part), 2 * LONG_NAME);
   if (join === undefined) return make("span", {class: "part"}, words);
   return make("span", {class: "part"}, make("u", {}, words), " ", faultMark(join, "", ""));
 }
 
-/** The first parts of a step and the one at fault, and how many others there are. */
+/** Returns the first parts of a step and the one at fault, and the count of the others. */
 function partsOf({parts, number}, joins) {
   const views = parts.flatMap((it, at) => {
     const join = joins.find((one) => one.at === number && one.part === at);
@@ -900,7 +908,7 @@ function partsOf({parts, number}, joins) {
   return others > 0 ? [...views, make("span", {class: "part"}, `and ${counted(others, "other")}`)] : views;
 }
 
-/** What is said of a step: beside its number, and below. */
+/** Returns the lines of a step: its number with its title and marks, and its parts. */
 function sayings(step, joins) {
   const number = make("span", {class: "number"}, step.label);
   const first = make("span", {class: "first"}, number, make("b", {}, step.title), make("code", {}, step.ids),
@@ -908,12 +916,12 @@ function sayings(step, joins) {
   return [first, ...partsOf(step, joins)];
 }
 
-/** The place of a step in its trace. */
+/** Returns the place of a step in its trace. */
 function placed(step) {
   return make("span", {class: "place"}, named(step.place, 2 * LONG_NAME));
 }
 
-/** Opens what a step hides, or closes it. */
+/** Opens or closes the detail of a step. */
 function toggle(button, step) {
   const opens = button.getAttribute("aria-expanded") !== "true";
   button.setAttribute("aria-expanded", String(opens));
@@ -921,7 +929,7 @@ function toggle(button, step) {
   else button.nextElementSibling.remove();
 }
 
-/** A step between the lifelines: a message with its arrow, or what no end sends. */
+/** Returns a step between the lifelines: a message with its arrow, or a text for a step that no end sends. */
 function between(step, joins) {
   const inner = sayings(step, joins);
   if (step.from === null) {
@@ -936,13 +944,13 @@ function between(step, joins) {
   return made;
 }
 
-/** A row between the pieces of the joins' lines. */
+/** Returns a row, with a piece of a join's line on each side. */
 function row(attributes, number, joins, inner) {
   const [left, right] = ["A", "B"].map((end) => joins.find((it) => it.end === end));
   return make("li", attributes, lane(left, number, "left"), inner, lane(right, number, "right"));
 }
 
-/** The row of a step. */
+/** Returns the row of a step. */
 function rung(step, joins) {
   const isFault = step.isMarked !== undefined || joins.some((it) => it.at === step.number);
   const isDoubtful = isInDoubt(joins, step.number) || step.isMarked === "doubtful";
@@ -950,20 +958,22 @@ function rung(step, joins) {
   return row({class: classes, "data-entry": step.entry}, step.number, joins, between(step, joins));
 }
 
-/** A row for steps that are not listed. */
+/** Returns a row for entries that are not listed. */
 function gap(from, to, joins) {
   const which = to === from ? `Entry ${from} is` : `Entries ${from} to ${to} are`;
   return row({class: "step gap"}, to, joins, make("div", {class: "between still"}, `${which} not listed.`));
 }
 
-/** A join with the numbers between which its line goes: of the listed steps that it ties, where it has no others. */
+/** Returns a join with the numbers that its line spans: those given, or else from the first listed step that it ties
+ * to the last. */
 function spanned(join, steps) {
   if (join.spans !== undefined) return join;
   const tied = steps.map((it) => it.number).filter((it) => it === join.at || join.by.has(it));
   return {...join, spans: tied.length > 0 ? [[tied[0], tied.at(-1)]] : []};
 }
 
-/** The ladder of steps, of so many as `count`, by its name. `heads` has the words above each lifeline. */
+/** Returns the ladder with this name. `count` is the number of all steps, and `heads` has the words above each
+ * lifeline. */
 function ladder(name, heads, steps, given, count) {
   const joins = given.map((it) => spanned(it, steps));
   const rows = [];
@@ -978,16 +988,16 @@ function ladder(name, heads, steps, given, count) {
   return make("div", {class: "ladder"}, top, make("ol", {"aria-label": name}, ...rows));
 }
 
-// The components of a message, in few words: what the report says of each, and of its line in what `show` prints what is not there.
+// The components of a message, in few words: from the report, and for the rest from their lines in `show`.
 
-// The components of which one answers the other: an Invoke has an invoke ID and its operation, an answer the ID alone.
+// The components of which one answers the other: an Invoke has an invoke ID and its operation, an answer only the ID.
 const INVOKE = /^Invoke (-?\d+) (.*)$/s;
 const ANSWER = /^(?:ReturnResultLast|ReturnResultNotLast|ReturnError) (-?\d+)$/;
-// What a reason says of the operation that a Return Result names.
+// The line of a reason that gives the operation which a Return Result names.
 const NAMED = /^ *the result names (.*)$/m;
-// What the line of a component has behind its invoke ID.
+// The fields after the invoke ID in the line of a component.
 const FIELD = / (linked|op|error|general|invoke|result)=(?:g:)?(\S*)/g;
-// The problems of a Reject, by the field that has their numbers (Q.773 4.2.2).
+// The problems of a Reject in the order of their numbers (Q.773 4.2.2), by the field that has the number.
 const PROBLEMS = {
   general: ["general problem", ["unrecognizedComponent", "mistypedComponent", "badlyStructuredComponent"]],
   invoke: ["invoke problem", ["duplicateInvokeID", "unrecognizedOperation", "mistypedParameter", "resourceLimitation",
@@ -997,7 +1007,7 @@ const PROBLEMS = {
     "mistypedParameter"]],
 };
 
-/** The fields of the components of a message, from the lines that `show` prints below that of the message. */
+/** Returns the fields of the components of a message, from the lines of `show` after the first. */
 function fieldsOf(show) {
   return show.split("\n").slice(1).map((line) => {
     const [head] = line.split(" parameter=");
@@ -1005,19 +1015,20 @@ function fieldsOf(show) {
   });
 }
 
-/** The code of an operation, which stands behind its name where it has one. */
+/** Returns the code of an operation, which comes after its name if it has one. */
 function codeOf(operation) {
   return operation.split(" ").at(-1);
 }
 
-/** The names of operations with their codes, by the codes: those that messages invoke, and those that reasons say a result names. */
+/** Returns operations with their names, by their codes: those that messages invoke, and those that results name, as
+ * reasons report. */
 function operationsIn(messages, reasons = []) {
   const invoked = messages.flatMap((it) => it.components ?? []).map((it) => INVOKE.exec(it)?.[2]);
   const named = reasons.map((it) => NAMED.exec(it)?.[1]);
   return new Map([...invoked, ...named].filter((it) => it !== undefined).map((it) => [codeOf(it), it]));
 }
 
-/** The problem of a Reject. */
+/** Returns the problem of a Reject in words. */
 function problemIn(fields) {
   const [name] = Object.keys(PROBLEMS).filter((it) => it in fields);
   if (name === undefined) return "";
@@ -1025,13 +1036,14 @@ function problemIn(fields) {
   return ` with ${words} ${fields[name]}${problem === undefined ? "" : `, ${problem}`}`;
 }
 
-/** What a Return Result names, where that is not the operation that it answers. */
+/** Returns the operation that a Return Result names, in words, if it is not the operation that the result answers. */
 function namedIn({op}, answered, operations) {
   if (op === undefined || (answered !== null && codeOf(answered) === op)) return "";
   return `${answered === null ? "" : ", but"} names ${operations.get(op) ?? op}`;
 }
 
-/** A component: `fields` are those of its line, `answered` is the operation that it answers, or null. */
+/** Returns a component in words. `fields` are those of its line, and `answered` is the operation that it answers, or
+ * null. */
 function partWords(part, fields, answered, operations) {
   const [kind] = part.split(" "), answers = answered === null ? "" : ` answers ${answered}`;
   if (kind === "Invoke") return fields.linked === undefined ? part : `${part} linked to ${fields.linked}`;
@@ -1040,20 +1052,21 @@ function partWords(part, fields, answered, operations) {
   return part + answers + namedIn(fields, answered, operations);
 }
 
-/** The components of a message. */
+/** Returns the components of a message in words. */
 function partsIn({components, answered, show}, operations) {
   const fields = fieldsOf(show ?? "");
   return (components ?? []).map((it, at) => partWords(it, fields[at] ?? {}, answered?.[at] ?? null, operations));
 }
 
-/** The operation that a component answers, where that is sure; else null. */
+/** Returns the operation that a component answers, or null if that is uncertain. */
 function answeredBy(part, {end, dtid}, invokes) {
   const found = invokes.get(`${otherEnd(end)} ${ANSWER.exec(part)?.[1]}`) ?? null;
   return found !== null && found.otid === dtid ? found.operation : null;
 }
 
-/** Messages, of which the answers have their operations. One is sure where the other end sent but one Invoke of its ID before, from
- * the transaction ID to which the answer goes, and where no entry before it is left out or can't be read. */
+/** Adds to each message the operations that its components answer. An operation is certain if the other end sent
+ * exactly one Invoke with its ID before, from the transaction ID that the answer goes to, and no earlier entry is
+ * left out or unreadable. */
 function withOperations(messages) {
   const invokes = new Map();
   let isSure = true;
@@ -1070,12 +1083,12 @@ function withOperations(messages) {
   });
 }
 
-// What is shown of one dialogue, and of one trace.
+// Views of one dialogue and of one trace.
 
 const OCTETS_IN_ROW = 16;
 const KEPT = "\n";
 
-/** Octets, 16 in a row: their place, their digits, and those that are letters. */
+/** Returns a dump of octets, 16 in a row: their offset, their digits and their ASCII characters. */
 function dumpOf(digits) {
   const octets = digits.match(/../g) ?? [];
   const rows = [];
@@ -1088,7 +1101,7 @@ function dumpOf(digits) {
   return rows.join("\n");
 }
 
-/** What a click on a message opens: what `show` prints, and the octets, where they are told. */
+/** Returns what a click on a message opens: the text of `show`, and the octets if the report has them. */
 function detailOf(message) {
   const {show, octets, comment} = message;
   const dump = octets === undefined ? [] : [
@@ -1098,22 +1111,22 @@ function detailOf(message) {
   return [make("pre", {class: "show"}, seen(show.trimEnd(), KEPT)), ...dump, opening("The whole comment", comment ?? "")];
 }
 
-/** The IDs of a message. */
+/** Returns the transaction IDs of a message as a text. */
 function idsIn({otid, dtid}) {
   return [otid === undefined ? "" : `otid ${otid}`, dtid === undefined ? "" : `dtid ${dtid}`].join(" ").trim();
 }
 
-/** What `show` says of a message behind its IDs: a cause, and the dialogue portion. */
+/** Returns the rest of a message's line in `show` after its IDs: a cause and the dialogue portion. */
 function portionIn(show) {
   return /^\d+ [AB] \w+(?: [od]tid=\w*)*(.*)/.exec(show)?.[1].trim() ?? "";
 }
 
-/** The line of an entry, where its trace has lines, and the comment above it. */
+/** Returns the line number of an entry, if its trace has lines, and the comment above the line. */
 function placeOf(message) {
   return [message.line > 0 ? `line ${message.line}` : "", message.comment ?? ""].filter((it) => it !== "").join(": ");
 }
 
-/** The step of an entry. `operations` has the names of those of its dialogue, by their codes. */
+/** Returns the step of an entry. `operations` has the names of the dialogue's operations by their codes. */
 function stepOf(message, operations) {
   const {entry} = message;
   const step = {number: entry, label: String(entry), entry, from: message.end ?? null, ids: idsIn(message), more: "", tags: [],
@@ -1123,7 +1136,7 @@ function stepOf(message, operations) {
   return {...step, title: message.kind, more: portionIn(message.show)};
 }
 
-/** For each end at fault its join. */
+/** Returns a join for each end at fault, which ties the entry at fault to the entries that show the fault. */
 function joinsOf({head, blamed}) {
   return blamed.map((end) => {
     const {entry, kind, evidence, doubt} = head[end];
@@ -1133,12 +1146,12 @@ function joinsOf({head, blamed}) {
   });
 }
 
-/** A button that leads to an entry in the ladder. */
+/** Returns a button that leads to an entry in the ladder. */
 function leap(entry) {
   return make("button", {type: "button", class: "leap", "data-to": entry}, String(entry));
 }
 
-/** A line of a reason. Where it is one of what is shown, its entries are buttons, with how often it names each. */
+/** Returns a line of a reason. If the line is a fact of the evidence, its entries are buttons, each with its count. */
 function reasonLine(line, shows) {
   const found = shows.find((it) => it.entries.length > 0 && line.trimStart().startsWith(`${it.what}:`));
   if (found === undefined) return make("div", {class: "line"}, seen(line));
@@ -1149,20 +1162,20 @@ function reasonLine(line, shows) {
   return make("div", {class: "line"}, `${margin}${seen(found.what)}:`, ...entries, behind);
 }
 
-/** The words of a reason, without the blanks that all its lines begin with. */
+/** Returns the text of a reason, without the blanks that begin all its lines. */
 function reasonOf(text, evidence) {
   const lines = text.trimEnd().split("\n");
   const margin = lines.map((it) => it.search(/\S|$/)).reduce((one, other) => Math.min(one, other));
   return make("div", {class: "reason"}, ...lines.map((it) => reasonLine(it.slice(margin), evidence?.shows ?? [])));
 }
 
-/** Which fault of its kind it is; null where no line of the reason tells it. */
+/** Returns the lines of a reason that identify the fault within its kind, or null if there are none. */
 function tellingView(said) {
   const telling = tellingOf(said);
   return telling === "" ? null : make("span", {class: "telling"}, cut(seen(telling), LONG_TITLE));
 }
 
-/** What is said of an end, in one line. Of the other end `before` is the entry at fault, where it is one. */
+/** Returns the verdict on an end in one line. `before` is the entry at fault of the other end, if it has one. */
 function summaryOf(end, said, before) {
   if (said.kind !== undefined) {
     const place = placeOfFault(said), later = before < said.entry ? " It comes later and may follow from the first." : "";
@@ -1175,12 +1188,12 @@ function summaryOf(end, said, before) {
   return make("p", {class: "summary"}, badge(said.verdict), ` ${end}: ${words}`);
 }
 
-/** Whether more is to be said of an end than its summary has. */
+/** Returns whether there is more to show for an end than its summary. */
 function hasReason(said) {
   return said?.kind !== undefined || (said?.text ?? "").trimEnd().includes("\n");
 }
 
-/** Why, at length. */
+/** Returns the full reasons for the verdicts on the ends and on the dialogue. */
 function reasonsOf(head, ends) {
   const boxes = ends.filter((end) => hasReason(head[end])).map((end) => {
     const {text, evidence, doubt} = head[end];
@@ -1194,18 +1207,18 @@ function reasonsOf(head, ends) {
   return make("div", {class: "reasons"}, ...boxes);
 }
 
-/** A fact with its name. */
+/** Returns a fact with its name. */
 function fact(name, ...words) {
   return make("div", {}, make("dt", {}, name), make("dd", {}, ...words));
 }
 
-/** The IDs of an end. */
+/** Returns the IDs of an end as a fact. */
 function idsFact(end, ids) {
   const words = ids.join(" ");
   return fact(`IDs of ${end}`, make("code", {}, cut(words, LONG_NAME) || "none"), opening("All of them", words) ?? "");
 }
 
-/** The facts of a dialogue. */
+/** Returns the facts of a dialogue. */
 function factsOf(head) {
   const {entries, lines, ids, table, context} = head;
   const open = head.marked ? "open at the quiet mark after it" : "open at the end of its trace";
@@ -1220,7 +1233,7 @@ function factsOf(head) {
     fact("Entries", words), told.length > 0 ? fact("State", told.join("; ")) : null);
 }
 
-/** The ladder of a dialogue, and how much of it is not listed. */
+/** Returns the ladder of a dialogue, with a note if entries are not listed. */
 function ladderOf(dialogue) {
   const found = messagesOf(dialogue);
   if (found === null) return make("p", {class: "note"}, "The messages of this dialogue can't be read: its line is cut.");
@@ -1234,13 +1247,14 @@ function ladderOf(dialogue) {
   return make("div", {}, note, ladder("The entries of the dialogue", heads, steps, joins, count));
 }
 
-/** A heading with the name of a trace, which opens where it is long. */
+/** Returns a heading with the name of a trace, which can be opened if it is long. */
 function headingOf(trace, words, verdict) {
   const heading = make("h2", {tabindex: "-1"}, named(trace), words, verdict === null ? null : badge(verdict));
   return make("div", {class: "heading"}, heading, opening("The whole name", trace));
 }
 
-/** All that is shown of a dialogue: first of the end that is at fault, and where both are, of the one whose entry comes first. */
+/** Returns the view of a dialogue. The end at fault comes first; if both are, the one with the earlier entry at
+ * fault. */
 function dialogueView(dialogue) {
   const {head, blamed} = dialogue;
   const ends = [...blamed, ...ENDS.filter((end) => head[end] !== undefined && !blamed.includes(end))];
@@ -1253,7 +1267,7 @@ function dialogueView(dialogue) {
   return made;
 }
 
-/** The sums of a trace. */
+/** Returns the counts of a trace. */
 function traceSums(head) {
   if (head.verdict === null) {
     return make("p", {class: "note"}, "The run was stopped before this trace was judged to its end.");
@@ -1263,14 +1277,14 @@ function traceSums(head) {
     fact("Pass unheard or unanswered", head.unheard.toLocaleString("en")));
 }
 
-/** What became of the messages of a trace that is an error by itself. */
+/** Returns what happened to the messages of a trace that is itself in error. */
 function unjudgedWords({dialogues, messages}) {
   if (VERDICTS.some((it) => dialogues[it] > 0)) return "Dialogues that were open there may not be told.";
   if (messages === 0) return "";
   return messages === 1 ? "Its message was not judged." : `None of its ${messages.toLocaleString("en")} messages was judged.`;
 }
 
-/** All that is shown of a trace. `enter` lists its dialogues, and `note` is what else is to be known. */
+/** Returns the view of a trace. `enter` lists its dialogues, and `note` is a further note on it. */
 function traceView(trace, count, enter, note) {
   const {head} = trace, words = isInError(trace) ? unjudgedWords(head) : "";
   const notes = [note, words].filter((it) => it !== "").map((it) => make("p", {class: "note"}, it));
@@ -1284,23 +1298,24 @@ function traceView(trace, count, enter, note) {
 
 // The rows of the lists.
 
-// How many IDs of an end a row has.
+// The number of IDs of an end in a row.
 const SOME_IDS = 4;
 
-/** What the row of a dialogue has of an end at fault: where, and which fault of its kind it is, or else what its kind means. */
+/** Returns the fault of an end for the row of a dialogue: its place, and the lines that identify it, or else the
+ * words of its kind. */
 function faultInRow(end, said, isAlone) {
   const place = [isAlone ? "" : end, placeOfFault(said)].filter((it) => it !== "").join(" ");
   const kind = wordsOfKind(said.kind), words = cut(seen(tellingOf(said)), LONG_TITLE) || kind;
   return make("span", {title: words === kind ? kind : `${kind} ${words}`}, place === "" ? words : `${place}: ${words}`);
 }
 
-/** What a dialogue without an end at fault is not judged for, or not decided, in a line. */
+/** Returns in one line why a dialogue without an end at fault was not judged or not decided. */
 function undecidedInRow(head) {
   const text = [head.text, ...ENDS.map((end) => head[end]?.text)].find((it) => it !== undefined) ?? "";
   return make("span", {class: "lower"}, make("span", {}, cut(seen(text.trim().split("\n")[0]), LONG_TITLE)));
 }
 
-/** The row of a dialogue. */
+/** Returns the row of a dialogue. */
 function dialogueRow({head, blamed}) {
   const ids = ENDS.map((end) => `${end} ${head.ids[end].slice(0, SOME_IDS).join(" ") || "-"}`).join("  ");
   const kinds = blamed.map((end) => make("b", {title: wordsOfKind(head[end].kind)}, `${end} ${head[end].kind}`));
@@ -1313,13 +1328,13 @@ function dialogueRow({head, blamed}) {
   ];
 }
 
-/** How many dialogues of a trace have each verdict, and how many pass that not all was heard of, or that an end did not answer. */
+/** Returns how many dialogues of a trace have each verdict, and how many pass unheard or unanswered. */
 function countsIn({dialogues, unheard}) {
   const counts = VERDICTS.filter((it) => dialogues[it] > 0).map((it) => `${dialogues[it].toLocaleString("en")} ${it}`);
   return unheard > 0 ? [...counts, `${unheard.toLocaleString("en")} pass ${UNHEARD}`] : counts;
 }
 
-/** The row of a trace. */
+/** Returns the row of a trace. */
 function traceRow({head}) {
   const {trace, verdict, text} = head;
   const counts = verdict === null ? ["not judged to its end"] : countsIn(head);
@@ -1329,34 +1344,34 @@ function traceRow({head}) {
   ];
 }
 
-/** The row of a dialogue, or of a trace that stands among them. */
+/** Returns the row of a dialogue, or of a trace among the dialogues. */
 function rowOf(item) {
   return isTrace(item) ? traceRow(item) : dialogueRow(item);
 }
 
-// Where a fragment of the address leads, and which fragment leads to a dialogue or a trace.
+// Links: the dialogue or trace that a fragment of the address leads to, and the fragment that leads to each.
 
-/** The trace and the number that a fragment names; null for what it does not name. */
+/** Returns the trace and the number that a fragment names, with null for each that it does not name. */
 function namesIn(fragment) {
   const asked = new URLSearchParams(fragment.slice(1));
   return [asked.get("trace"), asked.get("dialogue")];
 }
 
-/** The dialogue that a fragment leads to: by its number in the page, or by its trace and its number there. */
+/** Returns the dialogue that a fragment leads to, by its number in the page, or by its trace and its number there. */
 function dialogueAt(fragment, report) {
   if (/^#\d+$/.test(fragment)) return report.dialogues[Number(fragment.slice(1))];
   const [trace, number] = namesIn(fragment);
   return report.dialogues.find(({head}) => head.trace === trace && String(head.dialogue) === number);
 }
 
-/** The trace that a fragment leads to: by its number in the page, or by its name. */
+/** Returns the trace that a fragment leads to, by its number in the page or by its name. */
 function traceAt(fragment, report) {
   if (/^#t\d+$/.test(fragment)) return report.traces[Number(fragment.slice(2))];
   const [trace] = namesIn(fragment);
   return report.traces.find(({head}) => head.trace === trace);
 }
 
-/** The fragment that leads to a dialogue. */
+/** Returns the fragment that leads to a dialogue. */
 function fragmentOf(dialogue, report) {
   const {trace, dialogue: number} = dialogue.head;
   const fragment = `#${new URLSearchParams({trace, dialogue: number})}`;
@@ -1364,14 +1379,14 @@ function fragmentOf(dialogue, report) {
   return !isLong && dialogueAt(fragment, report) === dialogue ? fragment : `#${dialogue.number}`;
 }
 
-/** The fragment that leads to a trace. */
+/** Returns the fragment that leads to a trace. */
 function fragmentOfTrace(trace, report) {
   const fragment = `#${new URLSearchParams({trace: trace.head.trace})}`;
   const isLong = trace.head.trace.length > LONG_TITLE;
   return !isLong && traceAt(fragment, report) === trace ? fragment : `#t${trace.number}`;
 }
 
-/** Why a trace has no dialogue of that number in the page. */
+/** Returns why the page has no dialogue with this number of a trace. */
 function missingIn({head}, number, report) {
   const name = `Dialogue ${cut(seen(number), LONG_NAME)} of this trace`;
   if (head.verdict === null) return `${name} is not in this page, which ends before this trace does.`;
@@ -1384,28 +1399,28 @@ function missingIn({head}, number, report) {
   return `${name} is not in this page: those that pass are only counted${left}.`;
 }
 
-/** What is said where a fragment names what is not in the page; nothing where it names nothing. */
+/** Returns the text for a fragment whose target is not in the page, or an empty text if it names no target. */
 function missingAt(fragment) {
   const [trace] = namesIn(fragment);
   if (/^#t?\d+$/.test(fragment)) return `No ${fragment.startsWith("#t") ? "trace" : "dialogue"} of this page has the number in this link.`;
   return trace === null ? "" : `The trace ${cut(seen(trace), LONG_NAME)} is not in this page.`;
 }
 
-// What is shown of a run (Q.774 3.2 and 3.3), one way in which the entries of a record can have come about: its rows are steps of
-// the ladder. A message that is received right behind its sending is one row; one that is received later has a row where it leaves,
-// and one where it comes, and a line at the side of its receiver joins the two.
+// The view of a run (Q.774 3.2 and 3.3): one way in which the entries of a record can have come about. Its steps are
+// rows of the ladder. A message that is received directly after it is sent has one row. A message that is received
+// later has a row where it leaves and one where it arrives, and a line on the side of its receiver joins the two.
 
 const LEAVES = {from: 0, to: 50, tip: "head"};
 const COMES = {from: 50, to: 100, tip: "head"};
-// The class of a verdict's badge.
+// The class of the badge of each verdict.
 const BADGES = {LAWFUL: "pass", REFUTED: "fail", UNDECIDED: "inconc", "NOT SHOWN": "inconc"};
 
-/** The other end. */
+/** Returns the other end. */
 function otherEnd(end) {
   return end === "A" ? "B" : "A";
 }
 
-/** A word on what becomes of a message, or what it does. */
+/** Returns a tag with words on what a message does or what happens to it. */
 function tag(words) {
   return make("span", {class: "mark tag"}, words);
 }
@@ -1425,25 +1440,25 @@ class RunRows {
     return this.rows.at(-1);
   }
 
-  /** Adds a row of words. */
+  /** Adds a row of words, and returns it. */
   say(title, end) {
     return this.add({title, at: end});
   }
 
-  /** Adds the row of an entry, with an arrow and words. */
+  /** Adds the row of an entry, with an arrow and tags, and returns it. */
   send(number, arrow, ...words) {
     const row = this.add({...stepOf(this.messages.get(number), this.operations), arrow, tags: words.map(tag)});
     this.sent.set(number, row);
     return row;
   }
 
-  /** Adds the row of an entry that an end sends. What an end sends that is judged alone is not followed further. */
+  /** Adds the row of an entry that an end sends. If this end is judged alone, its message is not followed further. */
   sends({end, entry}, ...words) {
     const row = this.send(entry, end === this.of ? WHOLE : LEAVES, ...words);
     row.isOnItsWay = end !== this.of;
   }
 
-  /** Has a message come to an end: in its own row where that is the last one, else in a row that is added. */
+  /** Adds the arrival of a message: in the row of its sending if that is the last row, else in a new row. */
   come(end, number, tip, ...words) {
     const sent = this.sent.get(number), tags = words.map(tag);
     if (sent !== undefined) sent.isOnItsWay = false;
@@ -1461,7 +1476,7 @@ class RunRows {
     this.spans[end].push([sent.number, row.number]);
   }
 
-  /** Adds what a step shows. */
+  /** Adds a step of the run. */
   step(it) {
     const {step, end, entry} = it;
     if (step === "sends" || step === "tells") this.sends(it);
@@ -1475,7 +1490,7 @@ class RunRows {
     else this.send(entry, null);
   }
 
-  /** Has a message be lost. */
+  /** Marks a message as lost. */
   lose(end, number) {
     const sent = this.sent.get(number);
     if (sent === undefined || end === this.of) return;
@@ -1484,55 +1499,55 @@ class RunRows {
     sent.tags.push(tag(this.of === undefined ? "taken as lost" : `taken as lost before ${this.of}`));
   }
 
-  /** Adds the row of a provider's answer, behind the message that it answers. */
+  /** Adds the row of a provider's answer, after the arrival of the message that it answers. */
   reply(it) {
     this.come(it.end, it.answers, "head");
     this.sends(it, `${it.end}'s provider answers ${it.answers}`);
   }
 
-  /** Adds the row of an entry behind the last step. */
+  /** Adds the row of an entry after the last step. */
   stand(number) {
     if (!this.isStopped) this.say("The steps end here. The entries below stand as they are recorded.");
     this.isStopped = true;
     this.send(number, {...LEAVES, isDotted: true});
   }
 
-  /** Says of messages that they are on their way where the run ends. */
+  /** Tags the messages that are in transit at the end of the run. */
   end() {
     for (const row of this.rows.filter((it) => it.isOnItsWay)) row.tags.push(tag("on its way at the end"));
   }
 
-  /** Marks the entry where the verdict falls, by words. */
+  /** Marks the entry where the verdict falls, with words. */
   mark(number, kind, words) {
     const row = this.sent.get(number) ?? this.say("Behind the last entry");
     row.isMarked = kind;
     row.tags.unshift(make("strong", {class: `mark ${kind}`}, words));
   }
 
-  /** The lines beside the ladder, of the messages that come late. */
+  /** Returns the lines next to the ladder, for the messages that arrive late. */
   lines() {
     const ends = ENDS.filter((end) => this.spans[end].length > 0);
     return ends.map((end) => ({end, spans: this.spans[end], by: new Set(this.spans[end].flat())}));
   }
 }
 
-/** A row for steps that are left out, where there are some. */
+/** Adds a row that counts the steps left out, if there are any. */
 function sayLeftOut(made, count, where) {
   if (count > 0) made.say(`${counted(count, "step")} ${where} ${count === 1 ? "is" : "are"} left out.`);
 }
 
-/** The verdict of a run, as a word, and what stands behind it in its line. */
+/** Returns the word of a run's verdict, and the rest of its line. */
 function verdictOf(title) {
   const word = Object.keys(BADGES).find((it) => title.startsWith(it)) ?? "";
   return [word, title.slice(word.length)];
 }
 
-/** Why the verdict falls where it does: the first line of its reason. */
+/** Returns the first line of the reason for the verdict. */
 function whyOf(text) {
   return seen(text.trim().split("\n")[0].replace(/^why: /, ""));
 }
 
-/** The rows of a run. */
+/** Returns the rows of a run. */
 function rowsOf(run) {
   const made = new RunRows(run), [before, behind] = run.left_out;
   sayLeftOut(made, before, "above");
@@ -1546,12 +1561,12 @@ function rowsOf(run) {
   return made;
 }
 
-/** The words above the lifeline of an end. */
+/** Returns the words above the lifeline of an end. */
 function headOfEnd(end, of) {
   return end === of ? `${end}, judged alone` : end;
 }
 
-/** All that is shown of a run. */
+/** Returns the view of a run. */
 function runView(run) {
   const {title, of, count, text} = run, made = rowsOf(run), [word, more] = verdictOf(title);
   const heads = ENDS.map((end) => headOfEnd(end, of));
@@ -1564,25 +1579,25 @@ function runView(run) {
     make("div", {class: "beside"}, ladder("The steps of the run", heads, made.rows, made.lines(), made.rows.length), why));
 }
 
-// The page: joins the report, the filters, the lists and what is shown.
+// The page: connects the report, the filters, the lists and the views.
 
-// How many dialogues are printed at once.
+// The most items that are printed at once.
 const PRINTED = 500;
-// After how many milliseconds it is looked again whether something of the report has come.
+// The time in milliseconds between two looks at how much of the report has arrived.
 const PAUSE = 20;
-// After how many milliseconds a dialogue that is shown is named in the address.
+// The time in milliseconds after which the address names the item that is shown.
 const STAY = 300;
-// What of a step can have the focus.
+// The parts of a step that can have the focus.
 const WORKED = ":is(button, .still)";
-// Where the lists stand above what is shown; frame.css has the same.
+// The widths at which the lists are above the view; frame.css has the same.
 const NARROW = "(max-width: 820px)";
 
-/** The element of that ID. */
+/** Returns the element with this ID. */
 function byId(id) {
   return document.getElementById(id);
 }
 
-/** A text, as a button where there is something to list. */
+/** Returns a text, as a button if there is something to list. */
 function lister(words, title, list) {
   if (list === null) return words;
   const button = make("button", {type: "button", class: "lister", title, "aria-label": `${words}. ${title}`}, words);
@@ -1590,7 +1605,7 @@ function lister(words, title, list) {
   return button;
 }
 
-/** The table of sums. Where the lists have what is counted, a click on a count lists it, by the filter or the word that does. */
+/** Returns the table of counts. If a list has the items that a count is of, a click on the count lists them. */
 function sumsView(sums, list) {
   const head = make("tr", {}, ...["", ...VERDICTS.map(badge), "all"].map((it) => make("th", {scope: "col"}, it)));
   const rows = ["traces", "dialogues"].map((what) => {
@@ -1605,7 +1620,7 @@ function sumsView(sums, list) {
   return [make("table", {}, head, ...rows), make("p", {class: "small"}, `${counted(sums.messages, "message")}; `, unheard)];
 }
 
-/** What has to be known of a report that has not all. */
+/** Returns notes on a report that is incomplete. */
 function notesOn({dialogues, total, unread, isRead}) {
   const notes = [], count = dialogues.length.toLocaleString("en");
   if (!isRead) return [make("p", {class: "note"}, `The report is being read: ${count} dialogues so far.`)];
@@ -1621,7 +1636,7 @@ function notesOn({dialogues, total, unread, isRead}) {
   return notes.map((it) => make("p", {class: "note"}, it));
 }
 
-/** The kinds of fault, each with its words. */
+/** Returns the kinds of fault, each with its words. */
 function kindsView() {
   const rows = Object.keys(KINDS).map((kind) => make("div", {}, make("dt", {}, kind), make("dd", {}, wordsOfKind(kind))));
   return make("dl", {}, ...rows);
@@ -1645,7 +1660,7 @@ class Page {
     this.hear();
   }
 
-  /** Shows what there is of the report, and goes where the address leads as soon as that is there. */
+  /** Shows the report as far as it has arrived, and follows the address once its target has arrived. */
   renew() {
     if (this.report.run !== null) {
       this.showRun(this.report.run);
@@ -1660,7 +1675,7 @@ class Page {
     if (this.follow(this.fragment)) this.fragment = "";
   }
 
-  /** Has each control do what it is for. */
+  /** Connects each control with its action. */
   hear() {
     for (const name of ["click", "keydown", "input"]) document.addEventListener(name, () => (this.isUsed = true), {capture: true});
     for (const name of ["input", "change"]) this.form.addEventListener(name, () => this.ask());
@@ -1676,25 +1691,25 @@ class Page {
     window.addEventListener("afterprint", () => this.unprint());
   }
 
-  /** What the filters have, as a text. */
+  /** Returns the values of the filters as a text. */
   formText() {
     return String(new URLSearchParams(new FormData(this.form)));
   }
 
-  /** Lists anew where something else is asked. Behind `input` comes `change`, by a click on a row, too, which a list that is drawn anew
-   * would not hear. */
+  /** Lists again if the filters have changed. After `input` a click on a row also causes `change`, and a list that is
+   * drawn again would not notice the click. */
   ask() {
     if (this.formText() !== this.asked) this.refresh();
   }
 
-  /** At Enter in the search goes to the list. */
+  /** On Enter in the search, moves the focus to the list. */
   submit(event) {
     event.preventDefault();
     this.ask();
     this.list().box.focus();
   }
 
-  /** Lists what the filters ask for, and chooses what was chosen, or else the first. */
+  /** Lists the items that the filters ask for. Chooses the item that was chosen before, or else the first. */
   refresh() {
     const now = listed(this.report, askedOf(this.form));
     this.listed = now;
@@ -1707,7 +1722,7 @@ class Page {
     else this.choose(now.rows[at]);
   }
 
-  /** Says how many are listed. */
+  /** Shows how many items are listed. */
   tellCounts(now) {
     const inError = now.inError.length > 0 ? `, ${counted(now.inError.length, "trace")} in error` : "";
     const said = Object.keys(this.lists).map((name) => {
@@ -1718,7 +1733,7 @@ class Page {
     byId("listed").textContent = `${said.join(". ")}.`;
   }
 
-  /** Lists what a filter or a word leaves, in the list of dialogues or of traces. */
+  /** Lists the items that one filter or word leaves, in the list of dialogues or of traces. */
   listBy(name, filter, value) {
     this.form.reset();
     this.form.elements[filter].value = value;
@@ -1727,8 +1742,8 @@ class Page {
     this.list().box.focus();
   }
 
-  /** Shows a dialogue or a trace that is chosen, and names it in the address once it stays: browsers let that be changed so often and
-   * no more. */
+  /** Shows a chosen dialogue or trace. Names it in the address after a while, since browsers limit how often the
+   * address may change. */
   choose(item) {
     const {report} = this;
     if (this.listed.rows.includes(item)) this.chosen = item;
@@ -1736,20 +1751,20 @@ class Page {
     this.name(isTrace(item) ? fragmentOfTrace(item, report) : fragmentOf(item, report));
   }
 
-  /** Has the address have a fragment, soon. */
+  /** Writes a fragment into the address after a while. */
   name(fragment) {
     clearTimeout(this.timer);
     this.timer = setTimeout(() => window.history.replaceState(null, "", fragment), STAY);
   }
 
-  /** What is shown of a dialogue or a trace; `note` is what else is to be known of a trace. */
+  /** Returns the view of a dialogue or a trace; `note` is a further note on a trace. */
   viewOf(item, note) {
     if (!isTrace(item)) return dialogueView(item);
     const count = this.report.dialogues.filter((it) => it.trace === item.number).length;
     return traceView(item, count, () => this.listTrace(item), note);
   }
 
-  /** Shows a run, beside which nothing is listed. */
+  /** Shows a run, without lists. */
   showRun(run) {
     document.body.classList.add("of-run");
     document.title = run.title;
@@ -1758,7 +1773,7 @@ class Page {
     this.view(run, () => runView(run));
   }
 
-  /** Says that no dialogue is listed, and leads to the traces where there are such. */
+  /** Shows that no dialogue is listed, and offers the listed traces if there are any. */
   showNone() {
     const count = this.listed.traces.length, isAsked = [...new FormData(this.form).values()].some((it) => it !== "");
     const words = isAsked || this.report.dialogues.length > 0 ? "No dialogue is listed: the filters leave none."
@@ -1770,14 +1785,14 @@ class Page {
     this.view(null, () => make("p", {class: "empty"}, words, ...(isAsked && count > 0 ? [" ", button] : [])));
   }
 
-  /** Turns to the list of traces, and shows the first. */
+  /** Turns to the list of traces, and chooses the first. */
   turnToTraces() {
     this.turnTo("traces");
     this.lists.traces.choose(0);
     this.list().box.focus();
   }
 
-  /** Shows what is made of an item, but where it is shown already. */
+  /** Shows the view that `made` returns for an item, unless that item is shown already. */
   view(item, made) {
     if (item !== null && item === this.viewed) return;
     this.viewed = item;
@@ -1785,22 +1800,22 @@ class Page {
     this.shown.scrollTop = 0;
   }
 
-  /** Goes from the list to what is shown: to the message at fault, or else to the heading. */
+  /** Moves the focus from the list to the view: to the message at fault, or else to the heading. */
   enter() {
     (this.shown.querySelector(`.step.fault ${WORKED}`) ?? this.shown.querySelector("h2"))?.focus();
   }
 
-  /** Where what is shown stands below the list, goes there. */
+  /** Moves the focus to the view if the view is below the list. */
   uncover() {
     if (window.matchMedia(NARROW).matches) this.enter();
   }
 
-  /** At Escape goes from the list back to the search. */
+  /** On Escape, moves the focus from the list to the search. */
   leaveList(event) {
     if (event.key === "Escape") this.form.elements.words.focus();
   }
 
-  /** At Escape closes the message that has the focus, or else goes back to the list. */
+  /** On Escape, closes the message with the focus, or else moves the focus to the list. */
   leave(event) {
     if (event.key !== "Escape") return;
     const open = event.target.closest(".step")?.querySelector("button[aria-expanded=true]") ?? null;
@@ -1809,12 +1824,12 @@ class Page {
     open?.focus();
   }
 
-  /** The list that is in view. */
+  /** Returns the list in view. */
   list() {
     return byId("panel-traces").hidden ? this.lists.dialogues : this.lists.traces;
   }
 
-  /** Goes to the entry that a button names. */
+  /** Moves the focus to the entry that a button names. */
   leap(button) {
     if (!button.matches(".leap")) return;
     const step = button.closest("article").querySelector(`[data-entry="${button.dataset.to}"]`);
@@ -1832,7 +1847,7 @@ class Page {
     this.lists[name].reveal();
   }
 
-  /** Turns to the other list by an arrow. */
+  /** Turns to the other list on an arrow key. */
   turnBy(event) {
     if (event.key !== "ArrowLeft" && event.key !== "ArrowRight") return;
     const name = byId("panel-traces").hidden ? "traces" : "dialogues";
@@ -1840,7 +1855,7 @@ class Page {
     byId(`tab-${name}`).focus();
   }
 
-  /** Lists the dialogues of a trace that do not pass; goes to what is shown of it where there are none. */
+  /** Lists the dialogues of a trace that do not pass. If there are none, moves the focus to the view of the trace. */
   listTrace(trace) {
     if (!this.report.dialogues.some((it) => it.trace === trace.number)) {
       this.enter();
@@ -1853,13 +1868,14 @@ class Page {
     this.list().box.focus();
   }
 
-  /** Lists all. */
+  /** Clears the filters, and so lists everything. */
   clear() {
     this.form.reset();
     this.refresh();
   }
 
-  /** Goes to what a fragment names, and returns whether it is there. What has no dialogue may come yet, until all is read. */
+  /** Follows a fragment, and returns whether its target is there. Until the report is read, a missing target may
+   * still arrive. */
   follow(fragment) {
     const dialogue = dialogueAt(fragment, this.report), trace = traceAt(fragment, this.report);
     if (dialogue !== undefined) {
@@ -1876,7 +1892,7 @@ class Page {
     return true;
   }
 
-  /** Chooses a dialogue or a trace in its list, whatever is asked for. */
+  /** Chooses a dialogue or a trace in its list, and clears the filters if they leave it out. */
   goTo(name, item) {
     this.isUsed = true;
     const rows = () => (name === "traces" ? this.listed.traces : this.listed.rows);
@@ -1885,7 +1901,7 @@ class Page {
     this.lists[name].choose(rows().indexOf(item));
   }
 
-  /** Says that what a fragment names is not in the page, where it names something. */
+  /** Shows that the target of a fragment is not in the page, if the fragment names one. */
   sayMissing(fragment) {
     const words = missingAt(fragment);
     if (words === "") return;
@@ -1893,13 +1909,13 @@ class Page {
     this.tellMissing(fragment, () => make("p", {class: "note"}, words));
   }
 
-  /** Shows what is made of a fragment that names what is not in the page; the address keeps it. */
+  /** Shows a view for a fragment whose target is not in the page, and keeps the fragment in the address. */
   tellMissing(fragment, made) {
     this.view(null, made);
     this.name(fragment);
   }
 
-  /** Prints the traces in error and the dialogues that are listed. */
+  /** Prints the listed traces in error and dialogues, as far as PRINTED allows. */
   printListed() {
     const {rows} = this.listed;
     const note = rows.length > PRINTED
@@ -1909,14 +1925,14 @@ class Page {
     window.print();
   }
 
-  /** Takes away what was printed. */
+  /** Removes the printed items from the page. */
   unprint() {
     document.body.classList.remove("prints-listed");
     byId("printed").replaceChildren();
   }
 }
 
-/** Shows the first part of the report as soon as it has come, and the whole when all has. */
+/** Shows the first part of the report as soon as it has arrived, and the whole report at the end. */
 function begin() {
   const reader = new Reader(), page = new Page(reader.report);
   const textNow = () => byId("report")?.textContent ?? "";
@@ -1940,7 +1956,7 @@ begin();
 <script type="application/x-ndjson" id="report">
 "##;
 
-/// What stands behind them.
+/// The frame of a page after its objects of JSON.
 pub const FRAME_TAIL: &str = r#"</script>
 </body>
 </html>

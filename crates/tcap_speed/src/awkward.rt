@@ -1,4 +1,4 @@
-//! Records that are lawful, and awkward.
+//! Lawful records that are awkward to judge.
 
 use crate::dice::Dice;
 use crate::octets::{push_element, push_id, push_number};
@@ -10,7 +10,7 @@ const REPORTS: u8 = 45;
 
 const SILENT: u8 = 34;
 
-/// Components of messages.
+/// The component of a message, if it has one.
 #[derive(Clone, Copy)]
 enum Part {
     Invoke(u8, u8),
@@ -18,7 +18,7 @@ enum Part {
     None,
 }
 
-/// A record that is made, and the octets of the message that is appended next.
+/// A record that is being made, with buffers for its next message.
 #[derive(Drop)]
 struct Making {
     made: Made,
@@ -45,12 +45,12 @@ impl Making {
         }
     }
 
-    /// The transaction ID of that number.
+    /// Returns the transaction ID with this number.
     fn id(&self, number: u32) -> u32 {
         number.wrapping_mul(0x9E37_79B1) ^ self.key
     }
 
-    /// Appends that component, with a parameter of a few octets.
+    /// Appends this component, an Invoke with a parameter of four octets, in a component portion.
     fn push_part(&mut self, part: Part) -> Result<(), AllocError> {
         self.component.clear();
         self.portion.clear();
@@ -71,7 +71,7 @@ impl Making {
         push_element(&mut self.content, 0x6C, &self.portion)
     }
 
-    /// Appends the message whose IDs stand in `content`.
+    /// Completes the message whose IDs are in `content`, and appends it to the record.
     fn end_message(
         &mut self,
         side: Side,
@@ -86,7 +86,7 @@ impl Making {
         self.made.push(side, &self.message, fate)
     }
 
-    /// The gap behind the next entry.
+    /// Returns the fate of a message that is delivered in the gap after the next entry.
     fn next(&self) -> Fate {
         Fate::In(self.made.len().saturating_add(1))
     }
@@ -117,7 +117,7 @@ impl Making {
     }
 }
 
-/// One dialogue in which one invoke ID is used again and again.
+/// Makes one dialogue that uses one invoke ID again and again.
 pub(crate) fn one_invoke_id(alloc: Global, entries: u32, seed: u32) -> Result<Made, AllocError> {
     let mut making = Making::new(alloc, seed);
     let (a, b) = (making.id(1), making.id(2));
@@ -131,7 +131,7 @@ pub(crate) fn one_invoke_id(alloc: Global, entries: u32, seed: u32) -> Result<Ma
     Ok(making.made)
 }
 
-/// Begins that are all under way until the end of the record.
+/// Makes Begins that are all in transit until the end of the record.
 pub(crate) fn all_under_way(alloc: Global, entries: u32, seed: u32) -> Result<Made, AllocError> {
     let mut making = Making::new(alloc, seed);
     for number in 0..entries {
@@ -141,7 +141,7 @@ pub(crate) fn all_under_way(alloc: Global, entries: u32, seed: u32) -> Result<Ma
     Ok(making.made)
 }
 
-/// Continues that cross an End, each answered by an Abort of the provider.
+/// Makes Continues that cross an End; the provider answers each with an Abort.
 pub(crate) fn crossing(alloc: Global, entries: u32, seed: u32) -> Result<Made, AllocError> {
     let mut making = Making::new(alloc, seed);
     for number in 0..entries / 5 {
@@ -156,7 +156,7 @@ pub(crate) fn crossing(alloc: Global, entries: u32, seed: u32) -> Result<Made, A
     Ok(making.made)
 }
 
-/// One dialogue, in each gap of which an invocation ends unseen.
+/// Makes one dialogue, in each gap of which an invocation expires.
 pub(crate) fn expiring(alloc: Global, entries: u32, seed: u32) -> Result<Made, AllocError> {
     let mut making = Making::new(alloc, seed);
     let (a, b) = (making.id(1), making.id(2));
@@ -174,7 +174,7 @@ pub(crate) fn expiring(alloc: Global, entries: u32, seed: u32) -> Result<Made, A
     Ok(making.made)
 }
 
-/// Continues of A that B can't receive.
+/// Makes Continues of A that B can't receive.
 pub(crate) fn unheard(alloc: Global, entries: u32, seed: u32) -> Result<Made, AllocError> {
     let mut making = Making::new(alloc, seed);
     let lost = making.id(entries);

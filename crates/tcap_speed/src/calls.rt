@@ -1,4 +1,4 @@
-//! The calls that are timed, over records that are in memory, and a digest of what they say.
+//! The timed calls, over records in memory, and a digest of their output.
 
 use crate::traffic::TABLE;
 use std::alloc::Global;
@@ -13,7 +13,7 @@ use tcap_record::{End, read_record};
 use tcap_report::{Asked as AskedOfTrace, Sinks, Stop, Sum, Watch, run_trace};
 use tcap_traces::Verdict;
 
-/// Nobody looks on.
+/// An observer that ignores all progress.
 #[derive(Drop)]
 struct Nobody;
 
@@ -21,7 +21,7 @@ impl Watch for Nobody {
     fn look(&mut self, _sum: &Sum) {}
 }
 
-/// The status that stands for a verdict on a trace.
+/// Returns the status that corresponds to a verdict on a trace.
 fn status_of(verdict: Verdict) -> Status {
     match verdict {
         Verdict::Pass => Status::Fine,
@@ -31,19 +31,21 @@ fn status_of(verdict: Verdict) -> Status {
     }
 }
 
-/// What the calls answered so far.
+/// The answers of all calls so far.
 #[derive(Clone, Copy)]
 pub(crate) struct Answers {
-    /// How many ended as LAWFUL or without a fault, as REFUTED or BLAMED, as UNDECIDED, and by a fault.
+    /// The numbers of calls that ended as LAWFUL or without a fault, as REFUTED or BLAMED, as UNDECIDED, and with a
+    /// fault.
     pub(crate) fine: u64,
     pub(crate) refuted: u64,
     pub(crate) undecided: u64,
     pub(crate) faulty: u64,
-    /// A digest of all that was printed, by FNV-1a, 64 bits.
+    /// The digest (64-bit FNV-1a) of everything that was printed.
     pub(crate) digest: u64,
 }
 
-/// How it ends that somebody is blamed in a record of at most 100,000 entries.
+/// Returns the status of `blame` for a record. Returns None if the record is faulty or has more than 100,000 entries,
+/// or if memory runs out.
 fn blame_of(alloc: Global, octets: &[u8], table: &Table) -> Option<Status> {
     let read = read_record(alloc, &mut Counted::new(octets)).ok()?;
     if read.entries.len() > 100_000 {
@@ -53,7 +55,7 @@ fn blame_of(alloc: Global, octets: &[u8], table: &Table) -> Option<Status> {
     Some(blame_status(blame.ends, blame.outcome))
 }
 
-/// What is asked of a trace: of both ends, by that book.
+/// Returns the options for judging both ends of a trace with this table set.
 fn asked_by(book: &Book) -> AskedOfTrace<'_> {
     AskedOfTrace {
         name: "trace",
@@ -65,7 +67,7 @@ fn asked_by(book: &Book) -> AskedOfTrace<'_> {
     }
 }
 
-/// The verdict on a trace of lines, and what is said of it.
+/// Judges a trace of lines. Returns the verdict and the printed text.
 fn said_of(alloc: Global, lines: &[u8], asked: AskedOfTrace) -> Result<(Verdict, Vec<u8>), Stop> {
     let (mut text, mut watch, mut sum) = (Counted::new(Vec::new(alloc)), Nobody, Sum::new());
     let mut nowhere: Option<Counted<Vec<u8>>> = None;
@@ -93,7 +95,7 @@ impl Answers {
         }
     }
 
-    /// Notes octets that were printed.
+    /// Adds printed octets to the digest.
     fn note_octets(&mut self, octets: &[u8]) {
         let mut digest = self.digest;
         for octet in octets {
@@ -102,7 +104,7 @@ impl Answers {
         self.digest = digest;
     }
 
-    /// Notes how a call ended, and what it printed.
+    /// Counts how a call ended, and adds its output to the digest.
     fn note(&mut self, ended: Result<Status, WriteFailed>, printed: &[u8]) {
         let count = match ended {
             Ok(Status::Fine) => &mut self.fine,
@@ -114,7 +116,7 @@ impl Answers {
         self.note_octets(printed);
     }
 
-    /// Judges both ends, and has the certificate printed; or judges the given end alone.
+    /// Judges both ends and prints the certificate, or judges the given end alone.
     pub(crate) fn judge(&mut self, alloc: Global, octets: &[u8], judged: Option<End>) {
         let mut writer = Counted::new(Vec::new(alloc));
         let mut table = Counted::new(TABLE.as_bytes());
@@ -129,7 +131,7 @@ impl Answers {
         self.note(ended, &writer.into_inner());
     }
 
-    /// Says who is at fault.
+    /// Finds which end is at fault.
     pub(crate) fn blame(&mut self, alloc: Global, octets: &[u8]) {
         let mut writer = Counted::new(Vec::new(alloc));
         let mut table = Counted::new(TABLE.as_bytes());
@@ -137,7 +139,7 @@ impl Answers {
         self.note(ended, &writer.into_inner());
     }
 
-    /// Says who is at fault, as a program does that calls the library for many small records: nothing is printed.
+    /// Finds which end is at fault without printing, as a program does that calls the library for many small records.
     pub(crate) fn blame_small(&mut self, alloc: Global, octets: &[u8], table: &Table) {
         let ended = match blame_of(alloc, octets, table) {
             Some(status) => Ok(status),
@@ -154,7 +156,7 @@ impl Answers {
         }
     }
 
-    /// Says the verdict, and why.
+    /// Judges a record and explains the verdict.
     pub(crate) fn explain(&mut self, alloc: Global, octets: &[u8]) {
         let mut writer = Counted::new(Vec::new(alloc));
         let mut table = Counted::new(TABLE.as_bytes());
@@ -174,14 +176,14 @@ impl Answers {
         self.note(ended, &writer.into_inner());
     }
 
-    /// Prints the entries.
+    /// Prints the entries of a record.
     pub(crate) fn show(&mut self, alloc: Global, octets: &[u8]) {
         let mut writer = Counted::new(Vec::new(alloc));
         let ended = run_show(alloc, &mut Counted::new(octets), &mut writer);
         self.note(ended, &writer.into_inner());
     }
 
-    /// Makes a record of lines of digits.
+    /// Makes a record from lines of hexadecimal digits.
     pub(crate) fn pack(&mut self, alloc: Global, lines: &[u8]) {
         let mut writer = Counted::new(Vec::new(alloc));
         let mut faults = Counted::new(Vec::new(alloc));

@@ -1,11 +1,11 @@
-//! The dialogues of a record, each as a record of its own.
+//! Splits a record into its dialogues, each as a separate record.
 
 use crate::record::Made;
 use std::alloc::{AllocError, Global};
 use tcap_dialogues::{Cut, HeadingView, Reuse, read_heading};
 use tcap_record::End;
 
-/// What is read of an entry to find its dialogue.
+/// Reads the tag and the transaction IDs of an entry.
 fn heading_of(entry: &[u8]) -> HeadingView<'_> {
     match entry {
         [b'B', element @ ..] => read_heading(End::B, element),
@@ -14,7 +14,8 @@ fn heading_of(entry: &[u8]) -> HeadingView<'_> {
     }
 }
 
-/// The octets of each dialogue of a record, in which each transaction ID is used once.
+/// Returns the octets of each dialogue of a record in which each transaction ID is used once. Fails if memory runs
+/// out.
 pub(crate) fn dialogues_of(alloc: Global, made: &Made) -> Result<Vec<Vec<u8>>, AllocError> {
     let entries = made.entries(alloc)?;
     let mut cut = Cut::new(alloc, Reuse::Once);

@@ -1,18 +1,18 @@
-//! What is at fault in a record.
+//! The faults of generated records.
 
-/// Which parts of its messages are at fault.
+/// The parts of messages that are at fault.
 #[derive(Clone, Copy)]
 pub(crate) enum Faults {
-    /// None.
+    /// No part.
     None,
-    /// One transaction ID, Invoke or answer in so many speaks of what was never sent.
+    /// One transaction ID, Invoke or answer in this many refers to something that was never sent.
     Unknown(u32),
-    /// One Invoke or answer in so many comes twice, so that its invoke ID is in use, or was answered.
+    /// One Invoke or answer in this many is sent twice, so that its invoke ID is in use or already answered.
     Twice(u32),
 }
 
 impl Faults {
-    /// One in how many speaks of what was never sent, 0 where none does.
+    /// Returns the count of `Unknown`, or 0.
     pub(crate) fn unknown(self) -> u32 {
         match self {
             Faults::Unknown(count) => count,
@@ -20,7 +20,7 @@ impl Faults {
         }
     }
 
-    /// One in how many comes twice, 0 where none does.
+    /// Returns the count of `Twice`, or 0.
     pub(crate) fn twice(self) -> u32 {
         match self {
             Faults::Twice(count) => count,

@@ -1,4 +1,4 @@
-//! The jobs.
+//! The jobs of the benchmark.
 
 use crate::awkward::{all_under_way, crossing, expiring, one_invoke_id, unheard};
 use crate::calls::Answers;
@@ -15,27 +15,27 @@ use tcap_record::End;
 /// A job that a user waits for.
 #[derive(Clone, Copy)]
 pub(crate) enum Job {
-    /// A load test's record is judged.
+    /// Judge the record of a load test.
     Load,
-    /// It is asked who is at fault in such a record.
+    /// Find which end is at fault in such a record.
     Blame,
-    /// And why.
+    /// Explain such a record.
     Explain,
-    /// A nightly suite: many records of 10 to 1,000 entries, negative tests among them.
+    /// Judge a nightly suite: many records of 10 to 1,000 entries, some of them negative tests.
     Nightly,
-    /// An archive is gone over again: lines are packed, records shown, and checked by their certificates.
+    /// Process an archive again: pack lines, show records, and check their certificates.
     Archive,
-    /// Records that are awkward.
+    /// Judge and check awkward records.
     Awkward,
-    /// It is asked who is at fault, and why, in records in which one message in some hundreds is.
+    /// Find which end is at fault, and explain why, in records with a fault in one of 600 places.
     Faulted,
-    /// A load test's trace of many small dialogues is judged, dialogue by dialogue.
+    /// Judge each dialogue in the trace of a load test with many small dialogues.
     Traces,
-    /// It is asked who is at fault in each of these dialogues, as a record of its own.
+    /// Find which end is at fault in each of these dialogues, each as a separate record.
     Small,
 }
 
-/// All of them.
+/// All jobs.
 pub(crate) const JOBS: [Job; 9] = [
     Job::Load,
     Job::Blame,
@@ -49,7 +49,7 @@ pub(crate) const JOBS: [Job; 9] = [
 ];
 
 impl Job {
-    /// Its name.
+    /// Returns the name of the job.
     pub(crate) fn name(self) -> &'static str {
         match self {
             Job::Load => "load",
@@ -64,7 +64,7 @@ impl Job {
         }
     }
 
-    /// How many entries there are in all, as the benchmark has it.
+    /// Returns the usual number of entries of all records of the job.
     pub(crate) fn entries(self) -> u32 {
         match self {
             Job::Load => 100_000,
@@ -80,13 +80,13 @@ impl Job {
     }
 }
 
-/// The record of a load test: a fiftieth as many dialogues at once.
+/// Makes the record of a load test, with one dialogue at once for each 50 entries.
 fn load(alloc: Global, seed: u32, entries: u32) -> Result<Made, AllocError> {
     make_traffic(alloc, entries as usize, entries / 50, Faults::None, seed)
 }
 
-/// Judges the records of a nightly suite: six in ten as they ought to be, and of the others one message in a hundred is at
-/// fault; of these one end is judged alone, or it is asked who is at fault.
+/// Judges the records of a nightly suite. Six in ten are lawful. In the others, one transaction ID, Invoke or answer
+/// in 100 refers to something that was never sent; they are judged for one end alone, or blamed.
 fn nightly(
     alloc: Global,
     answers: &mut Answers,
@@ -114,7 +114,7 @@ fn nightly(
     Ok(())
 }
 
-/// Goes over an archive again: three records, each of which is packed, shown and checked.
+/// Processes three records of an archive again: packs, shows and checks each.
 fn archive(
     alloc: Global,
     answers: &mut Answers,
@@ -133,7 +133,7 @@ fn archive(
     Ok(())
 }
 
-/// Checks, judges or blames records that are awkward.
+/// Judges or checks each kind of awkward record.
 fn awkward(
     alloc: Global,
     answers: &mut Answers,
@@ -153,8 +153,8 @@ fn awkward(
     Ok(())
 }
 
-/// Says who is at fault, and then why, in records of 200 to 3,800 entries: in half of them one transaction ID, Invoke or answer
-/// in 600 speaks of what was never sent, in half one Invoke or answer in 600 comes twice.
+/// Blames and explains records of 200 to 3,800 entries. In half of the records one transaction ID, Invoke or answer
+/// in 600 refers to something that was never sent; in the other half one Invoke or answer in 600 is sent twice.
 fn faulted(
     alloc: Global,
     answers: &mut Answers,
@@ -187,7 +187,7 @@ fn traces(alloc: Global, answers: &mut Answers, seed: u32, entries: u32) -> Resu
     Ok(())
 }
 
-/// Says of each dialogue of such a trace, as a record of its own, who is at fault.
+/// Blames each dialogue of such a trace, as a separate record.
 fn small(alloc: Global, answers: &mut Answers, seed: u32, entries: u32) -> Result<(), AllocError> {
     let records = dialogues_of(alloc, &load(alloc, seed, entries)?)?;
     match Table::from_json(alloc, TABLE.as_bytes()) {
@@ -201,7 +201,7 @@ fn small(alloc: Global, answers: &mut Answers, seed: u32, entries: u32) -> Resul
     Ok(())
 }
 
-/// What the calls of a job answer, over records of that seed and of about so many entries in all.
+/// Does a job over records with about `entries` entries in all, and returns its answers. Fails if memory runs out.
 pub(crate) fn answers_of(
     alloc: Global,
     job: Job,

@@ -1,6 +1,8 @@
-//! The benchmark: jobs that a user of the judge waits for, over records that it makes itself. `tcap_speed JOB SEED [ENTRIES]` makes
-//! records by that seed, of about so many entries in all, asks the judge of them, and prints how the calls ended and a digest of all
-//! that they printed. `tcap_speed all SEED ENTRIES` does each job. docs/PERF.md says what stands for what.
+//! The benchmark: jobs that a user of the judge waits for, over records that it generates.
+//!
+//! `tcap_speed JOB SEED [ENTRIES]` generates records with about ENTRIES entries in all, judges them, and prints how
+//! the calls ended and a digest of their output. `tcap_speed all SEED ENTRIES` does each job. docs/PERF.md describes
+//! the workloads.
 #![tactic(auto)]
 
 mod awkward;
@@ -19,7 +21,7 @@ use crate::jobs::{JOBS, Job, answers_of};
 use std::process::ExitCode;
 use std::{env, io};
 
-/// The words behind the program's name: a job, a seed and a count of entries.
+/// Returns the words of the command line without the program's name: a job, a seed and a count of entries.
 fn words(rt: &HostRuntime) -> io::Result<Vec<String>> {
     let texts: Vec<String> = env::args(rt)?.collect(rt.alloc())?;
     let mut words = Vec::new(rt.alloc());
@@ -29,12 +31,12 @@ fn words(rt: &HostRuntime) -> io::Result<Vec<String>> {
     Ok(words)
 }
 
-/// A number, 0 where none is there.
+/// Reads a word as a number. Returns 0 if there is no word, or it is not a number.
 fn number(word: Option<&String>) -> u32 {
     word.and_then(|word| word.parse::<u32>().ok()).unwrap_or(0)
 }
 
-/// Prints what the calls of a job answered.
+/// Prints how the calls of a job ended, and the digest of their output.
 fn print(rt: &HostRuntime, name: &str, answers: Answers) -> io::Result<()> {
     let Answers {
         fine,
@@ -48,7 +50,7 @@ fn print(rt: &HostRuntime, name: &str, answers: Answers) -> io::Result<()> {
     )
 }
 
-/// Does a job, and prints what its calls answered.
+/// Does a job and prints its answers. A count of 0 stands for the job's usual count of entries.
 fn run_job(rt: &HostRuntime, job: Job, seed: u32, entries: u32) -> io::Result<()> {
     let count = if entries == 0 { job.entries() } else { entries };
     match answers_of(rt.alloc(), job, seed, count) {

@@ -1,10 +1,10 @@
-//! Messages that are put together from the inside out.
+//! Builds messages from the inside out.
 
 use crate::dice::Dice;
 use crate::octets::{push_element, push_number};
 use std::alloc::{AllocError, Global};
 
-/// The codes of the table, class by class.
+/// The operation codes of the table, by class.
 const CLASS_1: [u8; 20] = [
     2, 3, 4, 7, 8, 10, 11, 12, 22, 23, 43, 44, 45, 46, 56, 59, 60, 64, 66, 71,
 ];
@@ -13,13 +13,13 @@ const CLASS_2: [u8; 4] = [16, 17, 20, 35];
 
 const CLASS_4: [u8; 4] = [31, 34, 49, 63];
 
-/// An operation that the table lacks.
+/// An operation that is not in the table.
 const UNKNOWN: u8 = 120;
 
 /// An invoke ID that is never invoked.
 const NEVER: u8 = 0xC0;
 
-/// An invocation that its receiver answers: its invoke ID, its operation and its class.
+/// An invocation that its receiver answers: its invoke ID, operation code and class.
 #[derive(Clone, Copy)]
 pub(crate) struct Asked {
     pub(crate) id: u8,
@@ -27,25 +27,25 @@ pub(crate) struct Asked {
     pub(crate) class: u8,
 }
 
-/// How many octets there are of which parameters are taken.
+/// The number of random octets from which parameters are cut.
 const SOURCE: u32 = 4_096;
 
-/// The octets of a message that is made, part by part.
+/// The octets of a message that is being built, part by part.
 #[derive(Drop)]
 pub(crate) struct Parts {
-    /// Octets by chance, of which parameters are taken.
+    /// Random octets, from which parameters are cut.
     source: Vec<u8>,
     result: Vec<u8>,
     component: Vec<u8>,
     portion: Vec<u8>,
-    /// What stands before the component portion.
+    /// The content of the message before its component portion.
     pub(crate) content: Vec<u8>,
     /// The whole message.
     pub(crate) message: Vec<u8>,
 }
 
 impl Parts {
-    /// Nothing stands there.
+    /// Creates empty parts, and draws the random octets. Fails if memory runs out.
     pub(crate) fn new(alloc: Global, dice: &mut Dice) -> Result<Parts, AllocError> {
         let mut source = Vec::new(alloc);
         for _ in 0..SOURCE / 4 {
@@ -61,14 +61,14 @@ impl Parts {
         })
     }
 
-    /// Nothing stands there.
+    /// Empties the message and its parts.
     pub(crate) fn clear(&mut self) {
         self.portion.clear();
         self.content.clear();
         self.message.clear();
     }
 
-    /// Puts the message together.
+    /// Completes the message with this tag.
     pub(crate) fn end_message(&mut self, tag: u8) -> Result<(), AllocError> {
         if !self.portion.is_empty() {
             push_element(&mut self.content, 0x6C, &self.portion)?;
@@ -76,12 +76,12 @@ impl Parts {
         push_element(&mut self.message, tag, &self.content)
     }
 
-    /// Appends a parameter of 8 to 180 octets to the component; most are short.
+    /// Appends a parameter of 8 to 179 octets, most of them short, to the component.
     fn push_parameter(&mut self, dice: &mut Dice, tag: u8) -> Result<(), AllocError> {
         push_element(&mut self.component, tag, chosen(&self.source, dice))
     }
 
-    /// An operation of any class: its code and its class.
+    /// Chooses an operation of any class. Returns its code and its class.
     fn choose_operation(dice: &mut Dice) -> (u8, u8) {
         let place = dice.word() as usize;
         match dice.below(12) {
@@ -91,7 +91,7 @@ impl Parts {
         }
     }
 
-    /// Appends an Invoke, and answers what it asks.
+    /// Appends an Invoke, and returns its invocation.
     pub(crate) fn push_invoke(
         &mut self,
         dice: &mut Dice,
@@ -117,7 +117,7 @@ impl Parts {
         push_element(&mut self.portion, 0xA1, &self.component)
     }
 
-    /// Appends a Return Result, the last one or not.
+    /// Appends a Return Result: the last one if the tag is A2, not the last if it is A7.
     fn push_result(
         &mut self,
         dice: &mut Dice,
@@ -143,7 +143,7 @@ impl Parts {
         push_element(&mut self.portion, 0xA3, &self.component)
     }
 
-    /// Appends a Reject: the operation is not known to the user.
+    /// Appends a Reject with the invoke problem "unrecognized operation".
     fn push_reject(&mut self, id: u8) -> Result<(), AllocError> {
         self.component.clear();
         push_number(&mut self.component, id)?;
@@ -151,7 +151,7 @@ impl Parts {
         push_element(&mut self.portion, 0xA4, &self.component)
     }
 
-    /// Appends what is answered to an invocation: nothing, where one of class 2 succeeds.
+    /// Appends the answer to an invocation, which is nothing if an operation of class 2 succeeds.
     pub(crate) fn push_answer(
         &mut self,
         dice: &mut Dice,
@@ -175,7 +175,7 @@ impl Parts {
     }
 }
 
-/// The content of a parameter: 6 to 176 of those octets; most are few.
+/// Returns 6 to 176 octets of `source` as the content of a parameter, usually at most 32.
 fn chosen<'a>(source: &'a [u8], dice: &mut Dice) -> &'a [u8] {
     let len = if dice.one_in(8) {
         dice.between(60, 176)

@@ -1,4 +1,4 @@
-//! Records that are made, and what is said beside them.
+//! Generated records, with the lines and certificates that describe them.
 
 use std::alloc::{AllocError, Global};
 use std::fmt::Write;
@@ -6,7 +6,7 @@ use std::fmt::Write;
 /// The hexadecimal digits.
 const DIGITS: [u8; 16] = *b"0123456789abcdef";
 
-/// An end.
+/// One of the two ends of a record.
 #[derive(Clone, Copy, PartialEq, Eq)]
 pub(crate) enum Side {
     A,
@@ -14,7 +14,7 @@ pub(crate) enum Side {
 }
 
 impl Side {
-    /// The other end.
+    /// Returns the other end.
     pub(crate) fn other(self) -> Side {
         match self {
             Side::A => Side::B,
@@ -22,7 +22,7 @@ impl Side {
         }
     }
 
-    /// The octet of what it sent.
+    /// Returns the end octet of an entry that this end sent.
     pub(crate) fn octet(self) -> u8 {
         match self {
             Side::A => 0x41,
@@ -31,25 +31,25 @@ impl Side {
     }
 }
 
-/// What became of a message.
+/// What happened to a message after it was sent.
 #[derive(Clone, Copy)]
 pub(crate) enum Fate {
-    /// It was delivered in that gap.
+    /// It was delivered in this gap.
     In(usize),
-    /// The provider's reply that is that entry took it.
+    /// The provider of the other end answered it with the Abort that is this entry.
     By(usize),
     /// It was lost.
     Lost,
 }
 
-/// An invocation that ended unseen: in that gap, of the first component of that entry of A.
+/// An expiry: in gap `at`, the invocation in the first component of entry `entry`, which A sent.
 #[derive(Clone, Copy)]
 pub(crate) struct Expiry {
     pub(crate) at: usize,
     pub(crate) entry: usize,
 }
 
-/// A record, and the certificate of the run by which it was made.
+/// A record, with the fates and expiries of the run that made it.
 #[derive(Drop)]
 pub(crate) struct Made {
     pub(crate) octets: Vec<u8>,
@@ -59,7 +59,7 @@ pub(crate) struct Made {
 }
 
 impl Made {
-    /// No entry yet.
+    /// Creates an empty record.
     pub(crate) fn new(alloc: Global) -> Made {
         Made {
             octets: Vec::new(alloc),
@@ -69,7 +69,7 @@ impl Made {
         }
     }
 
-    /// Its entries.
+    /// Returns the octets of each entry.
     pub(crate) fn entries(&self, alloc: Global) -> Result<Vec<&[u8]>, AllocError> {
         let mut entries = Vec::new(alloc);
         let mut rest = self.octets.as_slice();
@@ -81,7 +81,7 @@ impl Made {
         Ok(entries)
     }
 
-    /// The lines of hexadecimal digits of which the record is made.
+    /// Returns the record as lines of hexadecimal digits.
     pub(crate) fn lines(&self, alloc: Global) -> Result<Vec<u8>, AllocError> {
         let mut lines = Vec::new(alloc);
         for entry in &self.entries(alloc)? {
@@ -90,12 +90,12 @@ impl Made {
         Ok(lines)
     }
 
-    /// How many entries there are.
+    /// Returns the number of entries.
     pub(crate) fn len(&self) -> usize {
         self.fates.len()
     }
 
-    /// Appends an entry: what that end sent, and what became of it.
+    /// Appends an entry that `side` sent, with the fate of its message.
     pub(crate) fn push(
         &mut self,
         side: Side,
@@ -109,7 +109,7 @@ impl Made {
         Ok(())
     }
 
-    /// The certificate of that run.
+    /// Returns the certificate of the run, as JSON.
     pub(crate) fn certificate(&self, alloc: Global) -> Result<String, AllocError> {
         let mut text = String::new(alloc);
         text.push_str("{\"close\":[],\"expire\":[")?;
@@ -130,7 +130,7 @@ impl Made {
     }
 }
 
-/// Appends an expiry as the certificate has it.
+/// Appends an expiry as a certificate spells it.
 fn push_expiry(text: &mut String, comma: &str, at: usize, entry: usize) -> Result<(), AllocError> {
     write!(
         text,
@@ -139,7 +139,7 @@ fn push_expiry(text: &mut String, comma: &str, at: usize, entry: usize) -> Resul
     .map_err(|_| AllocError)
 }
 
-/// Appends a fate as the certificate has it, where `last` is the last gap.
+/// Appends a fate as a certificate spells it; `last` is the last gap.
 fn push_fate(text: &mut String, fate: Fate, last: usize) -> Result<(), AllocError> {
     match fate {
         Fate::In(gap) => push_gap(text, gap.min(last)),

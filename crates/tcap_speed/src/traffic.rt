@@ -1,5 +1,6 @@
-//! Records as mobile networks make them: many dialogues at once, begun by both ends, with dialogue portions, parameters, errors,
-//! and messages that cross, come late or are lost. Each is made by a run, so it is lawful, unless faults are asked for.
+//! Records like those of mobile networks: many dialogues at once, begun by both ends, with dialogue portions,
+//! parameters and errors, and messages that cross, arrive late or are lost. Each record follows a run, so it is
+//! lawful unless faults are requested.
 
 use crate::dice::Dice;
 use crate::faults::Faults;
@@ -8,7 +9,7 @@ use crate::parts::{Asked, Parts};
 use crate::record::{Fate, Made, Side};
 use std::alloc::{AllocError, Global};
 
-/// The operation table, by which records are made: of classes 1, 2 and 4.
+/// The operation table for all generated records, with operations of classes 1, 2 and 4.
 pub(crate) const TABLE: &str =
     r#"{"operations":[{"class":1,"code":2},{"class":1,"code":3},{"class":1,"code":4},
 {"class":1,"code":7},{"class":1,"code":8},{"class":1,"code":10},{"class":1,"code":11},{"class":1,"code":12},
@@ -17,18 +18,19 @@ pub(crate) const TABLE: &str =
 {"class":1,"code":66},{"class":1,"code":71},{"class":2,"code":16},{"class":2,"code":17},{"class":2,"code":20},
 {"class":2,"code":35},{"class":4,"code":31},{"class":4,"code":34},{"class":4,"code":49},{"class":4,"code":63}]}"#;
 
-/// How far a dialogue is.
+/// How far a dialogue has come.
 #[derive(Clone, Copy, PartialEq, Eq)]
 enum Phase {
-    /// There is none.
+    /// No dialogue is open.
     Over,
     /// Its Begin was sent.
     Begun,
-    /// It was answered.
+    /// Its Begin was answered.
     Active,
 }
 
-/// What an end has of a dialogue.
+/// What one end knows of a dialogue: its own transaction ID, its next invoke ID, and the invocations that it has to
+/// answer.
 #[derive(Drop)]
 struct Half {
     own: Option<u32>,
@@ -52,23 +54,23 @@ impl Half {
     }
 }
 
-/// A dialogue under way.
+/// A dialogue in progress.
 #[derive(Drop)]
 struct Dialogue {
     phase: Phase,
     a: Half,
     b: Half,
-    /// Whether each end knows that it is active.
+    /// Whether each end knows that the dialogue is active.
     is_settled: bool,
-    /// Which end sends the next message.
+    /// The end that sends the next message.
     turn: Side,
-    /// The gap from which on that end has the last message.
+    /// The gap in which the last message is delivered.
     ready: usize,
-    /// How many messages are left.
+    /// The number of messages that are still to be sent.
     left: u32,
-    /// The most components of a message.
+    /// The greatest number of Invokes in a message.
     most: u32,
-    /// Its application context, where it has dialogue portions.
+    /// The application context, if the dialogue has dialogue portions.
     context: Option<u8>,
 }
 
@@ -95,24 +97,24 @@ impl Dialogue {
     }
 }
 
-/// Traffic under way.
+/// Traffic in progress.
 #[derive(Drop)]
 pub(crate) struct Traffic {
     dice: Dice,
     made: Made,
     parts: Parts,
     dialogues: Vec<Dialogue>,
-    /// How many transaction IDs were chosen, and what makes them look random.
+    /// The number of transaction IDs that were chosen, and the key that makes them look random.
     chosen: u32,
     key: u32,
-    /// Until which gap nothing of an end is delivered.
+    /// The first gaps in which messages of A and of B may be delivered.
     a_waits: usize,
     b_waits: usize,
     faults: Faults,
 }
 
 impl Traffic {
-    /// Traffic of so many dialogues at once, by this seed.
+    /// Creates traffic with this many dialogues at once. Fails if memory runs out.
     fn new(
         alloc: Global,
         dialogues: u32,
@@ -139,13 +141,13 @@ impl Traffic {
         })
     }
 
-    /// A transaction ID that was not chosen before.
+    /// Returns a transaction ID that was not chosen before.
     fn new_id(&mut self) -> u32 {
         self.chosen = self.chosen.wrapping_add(1);
         self.chosen.wrapping_mul(0x9E37_79B1) ^ self.key
     }
 
-    /// The gap in which what that end sends next is delivered.
+    /// Returns the gap in which the next message of `side` is delivered.
     fn gap_of(&self, side: Side) -> usize {
         let next = self.made.len().saturating_add(1);
         match side {
@@ -154,7 +156,7 @@ impl Traffic {
         }
     }
 
-    /// Has what an end sends wait for a while, now and then.
+    /// Delays, in one of 300 calls, the messages of one end by 5 to 40 entries.
     fn hold_back(&mut self) {
         if self.dice.one_in(300) {
             let wait = self.dice.between(5, 40) as usize;
@@ -167,13 +169,14 @@ impl Traffic {
         }
     }
 
-    /// Puts a message together from what stands in `parts`, behind its IDs and its dialogue portion, and appends it.
+    /// Completes the message in `parts`, whose IDs and dialogue portion are there already, and appends it to the
+    /// record.
     fn push(&mut self, side: Side, tag: u8, fate: Fate) -> Result<(), AllocError> {
         self.parts.end_message(tag)?;
         self.made.push(side, &self.parts.message, fate)
     }
 
-    /// What becomes of the next message of that end, one in so many of which is lost.
+    /// Returns the fate of the next message of `side`: one in `lost` messages is lost.
     fn fate_of(&mut self, side: Side, lost: u32) -> Fate {
         if self.dice.one_in(lost) {
             Fate::Lost
@@ -182,7 +185,7 @@ impl Traffic {
         }
     }
 
-    /// Appends so many Invokes of that end.
+    /// Appends `count` Invokes of `side` to the message.
     fn push_invokes(
         &mut self,
         dialogue: &mut Dialogue,
@@ -205,7 +208,7 @@ impl Traffic {
         Ok(())
     }
 
-    /// Appends what that end answers.
+    /// Appends to the message the answers of `side` to all invocations that it has received.
     fn push_answers(&mut self, dialogue: &mut Dialogue, side: Side) -> Result<(), AllocError> {
         for asked in &dialogue.half(side).asked {
             let is_wrong = self.dice.one_in(self.faults.unknown());
@@ -218,7 +221,7 @@ impl Traffic {
         Ok(())
     }
 
-    /// Chooses what a new dialogue is like.
+    /// Chooses the properties of a new dialogue.
     fn choose(&mut self, dialogue: &mut Dialogue) {
         dialogue.turn = if self.dice.one_in(2) {
             Side::A
@@ -240,7 +243,7 @@ impl Traffic {
         dialogue.b.forget();
     }
 
-    /// Begins a dialogue in the place of one that is over.
+    /// Begins a dialogue in place of a finished one.
     fn begin(&mut self, dialogue: &mut Dialogue) -> Result<(), AllocError> {
         self.choose(dialogue);
         let side = dialogue.turn;
@@ -269,7 +272,7 @@ impl Traffic {
         Ok(())
     }
 
-    /// Has the provider of that end refuse the Begin of this originating ID, for want of resources.
+    /// Sends the Abort with which the provider of `side` refuses a Begin, for lack of resources (P-Abort cause 4).
     fn refuse(&mut self, side: Side, own: u32) -> Result<(), AllocError> {
         self.parts.clear();
         push_id(&mut self.parts.content, 0x49, own)?;
@@ -278,7 +281,7 @@ impl Traffic {
         self.push(side, 0x67, fate)
     }
 
-    /// Appends the destination ID of what that end sends.
+    /// Appends the destination ID of a message of `side`.
     fn push_peer(&mut self, dialogue: &mut Dialogue, side: Side) -> Result<(), AllocError> {
         let is_wrong = self.dice.one_in(self.faults.unknown());
         let peer = match dialogue.half(side.other()).own {
@@ -288,7 +291,7 @@ impl Traffic {
         push_id(&mut self.parts.content, 0x49, peer)
     }
 
-    /// Appends both IDs of a Continue of that end.
+    /// Appends both IDs of a Continue of `side`.
     fn push_ids(&mut self, dialogue: &mut Dialogue, side: Side) -> Result<(), AllocError> {
         let own = match dialogue.half(side).own {
             Some(own) => own,
@@ -299,7 +302,7 @@ impl Traffic {
         self.push_peer(dialogue, side)
     }
 
-    /// Sends a Continue.
+    /// Sends a Continue, with answers and Invokes.
     fn go_on(&mut self, dialogue: &mut Dialogue) -> Result<(), AllocError> {
         let side = dialogue.turn;
         self.parts.clear();
@@ -324,7 +327,7 @@ impl Traffic {
         Ok(())
     }
 
-    /// Sends a Continue that crosses one of the peer, which this end has not received.
+    /// Sends a Continue while the last message of the dialogue is still in transit.
     fn cross(&mut self, dialogue: &mut Dialogue) -> Result<(), AllocError> {
         let side = dialogue.turn;
         self.parts.clear();
@@ -334,7 +337,7 @@ impl Traffic {
         self.push(side, 0x65, fate)
     }
 
-    /// Sends the last message, an End or now and then an Abort.
+    /// Sends the last message: an End, or in one of 20 dialogues an Abort.
     fn end(&mut self, dialogue: &mut Dialogue) -> Result<(), AllocError> {
         let side = dialogue.turn;
         let is_aborted = self.dice.one_in(20);
@@ -356,7 +359,8 @@ impl Traffic {
         Ok(())
     }
 
-    /// Sends what is next in that dialogue, where the end has received what came before. Whether it sent something.
+    /// Sends the next message of the dialogue. While the last one is in transit, sends a Continue that may cross
+    /// another, or nothing. Returns whether a message was sent.
     fn step(&mut self, dialogue: &mut Dialogue) -> Result<bool, AllocError> {
         if dialogue.phase == Phase::Over {
             self.begin(dialogue)?;
@@ -373,7 +377,7 @@ impl Traffic {
         Ok(true)
     }
 
-    /// Has an end report something to the other, outside of any dialogue (Q.771 2.4).
+    /// Sends a Unidirectional, which belongs to no dialogue (Q.771 2.4).
     fn report(&mut self) -> Result<(), AllocError> {
         let side = if self.dice.one_in(2) {
             Side::A
@@ -386,7 +390,7 @@ impl Traffic {
         self.push(side, 0x61, fate)
     }
 
-    /// Appends an entry, in one of the dialogues, or now and then in none.
+    /// Appends the next message of one of the dialogues, or now and then a Unidirectional.
     fn push_entry(&mut self) -> Result<(), AllocError> {
         self.hold_back();
         for _ in 0..8 {
@@ -406,7 +410,7 @@ impl Traffic {
     }
 }
 
-/// A record of so many entries, or one more, of so many dialogues at once, with those faults, by that seed.
+/// Makes a record of `entries` entries, or one more, with this many dialogues at once and these faults.
 pub(crate) fn make_traffic(
     alloc: Global,
     entries: usize,

@@ -1,4 +1,4 @@
--- Words that fail by nothing do not name the subcommand `help`.
+-- Words with no fault do not name the subcommand `help`.
 use Rattle.std.proofs.Common.{◌≡◌, ◌&&◌, ℕ, Bool, true, false, not, List, [], ◌∷◌, Option, Some, None, is_some, refl, codes}
 use Rattle.std.specs.Prelude.{⊤, fold, if◌then◌else◌}
 use Rattle.std.specs.Str.{bytes_eq}
@@ -9,12 +9,12 @@ use Rattle.clap.specs.Lexer.{long_of, short_of}
 use Rattle.clap.specs.Walk.{Held, Names, Outcome, Rule, Step, Text, Waiting, Walk, done, waits, plain, refused, idle, option, positional, next, trailing, subcommand, value, after_flag, after_step, arg_by_index, arg_by_long, bundle, long_met, long_or_other, plain_word, short_or_plain, subcommand_met, subcommand_or_other, to_positional, walked, walked_from, word_met}
 use Rattle.clap.specs.declared.error.kind.ErrorKind.TheVariants as kind
 
--- a walk has not stopped at `help`
+-- the walk has not stopped at `help`
 abbrev pub NotHelp : Option (Text × List Text) → Type 0
 NotHelp None = ⊤
 NotHelp (Some p) = bytes_eq p.0 (codes "help") ≡ false
 
--- a word is not `help`
+-- the word is not `help`
 abbrev NotHelpStep : Step → Type 0
 NotHelpStep (subcommand name) = bytes_eq name (codes "help") ≡ false
 NotHelpStep _ = ⊤

@@ -1,4 +1,4 @@
--- What the matches of words with no fault have, and what the words ask for by them.
+-- What the matches of words with no fault contain, and what request they make.
 use Rattle.std.proofs.Common.{◌≡◌, ◌∙◌, Bool, List, [], ◌∷◌, Option, Some, None, is_some, inl, inr, ap, ap₂, sym, subst, codes, true, refl}
 use Rattle.std.specs.Prelude.{◌≢◌, IfSome, find, option_and_then, option_map, slice_get, unwrap_or}
 use Rattle.std.specs.Str.{bytes_eq}
@@ -32,7 +32,7 @@ two_parts {X} {Y} (Some p) x y is_x is_y =
     let same_y : y ≡ p.1 = some_same _ _ is_y in
     ap₂ (λ (a : X) (b : Y). Some (a, b)) (sym same_x) (sym same_y)
 
--- the name and the rows of the subcommand that the matches have
+-- the subcommand of the words has the name and the rows of the matches
 entered_as : (m : ArgMatches) (words : List Text) (name : Text) (f : Found)
     → subcommand_rows_of m ≡ subcommand_of tool words
     → Some name ≡ subcommand_name_of m
@@ -42,7 +42,7 @@ entered_as m words name f same is_name is_rows =
     sym same ∙ two_parts (subcommand_rows_of m) name (rows_of f)
     (is_name ∙ sym (fused (λ (p : Text × List Row). p.0) _ (out-ArgMatches m).subcommand)) is_rows
 
--- the known subcommand that the matches have, and the value that they give for its argument
+-- the subcommand of the words has the known name of the matches and their value of `id`
 pub asked_of : (m : ArgMatches) (words : List Text) (id name known : Text) (f : Found) (r : Option (Bor Text))
     → subcommand_rows_of m ≡ subcommand_of tool words → Some name ≡ subcommand_name_of m
     → Some (rows_of f) ≡ option_map (λ p. p.1) (subcommand_rows_of m) → name ≡ known → path_text r ≡ first_value f id
@@ -95,7 +95,7 @@ other_name o name (inr (inr (inr (inr (inr (inr (inr is))))))) at not_show not_p
 
 -- ---- the matches of each subcommand
 
--- the rows of the subcommand of that name, which the matches have
+-- the subcommand of the words has the known name and the rows of the matches
 entered_at : (m : ArgMatches) (words : List Text) (name known : Text) (f : Found)
     → subcommand_rows_of m ≡ subcommand_of tool words
     → Some name ≡ subcommand_name_of m
@@ -104,12 +104,12 @@ entered_at : (m : ArgMatches) (words : List Text) (name known : Text) (f : Found
 entered_at m words name known f same is_name is_rows is_known =
     entered_as m words name f same is_name is_rows ∙ ap (λ (n : Text). Some (n, rows_of f)) is_known
 
--- what holds of the first value of its rows, holds of that of the matches
+-- a test that the first value in the rows passes is passed by the first value in the matches
 fits_read : (f : Found) (id : Text) (test : Text → Bool) → IfSome (first_of id (rows_of f)) (λ word. test word ≡ true)
     → IfSome (first_value f id) (λ word. test word ≡ true)
 fits_read f id test = subst (λ o. IfSome o (λ word. test word ≡ true)) (sym (first_value-rows f id))
 
--- the paths that they give are there, and where an end is named, its letter
+-- the matches of `check` have its paths and, if given, a letter of an end
 pub check_there : (m : ArgMatches) (words : List Text) (name : Text) (f : Found)
     → subcommand_rows_of m ≡ subcommand_of tool words
     → fault_of tool words ≡ []
@@ -186,7 +186,7 @@ test_there m words name f same clear is_name is_rows is_test =
       fits_read f (codes "linger") is_number there.2,
     )
 
--- and they are what the words ask for
+-- the words ask for the values that the matches of `show` have
 pub show_asked_of : (m : ArgMatches) (words : List Text) (name : Text) (f : Found) (r : Option (Bor Text)) (b d : Bool)
     → subcommand_rows_of m ≡ subcommand_of tool words
     → Some name ≡ subcommand_name_of m
@@ -299,7 +299,7 @@ test_asked_of m words name f x same clear is_name is_rows is_test is =
     asks : Tested → Option (Text × Tested)
     asks y = Some (codes "test", y)
 
--- the end that they give is the one that the words name
+-- the words give the end that the matches give
 pub end_named : (m : ArgMatches) (words : List Text) (name known : Text) (f : Found) (o : Option Side)
     → subcommand_rows_of m ≡ subcommand_of tool words
     → Some name ≡ subcommand_name_of m
@@ -310,12 +310,12 @@ end_named m words name known f o same is_name is_rows is_known is =
     (entered_at m words name known f same is_name is_rows is_known)
     ∙ sym (is ∙ first_value-rows f (codes "end"))
 
--- the paths of `explain`, and the file of its chart
+-- `explain` with its paths and the file for its chart
 abbrev four : Option Text → Option Text → Option Text → Option Text
     → Option (Text × (Option Text × Option Text × Option Text × Option Text))
 four x y z file = Some (codes "explain", (x, y, z, file))
 
--- a request to explain with the values that the matches give is what the words ask for
+-- the words ask for a request to explain that has the values of the matches
 pub explain_asked_of : (m : ArgMatches) (words : List Text) (name : Text) (f : Found) (r : Request)
     → subcommand_rows_of m ≡ subcommand_of tool words
     → Some name ≡ subcommand_name_of m

@@ -1,4 +1,4 @@
--- What a subcommand needs is there, behind words at which the command line has no fault.
+-- If the command line finds no fault in the words, each required argument has a value.
 use Rattle.std.proofs.Common.{◌≡◌, ◌∙◌, ◌&&◌, ap₂, subst, Bool, true, false, List, [], ◌∷◌, Option, Some, None, is_some, inl, inr, refl, codes}
 use Rattle.std.specs.Prelude.{IfSome, if◌then◌else◌, drop}
 use Rattle.std.specs.Str.{bytes_eq}
@@ -22,7 +22,7 @@ use Rattle.tcap_words.proofs.Tool.{apart}
 abbrev pub sub_built : Shape → Shape
 sub_built s = built_leaf (inherited (on_top with_leaf_noted (on_top marked_built tool)).top s)
 
--- those that need some, as a parse builds them
+-- the subcommands with required arguments, as a parse builds them
 abbrev pub check_built : Shape
 check_built = sub_built check_shape
 
@@ -38,23 +38,23 @@ blame_built = sub_built blame_shape
 abbrev pub test_built : Shape
 test_built = sub_built test_shape
 
--- the paths that all need are there
+-- RECORD and TABLE have values
 abbrev pub HasTwoPaths : List Row → Type 0
 HasTwoPaths rows = (is_some (first_of (codes "RECORD") rows) ≡ true)
     × (is_some (first_of (codes "TABLE") rows) ≡ true)
 
--- where an end is named, its letter is
+-- the value of `--end`, if given, is the letter of an end
 abbrev pub HasLetter : List Row → Type 0
 HasLetter rows = IfSome (first_of (codes "end") rows) (λ word. is_letter word ≡ true)
 
--- what `test` is asked by an end, by a word for IDs and by a number, is that; and a trace is there
+-- the values of `--of`, `--ids` and `--linger`, if given, are well formed, and there is a trace
 abbrev pub HasAsked : List Row → Type 0
 HasAsked rows = IfSome (first_of (codes "of") rows) (λ word. is_letter word ≡ true)
     × IfSome (first_of (codes "ids") rows) (λ word. is_ids_word word ≡ true)
     × IfSome (first_of (codes "linger") rows) (λ word. is_number word ≡ true)
     × (is_some (first_of (codes "TRACE") rows) ≡ true)
 
--- and that of a certificate, which `check` needs too
+-- CERT has a value too, as `check` requires
 abbrev pub HasPaths : List Row → Type 0
 HasPaths rows = (is_some (first_of (codes "CERT") rows) ≡ true) × HasTwoPaths rows
 
@@ -107,7 +107,7 @@ trace_given rows true is_x e = refl
 trace_given rows false is_x e =
     let bad : kind.MissingRequiredArgument ∷ [] ≡ [] = rw is_x at e in cc
 
--- the values that pass a parser are those that the argument may have
+-- the argument may have the values that pass the parser
 parser_fits : (id : Text) (ignore_case : Bool) (parser : ValueParser)
     → ((v : Text) → may_have id v ≡ accepts ignore_case parser v) → (values : List Text)
     → values_kinds ignore_case parser values ≡ [] → may_have_all id values ≡ true
@@ -241,7 +241,7 @@ test_good = (
   ),
 )
 
--- behind words at which a subcommand has no fault, its rows have values, and its last checks find nothing
+-- if a subcommand finds no fault in the words, its rows are valued and pass its last checks
 level_valued : (s : Shape) → AllGood s.rules → (words : List Text) → level_fault s [] nothing_held words false [] ≡ []
     → Valued (rows_after s.rules [] words) × (check_fault s (rows_after s.rules [] words) false ≡ [])
 level_valued s good words e =
@@ -251,7 +251,7 @@ level_valued s good words e =
     let f = or_empty (defaults_fault (settled s.rules end).rows s.rules) _ d.1 in
     (end_valued s [] good (walk_from nothing_held) words a.0 d.0 tt, f.1)
 
--- its paths are there
+-- `check` has its paths and, if given, a letter of an end
 check_paths : (words : List Text) → level_fault check_built [] nothing_held words false [] ≡ []
     → HasPaths (rows_after check_built.rules [] words) × HasLetter (rows_after check_built.rules [] words)
 check_paths words e =
@@ -310,7 +310,7 @@ same_some x y e = cc
 not_some : {X : Type 0} (x : X) → None ≡ Some x → ⊥
 not_some x e = cc
 
--- what the subcommand of that name needs is there
+-- the subcommand with this name has its required values
 abbrev pub HasNeeded : Text × List Row → Type 0
 HasNeeded found = (found.0 ≡ codes "check" → HasPaths found.1 × HasLetter found.1)
     × (found.0 ≡ codes "judge" → HasTwoPaths found.1 × HasLetter found.1)
@@ -318,7 +318,7 @@ HasNeeded found = (found.0 ≡ codes "check" → HasPaths found.1 × HasLetter f
     × (found.0 ≡ codes "blame" → HasTwoPaths found.1)
     × (found.0 ≡ codes "test" → HasAsked found.1)
 
--- another subcommand needs nothing
+-- a subcommand other than these five requires nothing
 needs_nothing : (found : Text × List Row) → (found.0 ≡ codes "check" → ⊥) → (found.0 ≡ codes "judge" → ⊥)
     → (found.0 ≡ codes "explain" → ⊥) → (found.0 ≡ codes "blame" → ⊥) → (found.0 ≡ codes "test" → ⊥) → HasNeeded found
 needs_nothing found not_check not_judge not_explain not_blame not_test = (
@@ -329,7 +329,7 @@ needs_nothing found not_check not_judge not_explain not_blame not_test = (
   λ e. absurd (not_test e),
 )
 
--- words with no fault give what the subcommand needs
+-- words with no fault give the required values of their subcommand
 pub needed_there : (words : List Text) (found : Text × List Row) → fault_of tool words ≡ []
     → subcommand_of tool words ≡ Some found → HasNeeded found
 unfolding tool

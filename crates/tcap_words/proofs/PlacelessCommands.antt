@@ -1,4 +1,4 @@
--- Where the names of an option's values stand does not matter to what a command makes of words.
+-- The addresses of an option's choices do not matter to what a command makes of words.
 use Rattle.std.proofs.Common.{◌≡◌, ◌∙◌, ◌+◌, ◌&&◌, ◌||◌, ◌++◌, ℕ, Bool, true, false, not, List, [], ◌∷◌, Option, Some, None, is_some, ap, ap₂, sym, refl}
 use Rattle.std.specs.Prelude.{count_by, find, fold, if◌then◌else◌, map, option_map, unwrap_or}
 use Rattle.std.specs.List.{list_all, list_any}
@@ -228,7 +228,7 @@ entered_fault_same a (Some p) =
     go None = refl
     go (Some s) = fault_same s [] nothing_held p.1 false []
 
--- where the walk of the command stops
+-- the walk of the command stops at the same subcommand
 stop_same : (a : App) (words : List Text)
     → (walk (placeless a).top.rules (names_of (placeless a)) nothing_held words).stopped
     ≡ (walk a.top.rules (names_of a) nothing_held words).stopped
@@ -262,7 +262,7 @@ built_fault_same a words =
     (ap (entered_fault (placeless a)) (stop_same a words) ∙ entered_fault_same a stop)
     ∙ fault_same a.top (names_of a) nothing_held words (is_some (entered a stop)) (entered_fault a stop)
 
--- ---- what the words come to
+-- ---- the result of words
 
 pub takes_same : (a : App) (words : List Text) → takes (placeless a) words ≡ takes a words
 takes_same a words =

@@ -1,4 +1,4 @@
--- Where the names of an option's values stand does not matter to the faults of words.
+-- The addresses of an option's choices do not matter to the faults of words.
 use Rattle.std.proofs.Common.{◌≡◌, ◌∙◌, ◌+◌, ◌&&◌, ◌||◌, ℕ, zero, suc, Bool, not, List, [], ◌∷◌, Option, Some, None, is_some, ap, ap₂, refl}
 use Rattle.std.specs.Prelude.{drop, encode_utf8, if◌then◌else◌, length, map, min, option_map, slice_get}
 use Rattle.std.specs.List.{list_any}
@@ -53,7 +53,7 @@ values_same : (a : Rule) (values : List Text) → values_fault (placeless_rule a
 values_same a [] = refl
 values_same a (v ∷ vs) = ap₂ or_else (value_same a.ignore_case a.parser v) (values_same a vs)
 
--- ---- one use
+-- ---- one use of an argument
 
 module _ (again : Bool) where
   set_same : (a : Rule) (values : List Text) (rows : List Row)
@@ -225,7 +225,7 @@ defaults_fault_same rows (a ∷ rest) =
     (ap (λ x. defaults_fault x (map placeless_rule rest)) (default_same rows a)
     ∙ defaults_fault_same (with_default rows a) rest)
 
--- a test of some rule that does not see the difference
+-- `f` does not change whether some item passes a test that `f` does not change
 pub any_same : {X : Type 0} (f : X → X) (test : X → Bool) → ((a : X) → test (f a) ≡ test a) → (c : List X)
     → list_any test (map f c) ≡ list_any test c
 any_same f test same [] = refl

@@ -1,4 +1,4 @@
--- Where the names of an option's values stand does not matter to whether a command takes words.
+-- The addresses of an option's choices do not matter to whether a command accepts words.
 use Rattle.std.proofs.Common.{◌≡◌, ◌∙◌, ◌+◌, ◌&&◌, ◌||◌, ℕ, zero, suc, Bool, true, false, not, List, [], ◌∷◌, Option, Some, None, is_some, ap, ap₂, refl}
 use Rattle.std.specs.Prelude.{drop, encode_utf8, if◌then◌else◌, length, map, min, nat_le, option_map, slice_get}
 use Rattle.std.specs.List.{list_all, list_any}
@@ -57,7 +57,7 @@ pub missing_same : (a : Rule) (values : List Text)
 missing_same a [] = refl
 missing_same a (v ∷ vs) = refl
 
--- ---- one use
+-- ---- one use of an argument
 
 module _ (again : Bool) where
   set_same : (a : Rule) (values : List Text) (rows : List Row)
@@ -216,7 +216,7 @@ module _ (s : Shape) where
 default_same : (a : Rule) → default_passes (placeless_rule a) ≡ default_passes a
 default_same a = ap (λ b. is_empty a.defaults || (not (is_request (action_of a)) && b)) (values_same a a.defaults)
 
--- a test of all rules that does not see the difference
+-- `f` does not change whether all items pass a test that `f` does not change
 pub all_same : {X : Type 0} (f : X → X) (test : X → Bool) → ((a : X) → test (f a) ≡ test a) → (c : List X)
     → list_all test (map f c) ≡ list_all test c
 all_same f test same [] = refl

@@ -1,4 +1,4 @@
--- Where the names of an option's values stand does not matter to the walk over words.
+-- The addresses of an option's choices do not matter to the walk over words.
 use Rattle.std.proofs.Common.{◌≡◌, ◌∙◌, ◌&&◌, ◌||◌, ℕ, zero, suc, Bool, true, false, List, [], ◌∷◌, Option, Some, None, ap, ap₂, refl}
 use Rattle.std.specs.Prelude.{drop, encode_utf8, find, fold, if◌then◌else◌, length, map, option_map, slice_get}
 use Rattle.std.specs.Str.{bytes_eq, chars}
@@ -28,7 +28,7 @@ read : (o : Option ValueParser)
 read None = refl
 read (Some p) = parser_read p
 
--- the first item of a test that does not see the difference
+-- `f` commutes with a search by a test that `f` does not change
 pub found : {X : Type 0} (f : X → X) (test : X → Bool) → ((x : X) → test (f x) ≡ test x) → (xs : List X)
     → find test (map f xs) ≡ option_map f (find test xs)
 found f test same [] = refl
@@ -56,7 +56,7 @@ pub by_index : (c : List Rule) (i : ℕ)
     → arg_by_index (map placeless_rule c) i ≡ option_map placeless_rule (arg_by_index c i)
 by_index c i = found placeless_rule _ (λ a. refl) c
 
--- ---- one use
+-- ---- one use of an argument
 
 pub used_same : (a : Rule) (values : List Text) (rows : List Row)
     → used (placeless_rule a) values rows ≡ used a values rows

@@ -1,4 +1,4 @@
--- What follows from words at which the command line has no fault.
+-- What follows if the command line finds no fault in the words.
 use Rattle.std.proofs.Common.{◌≡◌, ◌⊎◌, ◌∙◌, ap, sym, Bool, true, false, List, [], ◌∷◌, Option, Some, None, is_some, inl, inr, refl, codes}
 use Rattle.std.specs.Prelude.{option_map, drop}
 use Rattle.std.specs.Str.{bytes_eq}
@@ -25,12 +25,12 @@ pub tool_is_simple : is_simple tool ≡ true
 unfolding tool clap_on_literals
 tool_is_simple = refl
 
--- what clap gives for want of memory is that
+-- an error of clap for lack of memory becomes `Memory`
 pub became_memory : (e : Error) (f : WordsFault) → kind_of e ≡ kind.OutOfMemory → Becomes e f → IsMemory f
 became_memory e Memory is b = tt
 became_memory e (Words x) is b = absurd (b.1 is)
 
--- and anything else has a kind that the words give
+-- any error of clap becomes a fault of one of these kinds, or `Memory`
 pub as_fault : (kinds : Kinds) (e : Error) (f : WordsFault) → HasKind kinds e → Becomes e f → IsFaultOf kinds f
 as_fault kinds e Memory has b = tt
 as_fault kinds e (Words x) (inl memory) b = absurd (b.1 memory)
@@ -54,11 +54,11 @@ level_clear s names words has below e =
     let f = or_empty (defaults_fault (settled s.rules end).rows s.rules) _ d.1 in
     (a.0, f.1)
 
--- texts that differ
+-- texts are not equal if `bytes_eq` is false for them
 pub apart : (a b : Text) → bytes_eq a a ≡ true → bytes_eq a b ≡ false → a ≡ b → ⊥
 apart a b same other e = let bad : true ≡ false = sym same ∙ ap (bytes_eq a) e ∙ other in cc
 
--- the subcommand is one of the eight
+-- the name is one of the eight subcommands
 abbrev pub IsKnown : Option Text → Type 0
 IsKnown name = (name ≡ Some (codes "show"))
     ⊎ ((name ≡ Some (codes "pack"))

@@ -1,4 +1,4 @@
--- Behind words that fail by nothing, each row has a value, and none that its argument may not have.
+-- After words with no fault, each row has a value, and each value is one that its argument may have.
 use Rattle.std.proofs.Common.{◌≡◌, ◌&&◌, ◌⊎◌, ◌++◌, ℕ, zero, suc, inl, inr, Bool, true, false, List, [], ◌∷◌, Option, Some, None, is_some, refl, subst, sym}
 use Rattle.std.proofs.lemmas.Slice.Eq.{bytes_eq-Decides}
 use Rattle.std.specs.Prelude.{⊤, IfSome, find, fold, if◌then◌else◌, length, nat_lt, option_and_then, slice_get}
@@ -26,21 +26,21 @@ abbrev has_one : List Text → Bool
 has_one [] = false
 has_one (v ∷ vs) = true
 
--- the row has a value, and none that its argument may not have
+-- the row has a value, and its argument may have each of its values
 abbrev IsValued : Row → Type 0
 IsValued r = (has_one r.values ≡ true) × (may_have_all r.id r.values ≡ true)
 
--- each row is that
+-- each row is valued
 abbrev pub Valued : List Row → Type 0
 Valued [] = ⊤
 Valued (r ∷ rs) = IsValued r × Valued rs
 
--- the values that pass the parser of the argument, and its defaults, are values that it may have
+-- the argument may have its defaults and all values that pass its parser
 abbrev pub Fits : Rule → Type 0
 Fits a = ((values : List Text) → values_fault a values ≡ [] → may_have_all a.id values ≡ true)
     × (may_have_all a.id a.defaults ≡ true)
 
--- and a use of the argument has a value, or makes no row
+-- the values fit, and a use of the argument has a value or makes no row
 abbrev Good : Rule → Type 0
 Good a = Fits a × ((nat_lt 0 (unwrap_or_range a.range).start_inclusive ≡ true)
     ⊎ ((is_request (action_of a) ≡ true) ⊎ (has_one a.missing ≡ true)))
@@ -99,7 +99,7 @@ values_valued id how s v vs rows fits ok =
       tt,
     )) ((refl, fits), tt) ok
 
--- ---- one use
+-- ---- one use of an argument
 
 used_valued : (x : ArgAction) (again : Bool) (a : Rule) (how : Reading) (v : Text) (vs : List Text) (rows : List Row)
     → Fits a → action_fault x again a (v ∷ vs) rows ≡ [] → Valued rows → Valued (used_as x a.id how (v ∷ vs) rows)
@@ -151,7 +151,7 @@ use_valued again a [] rows (fits, inl least) e ok =
     let none : range_kinds (unwrap_or_range a.range).start_inclusive (most_values a) 0 ≡ [] = (or_empty _ _ e).0 in
     let bad : kind.InvalidValue ∷ [] ≡ [] = rw least at none in cc
 
--- ---- what is held
+-- ---- held values
 
 by_id_valued : (again : Bool) (o : Option Rule) (values : List Text) (rows : List Row) → GoodFound o
     → option_map_or (λ a. use_fault again a values rows) o [] ≡ [] → Valued rows → Valued (used_by_id o values rows)
@@ -194,7 +194,7 @@ module _ (c : List Rule) (again : Bool) (all : AllGood c) where
       go false (Some v) e = ok
       go false None e = reacted_valued a [] h good e ok
 
-  -- what follows in a bundle keeps it
+  -- the rest of a bundle of flags keeps the rows valued
   abbrev Next : (Text → ℕ → Outcome → Held → Held × Outcome) → (Text → ℕ → Held → Kinds) → Type 0
   Next met fault = (flags : Text) (skip : ℕ) (so_far : Outcome) (h : Held) → fault flags skip h ≡ [] → Valued h.rows
       → Valued (met flags skip so_far h).0.rows
@@ -344,7 +344,7 @@ module _ (s : Shape) (names : Names) (all : AllGood s.rules) where
   defaults_valued (a ∷ rest) rows good ok =
       defaults_valued rest (with_default rows a) good.1 (default_valued rows a good.0 ok)
 
-  -- the rows at the end of a walk with no fault have values
+  -- the rows at the end of a walk with no fault are valued
   pub end_valued : (w : Walk) (words : List Text) → walk_fault s names w words ≡ []
       → settle_fault s.rules s.args_override_self (fold (walked s.rules names) w words).held ≡ [] → Valued w.held.rows
       → Valued (finished s.rules (fold (walked s.rules names) w words).held)
@@ -371,7 +371,7 @@ first_there id (r ∷ rs) ok e = go (bytes_eq r.id id) (first_there id rs ok.1) 
     go true later e = has r.values ok.0.0
     go false later e = later e
 
--- the first value of an argument is one that it may have
+-- an argument may have its first value
 pub first_fits : (id : Text) (rows : List Row) → Valued rows
     → IfSome (first_of id rows) (λ word. may_have id word ≡ true)
 first_fits id [] ok = tt

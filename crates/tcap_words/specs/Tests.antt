@@ -1,4 +1,4 @@
--- What the words of `test` ask for.
+-- What do the words of `test` ask for?
 use Rattle.std.specs.Prelude.{Bool, List, Option, None, Some, [], ◌∷◌, ℕ, codes, option_map, unwrap_or, false}
 use Rattle.std.specs.Borrow.{Bor}
 use Rattle.std.specs.List.{list_any}
@@ -17,27 +17,27 @@ abbrev pub is_set : Option Text → Bool
 is_set None = false
 is_set (Some value) = bytes_eq value (codes "true")
 
--- the text of a path
+-- the text of a path, if there is a path
 abbrev pub path_text : Option (Bor Text) → Option Text
 path_text = option_map (λ s. s.now)
 
--- the word is one of `--ids`
+-- the word is a value of `--ids`
 abbrev pub is_ids_word : Text → Bool
 is_ids_word word = list_any (λ ids. bytes_eq (ids_word ids) word) (Again ∷ Settled ∷ Once ∷ [])
 
--- the word is a number of `u64` in decimal digits, before which a plus may stand
+-- the word is a number of `u64` in decimal digits, with an optional plus before them
 abbrev pub is_number : Text → Bool
 is_number = accepts false number_parser
 
--- that number
+-- the number that the word spells
 abbrev pub number_of : Text → ℕ
 number_of word = digits_value 10 (without_leading_plus word)
 
--- the word behind `--ids`, which is `again` where that is left out
+-- the value of `--ids`, or `again` if the option is not given
 abbrev pub ids_value : Option Text → Text
 ids_value value = unwrap_or value (codes "again")
 
--- the number behind `--linger`, which is 10,000 where that is left out
+-- the value of `--linger`, or 10,000 if the option is not given
 abbrev pub linger_value : Option Text → ℕ
 linger_value None = 10000
 linger_value (Some word) = number_of word
@@ -46,17 +46,17 @@ linger_value (Some word) = number_of word
 abbrev pub values_of : Text → List Row → List Text
 values_of id rows = unwrap_or (all_of id rows) []
 
--- what `test` is asked
+-- the options of `test`
 pub record Tested : Type 0 where
-  -- the letter of the end whose verdicts are asked
+  -- the letter of the end to judge
   pub side : Option Text
   -- the paths of the tables
   pub tables : List Text
-  -- the word behind `--ids`
+  -- the value of `--ids`
   pub ids : Text
   pub complete : Bool
   pub linger : ℕ
-  -- the paths of the files that verdicts go to
+  -- the paths of the files for the verdicts
   pub json : Option Text
   pub junit : Option Text
   pub html : Option Text
@@ -64,7 +64,7 @@ pub record Tested : Type 0 where
   -- the paths of the traces
   pub traces : List Text
 
--- by the values of its arguments
+-- the options of `test` that the values of its arguments give
 abbrev pub tested : List Row → Tested
 tested rows = record {
   side = first_of (codes "of") rows;
@@ -79,7 +79,7 @@ tested rows = record {
   traces = values_of (codes "TRACE") rows;
 }
 
--- by a request
+-- the options of `test` in a request
 abbrev pub requested : Test → Tested
 requested t = record {
   side = option_map letter t.of;

@@ -1,4 +1,4 @@
--- What the words of the command line of `tcapjudge` ask for.
+-- What do the words of the command line of `tcapjudge` ask for?
 use Rattle.std.specs.Prelude.{◌≡◌, ◌≢◌, Bool, true, false, List, [], ◌∷◌, ℕ, Option, Some, None, codes, option_and_then, option_map, if◌then◌else◌}
 use Rattle.std.specs.List.{list_any}
 use Rattle.std.specs.Str.{bytes_eq}
@@ -24,7 +24,7 @@ named_with id words = option_map (λ p. (p.0, first_of id p.1)) (subcommand_of t
 abbrev pub checked_paths : List Row → Option Text × Option Text × Option Text
 checked_paths rows = (first_of (codes "RECORD") rows, first_of (codes "TABLE") rows, first_of (codes "CERT") rows)
 
--- the subcommand that the words name, and the first values of the arguments of `check`
+-- the subcommand that the words name, with the first values of the arguments of `check`
 abbrev pub named_with_paths : List Text → Option (Text × (Option Text × Option Text × Option Text))
 named_with_paths words = option_map (λ p. (p.0, checked_paths p.1)) (subcommand_of tool words)
 
@@ -33,11 +33,11 @@ abbrev pub judged_paths : List Row → Option Text × Option Text × Bool
 judged_paths rows =
     (first_of (codes "RECORD") rows, first_of (codes "TABLE") rows, is_set (first_of (codes "cert") rows))
 
--- the subcommand that the words name, and these
+-- the subcommand that the words name, with the values for `judge`
 abbrev pub named_with_flag : List Text → Option (Text × (Option Text × Option Text × Bool))
 named_with_flag words = option_map (λ p. (p.0, judged_paths p.1)) (subcommand_of tool words)
 
--- the first values of the arguments of `explain`, but for that of `--end`
+-- the first values of the arguments of `explain`, except `--end`
 abbrev pub explained_paths : List Row → Option Text × Option Text × Option Text × Option Text
 explained_paths rows = (
   first_of (codes "RECORD") rows,
@@ -46,7 +46,7 @@ explained_paths rows = (
   first_of (codes "chart") rows,
 )
 
--- the subcommand that the words name, and these
+-- the subcommand that the words name, with the values for `explain`
 abbrev pub named_with_chart : List Text → Option (Text × (Option Text × Option Text × Option Text × Option Text))
 named_with_chart words = option_map (λ p. (p.0, explained_paths p.1)) (subcommand_of tool words)
 
@@ -54,28 +54,28 @@ named_with_chart words = option_map (λ p. (p.0, explained_paths p.1)) (subcomma
 abbrev pub blamed_paths : List Row → Option Text × Option Text
 blamed_paths rows = (first_of (codes "RECORD") rows, first_of (codes "TABLE") rows)
 
--- the subcommand that the words name, and these
+-- the subcommand that the words name, with the values for `blame`
 abbrev pub named_with_two : List Text → Option (Text × (Option Text × Option Text))
 named_with_two words = option_map (λ p. (p.0, blamed_paths p.1)) (subcommand_of tool words)
 
--- the value of the option `--end` behind the subcommand that the words name
+-- the value of the option `--end` of the subcommand that the words name
 abbrev pub end_value : List Text → Option Text
 end_value words = option_and_then (λ p. first_of (codes "end") p.1) (subcommand_of tool words)
 
--- the first value of the argument of `show`, and whether its flags are set
+-- the first value of the argument of `show`, and whether each of its flags is set
 abbrev pub shown_path : List Row → Option Text × Bool × Bool
 shown_path rows =
     (first_of (codes "RECORD") rows, is_set (first_of (codes "why") rows), is_set (first_of (codes "lines") rows))
 
--- the subcommand that the words name, and these
+-- the subcommand that the words name, with the values for `show`
 abbrev pub named_with_flags : List Text → Option (Text × (Option Text × Bool × Bool))
 named_with_flags words = option_map (λ p. (p.0, shown_path p.1)) (subcommand_of tool words)
 
--- the subcommand that the words name, and what the values of the arguments of `test` ask
+-- the subcommand that the words name, with the options of `test`
 abbrev pub named_with_traces : List Text → Option (Text × Tested)
 named_with_traces words = option_map (λ p. (p.0, tested p.1)) (subcommand_of tool words)
 
--- the words ask for this
+-- the words ask for this request
 abbrev pub Asks : List Text → Request → Type 0
 Asks words (Show path with_reasons of_lines) =
     named_with_flags words ≡ Some (codes "show", (path_text path, with_reasons, of_lines))
@@ -95,7 +95,7 @@ Asks words (Table table) = named_with (codes "TABLE") words ≡ Some (codes "tab
 Asks words (Test test) =
     (named_with_traces words ≡ Some (codes "test", requested test)) × ((requested test).traces ≢ [])
 
--- to explain, with the values that the arguments have
+-- the request is to explain, with the values that `value` gives for the arguments
 abbrev pub Explains : (Text → Option Text) → Request → Type 0
 Explains value (Explain taken table cert side chart) =
     (Some taken.now ≡ value (codes "RECORD")) × (Some table.now ≡ value (codes "TABLE"))
@@ -127,12 +127,12 @@ abbrev pub is_printed : WordsFault → Bool
 is_printed Memory = false
 is_printed (Words e) = is_printed_kind (kind_of e)
 
--- the exit status: 0 for help and the version, 4 for wrong words, 3 where memory ran out
+-- the exit status: 0 for help and the version, 4 for wrong words, 3 if memory ran out
 abbrev pub words_status : WordsFault → ℕ
 words_status Memory = 3
 words_status (Words e) = if is_printed_kind (kind_of e) then 0 else 4
 
--- what an error of clap is as a fault
+-- an error of clap becomes this fault: `Memory` if clap ran out of memory, else the error itself
 abbrev pub Becomes : Error → WordsFault → Type 0
 Becomes e Memory = kind_of e ≡ kind.OutOfMemory
 Becomes e (Words x) = (x ≡ e) × (kind_of e ≢ kind.OutOfMemory)

@@ -1,60 +1,60 @@
-//! What the program can be asked to do.
+//! What a user can ask the program to do.
 
 use tcap_record::End;
 
-/// What becomes of the IDs of a dialogue that is over, as `--ids` has it.
+/// A rule for reusing the transaction IDs of a finished dialogue (`--ids`).
 #[derive(Clone, Copy, Debug, PartialEq, Eq)]
 pub enum Ids {
-    /// They may come again, while messages of that dialogue are still under way.
+    /// They may be used again while messages of that dialogue are still in transit.
     Again,
-    /// They may come again once nothing of that dialogue is under way.
+    /// They may be used again once no message of that dialogue is in transit.
     Settled,
-    /// Each is used once.
+    /// Each ID is used only once.
     Once,
 }
 
-/// What is asked of traces.
+/// The options of `test`.
 #[derive(Debug, Drop)]
 pub struct Test<'a> {
-    /// The end whose verdicts are asked; both where it is none.
+    /// The end to judge, or None for both.
     pub of: Option<End>,
-    /// The paths of the operation tables or books of them, in order.
+    /// The paths of the operation tables and table sets, in order.
     pub tables: Vec<&'a str>,
-    /// What becomes of the IDs of a dialogue that is over.
+    /// The rule for reusing the IDs of a finished dialogue.
     pub ids: Ids,
     /// Whether the traces are complete.
     pub complete: bool,
-    /// The number of entries behind which a dialogue that is over is judged.
+    /// The number of entries after the end of a dialogue at which it is judged.
     pub linger: u64,
-    /// The path of the file that the verdicts go to as JSON, where it is asked for.
+    /// The path of the file for the verdicts as JSON, if requested.
     pub json: Option<&'a str>,
-    /// The path of the file that the verdicts go to as JUnit's XML, where it is asked for.
+    /// The path of the file for the verdicts as JUnit's XML, if requested.
     pub junit: Option<&'a str>,
-    /// The path of the file that a page goes to, of the dialogues that do not pass, where it is asked for.
+    /// The path of the file for a page of the dialogues that do not pass, if requested.
     pub html: Option<&'a str>,
-    /// Whether it is said how far the judging is.
+    /// Whether to print progress.
     pub progress: bool,
     /// The paths of the traces, in order; `-` is the standard input.
     pub traces: Vec<&'a str>,
 }
 
-/// What the program is asked to do.
+/// A request to the program.
 #[derive(Debug, Drop)]
 pub enum Request<'a> {
-    /// Print the entries of the record in the file of this path, or on standard input; whether it is said why an entry
-    /// or the record is refused; and whether the file holds the lines of hex digits of a record.
+    /// Print the entries of the record at this path, or on standard input. The flags ask for the reason why an entry
+    /// or the record is refused, and say that the input is lines of hex digits.
     Show(Option<&'a str>, bool, bool),
-    /// Make a record of the lines of hex digits in the file of this path, or on standard input.
+    /// Make a record from the lines of hex digits in the file at this path, or on standard input.
     Pack(Option<&'a str>),
-    /// Replay a certificate for a record: the paths of the record, of the operation table and of the certificate, and the
-    /// end that is judged alone, if one is given.
+    /// Replay a certificate for a record: the paths of the record, the operation table and the certificate, and the
+    /// end to judge alone, if given.
     Check(&'a str, &'a str, &'a str, Option<End>),
-    /// Judge a record: the paths of the record and of the operation table, whether the certificate is printed too, and the
-    /// end that is judged alone, if one is given.
+    /// Judge a record: the paths of the record and the operation table, whether to print the certificate, and the end
+    /// to judge alone, if given.
     Judge(&'a str, &'a str, bool, Option<End>),
-    /// Say in words why a record is lawful, refuted or undecided: the paths of the record, of the operation table and of
-    /// a certificate, which may be left out; the end that is judged alone, where it is given; and the path of the file
-    /// that a chart of the run goes to, where it is asked for.
+    /// Explain why a record is lawful, refuted or undecided: the paths of the record, the operation table and, if
+    /// given, a certificate; the end to judge alone, if given; and the path of the file for a chart of the run, if
+    /// requested.
     Explain {
         entries: &'a str,
         table: &'a str,
@@ -62,10 +62,9 @@ pub enum Request<'a> {
         end: Option<End>,
         chart: Option<&'a str>,
     },
-    /// Say which end is at fault: the paths of the record and of the operation table.
+    /// Report which end is at fault: the paths of the record and the operation table.
     Blame(&'a str, &'a str),
-    /// Print the rows of the operation table or of the book of tables in the file of this path, or of the book that the
-    /// program carries.
+    /// Print the rows of the operation table or table set at this path, or of the program's own table set.
     Table(Option<&'a str>),
     /// Judge each dialogue of traces.
     Test(Test<'a>),

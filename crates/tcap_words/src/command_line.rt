@@ -1,4 +1,4 @@
-//! The command line of the program: its subcommands, and the arguments of each.
+//! The command line of the program: its subcommands and their arguments.
 
 ghost use Rattle.std.specs.Prelude.{◌≡◌, IfOk, codes, false};
 ghost use Rattle.clap.specs.Walk.{texts};
@@ -12,10 +12,11 @@ ghost use Rattle.tcap_words.specs.CommandLine.{placeless, placeless_rule, placel
 use clap::{Arg, ArgAction, Command, value_parser};
 use std::alloc::{AllocError, Global};
 
-/// The version, and the kit that proved the program. dev/unproved.py puts `not proved` in its place in a copy of this file.
+/// The version, with the kit that proved the program. dev/unproved.py writes `not proved` instead in a copy of this
+/// file.
 static VERSION: &str = "0.1.0 (proved, rattle-kit-13f logic dac8208d650f15bf)";
 
-/// What the exit statuses mean.
+/// The meaning of each exit status.
 static STATUSES: &str = "Exit statuses:
   0  nothing is wrong: LAWFUL, or all was printed or packed
   1  REFUTED; for `blame`, only BLAMED
@@ -24,7 +25,7 @@ static STATUSES: &str = "Exit statuses:
   4  the command line is wrong
 For `test`: 0 if all pass, 1 if a dialogue fails, 2 if one is inconclusive, 3 if there is an error";
 
-/// A positional argument that may not be left out.
+/// Creates a required positional argument.
 fn needed_arg<'a>(alloc: Global, id: &'a str, text: &'a str) -> Arg<'a>
     ensures rule { rule_of result ≡ needed_rule id.entry.now }
     ensures local { result.global ≡ false }
@@ -35,7 +36,7 @@ fn needed_arg<'a>(alloc: Global, id: &'a str, text: &'a str) -> Arg<'a>
         .help(text)
 }
 
-/// A positional argument that may be left out.
+/// Creates an optional positional argument.
 fn left_out_arg<'a>(alloc: Global, id: &'a str, text: &'a str) -> Arg<'a>
     ensures rule { rule_of result ≡ left_out_rule id.entry.now }
     ensures local { result.global ≡ false }
@@ -43,7 +44,7 @@ fn left_out_arg<'a>(alloc: Global, id: &'a str, text: &'a str) -> Arg<'a>
     Arg::new(alloc, id).action(ArgAction::Set).help(text)
 }
 
-/// A flag of this name.
+/// Creates a flag with this name.
 fn flag_arg<'a>(alloc: Global, name: &'a str, text: &'a str) -> Arg<'a>
     ensures rule { rule_of result ≡ flag_rule name.entry.now }
     ensures local { result.global ≡ false }
@@ -54,13 +55,13 @@ fn flag_arg<'a>(alloc: Global, name: &'a str, text: &'a str) -> Arg<'a>
         .help(text)
 }
 
-/// The letters of the ends, as the words have them.
+/// The letters of the ends on the command line.
 static LETTERS: [&str; 2] = ["A", "B"];
 
-/// The words of the option `--ids`.
+/// The values of the option `--ids`.
 static IDS: [&str; 3] = ["again", "settled", "once"];
 
-/// The option of this name, whose value is one of these.
+/// Creates an option with this name, whose value is one of `choices`.
 fn choice_arg<'a>(
     alloc: Global,
     name: &'a str,
@@ -79,7 +80,7 @@ fn choice_arg<'a>(
         .help(text)
 }
 
-/// The option `--end`, whose value is the letter of an end.
+/// Creates the option `--end`, whose value is the letter of an end.
 fn end_arg<'a>(alloc: Global) -> Arg<'a>
     ensures rule { placeless_rule (rule_of result) ≡ end_rule (codes "end") }
     ensures local { result.global ≡ false }
@@ -88,7 +89,7 @@ fn end_arg<'a>(alloc: Global) -> Arg<'a>
     choice_arg(alloc, "end", "END", LETTERS.as_slice(), text)
 }
 
-/// The option of this name, whose value is the path of a file.
+/// Creates an option with this name, whose value is the path of a file.
 fn file_arg<'a>(alloc: Global, name: &'a str, text: &'a str) -> Arg<'a>
     ensures rule { rule_of result ≡ file_rule name.entry.now }
     ensures local { result.global ≡ false }
@@ -100,7 +101,7 @@ fn file_arg<'a>(alloc: Global, name: &'a str, text: &'a str) -> Arg<'a>
         .help(text)
 }
 
-/// The option `--of`, whose value is the letter of an end.
+/// Creates the option `--of`, whose value is the letter of an end.
 fn of_arg<'a>(alloc: Global) -> Arg<'a>
     ensures rule { placeless_rule (rule_of result) ≡ end_rule (codes "of") }
     ensures local { result.global ≡ false }
@@ -109,17 +110,16 @@ fn of_arg<'a>(alloc: Global) -> Arg<'a>
     choice_arg(alloc, "of", "END", LETTERS.as_slice(), text)
 }
 
-/// The option `--ids`, whose value is one of three words.
+/// Creates the option `--ids`, whose value is one of `IDS`.
 fn ids_arg<'a>(alloc: Global) -> Arg<'a>
     ensures rule { placeless_rule (rule_of result) ≡ ids_rule }
     ensures local { result.global ≡ false }
 {
-    let text =
-        "Says how IDs come again after a dialogue is over; by default, `again`";
+    let text = "Says how IDs come again after a dialogue is over; by default, `again`";
     choice_arg(alloc, "ids", "WORD", IDS.as_slice(), text)
 }
 
-/// The option `--table`, which may stand several times, with the path of a file each time.
+/// Creates the option `--table`, which may be given several times, each time with the path of a file.
 fn tables_arg<'a>(alloc: Global) -> Arg<'a>
     ensures rule { rule_of result ≡ tables_rule }
     ensures local { result.global ≡ false }
@@ -131,7 +131,7 @@ fn tables_arg<'a>(alloc: Global) -> Arg<'a>
         .help("The file of an operation table, or of a book of them; may be given several times")
 }
 
-/// The option `--linger`, whose value is a number.
+/// Creates the option `--linger`, whose value is a number.
 fn linger_arg<'a>(alloc: Global) -> Arg<'a>
     ensures rule { rule_of result ≡ linger_rule }
     ensures local { result.global ≡ false }
@@ -144,7 +144,7 @@ fn linger_arg<'a>(alloc: Global) -> Arg<'a>
         .help("Judges a dialogue this many entries after it is over; by default, 10000")
 }
 
-/// The paths of traces, one or more.
+/// Creates the required argument for the paths of one or more traces.
 fn traces_arg<'a>(alloc: Global) -> Arg<'a>
     ensures rule { rule_of result ≡ traces_rule }
     ensures local { result.global ≡ false }
@@ -155,7 +155,7 @@ fn traces_arg<'a>(alloc: Global) -> Arg<'a>
         .help("The file of a trace; - is the standard input")
 }
 
-/// The subcommand `check`.
+/// Creates the subcommand `check`, or fails if memory runs out.
 fn check_command<'a>(alloc: Global) -> Result<Command<'a>, AllocError>
     ensures { IfOk result (λ c. (placeless_shape (shape_of c) ≡ check_shape) × ((out-Command c).has_globals ≡ false)) }
 {
@@ -171,7 +171,7 @@ fn check_command<'a>(alloc: Global) -> Result<Command<'a>, AllocError>
         .arg(end_arg(alloc))
 }
 
-/// The subcommand `judge`.
+/// Creates the subcommand `judge`, or fails if memory runs out.
 fn judge_command<'a>(alloc: Global) -> Result<Command<'a>, AllocError>
     ensures { IfOk result (λ c. (placeless_shape (shape_of c) ≡ judge_shape) × ((out-Command c).has_globals ≡ false)) }
 {
@@ -187,7 +187,7 @@ fn judge_command<'a>(alloc: Global) -> Result<Command<'a>, AllocError>
         .arg(end_arg(alloc))
 }
 
-/// The subcommand `explain`.
+/// Creates the subcommand `explain`, or fails if memory runs out.
 fn explain_command<'a>(alloc: Global) -> Result<Command<'a>, AllocError>
     ensures { IfOk result (λ c. (placeless_shape (shape_of c) ≡ explain_shape) × ((out-Command c).has_globals ≡ false)) }
 {
@@ -213,7 +213,7 @@ fn explain_command<'a>(alloc: Global) -> Result<Command<'a>, AllocError>
         .arg(chart)
 }
 
-/// The subcommand `blame`.
+/// Creates the subcommand `blame`, or fails if memory runs out.
 fn blame_command<'a>(alloc: Global) -> Result<Command<'a>, AllocError>
     ensures { IfOk result (λ c. (shape_of c ≡ blame_shape) × ((out-Command c).has_globals ≡ false)) }
 {
@@ -226,7 +226,7 @@ fn blame_command<'a>(alloc: Global) -> Result<Command<'a>, AllocError>
         .arg(table)
 }
 
-/// The subcommand `show`.
+/// Creates the subcommand `show`, or fails if memory runs out.
 fn show_command<'a>(alloc: Global) -> Result<Command<'a>, AllocError>
     ensures { IfOk result (λ c. (shape_of c ≡ show_shape) × ((out-Command c).has_globals ≡ false)) }
 {
@@ -249,7 +249,7 @@ fn show_command<'a>(alloc: Global) -> Result<Command<'a>, AllocError>
         .arg(lines)
 }
 
-/// The subcommand `pack`.
+/// Creates the subcommand `pack`, or fails if memory runs out.
 fn pack_command<'a>(alloc: Global) -> Result<Command<'a>, AllocError>
     ensures { IfOk result (λ c. (shape_of c ≡ with_path (codes "pack") (codes "LINES"))
         × ((out-Command c).has_globals ≡ false)) }
@@ -265,7 +265,7 @@ fn pack_command<'a>(alloc: Global) -> Result<Command<'a>, AllocError>
         .arg(lines)
 }
 
-/// The subcommand `table`.
+/// Creates the subcommand `table`, or fails if memory runs out.
 fn table_command<'a>(alloc: Global) -> Result<Command<'a>, AllocError>
     ensures { IfOk result (λ c. (shape_of c ≡ with_path (codes "table") (codes "TABLE"))
         × ((out-Command c).has_globals ≡ false)) }
@@ -281,7 +281,7 @@ fn table_command<'a>(alloc: Global) -> Result<Command<'a>, AllocError>
         .arg(table)
 }
 
-/// The subcommand `test`.
+/// Creates the subcommand `test`, or fails if memory runs out.
 fn test_command<'a>(alloc: Global) -> Result<Command<'a>, AllocError>
     ensures { IfOk result (λ c. (placeless_shape (shape_of c) ≡ test_shape) × ((out-Command c).has_globals ≡ false)) }
 {
@@ -321,7 +321,7 @@ fn test_command<'a>(alloc: Global) -> Result<Command<'a>, AllocError>
         .arg(progress)
 }
 
-/// The command line that the program takes.
+/// Creates the command line of the program, or fails if memory runs out.
 pub(crate) fn command<'a>(alloc: Global) -> Result<Command<'a>, AllocError>
     ensures { IfOk result (λ c. placeless (app_of c) ≡ tool) }
 {

@@ -1,4 +1,4 @@
-//! The words of the command line of `tcapjudge`.
+//! Reads the command line of `tcapjudge`.
 #![tactic(auto)]
 
 mod asked;

@@ -1,4 +1,4 @@
-//! What the words of the command line ask for.
+//! Turns the words of the command line into a request.
 
 ghost use Rattle.std.specs.Prelude.{◌≡◌, [], IfErr, IfOk, IfSome, List, MatchResult, None, Some, codes};
 ghost use Rattle.std.specs.Prelude.{is_some, option_map, true};
@@ -20,17 +20,17 @@ use std::alloc::{AllocError, Global};
 use std::{error, fmt};
 use tcap_record::End;
 
-/// Why words are not a request. Its `Display` is the text for the user.
+/// Why the words are not a request. Its `Display` is the text for the user.
 #[derive(Debug, Drop)]
 pub enum WordsFault {
-    /// What clap makes of them: wrong words, or a request for help or the version.
+    /// The error of clap: wrong words, or a request for help or the version.
     Words(Error),
     /// Memory ran out.
     Memory,
 }
 
 impl WordsFault {
-    /// Whether the words ask for help or the version, of which the text goes to the standard output.
+    /// Returns whether the words ask for help or the version, whose text goes to standard output.
     pub fn is_printed(&self) -> bool
         ensures { result ≡ is_printed self.now }
     {
@@ -45,8 +45,7 @@ impl WordsFault {
         }
     }
 
-    /// The exit status of the program: 0 where the words ask for help or the version, 4 where they are
-    /// wrong, 3 where memory ran out.
+    /// Returns the exit status of the program: 0 for help or the version, 4 for wrong words, 3 if memory ran out.
     pub fn status(&self) -> u8
         ensures { result ≡ words_status self.now }
     {
@@ -89,7 +88,7 @@ impl fmt::Display for WordsFault {
 
 impl error::Error for WordsFault {}
 
-/// The value of the argument `id`, which has one.
+/// Returns the value of the argument `id`, which has one.
 fn needed<'a>(found: &ArgMatches<'a>, id: &str) -> &'a str
     requires { is_some (first_value (found_of found.now) id.now) ≡ true }
     ensures { Some result.now ≡ first_value (found_of found.now) id.now }
@@ -100,14 +99,14 @@ fn needed<'a>(found: &ArgMatches<'a>, id: &str) -> &'a str
     value
 }
 
-/// Whether the flag `id` is set.
+/// Returns whether the flag `id` is set.
 fn is_set(found: &ArgMatches, id: &str) -> bool
     ensures { result ≡ is_set (first_value (found_of found.now) id.now) }
 {
     matches!(found.get_str(id), Some("true"))
 }
 
-/// The end that has this letter.
+/// Returns the end with this letter.
 fn end_of(word: &str) -> End
     requires { is_letter word.now ≡ true }
     ensures { letter result ≡ word.now }
@@ -119,7 +118,7 @@ fn end_of(word: &str) -> End
     }
 }
 
-/// The end that the option `id` names, where it is given.
+/// Returns the end that the option `id` names, or None if the option is not given.
 fn end_named(found: &ArgMatches, id: &str) -> Option<End>
     requires { IfSome (first_value (found_of found.now) id.now) (λ word. is_letter word ≡ true) }
     ensures { option_map letter result ≡ first_value (found_of found.now) id.now }
@@ -130,7 +129,7 @@ fn end_named(found: &ArgMatches, id: &str) -> Option<End>
     }
 }
 
-/// The end that the option `--end` names, where it is given.
+/// Returns the end that the option `--end` names, or None if the option is not given.
 fn end_given(found: &ArgMatches) -> Option<End>
     requires { IfSome (first_value (found_of found.now) (codes "end")) (λ word. is_letter word ≡ true) }
     ensures { option_map letter result ≡ first_value (found_of found.now) (codes "end") }
@@ -138,7 +137,7 @@ fn end_given(found: &ArgMatches) -> Option<End>
     end_named(found, "end")
 }
 
-/// What becomes of the IDs of a dialogue that is over, by this word of `--ids`.
+/// Returns the rule for reused IDs that this value of `--ids` names.
 fn ids_of(word: &str) -> Ids
     requires { is_ids_word word.now ≡ true }
     ensures { ids_word result ≡ word.now }
@@ -151,7 +150,7 @@ fn ids_of(word: &str) -> Ids
     }
 }
 
-/// The same, by the option `--ids`.
+/// Returns the rule for reused IDs that the option `--ids` names, or `Again` if the option is not given.
 fn ids_given(found: &ArgMatches) -> Ids
     requires { IfSome (first_value (found_of found.now) (codes "ids")) (λ word. is_ids_word word ≡ true) }
     ensures { ids_word result ≡ ids_value (first_value (found_of found.now) (codes "ids")) }
@@ -162,7 +161,7 @@ fn ids_given(found: &ArgMatches) -> Ids
     }
 }
 
-/// The number that this word is.
+/// Reads a word as a number.
 fn number_of(word: &str) -> u64
     requires { is_number word.now ≡ true }
     ensures { result ≡ number_of word.now }
@@ -173,10 +172,10 @@ fn number_of(word: &str) -> u64
     number
 }
 
-/// The number of entries behind which a dialogue that is over is judged, where `--linger` is left out.
+/// The value of `--linger` if the option is not given.
 const LINGER: u64 = 10_000;
 
-/// That number, by the option `--linger`.
+/// Returns the number that the option `--linger` gives, or `LINGER`.
 fn linger_given(found: &ArgMatches) -> u64
     requires { IfSome (first_value (found_of found.now) (codes "linger")) (λ word. is_number word ≡ true) }
     ensures { result ≡ linger_value (first_value (found_of found.now) (codes "linger")) }
@@ -187,7 +186,7 @@ fn linger_given(found: &ArgMatches) -> u64
     }
 }
 
-/// All values of the argument `id`, in order.
+/// Returns all values of the argument `id`, in order, or fails if memory runs out.
 fn all_values<'a>(
     alloc: Global,
     found: &ArgMatches<'a>,
@@ -202,7 +201,7 @@ fn all_values<'a>(
     Ok(values)
 }
 
-/// The request to judge the dialogues of traces, with what is given.
+/// Builds the request to judge the dialogues of traces, or fails if memory runs out.
 fn test_request<'a>(alloc: Global, found: &ArgMatches<'a>) -> Result<Test<'a>, AllocError>
     requires letters { IfSome (first_value (found_of found.now) (codes "of")) (λ word. is_letter word ≡ true) }
     requires ids { IfSome (first_value (found_of found.now) (codes "ids")) (λ word. is_ids_word word ≡ true) }
@@ -225,7 +224,7 @@ fn test_request<'a>(alloc: Global, found: &ArgMatches<'a>) -> Result<Test<'a>, A
     })
 }
 
-/// The request to explain, with the paths and the end that are given.
+/// Builds the request to explain a record.
 fn explain_request<'a>(found: &ArgMatches<'a>) -> Request<'a>
     requires entries { is_some (first_value (found_of found.now) (codes "RECORD")) ≡ true }
     requires table { is_some (first_value (found_of found.now) (codes "TABLE")) ≡ true }

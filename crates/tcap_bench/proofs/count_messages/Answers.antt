@@ -5,7 +5,7 @@ use Rattle.tcap_msg.specs.declared.message.Message.{Message}
 use Rattle.tcap_msg.specs.Message.{BeginsWithMessage}
 use Rattle.tcap_bench.proofs.count_messages.Goals as goal
 
--- what is left behind a message is shorter
+-- the octets after a message are fewer
 shorter : (m : Message) (len count : ℕ) (octets : List ℕ) → BeginsWithMessage m len octets
     → length (take count (drop len octets)) < length octets
 shorter m len count octets b =

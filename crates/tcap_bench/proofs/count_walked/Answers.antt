@@ -9,7 +9,7 @@ use Rattle.tcap_ber.proofs.OuterLaws.{outer_whole}
 use Rattle.tcap_bench.specs.Whole.{whole_len}
 use Rattle.tcap_bench.proofs.count_walked.Goals as goal
 
--- no octets are no whole element
+-- no octets contain no whole element
 nothing : (r : Result Outer Fault) → outer_at [] ≡ r → 0 ≡ whole_len r
 nothing (Ok (Whole n)) e =
     let b = outer_whole [] n e in

@@ -3,6 +3,6 @@ use denote.Text.{Utf8}
 use denote.Shadow.{shadow}
 use Rattle.tcap_octet_vectors.proofs.look.Given as goal
 
--- says that each `&str` the loop changes is text: keep it, and add clauses with ×
+-- the command is text
 abbrev pub invariant-loop-index : goal.invariant-loop-index
 invariant-loop-index l = shadow (Utf8 l.command)

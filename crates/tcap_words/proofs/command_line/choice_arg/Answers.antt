@@ -10,7 +10,7 @@ use Rattle.clap.specs.declared.builder.value_parser.ValueParser.TheVariants as v
 use Rattle.tcap_words.specs.CommandLine.{at_first, placeless_parser, placeless_rule}
 use Rattle.tcap_words.proofs.command_line.choice_arg.Goals as goal
 
--- the option, but for its values
+-- the option with this parser
 abbrev with_parser : Text → Option ValueParser → Rule
 with_parser name parser =
     record (new_rule name) { long = Some name; action = Some Set; value_names = 1; parser = parser }

@@ -7,7 +7,7 @@ use Rattle.clap.specs.declared.builder.command.Command.TheOpen.{Command-F}
 use Rattle.tcap_words.specs.CommandLine.{file_rule, left_out_rule, needed_rule, placeless_shape}
 use Rattle.tcap_words.proofs.command_line.explain_command.Goals as goal
 
--- the command with this argument before that of the chart
+-- `explain` with this argument before the one for the chart
 abbrev with_end : Rule → Shape
 with_end side = record (new_shape (codes "explain")) {
   rules = needed_rule (codes "RECORD") ∷ needed_rule (codes "TABLE") ∷ left_out_rule (codes "CERT") ∷ side ∷ file_rule (codes "chart") ∷ [];

@@ -7,7 +7,7 @@ use Rattle.clap.specs.declared.builder.command.Command.TheOpen.{Command-F}
 use Rattle.tcap_words.specs.CommandLine.{flag_rule, needed_rule, placeless_shape}
 use Rattle.tcap_words.proofs.command_line.judge_command.Goals as goal
 
--- the command with this argument behind the others
+-- `judge` with this last argument
 abbrev with_last : Rule → Shape
 with_last last = record (new_shape (codes "judge")) {
   rules = needed_rule (codes "RECORD") ∷ needed_rule (codes "TABLE") ∷ flag_rule (codes "cert") ∷ last ∷ [];

@@ -5,7 +5,7 @@ use Rattle.clap.specs.declared.builder.action.ArgAction.TheVariants.{Set}
 use Rattle.clap.specs.declared.builder.value_parser.ValueParser.{ValueParser}
 use Rattle.tcap_words.proofs.command_line.linger_arg.Goals as goal
 
--- the option, but for its parser
+-- the option with this parser
 abbrev with_parser : Option ValueParser → Rule
 with_parser parser =
     record (new_rule (codes "linger")) { long = Some (codes "linger"); action = Some Set; value_names = 1; parser = parser }

@@ -7,7 +7,7 @@ use Rattle.clap.specs.declared.builder.command.Command.TheOpen.{Command-F}
 use Rattle.tcap_words.specs.CommandLine.{file_rule, flag_rule, linger_rule, placeless_shape, tables_rule, traces_rule}
 use Rattle.tcap_words.proofs.command_line.test_command.Goals as goal
 
--- the command with these arguments for an end and for IDs
+-- `test` with these arguments for an end and for IDs
 abbrev with_choices : Rule → Rule → Shape
 with_choices side ids = record (new_shape (codes "test")) {
   rules = traces_rule ∷ side ∷ tables_rule ∷ ids ∷ flag_rule (codes "complete") ∷ linger_rule

@@ -10,7 +10,7 @@ use Rattle.tcap_words.specs.Tests.{values_of}
 use Rattle.tcap_words.proofs.words.all_values.Goals as goal
 use Rattle.tcap_words.proofs.words.all_values.Goals.{in-Some+in_ok-extend_from_slice, in_default}
 
--- the values that the matches give
+-- the values that the matches give are those of the rows
 given : (f : Found) (id : Text) (o : Option (Bor (List (Bor Text))))
     → option_map (λ s. map (λ v. v.now) s.now) o ≡ option_map raw_values (matched_of f id)
     → option_map_or (λ s. texts s.now) o [] ≡ values_of id (rows_of f)

@@ -31,7 +31,7 @@ returns-in_err-matches-clause-faults c =
     (subst (λ (a : App). HasKind (fault_of a (texts c.args.words.now)) e) c.in_ok-command.ensures
     (subst (λ ks. HasKind ks e) (sym (fault_of_same app (texts c.args.words.now))) has)) p.2)
 
--- a parse with no fault of the command, as one of the tool
+-- if the command finds no fault in the words, the tool finds none
 clear : (command : Command) (words : List Text) → placeless (app_of command) ≡ tool
     → (is_simple_and_free (app_of command) ≡ true → fault_of (app_of command) words ≡ []) → fault_of tool words ≡ []
 clear command words is none =

@@ -5,7 +5,7 @@ use Rattle.clap.specs.Walk.{rows_of}
 use Rattle.tcap_words.specs.Tests.{Tested, ids_value, is_set, linger_value, tested}
 use Rattle.tcap_words.proofs.words.test_request.Goals as goal
 
--- what is asked is the same where each part is
+-- the options of `test` are equal if each part is
 same : (a b : Tested) → a.side ≡ b.side → a.tables ≡ b.tables → a.ids ≡ b.ids → a.complete ≡ b.complete → a.linger ≡ b.linger
     → a.json ≡ b.json → a.junit ≡ b.junit → a.html ≡ b.html → a.progress ≡ b.progress → a.traces ≡ b.traces → a ≡ b
 same a b is_side is_tables is_ids is_complete is_linger is_json is_junit is_html is_progress is_traces =
