@@ -96,8 +96,6 @@ module _ (side : Side) where
 
 -- ---- scenes
 
-module _ (table : Table) (side : Side) (entries : List Entry) (number : ℕ) where
-
 -- The stored messages of each end before a quiet mark give the mark's scene.
 pub stretch_at_mark : (table : Table) (side : Side) (entries : List Entry) (number : ℕ) (kept : Stretch)
     → (numbered_of kept.own.items ≡ sent_before side entries number)

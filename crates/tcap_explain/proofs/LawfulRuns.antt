@@ -183,9 +183,6 @@ refused_by judged table c entries None steps fault is exact = cc
 refused_by judged table c entries (Some f) steps fault is exact =
     let same : f ≡ fault = cc in sym exact ∙ ap (λ (x : CheckFault). Err x) same
 
-module _ {A F : Type 0} (outcome : A → Outcome) (behind : A → List ℕ) (table : Table) (c : Certificate) (entries : List Entry)
-    (fault : CheckFault) (ends : Option Ends) (result : Result A F) where
-
 -- The verdict and the reasons for a certificate that gives a run.
 pub replay_run_says : {A F : Type 0} (outcome : A → Outcome) (behind : A → List ℕ) (judged : Option Side) (table : Table) (c : Certificate)
     (entries : List Entry) (refused : Option CheckFault) (steps : List Step) (result : Result A F) → refused ≡ None
