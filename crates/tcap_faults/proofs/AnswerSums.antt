@@ -4,7 +4,7 @@ use Rattle.std.specs.Prelude.{◌||◌, ◌&&◌}
 use Rattle.tcap_parts.specs.declared.problem.Problem.TheVariants as problems
 use Rattle.tcap_parts.specs.declared.component.ResultBody.{ResultBody}
 use Rattle.tcap_parts.specs.declared.component.Component.{Component}
-use Rattle.tcap_parts.specs.declared.component.Component.TheVariants.{Invoke, ReturnResult, ReturnError, Reject}
+use Rattle.tcap_parts.specs.declared.component.Component.TheVariants.{ReturnResult, ReturnError, Reject}
 use Rattle.tcap_end.specs.Table.{Table}
 use Rattle.tcap_faults.specs.Counts.{any_problem, count, is_error, is_last_result, rejects_invoke}
 use Rattle.tcap_faults.specs.ComponentKinds.{answers_again, is_operation_overspent, is_overspent, more_answered}
@@ -16,8 +16,9 @@ use Rattle.tcap_faults.specs.Tallied.{AreFew, is_sort, sum, tallied}
 use Rattle.tcap_faults.specs.ByTallies.{answers_again_by, is_operation_overspent_by, is_overspent_by, more_answered_by}
 use Rattle.tcap_faults.proofs.LedLawsCounts.{count_last, one}
 use Rattle.tcap_faults.proofs.LedLawsLists.{id_itself}
-use Rattle.tcap_faults.proofs.FewSums.{count_invokes, count_within, sum_exact}
+use Rattle.tcap_faults.proofs.FewSums.{count_invokes, count_within}
 use Rattle.tcap_faults.proofs.InvokeSums.{counted_of}
+use Rattle.tcap_faults.proofs.SumLaws.{sum_few}
 
 -- Sums of counts that are few are exact.
 answered_same : (of_1 of_2 of_3 all results errors rejects : ℕ) → of_1 ≤ 2 ^ 126 → of_2 ≤ 2 ^ 126 → of_3 ≤ 2 ^ 126
@@ -28,11 +29,11 @@ answered_same : (of_1 of_2 of_3 all results errors rejects : ℕ) → of_1 ≤ 2
     || ltb all (results + errors + rejects))
 answered_same of_1 of_2 of_3 all results errors rejects few_1 few_2 few_3 few =
     rw (
-      sum_exact of_1 of_3 (omega arith),
-      sum_exact of_1 of_2 (omega arith),
-      sum_exact (of_1 + of_2) of_3 (omega arith),
-      sum_exact results errors (omega arith),
-      sum_exact (results + errors) rejects (omega arith),
+      sum_few of_1 of_3 (omega arith),
+      sum_few of_1 of_2 (omega arith),
+      sum_few (of_1 + of_2) of_3 (omega arith),
+      sum_few results errors (omega arith),
+      sum_few (results + errors) rejects (omega arith),
     ) refl
 
 module _ (table : Table) (h : HalfOf) (few_heard : AreFew h.heard) (id : ℤ) where
@@ -62,9 +63,9 @@ module _ (table : Table) (h : HalfOf) (few_heard : AreFew h.heard) (id : ℤ) wh
         (count (rejects_invoke id any_problem) before + rejects)
     overspent_same results errors rejects one_more =
         rw (
-          sum_exact (count (is_last_result id) before) results (omega (arith, few_so (is_last_result id))),
-          sum_exact (count (is_error id) before) errors (omega (arith, few_so (is_error id))),
-          sum_exact (count (rejects_invoke id any_problem) before) rejects
+          sum_few (count (is_last_result id) before) results (omega (arith, few_so (is_last_result id))),
+          sum_few (count (is_error id) before) errors (omega (arith, few_so (is_error id))),
+          sum_few (count (rejects_invoke id any_problem) before) rejects
               (omega (arith, few_so (rejects_invoke id any_problem))),
         ) (more_same _ _ _ (omega (
           arith,
@@ -110,7 +111,6 @@ module _ (table : Table) (h : HalfOf) (few_heard : AreFew h.heard) (id : ℤ) wh
 -- Whether a component answers an invocation that was answered already.
 pub answers_again_same : (table : Table) (h : HalfOf) (all before own : List Component) → AreFew h.heard → AreFew before
     → (c : Component) → answers_again_by (counted_of table h all before own) c ≡ answers_again table h own before c
-answers_again_same table h all before own few_heard few (Invoke id linked code parameter) = refl
 answers_again_same table h all before own few_heard few (ReturnResult true id body) =
     ap₂ (λ a b. a || b)
     (behind table h few_heard id all before own few (ReturnResult true id body) 1 0 0 (ap one (id_itself id)) refl refl
@@ -124,7 +124,4 @@ answers_again_same table h all before own few_heard few (ReturnError id code par
 answers_again_same table h all before own few_heard few (Reject (Some id) (problems.Invoke n)) =
     behind table h few_heard id all before own few (Reject (Some id) (problems.Invoke n)) 0 0 1 refl refl
     (ap (λ b. one (b && true)) (id_itself id)) (omega arith)
-answers_again_same table h all before own few_heard few (Reject (Some id) (problems.General n)) = refl
-answers_again_same table h all before own few_heard few (Reject (Some id) (problems.ReturnResult n)) = refl
-answers_again_same table h all before own few_heard few (Reject (Some id) (problems.ReturnError n)) = refl
-answers_again_same table h all before own few_heard few (Reject None problem) = refl
+answers_again_same table h all before own few_heard few c = refl

@@ -9,7 +9,7 @@ use Rattle.tcap_ber.specs.Element.{IsRaw}
 use Rattle.tcap_msg.specs.declared.message.Message.{Message}
 use Rattle.tcap_msg.specs.Message.{Spells}
 use Rattle.tcap_record.specs.declared.entry.Body.{Body}
-use Rattle.tcap_record.specs.declared.entry.Body.TheVariants.{Good, Bad, Quiet}
+use Rattle.tcap_record.specs.declared.entry.Body.TheVariants.{Bad}
 use Rattle.tcap_record.specs.declared.entry.End.{End as Side}
 use Rattle.tcap_record.specs.declared.entry.Entry.{Entry}
 use Rattle.tcap_record.specs.Framed.{Framed, FramedFrom, IsEntry, octet_of, quiet_octet}
@@ -56,10 +56,8 @@ as_long (e ∷ front) (item ∷ before) is = ap suc (as_long front before cc)
 bad_body : (side : Option Side) (body : Body) (fault : Fault) → item_by side body ≡ Err (reasons.BadMessage fault)
     → body ≡ Bad fault
 bad_body side (Bad f) fault is = let same : f ≡ fault = cc in ap Bad same
-bad_body None (Good m) fault is = cc
-bad_body (Some s) (Good m) fault is = cc
-bad_body None Quiet fault is = cc
-bad_body (Some s) Quiet fault is = cc
+bad_body None body fault is = cc
+bad_body (Some s) body fault is = cc
 
 -- An entry of that end.
 of_end : (side : Side) (sender : Option Side) → is_entry_of side sender ≡ true → sender ≡ Some side

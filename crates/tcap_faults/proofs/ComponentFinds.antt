@@ -6,13 +6,13 @@ use Rattle.std.specs.List.{list_any}
 use Rattle.std.proofs.lemmas.List.Folds.{list_any-append}
 use Rattle.std.proofs.lemmas.List.{append-nil, append_assoc}
 use Rattle.tcap_parts.specs.declared.component.Component.{Component}
-use Rattle.tcap_parts.specs.declared.component.Component.TheVariants.{Invoke, ReturnResult, ReturnError, Reject}
+use Rattle.tcap_parts.specs.declared.component.Component.TheVariants.{Invoke, Reject}
 use Rattle.tcap_end.specs.Table.{Table}
 use Rattle.tcap_refute.specs.declared.kind.Kind.{Kind}
 use Rattle.tcap_refute.specs.declared.kind.Kind.TheVariants as kinds
 use Rattle.tcap_refute.specs.Before.{invokes, is_reject}
 use Rattle.tcap_faults.specs.Components.{has_component, invokes_again, is_linked}
-use Rattle.tcap_faults.specs.Counts.{any_problem, count}
+use Rattle.tcap_faults.specs.Counts.{count}
 use Rattle.tcap_refute.specs.FirstComponent.{first_so}
 use Rattle.tcap_refute.specs.Kind.{or_else}
 use Rattle.tcap_faults.proofs.LedLawsCounts.{count_both}
@@ -28,18 +28,12 @@ use Rattle.tcap_faults.specs.HalfKept.{IsHalf}
 use Rattle.tcap_faults.specs.ByTallies.{answers_again_by, counted_by, invokes_busy_by, links_badly_by, rejects_wrongly_by}
 use Rattle.tcap_faults.specs.Faults.{IsFaultless, IsFirstNoted, IsWith, component_at, first_or, invokes_one_of}
 use Rattle.tcap_faults.specs.Subject.{alone_component, component_so, half_component}
-use Rattle.tcap_faults.proofs.FewSums.{count_within, tallied_both}
+use Rattle.tcap_faults.proofs.FewSums.{count_within, few_behind, few_front, tallied_both}
 use Rattle.tcap_faults.proofs.InvokeSums.{counted_of, invokes_busy_same, links_badly_same}
 use Rattle.tcap_faults.proofs.AnswerSums.{answers_again_same}
 use Rattle.tcap_faults.proofs.RejectSums.{rejects_wrongly_same}
 
 -- ---- fewer are few
-
-few_front : (xs ys : List Component) → AreFew (xs ++ ys) → AreFew xs
-few_front xs ys few = omega (arith, few, length-append xs ys)
-
-few_behind : (xs ys : List Component) → AreFew (xs ++ ys) → AreFew ys
-few_behind xs ys few = omega (arith, few, length-append xs ys)
 
 few_split : (told own left all : List Component) → own ++ left ≡ all → AreFew (told ++ all)
     → AreFew ((told ++ own) ++ left)
@@ -89,10 +83,8 @@ count_among p q weaker (c ∷ cs) = by (p c) (q c) refl (weaker c) (count_among 
     by false false is so rest = rest
 
 a_reject : (id : ℤ) (c : Component) → may_reject_answer id c ≡ true → is_reject c ≡ true
-a_reject id (Invoke other linked code parameter) is = cc
-a_reject id (ReturnResult last other body) is = cc
-a_reject id (ReturnError other code parameter) is = cc
 a_reject id (Reject other problem) is = refl
+a_reject id c is = cc
 
 -- So whether an ID is in use is told by the Rejects of the message.
 module _ (table : Table) (h : HalfOf) (told cs own before : List Component) where
@@ -105,9 +97,7 @@ module _ (table : Table) (h : HalfOf) (told cs own before : List Component) wher
   busy_by_rejects : (c : Component)
       → invokes_busy table h (told ++ filter is_reject cs) own before c ≡ invokes_busy table h (told ++ cs) own before c
   busy_by_rejects (Invoke id linked code parameter) = rw (as_many id) refl
-  busy_by_rejects (ReturnResult last id body) = refl
-  busy_by_rejects (ReturnError id code parameter) = refl
-  busy_by_rejects (Reject id problem) = refl
+  busy_by_rejects c = refl
 
 few_rejects : (told cs : List Component) → AreFew (told ++ cs) → AreFew (told ++ filter is_reject cs)
 few_rejects told cs few =
@@ -313,9 +303,7 @@ invokes_seen : (ids : BTreeSet ℤ) (done : List Component)
     → ((id : ℤ) → contains int_cmp ids id ≡ list_any (invokes id) done) → (c : Component)
     → invokes_one_of ids c ≡ invokes_again done done c
 invokes_seen ids done are (Invoke id linked code parameter) = are id
-invokes_seen ids done are (ReturnResult last id body) = refl
-invokes_seen ids done are (ReturnError id code parameter) = refl
-invokes_seen ids done are (Reject id problem) = refl
+invokes_seen ids done are c = refl
 
 pub first_one : (all here left : List Component) (c : Component) (ids behind : BTreeSet ℤ) (number : ℕ) (old new : ComponentFaults)
     → IsFirstNoted ids behind number c old new → here ≡ c ∷ left → IsFirstSoFar all here ids number old

@@ -28,7 +28,7 @@ use Rattle.tcap_faults.proofs.LedLawsLasting.{ended_any}
 use Rattle.tcap_faults.proofs.LedLawsMessages.{neither, none_has, none_of_four, sent_more}
 use Rattle.tcap_faults.proofs.LedLawsOwn.{invoked_along}
 use Rattle.tcap_faults.proofs.LedLawsSteps.{answers_step, invokes_step}
-use Rattle.tcap_faults.proofs.LedLawsTaken.{spent_within}
+use Rattle.tcap_faults.proofs.LedLawsTaken.{spent_within, inn_of}
 use Rattle.tcap_faults.proofs.LedLawsWrong.{answer_not_wrong, invoke_not_wrong}
 
 -- It is not less.
@@ -106,9 +106,7 @@ module _ (table : Table) (s : HalfOf) (past : List Happening) (g : Half)
       let (unused, free) = own_free own h id was step.free in
       neither (or_cases (list_any (invokes id) own) (is_busy table s all id) busy) (both_ways _ unused)
       (not_busy all id free)
-  none_busy all own h k (ReturnResult last id body) was is busy = cc
-  none_busy all own h k (ReturnError id code parameter) was is busy = cc
-  none_busy all own h k (Reject id problem) was is busy = cc
+  none_busy all own h k c was is busy = cc
 
   -- No Invoke of a message is of an ID that is in use.
   pub invokes_none_busy : (components : List Component) (k : Half) → send_components table g components ≡ Ok k
@@ -120,7 +118,6 @@ module _ (table : Table) (s : HalfOf) (past : List Happening) (g : Half)
 
   none_badly : (own : List Component) (h k : Half) (c : Component) → send_components table g own ≡ Ok h
       → send_component table h c ≡ Ok k → links_badly table s own (s.told ++ own) c ≡ true → ⊥
-  none_badly own h k (Invoke id None code parameter) was is bad = cc
   none_badly own h k (Invoke id (Some to) code parameter) was is bad =
       neither (or_cases (leb (count (invokes to) s.heard) (count (takes to) (s.told ++ own)))
       (not (list_any (invokes_so to fits) s.heard)) bad)
@@ -143,7 +140,7 @@ module _ (table : Table) (s : HalfOf) (past : List Happening) (g : Half)
             there,
             count_weaker (λ (item : Invocation). fits item.code) (λ item. true) (listed to h.inn)
                 (λ item passes. refl),
-            spent_within table to (takes to) (λ item. true) (any_takes table to) (invokes to)
+            spent_within table (inn_of table to) (takes to) (λ item. true) (any_takes table to) (invokes to)
                 (any_brought table to) s past g h
                 own bounds led was,
           )
@@ -153,14 +150,12 @@ module _ (table : Table) (s : HalfOf) (past : List Happening) (g : Half)
           omega (
             arith,
             there,
-            spent_within table to (λ c. false) (λ item. fits item.code)
+            spent_within table (inn_of table to) (λ c. false) (λ item. fits item.code)
                 (none_takes table to (λ item. fits item.code)) (invokes_so to fits)
                 (code_brought table to fits) s past g h own
                 bounds led was,
           )
-  none_badly own h k (ReturnResult last id body) was is bad = cc
-  none_badly own h k (ReturnError id code parameter) was is bad = cc
-  none_badly own h k (Reject id problem) was is bad = cc
+  none_badly own h k c was is bad = cc
 
   -- No linked ID of a message is of nothing that is there.
   pub links_none_badly : (components : List Component) (k : Half) → send_components table g components ≡ Ok k
@@ -179,7 +174,7 @@ module _ (table : Table) (s : HalfOf) (past : List Happening) (g : Half)
         omega (
           arith,
           count_reports table true id s.heard,
-          spent_within table id (is_last_result id)
+          spent_within table (inn_of table id) (is_last_result id)
               (λ item. class_reports table true item.code) (result_takes table id)
               (invokes_so id (class_reports table true))
               (code_brought table id (class_reports table true)) s past g h own bounds led was,
@@ -192,7 +187,7 @@ module _ (table : Table) (s : HalfOf) (past : List Happening) (g : Half)
         omega (
           arith,
           count_reports table false id s.heard,
-          spent_within table id (is_error id)
+          spent_within table (inn_of table id) (is_error id)
               (λ item. class_reports table false item.code) (error_takes table id)
               (invokes_so id (class_reports table false))
               (code_brought table id (class_reports table false)) s past g h own bounds led was,
@@ -208,7 +203,7 @@ module _ (table : Table) (s : HalfOf) (past : List Happening) (g : Half)
           count_reporting table id s.heard,
           count_answers id s.told,
           count_answers id own,
-          spent_within table id
+          spent_within table (inn_of table id)
               (λ c. is_last_result id c || is_error id c)
               (λ item. class_reports table true item.code || class_reports table false item.code)
               (answer_takes table id)
@@ -228,7 +223,7 @@ module _ (table : Table) (s : HalfOf) (past : List Happening) (g : Half)
           arith,
           count_takes id s.told,
           count_takes id own,
-          spent_within table id (takes id) (λ item. true)
+          spent_within table (inn_of table id) (takes id) (λ item. true)
               (any_takes table id) (invokes id) (any_brought table id) s past g h own bounds led was,
         )
 
@@ -290,7 +285,7 @@ module _ (table : Table) (s : HalfOf) (past : List Happening) (g : Half)
           leb-true _ _ is,
           there,
           count_both (is_result_of id body.code) s.told own,
-          spent_within table id (is_result_of id body.code) (λ item. is_code body.code item.code)
+          spent_within table (inn_of table id) (is_result_of id body.code) (λ item. is_code body.code item.code)
               (named_takes table id body.code) (invokes_so id (is_code body.code))
               (code_brought table id (is_code body.code)) s past
               g h own bounds led was,
@@ -331,7 +326,6 @@ module _ (table : Table) (s : HalfOf) (past : List Happening) (g : Half)
 
   none_again : (own : List Component) (h k : Half) (c : Component) → send_components table g own ≡ Ok h
       → send_component table h c ≡ Ok k → answers_again table s own (s.told ++ own) c ≡ true → ⊥
-  none_again own h k (Invoke id linked code parameter) was is bad = cc
   none_again own h k (ReturnResult true id body) was is bad =
       let step = answers_step table h k true true id _ is in
       neither (or_cases _ (is_operation_overspent s (s.told ++ own) id body) bad)
@@ -342,12 +336,9 @@ module _ (table : Table) (s : HalfOf) (past : List Happening) (g : Half)
       (none_besides own h was id step.class) (not_named own h was id body step.fits)
   none_again own h k (ReturnError id code parameter) was is bad =
       overspent_with own h k (ReturnError id code parameter) was is id bad
-  none_again own h k (Reject None problem) was is bad = cc
-  none_again own h k (Reject (Some id) (problems.General n)) was is bad = cc
   none_again own h k (Reject (Some id) (problems.Invoke n)) was is bad =
       overspent_with own h k (Reject (Some id) (problems.Invoke n)) was is id bad
-  none_again own h k (Reject (Some id) (problems.ReturnResult n)) was is bad = cc
-  none_again own h k (Reject (Some id) (problems.ReturnError n)) was is bad = cc
+  none_again own h k c was is bad = cc
 
   -- No component of a message answers what was answered already.
   pub answers_none_again : (components : List Component) (k : Half) → send_components table g components ≡ Ok k
@@ -358,17 +349,13 @@ module _ (table : Table) (s : HalfOf) (past : List Happening) (g : Half)
 
   none_wrongly : (own : List Component) (h k : Half) (c : Component) → send_components table g own ≡ Ok h
       → send_component table h c ≡ Ok k → rejects_wrongly table s own (s.told ++ own) c ≡ true → ⊥
-  none_wrongly own h k (Invoke id linked code parameter) was is bad = cc
-  none_wrongly own h k (ReturnResult last id body) was is bad = cc
-  none_wrongly own h k (ReturnError id code parameter) was is bad = cc
-  none_wrongly own h k (Reject None problem) was is bad = cc
-  none_wrongly own h k (Reject (Some id) (problems.General n)) was is bad = cc
   none_wrongly own h k (Reject (Some id) (problems.Invoke n)) was is bad =
       invoke_not_wrong table s past g bounds led own h k id n was is bad
   none_wrongly own h k (Reject (Some id) (problems.ReturnResult n)) was is bad =
       answer_not_wrong table s past g bounds led own h k id n was true is bad
   none_wrongly own h k (Reject (Some id) (problems.ReturnError n)) was is bad =
       answer_not_wrong table s past g bounds led own h k id n was false is bad
+  none_wrongly own h k c was is bad = cc
 
   -- No Reject of a message has a problem that nothing which was received has.
   pub rejects_none_wrongly : (components : List Component) (k : Half) → send_components table g components ≡ Ok k

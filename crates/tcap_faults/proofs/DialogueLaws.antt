@@ -51,11 +51,8 @@ alone_is (Some n) m has = by (contains_first n [] m has)
 
 -- An AARE that takes a dialogue is a response.
 accepts_responds : (d : Option Dialogue) → accepts_dialogue d ≡ true → is_response d ≡ true
-accepts_responds None is = cc
-accepts_responds (Some (dialogues.Request context info)) is = cc
 accepts_responds (Some (dialogues.Response context result diagnostic info)) is = refl
-accepts_responds (Some (dialogues.Abort source info)) is = cc
-accepts_responds (Some (dialogues.Uni context info)) is = cc
+accepts_responds o is = cc
 
 -- A response is none of these.
 no_response : (d : Option Dialogue) → (is_none d || is_user_abort d) ≡ true → is_response d ≡ true → ⊥
@@ -73,20 +70,16 @@ not_both (Some x) none some = cc
 -- An ABRT of the user wants a dialogue.
 user_wants : (phase : Phase) (standing : Standing) (d : Option Dialogue) → may_abort phase standing d ≡ true
     → is_user_abort d ≡ true → standing ≡ standings.Without → ⊥
-user_wants phase standing None may user without = cc
 user_wants phases.Sent standings.Without (Some d) may user without = cc
 user_wants phases.Received standings.Without (Some d) may user without = cc
 user_wants phases.Active standings.Without (Some d) may user without = cc
 user_wants phases.Closed standings.Without (Some d) may user without = cc
-user_wants phase standings.Asked (Some d) may user without = cc
-user_wants phase standings.Confirmed (Some d) may user without = cc
+user_wants phase standing o may user without = cc
 
 -- There is none where none was asked for.
 never_asked : (phase : Phase) (d : Option Dialogue) → is_request d ≡ false → standing_of phase d ≡ standings.Without
-never_asked phases.Sent d none = rw none refl
-never_asked phases.Received d none = rw none refl
-never_asked phases.Active d none = rw none refl
 never_asked phases.Closed d none = refl
+never_asked phase d none = rw none refl
 
 -- Where a portion asks for a dialogue, it stands so first.
 asked_first : (d : Option Dialogue) → is_request d ≡ true → first_standing d ≡ standings.Asked

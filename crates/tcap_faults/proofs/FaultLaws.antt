@@ -4,7 +4,7 @@ use Rattle.std.specs.Prelude.{◌&&◌, ◌||◌}
 use Rattle.std.specs.List.{list_any}
 use Rattle.std.proofs.lemmas.Bool.{and_parts, not-true, or_cases, or_left, or_right}
 use Rattle.tcap_parts.specs.declared.component.Component.{Component}
-use Rattle.tcap_parts.specs.declared.component.Component.TheVariants.{Invoke, ReturnResult, ReturnError, Reject}
+use Rattle.tcap_parts.specs.declared.component.Component.TheVariants.{Reject}
 use Rattle.tcap_parts.specs.declared.problem.Problem.TheVariants as problems
 use Rattle.tcap_msg.specs.declared.message.Message.{Message}
 use Rattle.tcap_msg.specs.declared.message.Message.TheVariants.{Unidirectional, Begin, Continue, End as EndMessage, Abort}
@@ -46,14 +46,8 @@ use Rattle.tcap_faults.proofs.TangledLaws.{IsPlain, plain_to}
 -- What answers none of these by the looser fact does by the stricter.
 none_stricter : (components : List Component) (c : Component) → answers_none components c ≡ true
     → answers_none_of components c ≡ true
-none_stricter components (Invoke id linked code parameter) is = is
-none_stricter components (ReturnResult last id body) is = is
-none_stricter components (ReturnError id code parameter) is = is
-none_stricter components (Reject None problem) is = is
 none_stricter components (Reject (Some id) (problems.General n)) is = refl
-none_stricter components (Reject (Some id) (problems.Invoke n)) is = is
-none_stricter components (Reject (Some id) (problems.ReturnResult n)) is = is
-none_stricter components (Reject (Some id) (problems.ReturnError n)) is = is
+none_stricter components c is = is
 
 any_stricter : (components cs : List Component) → list_any (answers_none components) cs ≡ true
     → list_any (answers_none_of components) cs ≡ true
@@ -69,31 +63,16 @@ any_stricter components (c ∷ cs) is =
 
 nothing_stricter : (side : Side) (items : List Item) (m : Message) → answers_nothing_there side items m ≡ true
     → answers_nothing side items m ≡ true
-nothing_stricter side items (Unidirectional dialogue components) is = is
-nothing_stricter side items (Begin otid dialogue components) is = is
 nothing_stricter side items (Continue otid dtid dialogue components) is =
     any_stricter (components_of (asked side dtid items)) (items_of components) is
 nothing_stricter side items (EndMessage dtid dialogue components) is =
     any_stricter (components_of (asked side dtid items)) (items_of components) is
-nothing_stricter side items (Abort dtid reason) is = is
+nothing_stricter side items m is = is
 
 first_stricter : (table : Table) (side : Side) (items : List Item) (m : Message) (kind : Kind)
     → is_of_first_kind table side items m kind ≡ true → is_of_kind table side items m kind ≡ true
-first_stricter table side items m kinds.BadMessage is = is
-first_stricter table side items m kinds.UnknownTransaction is = is
-first_stricter table side items m kinds.ReusedId is = is
-first_stricter table side items m kinds.AfterEnd is = is
 first_stricter table side items m kinds.AnswersNothing is = nothing_stricter side items m is
-first_stricter table side items m kinds.WrongOperation is = is
-first_stricter table side items m kinds.MisplacedDialogue is = is
-first_stricter table side items m kinds.WrongHalf is = is
-first_stricter table side items m kinds.WrongDialogue is = is
-first_stricter table side items m kinds.InvokeIdBusy is = is
-first_stricter table side items m kinds.BadLink is = is
-first_stricter table side items m kinds.AnsweredAlready is = is
-first_stricter table side items m kinds.RejectNotAllowed is = is
-first_stricter table side items m kinds.WrongReply is = is
-first_stricter table side items m kinds.OpenAtMark is = is
+first_stricter table side items m kind is = is
 
 -- ---- a message that the end sends
 
@@ -127,13 +106,6 @@ module _ {table : Table} {events : List Event} {w : World} {side : Side} {messag
     behind false so is = is
 
     half_kind : (kind : Kind) → is_of_half_kind table side id items message h kind ≡ true → ⊥
-    half_kind kinds.BadMessage is = cc
-    half_kind kinds.UnknownTransaction is = cc
-    half_kind kinds.ReusedId is = cc
-    half_kind kinds.AfterEnd is = cc
-    half_kind kinds.AnswersNothing is = cc
-    half_kind kinds.WrongOperation is = cc
-    half_kind kinds.MisplacedDialogue is = cc
     half_kind kinds.WrongHalf is = right_half view message id half plain is
     half_kind kinds.WrongDialogue is =
         right_dialogue view message id half plain (behind (is_wrong_half side items message h) _ is)
@@ -150,8 +122,7 @@ module _ {table : Table} {events : List Event} {w : World} {side : Side} {messag
     half_kind kinds.RejectNotAllowed is =
         rejects_none_wrongly table h life.past half.start bound led (components_in message) half.behind half.sends
         (behind (is_wrong_half side items message h) _ is)
-    half_kind kinds.WrongReply is = cc
-    half_kind kinds.OpenAtMark is = cc
+    half_kind kind is = cc
 
   kind_to : (id : List ℕ) → dtid_in message ≡ Some id → goes_over_tangled side items message ≡ false
       → (cause : Option ℕ) → cause ≡ None → (kind : Kind)
@@ -163,21 +134,9 @@ module _ {table : Table} {events : List Event} {w : World} {side : Side} {messag
 module _ (m : Message) (again : is_of_alone_kind m kinds.InvokeIdBusy ≡ true → ⊥)
     (linked : is_of_alone_kind m kinds.BadLink ≡ true → ⊥) where
   alone_kind : (kind : Kind) → is_of_alone_kind m kind ≡ true → ⊥
-  alone_kind kinds.BadMessage is = cc
-  alone_kind kinds.UnknownTransaction is = cc
-  alone_kind kinds.ReusedId is = cc
-  alone_kind kinds.AfterEnd is = cc
-  alone_kind kinds.AnswersNothing is = cc
-  alone_kind kinds.WrongOperation is = cc
-  alone_kind kinds.MisplacedDialogue is = cc
-  alone_kind kinds.WrongHalf is = cc
-  alone_kind kinds.WrongDialogue is = cc
   alone_kind kinds.InvokeIdBusy is = again is
   alone_kind kinds.BadLink is = linked is
-  alone_kind kinds.AnsweredAlready is = cc
-  alone_kind kinds.RejectNotAllowed is = cc
-  alone_kind kinds.WrongReply is = cc
-  alone_kind kinds.OpenAtMark is = cc
+  alone_kind kind is = cc
 
 further_sent : (table : Table) (events : List Event) (w : World) (side : Side) (message : Message) (kind : Kind)
     → IsSent table events w side message → goes_over_tangled side (since_quiet w.sent) message ≡ false
@@ -201,27 +160,13 @@ further_sent table events w side (Abort dtid reason) kind it over is =
 
 reply_kind : (table : Table) (side : Side) (id : List ℕ) (items : List Item) (h : HalfOf) (cause : ℕ) (kind : Kind)
     → is_of_reply_kind table side id items h cause kind ≡ true → kind ≡ kinds.WrongReply
-reply_kind table side id items h cause kinds.BadMessage is = cc
-reply_kind table side id items h cause kinds.UnknownTransaction is = cc
-reply_kind table side id items h cause kinds.ReusedId is = cc
-reply_kind table side id items h cause kinds.AfterEnd is = cc
-reply_kind table side id items h cause kinds.AnswersNothing is = cc
-reply_kind table side id items h cause kinds.WrongOperation is = cc
-reply_kind table side id items h cause kinds.MisplacedDialogue is = cc
-reply_kind table side id items h cause kinds.WrongHalf is = cc
-reply_kind table side id items h cause kinds.WrongDialogue is = cc
-reply_kind table side id items h cause kinds.InvokeIdBusy is = cc
-reply_kind table side id items h cause kinds.BadLink is = cc
-reply_kind table side id items h cause kinds.AnsweredAlready is = cc
-reply_kind table side id items h cause kinds.RejectNotAllowed is = cc
 reply_kind table side id items h cause kinds.WrongReply is = refl
-reply_kind table side id items h cause kinds.OpenAtMark is = cc
+reply_kind table side id items h cause kind is = cc
 
 module _ {table : Table} {side : Side} {e : End} {coming : List Message} {items : List Item} where
   further_refused : (m message : Message) (kind : Kind) → View table side e (m ∷ coming) items → Refuses e m message
       → goes_over_tangled side items message ≡ false
       → is_of_further_kind table side items message (dtid_in message) kind ≡ true → ⊥
-  further_refused (Unidirectional dialogue components) message kind view it over is = absurd it
   further_refused (Begin otid dialogue components) message kind view it over is =
       let there : is_of_further_kind table side items (provider_abort otid 4) (Some otid) kind ≡ true =
       rw (it.0) at is in
@@ -235,8 +180,7 @@ module _ {table : Table} {side : Side} {e : End} {coming : List Message} {items 
       let only = reply_kind table side otid items (half_of side items otid) 1 kind there in
       continue_left (Continue otid dtid dialogue components) view otid dtid refl refl refl it.1 plain.few
       (rw only at there)
-  further_refused (EndMessage dtid dialogue components) message kind view it over is = absurd it
-  further_refused (Abort dtid reason) message kind view it over is = absurd it
+  further_refused m message kind view it over is = absurd it
 
 further_replied : (table : Table) (events : List Event) (w : World) (side : Side) (message : Message) (kind : Kind)
     → Runs table events w → KeepsRules side events → RepliesIt w side message

@@ -1,30 +1,27 @@
 -- What is counted of few components: no sum of these counts is above the greatest.
-use Rattle.std.proofs.Common.{◌≡◌, ℕ, ℤ, ◌+◌, ◌^◌, ◌≤◌, ◌<◌, arith, Bool, true, false, ltb, List, [], ◌∷◌, ◌++◌, length, length-append, refl, sym, ap, ◌∙◌}
+use Rattle.std.proofs.Common.{◌≡◌, ℕ, ℤ, ◌+◌, ◌^◌, ◌≤◌, ◌<◌, arith, Bool, true, false, List, [], ◌∷◌, ◌++◌, length, length-append, refl, sym, ap, ◌∙◌}
 use Rattle.std.specs.Prelude.{◌&&◌, nat_lt}
 use Rattle.std.specs.List.{list_any}
 use Rattle.std.proofs.Math.Path.{fun_ext}
-use Rattle.std.proofs.lemmas.Bool.{both_ways, cond-true, lt-ltb, ltb-false, ltb-true}
+use Rattle.std.proofs.lemmas.Bool.{both_ways, ltb-false, ltb-true}
 use Rattle.std.proofs.lemmas.List.Folds.{list_any-append}
 use Rattle.tcap_parts.specs.declared.component.Component.{Component}
-use Rattle.tcap_parts.specs.declared.component.Component.TheVariants.{Invoke, ReturnResult, ReturnError, Reject}
+use Rattle.tcap_parts.specs.declared.component.Component.TheVariants.{Invoke}
 use Rattle.tcap_end.specs.Component.{is_code}
 use Rattle.tcap_end.specs.Table.{Table}
 use Rattle.tcap_refute.specs.Before.{invokes, is_invoke_id}
 use Rattle.tcap_faults.specs.Counts.{count, invokes_so, is_result_of}
 use Rattle.tcap_faults.specs.declared.sort.Class.TheVariants as classes
 use Rattle.tcap_faults.specs.declared.sort.Sort.TheVariants as sorts
-use Rattle.tcap_faults.specs.Tallied.{AreFew, both_tallied, greatest, invokes_link, is_sort, results_so, sum, tallied}
+use Rattle.tcap_faults.specs.Tallied.{AreFew, both_tallied, invokes_link, is_sort, results_so, sum, tallied}
 use Rattle.tcap_faults.proofs.LedLawsCounts.{any_counts, count_both, count_more, counts_any, one}
+use Rattle.tcap_faults.proofs.SumLaws.{sum_few}
 
 -- ---- sums
 
--- One that is not above the greatest is exact,
-pub sum_exact : (a b : ℕ) → a + b < 2 ^ 128 → sum a b ≡ a + b
-sum_exact a b below = cond-true (ltb (a + b) (2 ^ 128)) (a + b) greatest (lt-ltb (a + b) (2 ^ 128) below)
-
--- and so is one of three counts.
+-- A sum of three that is not above the greatest is exact.
 pub sum_three : (a b c : ℕ) → a + b + c < 2 ^ 128 → sum (sum a b) c ≡ a + b + c
-sum_three a b c below = rw (sum_exact a b (omega arith)) (sum_exact (a + b) c below)
+sum_three a b c below = rw (sum_few a b (omega arith)) (sum_few (a + b) c below)
 
 -- ---- counts
 
@@ -37,7 +34,7 @@ pub count_within : {A : Type 0} (p : A → Bool) (xs : List A) → count p xs �
 count_within p [] = omega arith
 count_within p (x ∷ xs) = omega (arith, count_more p x xs, one_within (p x), count_within p xs)
 
--- Tests that agree count the same,
+-- Tests that agree count the same.
 pub count_same : {A : Type 0} (p q : A → Bool) (xs : List A) → ((x : A) → p x ≡ q x) → count p xs ≡ count q xs
 count_same p q xs same = ap (λ t. count t xs) (fun_ext same)
 
@@ -64,9 +61,7 @@ any_class table id (Invoke other linked code parameter) = by (is_invoke_id id ot
     by : (b : Bool) → (b && true) ≡ b
     by true = refl
     by false = refl
-any_class table id (ReturnResult last other body) = refl
-any_class table id (ReturnError other code parameter) = refl
-any_class table id (Reject other problem) = refl
+any_class table id c = refl
 
 pub count_invokes : (table : Table) (id : ℤ) (cs : List Component)
     → count (is_sort table id (sorts.Invokes classes.Any)) cs ≡ count (invokes id) cs
@@ -75,11 +70,17 @@ count_invokes table id cs =
 
 -- ---- components of two lists
 
+pub few_front : (xs ys : List Component) → AreFew (xs ++ ys) → AreFew xs
+few_front xs ys few = omega (arith, few, length-append xs ys)
+
+pub few_behind : (xs ys : List Component) → AreFew (xs ++ ys) → AreFew ys
+few_behind xs ys few = omega (arith, few, length-append xs ys)
+
 -- What both have is what the one behind the other has.
 sum_both : (p : Component → Bool) (xs ys : List Component) → AreFew (xs ++ ys)
     → sum (count p xs) (count p ys) ≡ count p (xs ++ ys)
 sum_both p xs ys few =
-    sum_exact (count p xs) (count p ys)
+    sum_few (count p xs) (count p ys)
     (omega (arith, few, count_within p xs, count_within p ys, length-append xs ys)) ∙ sym (count_both p xs ys)
 
 pub tallied_both : (table : Table) (xs ys : List Component) → AreFew (xs ++ ys)

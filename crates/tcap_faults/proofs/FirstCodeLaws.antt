@@ -6,7 +6,7 @@ use Rattle.std.specs.List.{list_any}
 use Rattle.std.proofs.lemmas.Bool.Decides.{nat_tests}
 use Rattle.tcap_parts.specs.declared.code.Code.{Code}
 use Rattle.tcap_parts.specs.declared.code.Code.TheVariants.{Local}
-use Rattle.tcap_refute.proofs.TestLaws.{and_false}
+use Rattle.tcap_refute.proofs.TestLaws.{and_false, and_true}
 use Rattle.tcap_faults.specs.declared.code_counts.CodeCounts.{CodeCounts}
 use Rattle.tcap_faults.specs.declared.many_codes.ManyCodes.{ManyCodes}
 use Rattle.tcap_faults.specs.Tallies.{codes_any, first_passes, others_any}
@@ -43,10 +43,6 @@ none_so (Some n) (Some others) = never others.value.codes.items
 
 by_some : (b : Bool) (kept : CodeCounts) → (codes_any (λ code. true) kept && b) ≡ codes_any (λ code. b) kept
 by_some true kept = and_true (codes_any (λ code. true) kept)
-  where
-    and_true : (b : Bool) → (b && true) ≡ b
-    and_true true = refl
-    and_true false = refl
 by_some false kept = and_false (codes_any (λ code. true) kept) ∙ sym (none_so kept.first kept.others)
 
 -- Where a code was counted, one passes as the test says,

@@ -21,7 +21,7 @@ use Rattle.tcap_faults.specs.Counts.{count}
 use Rattle.tcap_faults.specs.Ids.{IsOneOf}
 use Rattle.tcap_faults.specs.Tangled.{IsOver, are_tangled, first_tangled, goes_over_tangled, goes_to_begun, guesses, is_own_tangled, is_peer_tangled, near, own_of_continue, owns_of, peers_of, tangle_of_own, tangle_of_peer, tangled_for, tangled_id, tangled_in, two_differ}
 use Rattle.tcap_faults.specs.Told.{one_passes}
-use Rattle.tcap_faults.proofs.JoinLaws.{plain_joined, plain_same}
+use Rattle.tcap_faults.proofs.JoinLaws.{plain_joined, plain_same, plain_itself}
 use Rattle.tcap_faults.proofs.TangledLaws.{all_same}
 
 -- ---- whether there is one
@@ -173,7 +173,7 @@ first_over side items own id t is = by
 -- ---- what a message goes over
 
 -- Near an ID of the peer, or behind it, is a first tangled ID exactly where one is tangled;
-id_told : (side : Side) (items : List Item) (own : List (List ℕ)) (id : List ℕ)
+pub id_told : (side : Side) (items : List Item) (own : List (List ℕ)) (id : List ℕ)
     → is_some (tangled_id side items own id) ≡ are_tangled side items own id
 id_told side items own id =
     either_some (tangled_for (other side) id (tangle_of_peer side items id)) _
@@ -253,13 +253,19 @@ module _ (side : Side) (items : List Item) (id : List ℕ) where
       tangled_alone =
           rw (← none, append-nil (owns_of side items id), ← no_own) (sym none_behind)
 
+      -- nor where that is one of those that are joined with it;
+      pub tangled_itself : (own : List ℕ) → Contains (owns_of side items id) own → None ≡ tangled_id side items (own ∷ []) id
+      tangled_itself own has =
+          sym (none_from (tangled_id side items (own ∷ []) id)
+          (id_told side items (own ∷ []) id ∙ sym (plain_itself side items id (plain (sym none)) none_own own has)))
+
       near_besides : (own : List ℕ) → first_tangled side (tangle_of_own side items) (owns_of side items id ++ own ∷ [])
           ≡ or_else (tangled_for side own (tangle_of_own side items own)) None
       near_besides own =
           first_both side (tangle_of_own side items) (owns_of side items id) (own ∷ [])
           ∙ ap (λ o. or_else o (or_else (tangled_for side own (tangle_of_own side items own)) None)) (sym no_own)
 
-      -- and where one is, it is that, or the first of the peer's that are joined with it.
+      -- and else it is that, or the first of the peer's that are joined with it.
       pub tangled_besides : (own : List ℕ) (t : TangledId) → Some t ≡ tangled_for side own (tangle_of_own side items own)
           → Some t ≡ tangled_id side items (own ∷ []) id
       tangled_besides own t is = rw (← none, near_besides own, ← is) refl

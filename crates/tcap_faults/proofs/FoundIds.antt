@@ -1,13 +1,11 @@
 -- IDs of a message, as they are found.
-use Rattle.std.proofs.Common.{◌≡◌, Bor, ℕ, Bool, true, false, not, ◌&&◌, ◌||◌, List, [], ◌∷◌, ◌++◌, Option, Some, None, is_some, bytes_eq, refl, sym, ap, ◌∙◌}
+use Rattle.std.proofs.Common.{◌≡◌, Bor, ℕ, Bool, true, false, not, ◌&&◌, List, [], ◌∷◌, Option, Some, None, is_some, bytes_eq, refl, sym, ap}
 use Rattle.std.specs.Prelude.{option_copied}
 use Rattle.std.specs.List.{list_any}
 use Rattle.std.specs.Option.{option_to_list}
-use Rattle.std.proofs.lemmas.Bool.{or_left}
-use Rattle.std.proofs.lemmas.List.Folds.{list_any-append}
 use Rattle.tcap_msg.specs.declared.kind.Kind.TheVariants as forms
 use Rattle.tcap_msg.specs.declared.message.Message.{Message}
-use Rattle.tcap_msg.specs.declared.message.Message.TheVariants.{Unidirectional, Begin, Continue, End as EndMessage, Abort}
+use Rattle.tcap_msg.specs.declared.message.Message.TheVariants.{Begin, Continue, End as EndMessage, Abort}
 use Rattle.tcap_msg.specs.Parts.{dtid_in, otid_in}
 use Rattle.tcap_record.specs.declared.entry.End.{End as Side}
 use Rattle.tcap_end.specs.Table.{Table}
@@ -15,7 +13,7 @@ use Rattle.tcap_model.specs.World.{Item}
 use Rattle.tcap_refute.specs.Before.{asked, has_a}
 use Rattle.tcap_faults.specs.Counts.{is_nothing}
 use Rattle.tcap_faults.specs.Told.{has_used, told}
-use Rattle.tcap_faults.specs.Tangled.{are_tangled, goes_over_tangled, is_own_tangled, is_peer_tangled, owns_of}
+use Rattle.tcap_faults.specs.Tangled.{owns_of, tangled_id, tangled_in}
 use Rattle.tcap_faults.specs.UsedAgain.{may_be_over, uses_again}
 use Rattle.tcap_faults.specs.declared.found.Own.{Own}
 use Rattle.tcap_faults.specs.declared.found.There.{There}
@@ -25,12 +23,6 @@ use Rattle.tcap_faults.specs.Found.{IsOwn, IsOwnAt, IsThere, IsThereAt}
 pub some_lent : {X : Type 0} (o : Option (Bor X)) → is_some o ≡ is_some (option_copied o)
 some_lent None = refl
 some_lent (Some lent) = refl
-
-pub and_then : (a b : Bool) → a ≡ true → b ≡ (a && b)
-and_then a b so = rw so refl
-
-pub and_else : (a b : Bool) → a ≡ false → false ≡ (a && b)
-and_else a b so = rw so refl
 
 module _ (table : Table) (side : Side) (items : List Item) where
   -- Where one is found there is an ID,
@@ -53,41 +45,23 @@ module _ (table : Table) (side : Side) (items : List Item) where
   there_none None is = refl
   there_none (Some id) is = absurd is
 
--- ---- what is tangled near an ID of the peer
-
-module _ (side : Side) (items : List Item) (near : List (List ℕ)) (id : List ℕ) where
-  pub there_tangled : is_peer_tangled side items id ≡ true → true ≡ are_tangled side items near id
-  there_tangled so = rw so (by (list_any (is_own_tangled side items) (owns_of side items id ++ near)))
-    where
-      by : (b : Bool) → true ≡ (b || true)
-      by true = refl
-      by false = refl
-
-  pub owns_tangled : list_any (is_own_tangled side items) (owns_of side items id) ≡ true
-      → true ≡ are_tangled side items near id
-  owns_tangled so =
-      sym (or_left (list_any (is_own_tangled side items) (owns_of side items id ++ near)) _
-      (list_any-append (is_own_tangled side items) (owns_of side items id) near
-      ∙ or_left (list_any (is_own_tangled side items) (owns_of side items id)) _ so))
-
 -- ---- a message that goes over tangled IDs
 
 module _ (side : Side) (items : List Item) where
   pub over_those : (m : Message) (id : List ℕ) → dtid_in m ≡ Some id
-      → are_tangled side items (option_to_list (otid_in m)) id ≡ goes_over_tangled side items m
-  over_those (Unidirectional dialogue components) id there = cc
-  over_those (Begin otid dialogue components) id there = cc
+      → tangled_id side items (option_to_list (otid_in m)) id ≡ tangled_in side items m
   over_those (Continue otid dtid dialogue components) id there =
       let same : id ≡ dtid = cc in
-      ap (λ x. are_tangled side items (otid ∷ []) x) same
+      ap (λ x. tangled_id side items (otid ∷ []) x) same
   over_those (EndMessage dtid dialogue components) id there =
       let same : id ≡ dtid = cc in
-      ap (λ x. are_tangled side items [] x) same
+      ap (λ x. tangled_id side items [] x) same
   over_those (Abort dtid reason) id there =
       let same : id ≡ dtid = cc in
-      ap (λ x. are_tangled side items [] x) same
+      ap (λ x. tangled_id side items [] x) same
+  over_those m id there = cc
 
-  pub over_nothing : (m : Message) → dtid_in m ≡ None → false ≡ goes_over_tangled side items m
+  pub over_nothing : (m : Message) → dtid_in m ≡ None → None ≡ tangled_in side items m
   over_nothing m none = rw none refl
 
 -- ---- one that uses an own ID again
@@ -96,24 +70,19 @@ module _ (table : Table) (side : Side) (items : List Item) where
   -- It was not used before, or its transaction is not over;
   pub again_not : (m : Message) (own : List ℕ) → otid_in m ≡ Some own
       → (has_used side items own && may_be_over table side items own) ≡ false → false ≡ uses_again table side items m
-  again_not (Unidirectional dialogue components) own it not_over = cc
   again_not (Begin otid dialogue components) own it not_over =
       let same : otid ≡ own = cc in rw same (sym not_over)
   again_not (Continue otid dtid dialogue components) own it not_over =
       let same : otid ≡ own = cc in
       rw (same, not_over) refl
-  again_not (EndMessage dtid dialogue components) own it not_over = cc
-  again_not (Abort dtid reason) own it not_over = cc
+  again_not m own it not_over = cc
 
   -- or else a Begin uses it again,
   pub again_begin : (m : Message) (own : List ℕ) → otid_in m ≡ Some own → dtid_in m ≡ None
       → has_used side items own ≡ true → may_be_over table side items own ≡ true → true ≡ uses_again table side items m
-  again_begin (Unidirectional dialogue components) own it none used over = cc
   again_begin (Begin otid dialogue components) own it none used over =
       let same : otid ≡ own = cc in rw (same, over, used) refl
-  again_begin (Continue otid dtid dialogue components) own it none used over = cc
-  again_begin (EndMessage dtid dialogue components) own it none used over = cc
-  again_begin (Abort dtid reason) own it none used over = cc
+  again_begin m own it none used over = cc
 
   -- and a Continue that answers anew.
   pub again_continue : (m : Message) (own id : List ℕ) → otid_in m ≡ Some own → dtid_in m ≡ Some id
@@ -122,11 +91,8 @@ module _ (table : Table) (side : Side) (items : List Item) where
       ≡ (has_a forms.Begin (asked side id items) && is_nothing (told side id items)
       && not (list_any (bytes_eq own) (owns_of side items id)))
       → anew ≡ uses_again table side items m
-  again_continue (Unidirectional dialogue components) own id it there used over anew is = cc
-  again_continue (Begin otid dialogue components) own id it there used over anew is = cc
   again_continue (Continue otid dtid dialogue components) own id it there used over anew is =
       let same : otid ≡ own = cc in
       let same_there : dtid ≡ id = cc in
       rw (same, same_there, over, used) is
-  again_continue (EndMessage dtid dialogue components) own id it there used over anew is = cc
-  again_continue (Abort dtid reason) own id it there used over anew is = cc
+  again_continue m own id it there used over anew is = cc

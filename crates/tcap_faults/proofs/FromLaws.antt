@@ -11,7 +11,7 @@ use Rattle.std.proofs.lemmas.List.Folds.{find-append, list_any-append}
 use Rattle.tcap_msg.specs.declared.kind.Kind.{Kind as Form}
 use Rattle.tcap_msg.specs.declared.kind.Kind.TheVariants as forms
 use Rattle.tcap_msg.specs.declared.message.Message.{Message}
-use Rattle.tcap_msg.specs.declared.message.Message.TheVariants.{Unidirectional, Begin, Continue, End as EndMessage, Abort}
+use Rattle.tcap_msg.specs.declared.message.Message.TheVariants.{Begin, Continue}
 use Rattle.tcap_msg.specs.Parts.{components_in, dialogue_in, dtid_in, kind_in}
 use Rattle.tcap_end.specs.Dialogue.{is_request}
 use Rattle.tcap_end.specs.Table.{Table, octets_cmp}
@@ -33,7 +33,9 @@ use Rattle.tcap_faults.specs.Kept.{IsCame, IsCameAt, IsFirstBegin, IsFrom, befor
 use Rattle.tcap_faults.specs.Noting.{AreCame, with_more}
 use Rattle.tcap_faults.specs.Tallied.{more_if, sum}
 use Rattle.tcap_faults.specs.Tallies.{IsTally}
-use Rattle.tcap_faults.proofs.NotedLists.{any_more, components_more, count_kept, count_more, filter_more, ids_more, ids_same}
+use Rattle.tcap_faults.proofs.NotedLists.{any_more, components_more, count_kept, filter_more, ids_more, ids_same}
+use Rattle.tcap_faults.proofs.SideLaws.{begin_there}
+use Rattle.tcap_faults.proofs.LedLawsCounts.{count_last}
 
 -- ---- a Continue more to an ID
 
@@ -97,17 +99,11 @@ module _ (table : Table) (ms : List Message) (m : Message) (old new : Came) (was
 pub begin_only : (m : Message) → is_a forms.Begin m ≡ true
     → (is_a forms.Continue m ≡ false) × (is_begin_with_request m ≡ is_request (dialogue_in m))
 begin_only (Begin otid dialogue components) is = (refl, refl)
-begin_only (Unidirectional dialogue components) is = cc
-begin_only (Continue otid dtid dialogue components) is = cc
-begin_only (EndMessage dtid dialogue components) is = cc
-begin_only (Abort dtid reason) is = cc
+begin_only m is = cc
 
 pub continue_only : (m : Message) → is_a forms.Continue m ≡ true → is_a forms.Begin m ≡ false
 continue_only (Continue otid dtid dialogue components) is = refl
-continue_only (Begin otid dialogue components) is = cc
-continue_only (Unidirectional dialogue components) is = cc
-continue_only (EndMessage dtid dialogue components) is = cc
-continue_only (Abort dtid reason) is = cc
+continue_only m is = cc
 
 -- neither a Begin nor a Continue
 abbrev pub IsNeither : Message → Type 0
@@ -118,9 +114,7 @@ pub neither : (kind : Form) (m : Message) → kind ≡ kind_in m → (kind ≡ f
     → IsNeither m
 neither kind (Begin otid dialogue components) is no_begin no_continue = absurd (no_begin is)
 neither kind (Continue otid dtid dialogue components) is no_begin no_continue = absurd (no_continue is)
-neither kind (Unidirectional dialogue components) is no_begin no_continue = (refl, refl)
-neither kind (EndMessage dtid dialogue components) is no_begin no_continue = (refl, refl)
-neither kind (Abort dtid reason) is no_begin no_continue = (refl, refl)
+neither kind m is no_begin no_continue = (refl, refl)
 
 -- ---- Begins
 
@@ -153,14 +147,6 @@ module _ {A : Type 0} (p : A → Bool) where
       by true bad rest = cc
       by false none rest = rest none
 
--- The first Begin is kept where there is one.
-is_kept : (table : Table) (begin : Option Message) (kept : Option FirstBegin) → IsFirstBegin table begin kept
-    → is_some begin ≡ is_some kept
-is_kept table None None is = refl
-is_kept table (Some begin) (Some kept) is = refl
-is_kept table None (Some kept) is = absurd is
-is_kept table (Some begin) None is = absurd is
-
 -- ---- what F2 to F7 ask
 
 -- The rest says nothing of it.
@@ -183,7 +169,7 @@ first_noted table ms m old new was told fact =
 
 module _ (table : Table) (ms : List Message) (m : Message) (old : SentFrom) (was : IsFrom table ms old) where
   is_begun : is_some (find (is_a forms.Begin) ms) ≡ is_some old.begin
-  is_begun = is_kept table (find (is_a forms.Begin) ms) old.begin was.begin
+  is_begun = sym (begin_there table (find (is_a forms.Begin) ms) old.begin was.begin)
 
   -- What is no Begin, or comes behind one, changes nothing of the first.
   begin_stays : (is_a forms.Begin m ≡ false) ⊎ (is_some old.begin ≡ true)
@@ -222,7 +208,7 @@ module _ (table : Table) (ms : List Message) (m : Message) (old : SentFrom) (was
         → IsFrom table (ms ++ m ∷ []) new
     from_begin_as new begin twice continues to came = record {
       begin = begin;
-      twice = rw (twice, count_more (is_a forms.Begin) ms m, it)
+      twice = rw (twice, count_last (is_a forms.Begin) ms m, it)
           (sym is_begun ∙ sym (two_with_one (is_a forms.Begin) ms));
       continues = count_kept (is_a forms.Continue) ms m old.continues new.continues was.continues
           (rw no_continue continues);
@@ -252,7 +238,7 @@ module _ (table : Table) (ms : List Message) (m : Message) (old : SentFrom) (was
       (lookup (is_at (octets_cmp own)) new.came.entries)) → IsFrom table (ms ++ m ∷ []) new
   from_other new it begin twice continues to came = record {
     begin = rw begin (begin_stays (inl it));
-    twice = rw (twice, count_more (is_a forms.Begin) ms m, it) (was.twice ∙ ap (nat_le 2) (omega arith));
+    twice = rw (twice, count_last (is_a forms.Begin) ms m, it) (was.twice ∙ ap (nat_le 2) (omega arith));
     continues = count_kept (is_a forms.Continue) ms m old.continues new.continues was.continues continues;
     to = to;
     came = came;

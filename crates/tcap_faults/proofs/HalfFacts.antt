@@ -4,7 +4,7 @@ use Rattle.std.specs.Prelude.{Contains, filter}
 use Rattle.std.proofs.lemmas.Bool.{and_parts}
 use Rattle.tcap_msg.specs.declared.kind.Kind.TheVariants as forms
 use Rattle.tcap_msg.specs.declared.message.Message.{Message}
-use Rattle.tcap_msg.specs.declared.message.Message.TheVariants.{Unidirectional, Begin, Continue, End as EndMessage, Abort}
+use Rattle.tcap_msg.specs.declared.message.Message.TheVariants.{Continue}
 use Rattle.tcap_msg.specs.Parts.{dtid_in, otid_in}
 use Rattle.tcap_record.specs.declared.entry.End.{End as Side}
 use Rattle.tcap_record.specs.Ends.{other}
@@ -43,11 +43,8 @@ not_nothing (y ∷ ys) x has is = cc
 
 -- A Continue has its originating ID.
 pub goes_from : (m : Message) → is_a forms.Continue m ≡ true → (own : List ℕ) × (otid_in m ≡ Some own)
-goes_from (Unidirectional dialogue components) is = cc
-goes_from (Begin otid dialogue components) is = cc
 goes_from (Continue otid dtid dialogue components) is = (otid, refl)
-goes_from (EndMessage dtid dialogue components) is = cc
-goes_from (Abort dtid reason) is = cc
+goes_from m is = cc
 
 -- A slot is one or the other.
 pub either_slot : (s : Slot) → (s ≡ Begun) ⊎ (s ≡ Accepted)
@@ -143,10 +140,7 @@ module _ {table : Table} {side : Side} {e : End} {coming : List Message} {items 
     where
       by : (m : Message) → is_a forms.Continue m ≡ true → otid_in m ≡ Some own → dtid_in m ≡ Some id → Uses e m
           → f.half.own ≡ Some own
-      by (Unidirectional dialogue components) goes_on from to uses = cc
-      by (Begin otid dialogue components) goes_on from to uses = cc
       by (Continue otid dtid dialogue components) goes_on from to (g, there, g_own, g_peer) =
           let one = is_end.one_peer f g id had there peer (g_peer ∙ to) in
           ap (λ (h : Half). h.own) (sym (one_half e f g had there one)) ∙ g_own ∙ from
-      by (EndMessage dtid dialogue components) goes_on from to uses = cc
-      by (Abort dtid reason) goes_on from to uses = cc
+      by m goes_on from to uses = cc

@@ -3,7 +3,7 @@ use Rattle.std.proofs.Common.{◌≡◌, ◌⊎◌, inl, inr, ℕ, true, List, O
 use Rattle.std.specs.Prelude.{◌||◌}
 use Rattle.std.proofs.lemmas.Bool.{both_ways, not-true, or_cases}
 use Rattle.tcap_msg.specs.declared.message.Message.{Message}
-use Rattle.tcap_msg.specs.declared.message.Message.TheVariants.{Unidirectional, Begin, Continue, End as EndMessage, Abort}
+use Rattle.tcap_msg.specs.declared.message.Message.TheVariants.{Begin, Continue}
 use Rattle.tcap_record.specs.declared.entry.End.{End as Side}
 use Rattle.tcap_end.specs.declared.half.Phase.TheVariants as phases
 use Rattle.tcap_end.specs.declared.half.Slot.TheVariants as slots
@@ -78,14 +78,11 @@ module _ {table : Table} {side : Side} {e : End} {coming : List Message} {items 
   -- From an ID that the end began it goes over the half that began so.
   begun_mine : (otid : List ℕ) (b : Message) → begins_from otid b ≡ true → Uses e b → f.half.own ≡ Some otid
       → f.slot ≡ slots.Begun
-  begun_mine otid (Unidirectional dialogue components) begins uses mine = cc
   begun_mine otid (Begin id dialogue components) begins (h, there) mine =
       let g : KeptHalf = record { slot = slots.Begun; key = id; half = h } in
       let same : Some id ≡ Some otid = id_is otid (Some id) begins in
       (is_end.one_own f g otid half.had there mine (is_end.kept g there ∙ same)).0
-  begun_mine otid (Continue id dtid dialogue components) begins uses mine = cc
-  begun_mine otid (EndMessage dtid dialogue components) begins uses mine = cc
-  begun_mine otid (Abort dtid reason) begins uses mine = cc
+  begun_mine otid m begins uses mine = cc
 
   begun_is : (otid : List ℕ) (b : Message) → begins_from otid b ≡ true → Uses e b
       → ((f.half.phase ≡ phases.Active) × (f.half.own ≡ Some otid))
@@ -107,8 +104,6 @@ module _ {table : Table} {side : Side} {e : End} {coming : List Message} {items 
   -- Over one that began by receiving it is from no ID that the end began.
   accepted_other : f.slot ≡ slots.Accepted → (n : Message) → n ≡ m
       → goes_from_other side items Accepted h.own n ≡ true → ⊥
-  accepted_other slot (Unidirectional dialogue components) is so = cc
-  accepted_other slot (Begin otid dialogue components) is so = cc
   accepted_other slot (Continue otid dtid dialogue components) is so =
       by (or_cases (began side otid items) (is_another otid h.own) so)
     where
@@ -118,18 +113,14 @@ module _ {table : Table} {side : Side} {e : End} {coming : List Message} {items 
       by : (began side otid items ≡ true) ⊎ (is_another otid h.own ≡ true) → ⊥
       by (inl begun) = let bad = sym slot ∙ begun_speaks otid begun speaks in cc
       by (inr other) = none_other otid speaks other
-  accepted_other slot (EndMessage dtid dialogue components) is so = cc
-  accepted_other slot (Abort dtid reason) is so = cc
+  accepted_other slot m is so = cc
 
   begun_other : (n : Message) → n ≡ m → goes_from_other side items Begun h.own n ≡ true → ⊥
-  begun_other (Unidirectional dialogue components) is so = cc
-  begun_other (Begin otid dialogue components) is so = cc
   begun_other (Continue otid dtid dialogue components) is so = none_other otid speaks so
     where
       speaks : Speaks e (Continue otid dtid dialogue components) f.half
       speaks = subst (λ (x : Message). Speaks e x f.half) (sym is) half.speaks
-  begun_other (EndMessage dtid dialogue components) is so = cc
-  begun_other (Abort dtid reason) is so = cc
+  begun_other m is so = cc
 
   not_other : goes_from_other side items h.how h.own m ≡ true → ⊥
   not_other so = by (either_slot f.slot)

@@ -166,8 +166,7 @@ module _ (table : Table) (e next : End) (sound : IsEnd e) where
         let peer = needs_ok (is_id otid f.half.peer) faults.NoTransaction _ next is in
         let follows = (all_receives table (items_of components) f.half).follows in
         acts_this e _ next (put_acts e f _ (own_has e dtid sound f found) (follows_stays f.half _ follows)) peer.1
-    over_heard phases.Received at is = cc
-    over_heard phases.Closed at is = cc
+    over_heard phase at is = cc
 
   continue_heard : (otid dtid : List ℕ) (dialogue : Option Dialogue) (components : Option (List Component))
       → receive table e (Continue otid dtid dialogue components) ≡ Ok next
@@ -209,10 +208,8 @@ module _ (table : Table) (e next : End) (sound : IsEnd e) where
 -- ---- unseen
 
 may_close_open : (table : Table) (p : Phase) → may_close table p ≡ true → is_closed p ≡ false
-may_close_open table phases.Sent is = refl
-may_close_open table phases.Received is = refl
-may_close_open table phases.Active is = refl
 may_close_open table phases.Closed is = cc
+may_close_open table phase is = refl
 
 -- An invocation ends, and the half stays as it is;
 pub expired_acts : (table : Table) (e next : End) (name : HalfName) (id : ℤ) → IsEnd e
@@ -327,8 +324,5 @@ module _ (table : Table) (e next : End) (sound : IsEnd e) where
 
   -- What an end sends has no cause.
   pub said_causeless : (m : Message) → send table e m ≡ Ok next → cause_in m ≡ None
-  said_causeless (Unidirectional dialogue components) is = refl
-  said_causeless (Begin otid dialogue components) is = refl
-  said_causeless (Continue otid dtid dialogue components) is = refl
-  said_causeless (EndMessage dtid dialogue components) is = refl
   said_causeless (Abort dtid reason) is = (over table e next sound (Abort dtid reason) dtid is refl).no_cause
+  said_causeless m is = refl

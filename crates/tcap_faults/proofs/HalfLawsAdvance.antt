@@ -4,7 +4,7 @@ use Rattle.std.specs.Prelude.{Contains, ◌||◌}
 use Rattle.std.proofs.lemmas.Bool.{not-true}
 use Rattle.std.proofs.lemmas.Option.{cond_some}
 use Rattle.tcap_msg.specs.declared.message.Message.{Message}
-use Rattle.tcap_msg.specs.declared.message.Message.TheVariants.{Unidirectional, Begin, Continue, End as EndMessage, Abort}
+use Rattle.tcap_msg.specs.declared.message.Message.TheVariants.{Begin, Continue}
 use Rattle.tcap_record.specs.declared.entry.End.{End as Side}
 use Rattle.tcap_end.specs.declared.fault.EndFault.{EndFault}
 use Rattle.tcap_end.specs.declared.fault.EndFault.TheVariants as faults
@@ -47,7 +47,6 @@ first_only true is = refl
 first_only false is = cc
 
 pub refuses : (e : End) (m abort : Message) → reply_to e m ≡ Some abort → Refuses e m abort
-refuses e (Unidirectional dialogue components) abort is = cc
 refuses e (Begin otid dialogue components) abort is =
     let (may, same) = cond_some _ (provider_abort otid 4) abort is in
     let none = both_needed (aborts 4 otid (provider_abort otid 4)) (is_none (with_peer e otid)) faults.NoTransaction
@@ -58,16 +57,13 @@ refuses e (Continue otid dtid dialogue components) abort is =
     let shut = both_needed (aborts 1 otid (provider_abort otid 1)) (not (is_open (with_own e dtid)))
     faults.NoTransaction may in
     (sym same, not-true _ shut)
-refuses e (EndMessage dtid dialogue components) abort is = cc
-refuses e (Abort dtid reason) abort is = cc
+refuses e m abort is = cc
 
 -- It is an Abort with a cause, and needs no half.
 refused_uses : (e : End) (m abort : Message) → Refuses e m abort → Uses e abort × IsActiveFor e abort
-refused_uses e (Unidirectional dialogue components) abort is = absurd is
 refused_uses e (Begin otid dialogue components) abort is = rw (is.0) ((λ none. cc), tt)
 refused_uses e (Continue otid dtid dialogue components) abort is = rw (is.0) ((λ none. cc), tt)
-refused_uses e (EndMessage dtid dialogue components) abort is = absurd is
-refused_uses e (Abort dtid reason) abort is = absurd is
+refused_uses e m abort is = absurd is
 
 -- ---- steps
 

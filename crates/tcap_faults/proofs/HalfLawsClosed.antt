@@ -5,7 +5,7 @@ use Rattle.std.specs.List.{list_any}
 use Rattle.std.proofs.lemmas.Bool.{and_from, and_parts, both_ways, not-true, or_cases}
 use Rattle.tcap_msg.specs.declared.kind.Kind.TheVariants as forms
 use Rattle.tcap_msg.specs.declared.message.Message.{Message}
-use Rattle.tcap_msg.specs.declared.message.Message.TheVariants.{Unidirectional, Begin, Continue, End as EndMessage, Abort}
+use Rattle.tcap_msg.specs.declared.message.Message.TheVariants.{Begin, Continue}
 use Rattle.tcap_msg.specs.Parts.{cause_in, dtid_in, otid_in}
 use Rattle.tcap_record.specs.declared.entry.End.{End as Side}
 use Rattle.tcap_end.specs.declared.half.Phase.{Phase}
@@ -73,12 +73,10 @@ still_closed {table} {deed} e next own acts (f, had, of_own, closed) =
 -- A message with an originating ID has a half with that own ID.
 uses_own : (e : End) (own : List ℕ) (m : Message) → IsEnd e → Uses e m → otid_in m ≡ Some own
     → (f : KeptHalf) × Has e f × (f.half.own ≡ Some own)
-uses_own e own (Unidirectional dialogue components) is_end uses from = cc
 uses_own e own (Begin otid dialogue components) is_end (h, had) from =
     let f : KeptHalf = record { slot = Begun; key = otid; half = h } in (f, had, is_end.kept f had ∙ from)
 uses_own e own (Continue otid dtid dialogue components) is_end (f, had, of_own, peer) from = (f, had, of_own ∙ from)
-uses_own e own (EndMessage dtid dialogue components) is_end uses from = cc
-uses_own e own (Abort dtid reason) is_end uses from = cc
+uses_own e own m is_end uses from = cc
 
 -- A half that is had, and found closed.
 found_closed : (e : End) (own : List ℕ) (f : KeptHalf) → IsEnd e → Has e f → f.half.own ≡ Some own
@@ -86,10 +84,8 @@ found_closed : (e : End) (own : List ℕ) (f : KeptHalf) → IsEnd e → Has e f
 found_closed e own f is_end had of_own shut = by (with_own e own) refl shut
   where
     closed_phase : (p : Phase) → not (is_closed p) ≡ false → p ≡ phases.Closed
-    closed_phase phases.Sent is = cc
-    closed_phase phases.Received is = cc
-    closed_phase phases.Active is = cc
     closed_phase phases.Closed is = refl
+    closed_phase phase is = cc
 
     by : (o : Option KeptHalf) → with_own e own ≡ o → is_open o ≡ false → IsClosedAt e own
     by None none is = none_own e own f none had of_own
@@ -126,7 +122,6 @@ module _ {table : Table} {side : Side} (e : End) (coming : List Message) (items 
 
   refused_shows : (own : List ℕ) (m abort : Message) → View table side e (m ∷ coming) items → Refuses e m abort
       → shows_closed side own items (Sent side abort) ≡ true → IsClosedAt e own
-  refused_shows own (Unidirectional dialogue components) abort view it is = absurd it
   refused_shows own (Begin otid dialogue components) abort view it is =
       let bad : false ≡ true = rw (itself side, it.0) at is in cc
   refused_shows own (Continue otid dtid dialogue components) abort view it is =
@@ -134,8 +129,7 @@ module _ {table : Table} {side : Side} (e : End) (coming : List Message) (items 
       rw (itself side, it.0) at is in
       let (all, has_own) = and_parts (all_go_on_to own (asked side otid items)) _ shows in
       continue_shows own otid dtid (Continue otid dtid dialogue components) view refl refl refl it.1 all has_own
-  refused_shows own (EndMessage dtid dialogue components) abort view it is = absurd it
-  refused_shows own (Abort dtid reason) abort view it is = absurd it
+  refused_shows own m abort view it is = absurd it
 
 -- ---- each run
 

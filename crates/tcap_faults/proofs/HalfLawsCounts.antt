@@ -7,7 +7,7 @@ use Rattle.std.proofs.lemmas.List.Elements.{filter-append}
 use Rattle.tcap_msg.specs.declared.kind.Kind.{Kind as Form}
 use Rattle.tcap_msg.specs.declared.kind.Kind.TheVariants as forms
 use Rattle.tcap_msg.specs.declared.message.Message.{Message}
-use Rattle.tcap_msg.specs.declared.message.Message.TheVariants.{Unidirectional, Begin, Continue, End as EndMessage, Abort}
+use Rattle.tcap_msg.specs.declared.message.Message.TheVariants.{Begin, Continue}
 use Rattle.tcap_msg.specs.Parts.{cause_in, dtid_in, otid_in}
 use Rattle.tcap_record.specs.declared.entry.End.{End as Side}
 use Rattle.tcap_end.specs.declared.half.Slot.TheVariants.{Begun, Accepted}
@@ -20,7 +20,7 @@ use Rattle.tcap_record.specs.Ends.{other}
 use Rattle.tcap_model.specs.World.{Item, Sent}
 use Rattle.tcap_refute.specs.Before.{asked, is_a, sent_by}
 use Rattle.tcap_refute.proofs.BeforeLaws.{is_that_id}
-use Rattle.tcap_refute.proofs.TestLaws.{and_false}
+use Rattle.tcap_refute.proofs.TestLaws.{and_false, and_true}
 use Rattle.tcap_refute.proofs.HalfLawsTurns.{Accepts, Acts, Deed, Heard, Said, Starts, Turned, Unseen, answers, closes, learns, stays}
 use Rattle.tcap_faults.specs.Told.{is_abort_with}
 use Rattle.tcap_faults.specs.Counts.{count}
@@ -74,10 +74,6 @@ pub record IsPaid (side : Side) (e : End) (coming : List Message) (items : List 
 
 abbrev AllPaid : Side → End → List Message → List Item → Type 0
 AllPaid side e coming items = (c : Count) (id : List ℕ) → IsPaid side e coming items c id
-
-and_true : (a : Bool) → (a && true) ≡ a
-and_true true = refl
-and_true false = refl
 
 -- ---- what a step does to these numbers
 
@@ -239,15 +235,13 @@ module _ (table : Table) (side : Side) where
   -- or refused;
   refused_same : (e : End) (c : Count) (id : List ℕ) (m abort : Message) → Refuses e m abort
       → is_abort_with (cause_of c) id abort ≡ comes_from c id m
-  refused_same e c id (Unidirectional dialogue components) abort it = absurd it
   refused_same e OfBegins id (Begin otid dialogue components) abort it = rw (it.0) (and_true (is_id id (Some otid)))
   refused_same e OfContinues id (Begin otid dialogue components) abort it = rw (it.0) (and_false (is_id id (Some otid)))
   refused_same e OfBegins id (Continue otid dtid dialogue components) abort it =
       rw (it.0) (and_false (is_id id (Some otid)))
   refused_same e OfContinues id (Continue otid dtid dialogue components) abort it =
       rw (it.0) (and_true (is_id id (Some otid)))
-  refused_same e c id (EndMessage dtid dialogue components) abort it = absurd it
-  refused_same e c id (Abort dtid reason) abort it = absurd it
+  refused_same e c id m abort it = absurd it
 
   refused_paid : (e : End) (coming : List Message) (items : List Item) (m abort : Message) → Refuses e m abort
       → AllPaid side e (m ∷ coming) items → AllPaid side e coming (items ++ Sent side abort ∷ [])

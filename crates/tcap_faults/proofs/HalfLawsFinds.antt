@@ -5,7 +5,7 @@ use Rattle.std.specs.List.{find, list_any}
 use Rattle.std.proofs.lemmas.List.{append-nil, append_assoc}
 use Rattle.tcap_msg.specs.declared.kind.Kind.TheVariants as forms
 use Rattle.tcap_msg.specs.declared.message.Message.{Message}
-use Rattle.tcap_msg.specs.declared.message.Message.TheVariants.{Unidirectional, Begin, Continue, End as EndMessage, Abort}
+use Rattle.tcap_msg.specs.declared.message.Message.TheVariants.{Begin}
 use Rattle.tcap_msg.specs.Parts.{dialogue_in}
 use Rattle.tcap_end.specs.Dialogue.{is_request}
 use Rattle.tcap_model.specs.World.{Item}
@@ -74,11 +74,8 @@ filter_is {A} p (y ∷ ys) x has = by (p y) refl has (filter_is p ys x)
 
 -- A Begin asks for a dialogue where its portion is a request.
 pub request_is : (m : Message) → is_a forms.Begin m ≡ true → is_begin_with_request m ≡ is_request (dialogue_in m)
-request_is (Unidirectional dialogue components) is = cc
 request_is (Begin otid dialogue components) is = refl
-request_is (Continue otid dtid dialogue components) is = cc
-request_is (EndMessage dtid dialogue components) is = cc
-request_is (Abort dtid reason) is = cc
+request_is m is = cc
 
 -- ---- one item more
 

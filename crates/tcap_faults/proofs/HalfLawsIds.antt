@@ -9,7 +9,7 @@ use Rattle.std.proofs.lemmas.List.Folds.{find-append}
 use Rattle.tcap_parts.specs.declared.dialogue.Dialogue.{Dialogue}
 use Rattle.tcap_msg.specs.declared.kind.Kind.TheVariants as forms
 use Rattle.tcap_msg.specs.declared.message.Message.{Message}
-use Rattle.tcap_msg.specs.declared.message.Message.TheVariants.{Unidirectional, Begin, Continue, End as EndMessage, Abort}
+use Rattle.tcap_msg.specs.declared.message.Message.TheVariants.{Begin, Continue, End as EndMessage, Abort}
 use Rattle.tcap_msg.specs.Parts.{cause_in, dialogue_in, dtid_in}
 use Rattle.tcap_record.specs.declared.entry.End.{End as Side}
 use Rattle.tcap_end.specs.declared.half.Phase.{Phase}
@@ -74,11 +74,10 @@ told_half {side = side} {e = e} {items = items} view m id has =
   where
     by : (m : Message) → dtid_in m ≡ Some id → cause_in m ≡ None → Uses e m
         → (f : KeptHalf) × Has e f × (f.half.peer ≡ Some id)
-    by (Unidirectional dialogue components) to causeless uses = cc
-    by (Begin otid dialogue components) to causeless uses = cc
     by (Continue otid dtid dialogue components) to causeless (f, had, own, peer) = (f, had, peer ∙ to)
     by (EndMessage dtid dialogue components) to causeless (f, had, peer) = (f, had, peer ∙ to)
     by (Abort dtid reason) to causeless uses = let (f, had, peer) = uses causeless in (f, had, peer ∙ to)
+    by m to causeless uses = cc
 
 -- ---- how a dialogue stands
 
@@ -113,14 +112,11 @@ AllBegun side e items = (f : KeptHalf) → Has e f → f.slot ≡ Begun → IsBe
 -- A Begin that was sent has its half.
 pub begin_used : {P : Type 0} (e : End) (id : List ℕ) (m : Message) → IsEnd e → with_own e id ≡ None
     → begins_from id m ≡ true → Uses e m → P
-begin_used e id (Unidirectional dialogue components) is_end none from uses = cc
 begin_used e id (Begin otid dialogue components) is_end none from (h, had) =
     let same : Some otid ≡ Some id = id_is id (Some otid) from in
     none_own e id (record { slot = Begun; key = otid; half = h }) none had
     (is_end.kept (record { slot = Begun; key = otid; half = h }) had ∙ same)
-begin_used e id (Continue otid dtid dialogue components) is_end none from uses = cc
-begin_used e id (EndMessage dtid dialogue components) is_end none from uses = cc
-begin_used e id (Abort dtid reason) is_end none from uses = cc
+begin_used e id m is_end none from uses = cc
 
 module _ {table : Table} {side : Side} (e next : End) (coming : List Message) (items after : List Item)
     (view : View table side e coming items) (step : Advance table side e next items after) where

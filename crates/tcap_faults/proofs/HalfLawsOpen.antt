@@ -7,7 +7,7 @@ use Rattle.std.proofs.lemmas.Bool.{and_parts, both_ways, not-true}
 use Rattle.std.proofs.lemmas.List.Elements.{Contains-append_cases, Contains-append_right}
 use Rattle.tcap_msg.specs.declared.kind.Kind.TheVariants as forms
 use Rattle.tcap_msg.specs.declared.message.Message.{Message}
-use Rattle.tcap_msg.specs.declared.message.Message.TheVariants.{Unidirectional, Begin, Continue, End as EndMessage, Abort}
+use Rattle.tcap_msg.specs.declared.message.Message.TheVariants.{Continue, End as EndMessage, Abort}
 use Rattle.tcap_msg.specs.Parts.{dtid_in, otid_in}
 use Rattle.tcap_record.specs.declared.entry.End.{End as Side}
 use Rattle.tcap_end.specs.declared.half.Phase.TheVariants as phases
@@ -102,8 +102,6 @@ module _ {table : Table} {side : Side} (e next : End) (items after : List Item)
 module _ {table : Table} {side : Side} (e next : End) (items after : List Item)
     (step : Advance table side e next items after) where
   still_opened : (m : Message) → HasOpened table side e items m → HasOpened table side next after m
-  still_opened (Unidirectional dialogue components) opened = tt
-  still_opened (Begin otid dialogue components) opened = tt
   still_opened (Continue own to dialogue components) (f, had, of_own, of_peer, so) =
       let (g, there, turned) = step.acts.forth f had in (
         record f { half = g },
@@ -112,16 +110,12 @@ module _ {table : Table} {side : Side} (e next : End) (items after : List Item)
         keeps_peer to turned of_peer,
         turned_open e next items after step own to f.half g turned of_own of_peer so,
       )
-  still_opened (EndMessage dtid dialogue components) opened = tt
-  still_opened (Abort dtid reason) opened = tt
+  still_opened m opened = tt
 
   new_opened : (m : Message) → IsActiveFor next m → HasOpened table side next after m
-  new_opened (Unidirectional dialogue components) active = tt
-  new_opened (Begin otid dialogue components) active = tt
   new_opened (Continue own to dialogue components) (f, had, of_own, of_peer, active) =
       (f, had, of_own, of_peer, inl active)
-  new_opened (EndMessage dtid dialogue components) active = tt
-  new_opened (Abort dtid reason) active = tt
+  new_opened m active = tt
 
   opened_then : AllOpened table side e items → AllOpened table side next after
   opened_then held m has =
@@ -152,8 +146,6 @@ module _ {table : Table} {side : Side} {e : End} {coming : List Message} {items 
   -- A half is active where the list tells of no end of its dialogue.
   is_active : (m : Message) (to : List ℕ) → Contains (sent_by side items) m → is_a forms.Continue m ≡ true
       → otid_in m ≡ Some own → dtid_in m ≡ Some to → (IsShut table side items own to → ⊥) → IsActiveAt e own
-  is_active (Unidirectional dialogue components) to has goes_on from dtid none = cc
-  is_active (Begin otid dialogue components) to has goes_on from dtid none = cc
   is_active (Continue id peer dialogue components) to has goes_on from dtid none =
       let (f, had, of_own, of_peer, so) = all_opened view (Continue id peer dialogue components) has in
       let same : id ≡ own = cc in
@@ -168,6 +160,7 @@ module _ {table : Table} {side : Side} {e : End} {coming : List Message} {items 
       by f had of_own (inr (closed, shut)) = absurd (none shut)
   is_active (EndMessage dtid dialogue components) to has goes_on from of_dtid none = cc
   is_active (Abort dtid reason) to has goes_on from of_dtid none = cc
+  is_active m to has goes_on from dtid none = cc
 
   -- the first Continue from that ID
   abbrev is_from : Message → Bool

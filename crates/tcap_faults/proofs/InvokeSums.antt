@@ -1,11 +1,11 @@
 -- Invokes that a half does not allow, where few components are counted (Q.774 3.2, Q.771 3.1).
-use Rattle.std.proofs.Common.{◌≡◌, ℕ, ℤ, ◌+◌, ◌^◌, ◌≤◌, arith, Bool, true, false, ltb, List, Some, None, not, refl, sym, ap, ◌∙◌, ap₂}
+use Rattle.std.proofs.Common.{◌≡◌, ℕ, ℤ, ◌+◌, ◌^◌, ◌≤◌, arith, Bool, true, false, ltb, List, Some, not, refl, sym, ap, ◌∙◌, ap₂}
 use Rattle.std.specs.Prelude.{◌||◌, ◌&&◌, ◌==◌, nat_le}
 use Rattle.std.specs.List.{list_any}
 use Rattle.std.proofs.lemmas.Bool.{eqb-true, le-ltb, or_from, or_left, or_right}
 use Rattle.tcap_parts.specs.declared.problem.Problem.TheVariants as problems
 use Rattle.tcap_parts.specs.declared.component.Component.{Component}
-use Rattle.tcap_parts.specs.declared.component.Component.TheVariants.{Invoke, ReturnResult, ReturnError, Reject}
+use Rattle.tcap_parts.specs.declared.component.Component.TheVariants.{Invoke, Reject}
 use Rattle.tcap_end.specs.Component.{links}
 use Rattle.tcap_end.specs.Table.{Table, expires_of}
 use Rattle.tcap_refute.specs.Before.{invokes, is_invoke_id}
@@ -19,8 +19,8 @@ use Rattle.tcap_faults.specs.Tallied.{AreFew, is_of_class, is_sort, sum, tallied
 use Rattle.tcap_faults.specs.ByTallies.{Counted, invokes_busy_by, is_busy_by, links_badly_by, more_last_by, taken_by}
 use Rattle.tcap_faults.proofs.LedLawsAnswered.{count_takes, count_takes_all}
 use Rattle.tcap_faults.proofs.LedLawsCounts.{count_apart, count_covered, count_weaker}
-use Rattle.tcap_faults.proofs.FewSums.{any_counted, count_invokes, count_within, sum_exact, sum_three}
-use Rattle.tcap_faults.proofs.SumLaws.{above_sum, sum_more}
+use Rattle.tcap_faults.proofs.FewSums.{any_counted, count_invokes, count_within, sum_three}
+use Rattle.tcap_faults.proofs.SumLaws.{above_sum, sum_few, sum_more}
 
 -- what is counted of what a half heard and invoked, of what it told before, of the components of the message before that one,
 -- and of what it told with what else of the message ends an own invocation
@@ -67,7 +67,7 @@ last_same all of_1 of_3 results errors rejects generals own_results own_generals
       sum_more (results + errors + rejects) generals own_results,
       sum_more (results + errors + rejects + generals) own_results own_generals,
       sum_more (results + errors + rejects) generals not_lasts,
-      sum_exact of_1 of_3 (omega arith),
+      sum_few of_1 of_3 (omega arith),
       above_sum (results + errors + rejects + generals + own_results) own_generals (of_1 + of_3) (omega arith),
       above_sum (results + errors + rejects + generals) not_lasts all (omega arith),
     ) (where_none all of_1 of_3 _ _ least_1 least_3)
@@ -82,31 +82,17 @@ last_weaker table id class (Invoke other linked code parameter) =
     by true true c is = refl
     by true false c is = cc
     by false b c is = cc
-last_weaker table id class (ReturnResult last other body) = λ is. cc
-last_weaker table id class (ReturnError other code parameter) = λ is. cc
-last_weaker table id class (Reject other problem) = λ is. cc
+last_weaker table id class c = λ is. cc
 
 -- A Reject has one problem.
 module _ (id : ℤ) where
   no_invoke : (c : Component) → rejects_invoke id any_problem c ≡ true → rejects_generally id c ≡ true → ⊥
-  no_invoke (Invoke other linked code parameter) = λ is. cc
-  no_invoke (ReturnResult last other body) = λ is. cc
-  no_invoke (ReturnError other code parameter) = λ is. cc
-  no_invoke (Reject None problem) = λ is. cc
-  no_invoke (Reject (Some other) (problems.General n)) = λ is. cc
   no_invoke (Reject (Some other) (problems.Invoke n)) = λ is general. cc
-  no_invoke (Reject (Some other) (problems.ReturnResult n)) = λ is. cc
-  no_invoke (Reject (Some other) (problems.ReturnError n)) = λ is. cc
+  no_invoke c = λ is. cc
 
   no_answer : (c : Component) → rejects_result id any_problem c ≡ true → rejects_generally id c ≡ true → ⊥
-  no_answer (Invoke other linked code parameter) = λ is. cc
-  no_answer (ReturnResult last other body) = λ is. cc
-  no_answer (ReturnError other code parameter) = λ is. cc
-  no_answer (Reject None problem) = λ is. cc
-  no_answer (Reject (Some other) (problems.General n)) = λ is. cc
-  no_answer (Reject (Some other) (problems.Invoke n)) = λ is. cc
   no_answer (Reject (Some other) (problems.ReturnResult n)) = λ is general. cc
-  no_answer (Reject (Some other) (problems.ReturnError n)) = λ is. cc
+  no_answer c = λ is. cc
 
 -- Of two tests that not both pass as many pass one as pass each.
 count_either : (p q : Component → Bool) (xs : List Component) → ((c : Component) → p c ≡ true → q c ≡ true → ⊥)
@@ -168,9 +154,7 @@ module _ (table : Table) (h : HalfOf) (few_invoked : AreFew h.invoked) (all befo
       → invokes_busy_by (counted_of table h all before own) c ≡ invokes_busy table h all own before c
   invokes_busy_same (Invoke id linked code parameter) =
       ap₂ (λ a b. a || b) (ap (λ n. ltb 0 n) (count_invokes table id own) ∙ any_counted (invokes id) own) (busy_same id)
-  invokes_busy_same (ReturnResult last id body) = refl
-  invokes_busy_same (ReturnError id code parameter) = refl
-  invokes_busy_same (Reject id problem) = refl
+  invokes_busy_same c = refl
 
 -- ---- a linked ID of no invocation that is there
 
@@ -199,7 +183,4 @@ pub links_badly_same : (table : Table) (h : HalfOf) (all before own : List Compo
 links_badly_same table h all before own few (Invoke id (Some to) code parameter) =
     ap₂ (λ n m. nat_le n m || not (list_any (invokes_so to (λ of. links table of code)) h.heard))
     (count_invokes table to h.heard) (taken_same table before to few)
-links_badly_same table h all before own few (Invoke id None code parameter) = refl
-links_badly_same table h all before own few (ReturnResult last id body) = refl
-links_badly_same table h all before own few (ReturnError id code parameter) = refl
-links_badly_same table h all before own few (Reject id problem) = refl
+links_badly_same table h all before own few c = refl

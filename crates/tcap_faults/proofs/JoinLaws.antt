@@ -1,5 +1,5 @@
 -- Which IDs are joined, and whether those that a message goes over are tangled, by what is kept of both ends.
-use Rattle.std.proofs.Common.{◌≡◌, ◌⊎◌, inl, inr, ℕ, Bool, true, false, cond, ◌&&◌, ◌||◌, List, [], ◌∷◌, ◌++◌, Option, Some, bytes_eq, filter, refl, sym, ap, subst, ◌∙◌, ap₂}
+use Rattle.std.proofs.Common.{◌≡◌, ◌⊎◌, inl, inr, ℕ, Bool, true, false, cond, ◌&&◌, ◌||◌, List, [], ◌∷◌, ◌++◌, Option, Some, bytes_eq, filter, refl, sym, ap, subst, ◌∙◌, ap₂, None}
 use Rattle.std.specs.Prelude.{Contains, filter_map, nat_le}
 use Rattle.std.specs.List.{flat_map, list_any}
 use Rattle.std.proofs.lemmas.Bool.{and_from, and_parts, or_from, or_parts}
@@ -10,13 +10,12 @@ use Rattle.std.proofs.lemmas.Grind.{flat_map-append}
 use Rattle.std.proofs.lemmas.Slice.Eq.{bytes_eq-Decides}
 use Rattle.tcap_msg.specs.declared.kind.Kind.TheVariants as forms
 use Rattle.tcap_msg.specs.declared.message.Message.{Message}
-use Rattle.tcap_msg.specs.declared.message.Message.TheVariants.{Unidirectional, Begin, Continue, End as EndMessage, Abort}
+use Rattle.tcap_msg.specs.declared.message.Message.TheVariants.{Continue}
 use Rattle.tcap_msg.specs.Parts.{dtid_in, otid_in}
 use Rattle.tcap_record.specs.declared.entry.End.{End as Side}
 use Rattle.tcap_record.specs.Ends.{other}
 use Rattle.tcap_end.specs.End.{is_id}
 use Rattle.tcap_model.specs.World.{Item}
-use Rattle.tcap_model.proofs.TurnLaws.{id_is}
 use Rattle.tcap_refute.specs.Before.{asked, has_a, is_a, sent_by}
 use Rattle.tcap_refute.proofs.TestLaws.{and_false, or_none}
 use Rattle.tcap_refute.proofs.Members.{filter_has, filter_map_has}
@@ -111,48 +110,67 @@ module _ (side : Side) (items : List Item) (own id : List ℕ) where
       ∙ ap₂ (λ a b. a || b) joined_sent (among_used used _ ∙ joined_heard)
       )
 
+-- ---- Continues from one ID to another
+
+pub is_it : (id : List ℕ) → bytes_eq id id ≡ true
+is_it id = (bytes_eq-Decides id id).1 refl
+
+pub it_is : (id : List ℕ) (o : Option (List ℕ)) → is_id id o ≡ true → o ≡ Some id
+it_is id None is = cc
+it_is id (Some x) is = ap (λ x. Some x) (sym ((bytes_eq-Decides id x).0 is))
+
+-- There is a Continue from an ID to another among these.
+pub record Goes (ms : List Message) (from to : List ℕ) : Type 0 where
+  pub message : Message
+  pub there : Contains ms message
+  pub goes : is_a forms.Continue message ≡ true
+  pub otid : otid_in message ≡ Some from
+  pub dtid : dtid_in message ≡ Some to
+
+module _ (ms : List Message) (from to : List ℕ) where
+  pub goes_to : Contains (filter_map dtid_in (filter (goes_on_from from) ms)) to → Goes ms from to
+  goes_to has =
+      let (m, kept, made) = filter_map_is dtid_in (filter (goes_on_from from) ms) to has in
+      let (there, passes) = filter_is (goes_on_from from) ms m kept in
+      let (goes, it) = and_parts (is_a forms.Continue m) (is_id from (otid_in m)) passes in
+      record { message = m; there = there; goes = goes; otid = it_is from (otid_in m) it; dtid = made }
+
+  pub goes_from : Contains (filter_map otid_in (filter (goes_on_to to) ms)) from → Goes ms from to
+  goes_from has =
+      let (m, kept, made) = filter_map_is otid_in (filter (goes_on_to to) ms) from has in
+      let (there, passes) = filter_is (goes_on_to to) ms m kept in
+      let (goes, it) = and_parts (is_a forms.Continue m) (is_id to (dtid_in m)) passes in
+      record { message = m; there = there; goes = goes; otid = made; dtid = it_is to (dtid_in m) it }
+
+  pub to_goes : Goes ms from to → Contains (filter_map dtid_in (filter (goes_on_from from) ms)) to
+  to_goes g =
+      filter_map_has dtid_in (filter (goes_on_from from) ms) g.message to
+      (filter_has (goes_on_from from) ms g.message g.there (and_from _ _ g.goes (rw g.otid (is_it from)))) g.dtid
+
+  pub from_goes : Goes ms from to → Contains (filter_map otid_in (filter (goes_on_to to) ms)) from
+  from_goes g =
+      filter_map_has otid_in (filter (goes_on_to to) ms) g.message from
+      (filter_has (goes_on_to to) ms g.message g.there (and_from _ _ g.goes (rw g.dtid (is_it to)))) g.otid
+
 -- An own ID that is joined with an ID of the peer has it joined with itself.
 pub joined_back : (side : Side) (items : List Item) (own id : List ℕ) → Contains (owns_of side items id) own
     → Contains (peers_of side items own) id
 joined_back side items own id has =
     by (Contains-append_cases (filter_map otid_in (filter (goes_on_to id) (sent_by side items))) _ own has)
   where
-    names : (o : Option (List ℕ)) (x : List ℕ) → o ≡ Some x → is_id x o ≡ true
-    names o x named = rw named ((bytes_eq-Decides x x).1 refl)
-
-    sent : Contains (filter_map otid_in (filter (goes_on_to id) (sent_by side items))) own
-        → Contains (peers_of side items own) id
-    sent in_sent =
-        let (m, kept, from) = filter_map_is otid_in (filter (goes_on_to id) (sent_by side items)) own in_sent in
-        let (there, goes) = filter_is (goes_on_to id) (sent_by side items) m kept in
-        let (continues, to) = and_parts (is_a forms.Continue m) _ goes in
-        Contains-append_left (filter_map dtid_in (filter (goes_on_from own) (sent_by side items))) _ id
-        (filter_map_has dtid_in (filter (goes_on_from own) (sent_by side items)) m id
-        (filter_has (goes_on_from own) (sent_by side items) m there
-        (and_from (is_a forms.Continue m) _ continues (names (otid_in m) own from))) (id_is id (dtid_in m) to))
-
-    heard : Contains (filter (has_used side items)
-        (filter_map dtid_in (filter (goes_on_from id) (sent_by (other side) items)))) own
-        → Contains (peers_of side items own) id
-    heard in_heard =
-        let (among, used) = filter_is (has_used side items) _ own in_heard in
-        let (m, kept, to) =
-        filter_map_is dtid_in (filter (goes_on_from id) (sent_by (other side) items)) own among in
-        let (there, goes) = filter_is (goes_on_from id) (sent_by (other side) items) m kept in
-        let (continues, from) = and_parts (is_a forms.Continue m) _ goes in
-        let back : Contains (filter_map otid_in (filter (goes_on_to own) (sent_by (other side) items))) id =
-        filter_map_has otid_in (filter (goes_on_to own) (sent_by (other side) items)) m id
-        (filter_has (goes_on_to own) (sent_by (other side) items) m there
-        (and_from (is_a forms.Continue m) _ continues (names (dtid_in m) own to))) (id_is id (otid_in m) from) in
-        Contains-append_right (filter_map dtid_in (filter (goes_on_from own) (sent_by side items))) _ id
-        (rw used back)
-
     by : Contains (filter_map otid_in (filter (goes_on_to id) (sent_by side items))) own
         ⊎ Contains (filter (has_used side items)
         (filter_map dtid_in (filter (goes_on_from id) (sent_by (other side) items)))) own
         → Contains (peers_of side items own) id
-    by (inl in_sent) = sent in_sent
-    by (inr in_heard) = heard in_heard
+    by (inl in_sent) =
+        Contains-append_left (filter_map dtid_in (filter (goes_on_from own) (sent_by side items))) _ id
+        (to_goes (sent_by side items) own id (goes_from (sent_by side items) own id in_sent))
+    by (inr in_heard) =
+        let (among, used) = filter_is (has_used side items) _ own in_heard in
+        let back : Contains (filter_map otid_in (filter (goes_on_to own) (sent_by (other side) items))) id =
+        from_goes (sent_by (other side) items) id own (goes_to (sent_by (other side) items) id own among) in
+        Contains-append_right (filter_map dtid_in (filter (goes_on_from own) (sent_by side items))) _ id
+        (rw used back)
 
 -- ---- an ID of the peer that is of both
 
@@ -171,11 +189,8 @@ module _ (side : Side) (items : List Item) where
 
       of : (ns : List Message) → list_any (λ own. began side own items) (dtids_of ns) ≡ list_any (goes_to_begun side items) ns
       of [] = refl
-      of (Unidirectional dialogue components ∷ ns) = of ns
-      of (Begin otid dialogue components ∷ ns) = of ns
       of (Continue otid dtid dialogue components ∷ ns) = ap (λ b. began side dtid items || b) (of ns)
-      of (EndMessage dtid dialogue components ∷ ns) = of ns
-      of (Abort dtid reason ∷ ns) = of ns
+      of (m ∷ ns) = of ns
 
   -- where two own IDs that are joined do not differ, those that the peer goes on to do not.
   pub heard_same : (id : List ℕ) → two_differ (owns_of side items id) ≡ false

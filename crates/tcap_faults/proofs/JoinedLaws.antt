@@ -6,33 +6,29 @@ use Rattle.std.specs.Map.{lookup}
 use Rattle.std.specs.BTreeMap.{BTreeMap, WritesThrough, is_at}
 use Rattle.std.specs.BTreeSet as set
 use Rattle.std.specs.BTreeSet.{BTreeSet}
-use Rattle.std.proofs.lemmas.Bool.{and_from, and_parts}
 use Rattle.std.proofs.lemmas.List.{append-nil, take_all}
 use Rattle.std.proofs.lemmas.List.Elements.{Contains-append_cases, Contains-append_left, Contains-append_right}
 use Rattle.std.proofs.lemmas.List.Folds.{list_any_more}
 use Rattle.std.proofs.lemmas.Slice.Eq.{bytes_eq-Decides}
-use Rattle.tcap_msg.specs.declared.kind.Kind.TheVariants as forms
-use Rattle.tcap_msg.specs.declared.message.Message.{Message}
 use Rattle.tcap_msg.specs.Parts.{dtid_in, otid_in}
 use Rattle.tcap_record.specs.declared.entry.End.{End as Side}
 use Rattle.tcap_record.specs.Ends.{other}
 use Rattle.tcap_end.specs.End.{is_id}
 use Rattle.tcap_end.specs.Table.{octets_cmp}
 use Rattle.tcap_model.specs.World.{Item}
-use Rattle.tcap_refute.specs.Before.{is_a, sent_by}
-use Rattle.tcap_refute.proofs.TestLaws.{or_none}
-use Rattle.tcap_refute.proofs.Members.{any_has, filter_has, filter_map_has, has_later, has_not}
+use Rattle.tcap_refute.specs.Before.{sent_by}
+use Rattle.tcap_refute.proofs.TestLaws.{or_none, and_true}
+use Rattle.tcap_refute.proofs.Members.{any_has, filter_has, has_not}
 use Rattle.tcap_faults.specs.Told.{goes_on_from, goes_on_to, has_used}
 use Rattle.tcap_faults.specs.declared.ids.Ids.{Ids}
 use Rattle.tcap_faults.specs.Ids.{AreAmong, AreIds, AreSame, ids_kept}
 use Rattle.tcap_faults.specs.Joining.{GetsMore, HasMore, id_if}
 use Rattle.tcap_faults.specs.Tangled.{owns_of, peers_of}
-use Rattle.tcap_faults.proofs.HalfLawsFinds.{any_is, filter_is}
-use Rattle.tcap_faults.proofs.JoinLaws.{joined_back}
+use Rattle.tcap_faults.proofs.HalfLawsFinds.{any_is}
+use Rattle.tcap_faults.proofs.JoinLaws.{joined_back, from_goes, goes_from, goes_to, is_it, to_goes}
 use Rattle.tcap_faults.proofs.KeyLaws.{at_id, set_more}
 use Rattle.tcap_faults.proofs.MapLaws.{Puts}
 use Rattle.tcap_faults.proofs.SameLaws.{none_same}
-use Rattle.tcap_faults.proofs.TwoTests.{filter_map_is}
 
 -- ---- tests
 
@@ -40,13 +36,6 @@ pub both_so : (a b : Bool) → (a ≡ true → b ≡ true) → (b ≡ true → a
 both_so true b there back = sym (there refl)
 both_so false true there back = back refl
 both_so false false there back = refl
-
-pub is_it : (id : List ℕ) → bytes_eq id id ≡ true
-is_it id = (bytes_eq-Decides id id).1 refl
-
-pub it_is : (id : List ℕ) (o : Option (List ℕ)) → is_id id o ≡ true → o ≡ Some id
-it_is id None is = cc
-it_is id (Some x) is = ap (λ x. Some x) (sym ((bytes_eq-Decides id x).0 is))
 
 module _ {A : Type 0} (p q : A → Bool) where
   pub any_either : (xs : List A) → list_any (λ x. p x || q x) xs ≡ (list_any p xs || list_any q xs)
@@ -169,11 +158,7 @@ module _ (id : List ℕ) where
 
 pub has_none : (so : List ℕ → Bool) (kept : BTreeSet (List ℕ)) → ((id : List ℕ) → so id ≡ false)
     → HasMore so kept kept
-has_none so kept none = λ id. rw (none id) (by (set.contains octets_cmp kept id))
-  where
-    by : (b : Bool) → b ≡ (b || false)
-    by true = refl
-    by false = refl
+has_none so kept none = λ id. rw (none id) (or_none (set.contains octets_cmp kept id))
 
 pub has_if : (id : List ℕ) (so : Bool) → so ≡ true → (old new : BTreeSet (List ℕ))
     → ((key : List ℕ) → set.contains octets_cmp new key
@@ -181,11 +166,7 @@ pub has_if : (id : List ℕ) (so : Bool) → so ≡ true → (old new : BTreeSet
     → HasMore (λ other. bytes_eq other id && so) old new
 has_if id so is old new puts = λ other.
     set_more id old new puts other
-    ∙ rw is (ap (λ b. set.contains octets_cmp old other || b) (by (bytes_eq other id)))
-  where
-    by : (b : Bool) → b ≡ (b && true)
-    by true = refl
-    by false = refl
+    ∙ rw is (ap (λ b. set.contains octets_cmp old other || b) (sym (and_true (bytes_eq other id))))
 
 -- ---- those that are kept, one after the other
 
@@ -195,20 +176,6 @@ bytes_turned a b =
     (λ is. (bytes_eq-Decides a b).1 (sym ((bytes_eq-Decides b a).0 is)))
 
 module _ (p : List ℕ → Bool) (kept : Ids) (those : List (List ℕ)) where
-  -- One of them passes:
-  pub found_first : (first : List ℕ) → kept.first ≡ Some first → true ≡ p first → AreAmong those (Some kept)
-      → true ≡ list_any p those
-  found_first first is passes are = sym (sym (any_kept p those kept are) ∙ rw (is, ← passes) refl)
-
-  pub found_later : (first : List ℕ) → kept.first ≡ Some first → (xs : List (List ℕ)) (i : ℕ) (x : List ℕ)
-      → xs ≡ kept.more.items → i < length xs → x ≡ get_or xs i x → true ≡ p x → AreAmong those (Some kept)
-      → true ≡ list_any p those
-  found_later first is xs i x same within at passes are =
-      sym (sym (any_kept p those kept are)
-      ∙ rw (is, ← same)
-      (any_has p (first ∷ xs) x
-      (has_later first xs x (i, within, sym at)) (sym passes)))
-
   -- There are none without a first;
   pub none_at_all : None ≡ kept.first → AreAmong those (Some kept) → list_any p those ≡ false
   none_at_all none are = sym (any_kept p those kept are) ∙ rw (← none) refl
@@ -276,39 +243,6 @@ module _ (kept : Option (List ℕ)) (first : List ℕ) (is : kept ≡ Some first
         by false b c = refl
 
 -- ---- which IDs are joined
-
--- There is a Continue from an ID to another among these.
-pub record Goes (ms : List Message) (from to : List ℕ) : Type 0 where
-  pub message : Message
-  pub there : Contains ms message
-  pub goes : is_a forms.Continue message ≡ true
-  pub otid : otid_in message ≡ Some from
-  pub dtid : dtid_in message ≡ Some to
-
-module _ (ms : List Message) (from to : List ℕ) where
-  pub goes_to : Contains (filter_map dtid_in (filter (goes_on_from from) ms)) to → Goes ms from to
-  goes_to has =
-      let (m, kept, made) = filter_map_is dtid_in (filter (goes_on_from from) ms) to has in
-      let (there, passes) = filter_is (goes_on_from from) ms m kept in
-      let (goes, it) = and_parts (is_a forms.Continue m) (is_id from (otid_in m)) passes in
-      record { message = m; there = there; goes = goes; otid = it_is from (otid_in m) it; dtid = made }
-
-  pub goes_from : Contains (filter_map otid_in (filter (goes_on_to to) ms)) from → Goes ms from to
-  goes_from has =
-      let (m, kept, made) = filter_map_is otid_in (filter (goes_on_to to) ms) from has in
-      let (there, passes) = filter_is (goes_on_to to) ms m kept in
-      let (goes, it) = and_parts (is_a forms.Continue m) (is_id to (dtid_in m)) passes in
-      record { message = m; there = there; goes = goes; otid = made; dtid = it_is to (dtid_in m) it }
-
-  pub to_goes : Goes ms from to → Contains (filter_map dtid_in (filter (goes_on_from from) ms)) to
-  to_goes g =
-      filter_map_has dtid_in (filter (goes_on_from from) ms) g.message to
-      (filter_has (goes_on_from from) ms g.message g.there (and_from _ _ g.goes (rw g.otid (is_it from)))) g.dtid
-
-  pub from_goes : Goes ms from to → Contains (filter_map otid_in (filter (goes_on_to to) ms)) from
-  from_goes g =
-      filter_map_has otid_in (filter (goes_on_to to) ms) g.message from
-      (filter_has (goes_on_to to) ms g.message g.there (and_from _ _ g.goes (rw g.dtid (is_it to)))) g.otid
 
 module _ (side : Side) (items : List Item) (own id : List ℕ) where
   -- An own ID is joined with one of the peer where that is joined with it.

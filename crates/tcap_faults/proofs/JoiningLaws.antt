@@ -30,8 +30,8 @@ use Rattle.tcap_faults.specs.Joining.{GetsMore, HasMore, id_if}
 use Rattle.tcap_faults.specs.Kept.{dtids_of, otids_of, sent_from, sent_to}
 use Rattle.tcap_faults.specs.Tangled.{owns_of, peers_of}
 use Rattle.tcap_faults.proofs.HalfLawsFinds.{any_is, filter_is}
-use Rattle.tcap_faults.proofs.JoinLaws.{dtids_are, otids_are}
-use Rattle.tcap_faults.proofs.JoinedLaws.{among_same, any_either, from_goes, goes_from, goes_to, is_it, joined_both, to_goes}
+use Rattle.tcap_faults.proofs.JoinLaws.{dtids_are, otids_are, from_goes, goes_from, goes_to, is_it, to_goes}
+use Rattle.tcap_faults.proofs.JoinedLaws.{among_same, any_either, joined_both}
 use Rattle.tcap_faults.proofs.NotingLaws.{backs, dtids_own, ended_own, ended_theirs, fronts, passes_of, peers_any, peers_own, peers_theirs, used_own}
 use Rattle.tcap_faults.proofs.TwoTests.{any_agree}
 

@@ -1,5 +1,5 @@
 -- What the next item is to an end, by what is kept; and what is kept behind it.
-use Rattle.std.proofs.Common.{◌≡◌, Bool, true, false, cond, not, ◌&&◌, ◌||◌, List, [], ◌∷◌, ◌++◌, Option, Some, None, Result, Ok, Err, refl, sym, ap, subst, ◌∙◌, ap₂}
+use Rattle.std.proofs.Common.{◌≡◌, Bool, true, false, cond, not, ◌&&◌, ◌||◌, List, [], ◌∷◌, ◌++◌, Option, Some, None, Result, Ok, Err, refl, sym, ap, subst, ◌∙◌, ap₂, is_some}
 use Rattle.std.specs.Prelude.{IfOk}
 use Rattle.std.specs.List.{find}
 use Rattle.tcap_msg.specs.declared.message.Message.{Message}
@@ -17,10 +17,12 @@ use Rattle.tcap_faults.specs.declared.facts.Facts.{Facts}
 use Rattle.tcap_faults.specs.Fault.{fault_since, further_kinds, is_fault, is_of_further_kind}
 use Rattle.tcap_faults.specs.Kept.{AreFacts}
 use Rattle.tcap_faults.specs.Searching.{IsKept}
-use Rattle.tcap_faults.specs.Tangled.{goes_over_tangled}
+use Rattle.tcap_faults.specs.Tangled.{goes_over_tangled, tangled_in}
 use Rattle.tcap_faults.specs.UsedAgain.{has_used_again, is_used_again, uses_again}
 use Rattle.tcap_faults.proofs.HalfLawsFinds.{one_more}
 use Rattle.tcap_faults.proofs.KindFinds.{fault_found, none_found}
+use Rattle.tcap_faults.proofs.FirstTangled.{tangled_told}
+use Rattle.tcap_faults.specs.declared.why.TangledId.{TangledId}
 
 -- ---- own IDs that are used again
 
@@ -130,3 +132,8 @@ kept_more table sender items m kept facts =
 pub kept_mark : (table : Table) (items : List Item) (kept : Facts) → AreFacts table [] kept
     → IsKept table (items ++ Item.Quiet ∷ []) kept
 kept_mark table items kept facts = subst (λ (xs : List Item). AreFacts table xs kept) (sym (since_mark items)) facts
+
+-- A message goes over tangled IDs where there is a first one.
+pub over : (table : Table) (side : Side) (items : List Item) (m : Message) (o : Option TangledId) (found : Bool)
+    → o ≡ tangled_in side items m → found ≡ is_some o → goes_over_tangled side items m ≡ found
+over table side items m o found is so = sym (so ∙ ap is_some is ∙ tangled_told side items m)

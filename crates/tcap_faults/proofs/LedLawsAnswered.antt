@@ -32,9 +32,7 @@ code_brought table x test h (Invoke id linked code parameter) = by (is_invoke_id
         → (b && test code) ≡ true
     by true is = is
     by false is = cc
-code_brought table x test h (ReturnResult last id body) = λ is. cc
-code_brought table x test h (ReturnError id code parameter) = λ is. cc
-code_brought table x test h (Reject id problem) = λ is. cc
+code_brought table x test h c = λ is. cc
 
 -- any was by an Invoke.
 pub any_brought : (table : Table) (x : ℤ) → IsBrought table x (λ item. true) (invokes x)
@@ -44,48 +42,38 @@ any_brought table x h (Invoke id linked code parameter) = by (is_invoke_id x id)
         → b ≡ true
     by true is = refl
     by false is = cc
-any_brought table x h (ReturnResult last id body) = λ is. cc
-any_brought table x h (ReturnError id code parameter) = λ is. cc
-any_brought table x h (Reject id problem) = λ is. cc
+any_brought table x h c = λ is. cc
 
 -- ---- what takes an invocation
 
 -- A last Return Result takes one whose class reports success,
 pub result_takes : (table : Table) (x : ℤ)
     → IsTaking table x (is_last_result x) (λ item. class_reports table true item.code)
-result_takes table x (Invoke id linked code parameter) is = cc
 result_takes table x (ReturnResult last id body) is =
     let (is_last, here) = and_parts last (is_invoke_id x id) is in
     rw (is_last, here) (λ item fits. (and_parts (class_reports table true item.code) _ fits).0)
-result_takes table x (ReturnError id code parameter) is = cc
-result_takes table x (Reject id problem) is = cc
+result_takes table x c is = cc
 
 -- a Return Error one whose class reports failure,
 pub error_takes : (table : Table) (x : ℤ) → IsTaking table x (is_error x) (λ item. class_reports table false item.code)
-error_takes table x (Invoke id linked code parameter) is = cc
-error_takes table x (ReturnResult last id body) is = cc
 error_takes table x (ReturnError id code parameter) is =
     rw is (λ item fits. (and_parts (class_reports table false item.code) _ fits).0)
-error_takes table x (Reject id problem) is = cc
+error_takes table x c is = cc
 
 -- a last Return Result that names an operation one of that operation,
 pub named_takes : (table : Table) (x : ℤ) (code : Code)
     → IsTaking table x (is_result_of x code) (λ item. is_code code item.code)
-named_takes table x code (Invoke id linked other parameter) is = cc
-named_takes table x code (ReturnResult last id None) is = cc
 named_takes table x code (ReturnResult last id (Some body)) is =
     let (before, same) = and_parts (last && is_invoke_id x id) (is_code code body.code) is in
     let (is_last, here) = and_parts last (is_invoke_id x id) before in
     let one : code ≡ body.code = code_same code body.code same in
     rw (is_last, here, one)
     (λ item fits. (and_parts (class_reports table true item.code) (is_code body.code item.code) fits).1)
-named_takes table x code (ReturnError id error parameter) is = cc
-named_takes table x code (Reject id problem) is = cc
+named_takes table x code c is = cc
 
 -- a last Return Result or a Return Error one whose class reports either,
 pub answer_takes : (table : Table) (x : ℤ) → IsTaking table x (λ c. is_last_result x c || is_error x c)
     (λ item. class_reports table true item.code || class_reports table false item.code)
-answer_takes table x (Invoke id linked code parameter) is = cc
 answer_takes table x (ReturnResult last id body) is = by (or_cases _ _ is)
   where
     by : ((last && is_invoke_id x id) ≡ true) ⊎ (false ≡ true)
@@ -98,11 +86,10 @@ answer_takes table x (ReturnResult last id body) is = by (or_cases _ _ is)
     by (inr so) = cc
 answer_takes table x (ReturnError id code parameter) is =
     rw is (λ item fits. or_right _ _ ((and_parts (class_reports table false item.code) _ fits).0))
-answer_takes table x (Reject id problem) is = cc
+answer_takes table x c is = cc
 
 -- and these and a Reject with an invoke problem any.
 pub any_takes : (table : Table) (x : ℤ) → IsTaking table x (takes x) (λ item. true)
-any_takes table x (Invoke id linked code parameter) is = cc
 any_takes table x (ReturnResult last id body) is = by last (is_invoke_id x id) is
   where
     by : (l b : Bool) → (l && b || false || false) ≡ true
@@ -117,12 +104,9 @@ any_takes table x (ReturnError id code parameter) is = by (is_invoke_id x id) is
         → TakesWhat (cond b (Some (may_answer table false None)) None) (λ (item : Invocation). true)
     by true is = λ item fits. refl
     by false is = cc
-any_takes table x (Reject None problem) is = cc
-any_takes table x (Reject (Some id) (problems.General n)) is = cc
 any_takes table x (Reject (Some id) (problems.Invoke n)) is =
     rw ((and_parts (is_invoke_id x id) true is).0) (λ item fits. refl)
-any_takes table x (Reject (Some id) (problems.ReturnResult n)) is = cc
-any_takes table x (Reject (Some id) (problems.ReturnError n)) is = cc
+any_takes table x c is = cc
 
 -- Nothing takes one where nothing is counted.
 pub none_takes : (table : Table) (x : ℤ) (passes : Invocation → Bool) → IsTaking table x (λ c. false) passes

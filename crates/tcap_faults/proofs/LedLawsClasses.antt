@@ -4,7 +4,7 @@ use Rattle.std.specs.Prelude.{◌&&◌, ◌||◌, ◌==◌}
 use Rattle.std.proofs.lemmas.Bool.{and_parts, both_ways, eqb-true, not-true, or_left, or_right}
 use Rattle.tcap_parts.specs.declared.code.Code.{Code}
 use Rattle.tcap_parts.specs.declared.component.Component.{Component}
-use Rattle.tcap_parts.specs.declared.component.Component.TheVariants.{Invoke, ReturnResult, ReturnError, Reject}
+use Rattle.tcap_parts.specs.declared.component.Component.TheVariants.{Invoke}
 use Rattle.tcap_end.specs.Class.{of_class, reports}
 use Rattle.tcap_end.specs.Component.{class_reports}
 use Rattle.tcap_end.specs.Table.{Table, class_of}
@@ -27,9 +27,7 @@ pub invokes_weaker : (p r : Code → Bool) → ((code : Code) → p code ≡ tru
     → invokes_so x p c ≡ true → invokes_so x r c ≡ true
 invokes_weaker p r weaker x (Invoke id linked code parameter) is =
     both_and (is_invoke_id x id) (r code) (p code) (weaker code) is
-invokes_weaker p r weaker x (ReturnResult last id body) is = cc
-invokes_weaker p r weaker x (ReturnError id code parameter) is = cc
-invokes_weaker p r weaker x (Reject id problem) is = cc
+invokes_weaker p r weaker x c is = cc
 
 -- one of two, where one of them follows;
 invokes_covered : (p q r : Code → Bool) → ((code : Code) → r code ≡ true → (p code || q code) ≡ true) → (x : ℤ)
@@ -37,18 +35,14 @@ invokes_covered : (p q r : Code → Bool) → ((code : Code) → r code ≡ true
 invokes_covered p q r covered x (Invoke id linked code parameter) is =
     either_and (is_invoke_id x id) (p code) (q code)
     (both_and (is_invoke_id x id) (p code || q code) (r code) (covered code) is)
-invokes_covered p q r covered x (ReturnResult last id body) is = cc
-invokes_covered p q r covered x (ReturnError id code parameter) is = cc
-invokes_covered p q r covered x (Reject id problem) is = cc
+invokes_covered p q r covered x c is = cc
 
 -- and not both, where operations do not.
 invokes_apart : (p q : Code → Bool) → ((code : Code) → p code ≡ true → q code ≡ true → ⊥) → (x : ℤ) (c : Component)
     → invokes_so x p c ≡ true → invokes_so x q c ≡ true → ⊥
 invokes_apart p q apart x (Invoke id linked code parameter) first second =
     apart code (and_parts (is_invoke_id x id) (p code) first).1 (and_parts (is_invoke_id x id) (q code) second).1
-invokes_apart p q apart x (ReturnResult last id body) first second = cc
-invokes_apart p q apart x (ReturnError id code parameter) first second = cc
-invokes_apart p q apart x (Reject id problem) first second = cc
+invokes_apart p q apart x c first second = cc
 
 -- So they are counted.
 module _ (p q r : Code → Bool) (x : ℤ) (cs : List Component) where
@@ -74,9 +68,7 @@ codes_either p x cs = omega (arith, above, below)
 
     to_any : (t : Code → Bool) (c : Component) → invokes_so x t c ≡ true → invokes x c ≡ true
     to_any t (Invoke id linked code parameter) is = (and_parts (is_invoke_id x id) (t code) is).0
-    to_any t (ReturnResult last id body) is = cc
-    to_any t (ReturnError id code parameter) is = cc
-    to_any t (Reject id problem) is = cc
+    to_any t c is = cc
 
     split : (a b : Bool) → a ≡ true → (a && b || a && not b) ≡ true
     split true true is = refl
@@ -85,9 +77,7 @@ codes_either p x cs = omega (arith, above, below)
 
     from_any : (c : Component) → invokes x c ≡ true → (invokes_so x p c || invokes_so x q c) ≡ true
     from_any (Invoke id linked code parameter) is = split (is_invoke_id x id) (p code) is
-    from_any (ReturnResult last id body) is = cc
-    from_any (ReturnError id code parameter) is = cc
-    from_any (Reject id problem) is = cc
+    from_any c is = cc
 
     above : count (invokes x) cs ≤ count (invokes_so x p) cs + count (invokes_so x q) cs
     above = count_covered (invokes_so x p) (invokes_so x q) (invokes x) cs from_any

@@ -6,7 +6,7 @@ use Rattle.std.proofs.lemmas.Bool.{both_ways, not-true, or_cases}
 use Rattle.std.proofs.lemmas.List.Folds.{list_any-append}
 use Rattle.tcap_parts.specs.declared.code.Code.{Code}
 use Rattle.tcap_parts.specs.declared.component.Component.{Component}
-use Rattle.tcap_parts.specs.declared.component.Component.TheVariants.{Invoke, ReturnResult, ReturnError, Reject}
+use Rattle.tcap_parts.specs.declared.component.Component.TheVariants.{Invoke}
 use Rattle.tcap_parts.specs.declared.dialogue.Dialogue.{Dialogue}
 use Rattle.tcap_end.specs.declared.fault.EndFault.{EndFault}
 use Rattle.tcap_end.specs.declared.fault.EndFault.TheVariants as faults
@@ -49,14 +49,11 @@ none_linked table (c ∷ more) h k none is found =
     (none_linked table more next k left rest)
   where
     by : (c : Component) (next : Half) → send_component table h c ≡ Ok next → is_linked c ≡ true → ⊥
-    by (Invoke id None code parameter) next first linked = cc
     by (Invoke id (Some to) code parameter) next first linked =
         let may : one_fits to (λ item. links table item.code code) h.inn ≡ true =
         (invokes_step table h next id (Some to) code first).may in
         let bad = rw none at may in cc
-    by (ReturnResult last id body) next first linked = cc
-    by (ReturnError id code parameter) next first linked = cc
-    by (Reject id problem) next first linked = cc
+    by c next first linked = cc
 
 -- over any half no ID is invoked twice in one message.
 none_twice : (table : Table) (g : Half) (own : List Component) (h k : Half) (c : Component)
@@ -64,9 +61,7 @@ none_twice : (table : Table) (g : Half) (own : List Component) (h k : Half) (c :
 none_twice table g own h k (Invoke id linked code parameter) was is again =
     let free = ap (λ o. one (is_some o)) ((invokes_step table h k id linked code is).free) in
     absurd (omega (arith, free, invoked_along table id own g h was, any_counts (invokes id) own again))
-none_twice table g own h k (ReturnResult last id body) was is again = cc
-none_twice table g own h k (ReturnError id code parameter) was is again = cc
-none_twice table g own h k (Reject id problem) was is again = cc
+none_twice table g own h k c was is again = cc
 
 -- The components of a Begin are sent over a half that is new.
 begin_sends : (table : Table) (e made : End) (otid : List ℕ) (dialogue : Option Dialogue) (components : List Component)
@@ -120,9 +115,7 @@ uni_linked table ids [] is found = cc
 uni_linked table ids (Invoke id linked code parameter ∷ more) is found =
     let first = first_uni table ids id linked code parameter more is in
     uni_linked table (id ∷ ids) more first.rest (rw (first.alone) at found)
-uni_linked table ids (ReturnResult last id body ∷ more) is found = cc
-uni_linked table ids (ReturnError id code parameter ∷ more) is found = cc
-uni_linked table ids (Reject id problem ∷ more) is found = cc
+uni_linked table ids (c ∷ more) is found = cc
 
 uni_again : (table : Table) (ids : List ℤ) (own before components : List Component)
     → ((q : ℤ) → list_any (invokes q) own ≡ true → has_id q ids ≡ true)
@@ -146,9 +139,7 @@ uni_again table ids own before (Invoke id linked code parameter ∷ more) known 
     next q found =
         turned (list_any (invokes q) own) (invokes q (Invoke id linked code parameter)) (has_id q ids) (known q)
         (sym (list_any-append (invokes q) own (Invoke id linked code parameter ∷ [])) ∙ found)
-uni_again table ids own before (ReturnResult last id body ∷ more) known is has = cc
-uni_again table ids own before (ReturnError id code parameter ∷ more) known is has = cc
-uni_again table ids own before (Reject id problem ∷ more) known is has = cc
+uni_again table ids own before (c ∷ more) known is has = cc
 
 uni_sends : (table : Table) (e made : End) (dialogue : Option Dialogue) (components : List Component)
     → send_uni table e dialogue components ≡ Ok made → send_uni_components table [] components ≡ Ok tt

@@ -169,14 +169,10 @@ removed_out h id x rises = ap operation_sent_by (kept_removed x id h.out rises) 
 -- What is in Operation Sent behind a component that is received is what it does not end,
 pub got_out : (table : Table) (h : Half) (c : Component) (x : ℤ) → Rises int_cmp h.out
     → operation_sent (receive_component table h c) x ≡ stays (ends_by table x c) (operation_sent h x)
-got_out table h (Invoke id linked code parameter) x rises = sym (stays_all (operation_sent h x))
 got_out table h (ReturnResult last id body) x rises = answer_out table h true last id x
 got_out table h (ReturnError id code parameter) x rises = answer_out table h false true id x
-got_out table h (Reject None problem) x rises = sym (stays_all (operation_sent h x))
-got_out table h (Reject (Some id) (problems.General n)) x rises = sym (stays_all (operation_sent h x))
 got_out table h (Reject (Some id) (problems.Invoke n)) x rises = removed_out h id x rises
-got_out table h (Reject (Some id) (problems.ReturnResult n)) x rises = sym (stays_all (operation_sent h x))
-got_out table h (Reject (Some id) (problems.ReturnError n)) x rises = sym (stays_all (operation_sent h x))
+got_out table h c x rises = sym (stays_all (operation_sent h x))
 
 -- and behind the end of an invocation what has another ID.
 pub without_out : (h : Half) (id x : ℤ) → Rises int_cmp h.out

@@ -5,7 +5,7 @@ use Rattle.std.proofs.lemmas.Bool.{and_from, and_parts, not-true, or_left}
 use Rattle.tcap_parts.specs.declared.code.Code.{Code}
 use Rattle.tcap_parts.specs.declared.problem.Problem.TheVariants as problems
 use Rattle.tcap_parts.specs.declared.component.Component.{Component}
-use Rattle.tcap_parts.specs.declared.component.Component.TheVariants.{Invoke, ReturnResult, ReturnError, Reject}
+use Rattle.tcap_parts.specs.declared.component.Component.TheVariants.{ReturnResult, ReturnError, Reject}
 use Rattle.tcap_end.specs.Table.{Table, expires_of}
 use Rattle.tcap_end.specs.Half.{Half}
 use Rattle.tcap_end.specs.Component.{operation_sent}
@@ -20,17 +20,13 @@ use Rattle.tcap_faults.proofs.LedLawsOwn.{is_sent_so, sent_ended}
 
 -- What ends an invocation takes one.
 ends_takes : (table : Table) (x : ℤ) (c : Component) (code : Code) → ends_by table x c code ≡ true → takes x c ≡ true
-ends_takes table x (Invoke id linked other parameter) code is = cc
 ends_takes table x (ReturnResult last id body) code is =
     or_left (is_last_result x (ReturnResult last id body) || false) false
     (or_left (is_last_result x (ReturnResult last id body)) false (and_parts (last && is_invoke_id x id) _ is).0)
 ends_takes table x (ReturnError id error parameter) code is =
     or_left (is_invoke_id x id) false (and_parts (is_invoke_id x id) _ is).0
-ends_takes table x (Reject None problem) code is = cc
-ends_takes table x (Reject (Some id) (problems.General n)) code is = cc
 ends_takes table x (Reject (Some id) (problems.Invoke n)) code is = and_from (is_invoke_id x id) true is refl
-ends_takes table x (Reject (Some id) (problems.ReturnResult n)) code is = cc
-ends_takes table x (Reject (Some id) (problems.ReturnError n)) code is = cc
+ends_takes table x c code is = cc
 
 -- Where nothing of the ID is in Operation Sent, no more that last were sent than what was heard takes.
 pub ended_any : (table : Table) (s : HalfOf) (past : List Happening) (g : Half) → Bounds s (sent_in past) (got_in past)

@@ -1,30 +1,30 @@
 -- Rejects with a problem of a link: an invocation that allows linkedResponseUnexpected (6) or unexpectedLinkedOperation
 -- (7) was brought by an Invoke that names an own invocation of such an operation (Q.773 4.2.2, Q.774 3.2).
-use Rattle.std.proofs.Common.{◌≡◌, ◌⊎◌, inl, inr, ℕ, ℤ, ◌+◌, ◌≤◌, arith, Bool, true, false, List, [], ◌∷◌, Option, Some, None, Ok, not, refl, sym, ap, ◌∙◌}
+use Rattle.std.proofs.Common.{◌≡◌, ◌⊎◌, inl, inr, ℕ, ℤ, ◌≤◌, arith, Bool, true, false, List, [], ◌∷◌, Option, Some, None, Ok, not, refl, sym, ap, ◌∙◌}
 use Rattle.std.specs.Prelude.{◌&&◌, ◌||◌, ◌==◌}
 use Rattle.std.specs.List.{list_any}
 use Rattle.std.proofs.lemmas.Bool.{and_from, and_parts, both_ways, not-true, or_cases, or_right}
 use Rattle.tcap_parts.specs.declared.code.Code.{Code}
 use Rattle.tcap_parts.specs.declared.component.Component.{Component}
-use Rattle.tcap_parts.specs.declared.component.Component.TheVariants.{Invoke, ReturnResult, ReturnError, Reject}
+use Rattle.tcap_parts.specs.declared.component.Component.TheVariants.{Invoke}
 use Rattle.tcap_end.specs.Table.{Table, linked_of}
 use Rattle.tcap_end.specs.Half.{Half, listed, one_fits}
-use Rattle.tcap_end.specs.Component.{allows, link_problems, link_problems_of, links, operation_sent, receive_component, send_component}
+use Rattle.tcap_end.specs.Component.{allows, link_problems, link_problems_of, links, operation_sent}
 use Rattle.tcap_end.specs.Message.{send_components}
 use Rattle.tcap_refute.specs.Before.{is_invoke_id}
 use Rattle.tcap_faults.specs.ComponentKinds.{is_link_fine}
 use Rattle.tcap_faults.specs.Counts.{count, invokes_so}
 use Rattle.tcap_faults.specs.HalfOf.{HalfOf}
 use Rattle.tcap_faults.specs.Components.{is_linked_to, is_problem, lists_nothing}
-use Rattle.tcap_faults.proofs.Lives.{Bounds, Gets, Happening, IsLed, Sends, got_in, sent_in}
-use Rattle.tcap_faults.proofs.LedLaws.{IsKept, IsRisen, holds, risen}
+use Rattle.tcap_faults.proofs.Lives.{Bounds, Happening, IsLed, got_in, sent_in}
+use Rattle.tcap_faults.proofs.LedLaws.{risen}
 use Rattle.tcap_faults.proofs.LedLawsAnswered.{none_takes}
 use Rattle.tcap_faults.proofs.LedLawsCounts.{any_counts, count_more, count_weaker, counts_any, one}
-use Rattle.tcap_faults.proofs.LedLawsGains.{gains_inn, got_inn}
-use Rattle.tcap_faults.proofs.LedLawsLists.{count_gained, gain}
+use Rattle.tcap_faults.proofs.LedLawsGains.{gains_inn}
+use Rattle.tcap_faults.proofs.LedLawsLists.{gain}
 use Rattle.tcap_faults.proofs.LedLawsOwn.{is_sent_so, sent_invoked, sent_so}
 use Rattle.tcap_faults.proofs.LedLawsRejects.{Brings, allows_so, brings_it, fits_so, link_problems_by, linked_are, none_of_id, problem_found}
-use Rattle.tcap_faults.proofs.LedLawsTaken.{sent_spends, spent_along}
+use Rattle.tcap_faults.proofs.LedLawsTaken.{spent_along, inn_of, spent_shown}
 
 -- ---- what is linked
 
@@ -32,14 +32,11 @@ use Rattle.tcap_faults.proofs.LedLawsTaken.{sent_spends, spent_along}
 linked_weaker : (names : Code → Code → Bool) (x : ℤ) (some more : List Component)
     → ((test : Component → Bool) → list_any test some ≡ true → list_any test more ≡ true) → (c : Component)
     → is_linked_to names some x c ≡ true → is_linked_to names more x c ≡ true
-linked_weaker names x some more weaker (Invoke id None code parameter) is = cc
 linked_weaker names x some more weaker (Invoke id (Some to) code parameter) is =
     let (here, there) = and_parts (is_invoke_id x id) (list_any (invokes_so to (λ of. names of code)) some) is in
     and_from (is_invoke_id x id) (list_any (invokes_so to (λ of. names of code)) more) here
     (weaker (invokes_so to (λ of. names of code)) there)
-linked_weaker names x some more weaker (ReturnResult last id body) is = cc
-linked_weaker names x some more weaker (ReturnError id code parameter) is = cc
-linked_weaker names x some more weaker (Reject id problem) is = cc
+linked_weaker names x some more weaker c is = cc
 
 -- The problem shows that the Invoke names an own invocation in Operation Sent whose operation, with the Invoke's,
 -- passes a test.
@@ -84,54 +81,21 @@ module _ (table : Table) (n : ℕ) (names : Code → Code → Bool) (of_link : I
           (counts_any (invokes_so id (λ of. names of it.code)) (sent_in past)
           (omega (arith, ap one sent, sent_invoked table (λ of. names of it.code) id past g led)))
 
-  abbrev AreLinked : List Happening → Half → Type 0
-  AreLinked past h =
-      1 ≤ count (allows_so (is_problem n)) (listed x h.inn)
+  linked : (past : List Happening) (h : Half) → IsLed table past h
+      → 1 ≤ count (allows_so (is_problem n)) (listed x h.inn)
       → 1 ≤ count (is_linked_to names (sent_in past) x) (got_in past)
-
-  linked_sends : (past : List Happening) (g k : Half) (c : Component) → IsLed table past g → IsRisen g
-      → send_component table g c ≡ Ok k → AreLinked past g → AreLinked (Sends c ∷ past) k
-  linked_sends past g k c led risen is was some =
-      omega (
+  linked =
+      spent_shown table (inn_of table x) (λ d. false) (allows_so (is_problem n))
+      (none_takes table x (allows_so (is_problem n))) (λ past. count (is_linked_to names (sent_in past) x) (got_in past))
+      (λ past c. count_weaker (is_linked_to names (sent_in past) x) (is_linked_to names (c ∷ sent_in past) x) (got_in past)
+      (linked_weaker names x (sent_in past) (c ∷ sent_in past) (λ test found. or_right (test c) _ found)))
+      (λ past c. omega (arith, count_more (is_linked_to names (sent_in past) x) c (got_in past)))
+      (λ past id. omega arith)
+      (λ past g c led gained. omega (
         arith,
-        was (omega (
-          arith,
-          some,
-          sent_spends table x (λ d. false) (allows_so (is_problem n))
-              (none_takes table x (allows_so (is_problem n))) g k c risen is,
-        )),
-        count_weaker (is_linked_to names (sent_in past) x) (is_linked_to names (c ∷ sent_in past) x) (got_in past)
-            (linked_weaker names x (sent_in past) (c ∷ sent_in past) (λ test found. or_right (test c) _ found)),
-      )
-
-  linked_gets : (past : List Happening) (g : Half) (c : Component) → IsLed table past g → IsRisen g → AreLinked past g
-      → AreLinked (Gets c ∷ past) (receive_component table g c)
-  linked_gets past g c led risen was some = by (gain (allows_so (is_problem n)) (gains_inn table g x c)) refl
-    where
-      gained : count (allows_so (is_problem n)) (listed x (receive_component table g c).inn)
-          ≡ count (allows_so (is_problem n)) (listed x g.inn)
-          + one (gain (allows_so (is_problem n)) (gains_inn table g x c))
-      gained =
-          count_gained (gains_inn table g x c) (allows_so (is_problem n)) (listed x g.inn)
-          (listed x (receive_component table g c).inn) (got_inn table g c x (risen.inn.0))
-
-      more : count (is_linked_to names (sent_in past) x) (c ∷ got_in past)
-          ≡ one (is_linked_to names (sent_in past) x c) + count (is_linked_to names (sent_in past) x) (got_in past)
-      more = count_more (is_linked_to names (sent_in past) x) c (got_in past)
-
-      by : (b : Bool) → gain (allows_so (is_problem n)) (gains_inn table g x c) ≡ b
-          → 1 ≤ count (is_linked_to names (sent_in past) x) (c ∷ got_in past)
-      by true is = let linked = linked_brought past g c led is in omega (arith, more, ap one linked)
-      by false is = omega (arith, more, was (omega (arith, some, gained, ap one is)))
-
-  are_linked : IsKept table AreLinked
-  are_linked = record {
-    same = λ past g h lists was. rw (lists.1) was;
-    start = λ h out inn grants. rw inn (λ some. absurd (omega (arith, some)));
-    sends = linked_sends;
-    gets = linked_gets;
-    ends = λ past g id led risen may was. was;
-  }
+        ap one (linked_brought past g c led gained),
+        count_more (is_linked_to names (sent_in past) x) c (got_in past),
+      ))
 
   -- One that names such an own invocation was heard.
   pub linked_within : (s : HalfOf) (past : List Happening) (g h : Half) (own : List Component)
@@ -142,7 +106,7 @@ module _ (table : Table) (n : ℕ) (names : Code → Code → Bool) (of_link : I
       counts_any (is_linked_to names s.invoked x) s.heard
       (omega (
         arith,
-        holds table AreLinked are_linked past g led before,
+        linked past g led before,
         bounds.heard (is_linked_to names s.invoked x),
         count_weaker (is_linked_to names (sent_in past) x) (is_linked_to names s.invoked x) (got_in past)
             (linked_weaker names x (sent_in past) s.invoked known),
@@ -153,7 +117,7 @@ module _ (table : Table) (n : ℕ) (names : Code → Code → Bool) (of_link : I
           omega (
             arith,
             some,
-            spent_along table x (λ d. false) (allows_so (is_problem n))
+            spent_along table (inn_of table x) (λ d. false) (allows_so (is_problem n))
                 (none_takes table x (allows_so (is_problem n))) own g h (risen table past g led) is,
           )
 

@@ -3,7 +3,7 @@ use Rattle.std.proofs.Common.{◌≡◌, ℤ, ◌+◌, ◌≤◌, arith, Bool, t
 use Rattle.std.specs.Prelude.{◌&&◌}
 use Rattle.tcap_parts.specs.declared.code.Code.{Code}
 use Rattle.tcap_parts.specs.declared.component.Component.{Component}
-use Rattle.tcap_parts.specs.declared.component.Component.TheVariants.{Invoke, ReturnResult, ReturnError, Reject}
+use Rattle.tcap_parts.specs.declared.component.Component.TheVariants.{Invoke}
 use Rattle.tcap_end.specs.declared.fault.EndFault.{EndFault}
 use Rattle.tcap_end.specs.declared.half.InvocationState.{InvocationState}
 use Rattle.tcap_end.specs.declared.half.InvocationState.TheVariants as states
@@ -53,9 +53,7 @@ began_so passes x (Invoke id linked code parameter) was now began = by (is_invok
         ≡ one (sent_so passes (operation_sent_by now))
     by true (none, some) = rw (none, some) (omega arith)
     by false same = rw same (omega arith)
-began_so passes x (ReturnResult last id body) was now began = rw began (omega arith)
-began_so passes x (ReturnError id code parameter) was now began = rw began (omega arith)
-began_so passes x (Reject id problem) was now began = rw began (omega arith)
+began_so passes x c was now began = rw began (omega arith)
 
 pub sent_began : (table : Table) (passes : Code → Bool) (x : ℤ) (g k : Half) (c : Component)
     → send_component table g c ≡ Ok k
@@ -166,9 +164,7 @@ began_any x (Invoke id linked code parameter) was now began = by (is_invoke_id x
     by : (b : Bool) → Began (cond b (Some code) None) was now → one b + one (is_some was) ≡ one (is_some now)
     by true (none, some) = rw (none, some) (omega arith)
     by false same = rw same (omega arith)
-began_any x (ReturnResult last id body) was now began = rw began (omega arith)
-began_any x (ReturnError id code parameter) was now began = rw began (omega arith)
-began_any x (Reject id problem) was now began = rw began (omega arith)
+began_any x c was now began = rw began (omega arith)
 
 -- An ID that it invokes was free, and is not.
 pub invoked_along : (table : Table) (x : ℤ) (own : List Component) (g h : Half) → send_components table g own ≡ Ok h

@@ -7,22 +7,23 @@ use Rattle.std.proofs.lemmas.Bool.{and_from, and_parts, eqb-true, or_from, or_ri
 use Rattle.tcap_parts.specs.declared.code.Code.{Code}
 use Rattle.tcap_parts.specs.declared.problem.Problem.TheVariants as problems
 use Rattle.tcap_parts.specs.declared.component.Component.{Component}
-use Rattle.tcap_parts.specs.declared.component.Component.TheVariants.{Invoke, ReturnResult, ReturnError, Reject}
+use Rattle.tcap_parts.specs.declared.component.Component.TheVariants.{Invoke, Reject}
 use Rattle.tcap_end.specs.Table.{Table, linked_of}
 use Rattle.tcap_end.specs.Half.{Half, Invocation, is_one_of, listed, one_fits}
-use Rattle.tcap_end.specs.Component.{allows, id_problems, link_problems, link_problems_of, links, operation_sent, receive_component}
+use Rattle.tcap_end.specs.Component.{allows, id_problems, link_problems, link_problems_of, links, operation_sent}
 use Rattle.tcap_end.specs.Message.{send_components}
 use Rattle.tcap_refute.specs.Before.{invokes, is_invoke_id}
 use Rattle.tcap_faults.specs.Components.{is_of_link, is_problem}
 use Rattle.tcap_faults.specs.Counts.{count, invokes_linked, rejects_invoke}
 use Rattle.tcap_faults.specs.HalfOf.{HalfOf}
-use Rattle.tcap_faults.proofs.Lives.{Bounds, Gets, Happening, IsLed, got_in, sent_in}
-use Rattle.tcap_faults.proofs.LedLaws.{IsKept, IsRisen, holds, risen}
+use Rattle.tcap_faults.proofs.Lives.{Bounds, Happening, IsLed, got_in, sent_in}
+use Rattle.tcap_faults.proofs.LedLaws.{risen}
 use Rattle.tcap_faults.proofs.LedLawsAnswered.{any_brought, none_takes}
 use Rattle.tcap_faults.proofs.LedLawsCounts.{any_counts, count_more, count_weaker, one}
-use Rattle.tcap_faults.proofs.LedLawsGains.{gains_inn, got_inn, item_of}
-use Rattle.tcap_faults.proofs.LedLawsLists.{count_gained, gain, id_same}
-use Rattle.tcap_faults.proofs.LedLawsTaken.{IsBrought, IsTaking, sent_spends, spent, spent_along}
+use Rattle.tcap_faults.proofs.LedLawsGains.{gains_inn, item_of}
+use Rattle.tcap_faults.proofs.LedLawsLists.{gain, id_same}
+use Rattle.tcap_faults.proofs.LedLawsTaken.{IsBrought, IsTaking, spent, spent_along, inn_of, spent_most}
+use Rattle.tcap_refute.proofs.TestLaws.{or_none}
 
 -- ---- problems
 
@@ -107,16 +108,10 @@ allows_so passes item = list_any passes item.problems
 -- A Reject with a problem that passes takes one that allows such a problem.
 pub reject_takes : (table : Table) (x : ℤ) (passes : ℕ → Bool)
     → IsTaking table x (rejects_invoke x passes) (allows_so passes)
-reject_takes table x passes (Invoke id linked code parameter) is = cc
-reject_takes table x passes (ReturnResult last id body) is = cc
-reject_takes table x passes (ReturnError id code parameter) is = cc
-reject_takes table x passes (Reject None problem) is = cc
-reject_takes table x passes (Reject (Some id) (problems.General n)) is = cc
 reject_takes table x passes (Reject (Some id) (problems.Invoke n)) is =
     let (here, pass) = and_parts (is_invoke_id x id) (passes n) is in
     rw here (λ item fits. one_found n passes item.problems fits pass)
-reject_takes table x passes (Reject (Some id) (problems.ReturnResult n)) is = cc
-reject_takes table x passes (Reject (Some id) (problems.ReturnError n)) is = cc
+reject_takes table x passes c is = cc
 
 -- Where one allows a problem that passes, one allows such a problem.
 pub fits_so : (h : Half) (id : ℤ) (problem : ℕ) (passes : ℕ → Bool) → one_fits id (allows problem) h.inn ≡ true
@@ -155,9 +150,7 @@ brings_it table h x (Invoke id linked code parameter) passes = by (is_invoke_id 
       fits = fits;
     }
     by false other fits = cc
-brings_it table h x (ReturnResult last id body) passes = λ is. cc
-brings_it table h x (ReturnError id code parameter) passes = λ is. cc
-brings_it table h x (Reject id problem) passes = λ is. cc
+brings_it table h x c passes = λ is. cc
 
 -- ---- problems of a link
 
@@ -202,14 +195,10 @@ module _ (table : Table) (x : ℤ) where
 
       found : list_any (is_problem 0) (id_problems (listed it.id h.inn)) ≡ true
       found =
-          sym (or_none (list_any (is_problem 0) (id_problems (listed it.id h.inn))))
+          or_none (list_any (is_problem 0) (id_problems (listed it.id h.inn)))
           ∙ ap (λ b. list_any (is_problem 0) (id_problems (listed it.id h.inn)) || b)
           (sym (none_of_link table h it.linked it.code (is_problem 0) refl refl refl))
           ∙ sym (problem_found table h it.id it.linked it.code (is_problem 0) refl refl refl refl) ∙ it.fits
-        where
-          or_none : (b : Bool) → (b || false) ≡ b
-          or_none true = refl
-          or_none false = refl
 
       by : (list : List Invocation) → list_any (is_problem 0) (id_problems list) ≡ true
           → 1 ≤ count (λ (item : Invocation). true) list
@@ -217,47 +206,24 @@ module _ (table : Table) (x : ℤ) where
       by (first ∷ more) some = omega (arith, count_more (λ (item : Invocation). true) first more)
 
   -- So these, and the Rejects with it, are fewer than the Invokes of the ID, or none.
-  abbrev AreSecond : List Happening → Half → Type 0
-  AreSecond past h =
-      count (rejects_invoke x (is_problem 0)) (sent_in past) + count (allows_so (is_problem 0)) (listed x h.inn)
+  second : (past : List Happening) (h : Half) → IsLed table past h
+      → count (rejects_invoke x (is_problem 0)) (sent_in past) + count (allows_so (is_problem 0)) (listed x h.inn)
       ≤ count (invokes x) (got_in past) - 1
-
-  second_gets : (past : List Happening) (g : Half) (c : Component) → IsLed table past g → IsRisen g → AreSecond past g
-      → AreSecond (Gets c ∷ past) (receive_component table g c)
-  second_gets past g c led risen was = by (gain (allows_so (is_problem 0)) (gains_inn table g x c)) refl
+  second =
+      spent_most table (inn_of table x) (rejects_invoke x (is_problem 0)) (allows_so (is_problem 0))
+      (reject_takes table x (is_problem 0)) (λ past. count (invokes x) (got_in past) - 1) (λ past c. omega arith)
+      (λ past g c led. by past g c led (gain (allows_so (is_problem 0)) (gains_inn table g x c)) refl)
+      (λ past id. omega arith)
     where
-      gained : count (allows_so (is_problem 0)) (listed x (receive_component table g c).inn)
-          ≡ count (allows_so (is_problem 0)) (listed x g.inn)
-          + one (gain (allows_so (is_problem 0)) (gains_inn table g x c))
-      gained =
-          count_gained (gains_inn table g x c) (allows_so (is_problem 0)) (listed x g.inn)
-          (listed x (receive_component table g c).inn) (got_inn table g c x (risen.inn.0))
-
-      by : (b : Bool) → gain (allows_so (is_problem 0)) (gains_inn table g x c) ≡ b
-          → AreSecond (Gets c ∷ past) (receive_component table g c)
-      by true is =
+      by : (past : List Happening) (g : Half) (c : Component) → IsLed table past g → (b : Bool)
+          → gain (allows_so (is_problem 0)) (gains_inn table g x c) ≡ b
+          → count (invokes x) (got_in past) - 1 + one b ≤ count (invokes x) (c ∷ got_in past) - 1
+      by past g c led true is =
           let (invoked, some) = second_brought g c is in
-          let all = spent table x (λ c. false) (λ item. true) (none_takes table x (λ item. true)) (invokes x)
-          (any_brought table x) past g led in
-          omega (arith, was, gained, ap one is, ap one invoked, some, all, count_more (invokes x) c (got_in past))
-      by false is = omega (arith, was, gained, ap one is, count_more (invokes x) c (got_in past))
-
-  are_second : IsKept table AreSecond
-  are_second = record {
-    same = λ past g h lists was. rw (lists.1) was;
-    start = λ h out inn grants. rw inn (omega arith);
-    sends = λ past g k c led risen is was.
-        omega (
-          arith,
-          was,
-          count_more (rejects_invoke x (is_problem 0)) c (sent_in past),
-          sent_spends table x (rejects_invoke x (is_problem 0)) (allows_so (is_problem 0))
-              (reject_takes table x (is_problem 0))
-              g k c risen is,
-        );
-    gets = second_gets;
-    ends = λ past g id led risen may was. was;
-  }
+          let all = spent table (inn_of table x) (λ c. false) (λ item. true) (none_takes table x (λ item. true))
+          (invokes x) (any_brought table x) past g led in
+          omega (arith, ap one invoked, some, all, count_more (invokes x) c (got_in past))
+      by past g c led false is = omega (arith, count_more (invokes x) c (got_in past))
 
   pub second_within : (s : HalfOf) (past : List Happening) (g h : Half) (own : List Component)
       → Bounds s (sent_in past) (got_in past) → IsLed table past g → send_components table g own ≡ Ok h
@@ -266,9 +232,9 @@ module _ (table : Table) (x : ℤ) where
   second_within s past g h own bounds led is =
       omega (
         arith,
-        holds table AreSecond are_second past g led,
+        second past g led,
         bounds.told (rejects_invoke x (is_problem 0)),
         bounds.heard (invokes x),
-        spent_along table x (rejects_invoke x (is_problem 0)) (allows_so (is_problem 0))
+        spent_along table (inn_of table x) (rejects_invoke x (is_problem 0)) (allows_so (is_problem 0))
             (reject_takes table x (is_problem 0)) own g h (risen table past g led) is,
       )

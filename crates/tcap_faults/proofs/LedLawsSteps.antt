@@ -80,12 +80,11 @@ rejects_answer_step h k id false n is =
 
 -- what a component takes of the invocations of an ID: the oldest that passes
 abbrev pub takes_inn : Table → ℤ → Component → Option (Invocation → Bool)
-takes_inn table x (Invoke id linked code parameter) = None
 takes_inn table x (ReturnResult last id body) =
     cond last (cond (is_invoke_id x id) (Some (may_answer table true (option_map (λ b. b.code) body))) None) None
 takes_inn table x (ReturnError id code parameter) = cond (is_invoke_id x id) (Some (may_answer table false None)) None
 takes_inn table x (Reject (Some id) (problems.Invoke n)) = cond (is_invoke_id x id) (Some (allows n)) None
-takes_inn table x (Reject id problem) = None
+takes_inn table x c = None
 
 answer_takes : (table : Table) (h k : Half) (x : ℤ) (is_result last : Bool) (id : ℤ) (named : Option Code)
     → Rises int_cmp h.inn → Answers table h k is_result last id named
@@ -110,14 +109,13 @@ sent_inn table h k (ReturnResult last id body) x rises is =
     answer_takes table h k x true last id _ rises (answers_step table h k true last id _ is)
 sent_inn table h k (ReturnError id code parameter) x rises is =
     answer_takes table h k x false true id None rises (answers_step table h k false true id None is)
-sent_inn table h k (Reject None problem) x rises is = cc
-sent_inn table h k (Reject (Some id) (problems.General n)) x rises is = cc
 sent_inn table h k (Reject (Some id) (problems.Invoke n)) x rises is =
     let (one, same) = rejects_invoke_step h k id n is in rw (← same) (took_of x id (allows n) h.inn rises one)
 sent_inn table h k (Reject (Some id) (problems.ReturnResult n)) x rises is =
     let (one, same) = rejects_answer_step h k id true n is in rw (← same) refl
 sent_inn table h k (Reject (Some id) (problems.ReturnError n)) x rises is =
     let (one, same) = rejects_answer_step h k id false n is in rw (← same) refl
+sent_inn table h k c x rises is = cc
 
 -- ---- sending: answers that were received
 
@@ -147,8 +145,6 @@ sent_grants table h k (ReturnResult last id body) x rises is =
 sent_grants table h k (ReturnError id code parameter) x rises is =
     let left = answer_leaves table h k x false true id None (answers_step table h k false true id None is) in
     rw (left.0) refl
-sent_grants table h k (Reject None problem) x rises is = cc
-sent_grants table h k (Reject (Some id) (problems.General n)) x rises is = cc
 sent_grants table h k (Reject (Some id) (problems.Invoke n)) x rises is =
     let (one, same) = rejects_invoke_step h k id n is in rw (← same) refl
 sent_grants table h k (Reject (Some id) (problems.ReturnResult n)) x rises is =
@@ -157,6 +153,7 @@ sent_grants table h k (Reject (Some id) (problems.ReturnResult n)) x rises is =
 sent_grants table h k (Reject (Some id) (problems.ReturnError n)) x rises is =
     let (one, same) = rejects_answer_step h k id false n is in
     rw (← same) (took_of x id (allows_for false n) h.grants rises one)
+sent_grants table h k c x rises is = cc
 
 -- ---- sending: own invocations
 
@@ -192,11 +189,10 @@ sent_out table h k (ReturnResult last id body) x is =
 sent_out table h k (ReturnError id code parameter) x is =
     let left = answer_leaves table h k x false true id None (answers_step table h k false true id None is) in
     rw (left.1) refl
-sent_out table h k (Reject None problem) x is = cc
-sent_out table h k (Reject (Some id) (problems.General n)) x is = cc
 sent_out table h k (Reject (Some id) (problems.Invoke n)) x is =
     let (one, same) = rejects_invoke_step h k id n is in rw (← same) refl
 sent_out table h k (Reject (Some id) (problems.ReturnResult n)) x is =
     let (one, same) = rejects_answer_step h k id true n is in rw (← same) refl
 sent_out table h k (Reject (Some id) (problems.ReturnError n)) x is =
     let (one, same) = rejects_answer_step h k id false n is in rw (← same) refl
+sent_out table h k c x is = cc

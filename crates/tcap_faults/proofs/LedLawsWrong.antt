@@ -6,7 +6,7 @@ use Rattle.std.proofs.lemmas.Bool.{and_from, and_parts, eqb-true, le-ltb, leb-tr
 use Rattle.tcap_parts.specs.declared.code.Code.{Code}
 use Rattle.tcap_parts.specs.declared.problem.Problem.TheVariants as problems
 use Rattle.tcap_parts.specs.declared.component.Component.{Component}
-use Rattle.tcap_parts.specs.declared.component.Component.TheVariants.{Invoke, ReturnResult, ReturnError, Reject}
+use Rattle.tcap_parts.specs.declared.component.Component.TheVariants.{Invoke, Reject}
 use Rattle.tcap_end.specs.Table.{Table}
 use Rattle.tcap_end.specs.Half.{Half, listed, one_fits}
 use Rattle.tcap_end.specs.Component.{allows_for, answer_problems, class_reports, send_component, send_reject}
@@ -22,14 +22,14 @@ use Rattle.tcap_faults.proofs.LedLawsAnswered.{none_takes}
 use Rattle.tcap_faults.proofs.LedLawsClasses.{codes_either, count_reports}
 use Rattle.tcap_faults.proofs.LedLawsCounts.{any_counts, count_both, count_last, count_never, count_weaker, one}
 use Rattle.tcap_faults.proofs.LedLawsGains.{answered_by, problems_of}
-use Rattle.tcap_faults.proofs.LedLawsGrants.{answers_of, grant_found, grant_so, rejected, rejects_along, rejects_of, shown, shows_other, shows_reported}
+use Rattle.tcap_faults.proofs.LedLawsGrants.{answers_of, grant_found, grant_so, rejected, rejects_of, shown, shows_other, shows_reported, grant_takes}
 use Rattle.tcap_faults.proofs.LedLawsLinks.{none_fine}
 use Rattle.tcap_faults.proofs.LedLawsLists.{id_itself}
 use Rattle.tcap_faults.proofs.LedLawsMessages.{none_of_four, sent_more}
 use Rattle.tcap_faults.proofs.LedLawsOwn.{sent_so}
 use Rattle.tcap_faults.proofs.LedLawsRejects.{allows_so, fits_so, link_brought, over_7, over_brought, reject_takes, second_within}
 use Rattle.tcap_faults.proofs.LedLawsSteps.{answer_problem, rejects_answer_step, rejects_invoke_step}
-use Rattle.tcap_faults.proofs.LedLawsTaken.{spent_within}
+use Rattle.tcap_faults.proofs.LedLawsTaken.{spent_within, inn_of, grants_of, spent_along}
 
 module _ (table : Table) (s : HalfOf) (past : List Happening) (g : Half)
     (bounds : Bounds s (sent_in past) (got_in past))
@@ -78,7 +78,7 @@ module _ (table : Table) (s : HalfOf) (past : List Happening) (g : Half)
           arith,
           ltb-true _ _ ((and_parts (is_of_link n) _ so).1),
           counted (rejects_invoke id is_of_link),
-          spent_within table id (rejects_invoke id is_of_link) (allows_so is_of_link) (reject_takes table id is_of_link)
+          spent_within table (inn_of table id) (rejects_invoke id is_of_link) (allows_so is_of_link) (reject_takes table id is_of_link)
               (invokes_linked id) (link_brought table id) s past g k (own ++ reject ∷ []) bounds led behind,
         ))
 
@@ -90,7 +90,7 @@ module _ (table : Table) (s : HalfOf) (past : List Happening) (g : Half)
           arith,
           fits_so h id n over_7 fits so,
           count_never s.heard,
-          spent_within table id (λ c. false) (allows_so over_7) (none_takes table id (allows_so over_7)) (λ c. false)
+          spent_within table (inn_of table id) (λ c. false) (allows_so over_7) (none_takes table id (allows_so over_7)) (λ c. false)
               (over_brought table id) s past g h own bounds led was,
         ))
 
@@ -120,7 +120,8 @@ module _ (table : Table) (s : HalfOf) (past : List Happening) (g : Half)
           arith,
           any_counts (allows_for sort n) (listed id h.grants) fits,
           count_weaker (allows_for sort n) (grant_so sort passes) (listed id h.grants) (grant_found sort n passes pass),
-          rejects_along table id sort passes own g h (risen table past g led) was,
+          spent_along table (grants_of table id) (rejects_of sort id passes) (grant_so sort passes)
+              (grant_takes sort id passes) own g h (risen table past g led) was,
         )
 
     -- No more are rejected than were heard;
@@ -134,7 +135,8 @@ module _ (table : Table) (s : HalfOf) (past : List Happening) (g : Half)
           count_both (rejects_of sort id any_problem) s.told own,
           count_last (rejects_of sort id any_problem) own answer_reject,
           bounds.told (rejects_of sort id any_problem),
-          rejects_along table id sort any_problem (own ++ answer_reject ∷ []) g k
+          spent_along table (grants_of table id) (rejects_of sort id any_problem) (grant_so sort any_problem)
+              (grant_takes sort id any_problem) (own ++ answer_reject ∷ []) g k
               (risen table past g led) (sent_more table own answer_reject g h k was is),
           rejected table id sort any_problem past g led,
           bounds.heard (answers_of sort id),
@@ -173,9 +175,7 @@ module _ (table : Table) (s : HalfOf) (past : List Happening) (g : Half)
           where
             none : (c : Component) → invokes_so id (λ code. false) c ≡ true → false ≡ true
             none (Invoke other linked code parameter) is = (and_parts (is_invoke_id id other) false is).1
-            none (ReturnResult last other body) is = is
-            none (ReturnError other code parameter) is = is
-            none (Reject other problem) is = is
+            none c is = is
 
     -- 1 where an own invocation allows no such answer;
     none_unexpected : (eqb n 1 && is_expected table s sort id) ≡ true → ⊥

@@ -1,9 +1,9 @@
 -- Each open half of an end that keeps the rules has its story: what led to it, and what the list of messages tells of that.
-use Rattle.std.proofs.Common.{◌≡◌, ◌≤◌, inl, inr, ℕ, Bool, true, false, List, [], ◌∷◌, ◌++◌, Option, Some, None, is_none, refl, sym, ap, subst, ◌∙◌, append_assoc}
+use Rattle.std.proofs.Common.{◌≡◌, inl, inr, ℕ, Bool, true, false, List, [], ◌∷◌, ◌++◌, Option, Some, None, is_none, refl, sym, ap, subst, ◌∙◌, append_assoc}
 use Rattle.std.specs.Prelude.{Contains, ◌&&◌}
 use Rattle.std.proofs.lemmas.List.{append-nil}
 use Rattle.tcap_msg.specs.declared.message.Message.{Message}
-use Rattle.tcap_msg.specs.declared.message.Message.TheVariants.{Unidirectional, Begin, Continue, End as EndMessage, Abort}
+use Rattle.tcap_msg.specs.declared.message.Message.TheVariants.{Begin, Continue}
 use Rattle.tcap_msg.specs.Parts.{cause_in, dtid_in}
 use Rattle.tcap_record.specs.declared.entry.End.{End as Side}
 use Rattle.tcap_end.specs.Table.{Table}
@@ -73,11 +73,9 @@ module _ (table : Table) (side : Side) where
 
   -- The end's provider replies by an Abort, which has a cause, and is told to no half.
   has_cause : (e : End) (m abort : Message) → Refuses e m abort → is_none (cause_in abort) ≡ false
-  has_cause e (Unidirectional dialogue components) abort is = absurd is
   has_cause e (Begin otid dialogue components) abort is = rw (is.0) refl
   has_cause e (Continue otid dtid dialogue components) abort is = rw (is.0) refl
-  has_cause e (EndMessage dtid dialogue components) abort is = absurd is
-  has_cause e (Abort dtid reason) abort is = absurd is
+  has_cause e m abort is = absurd is
 
   replies_lives : (e : End) (coming : List Message) (items : List Item) (abort : Message)
       → is_none (cause_in abort) ≡ false → HasLives table side e coming items

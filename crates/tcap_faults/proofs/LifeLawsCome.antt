@@ -3,7 +3,7 @@
 use Rattle.std.proofs.Common.{◌≡◌, ◌≤◌, ◌+◌, arith, ℕ, Bool, true, false, cond, List, [], ◌∷◌, ◌++◌, Option, Some, None, refl, sym, ap, subst, ◌∙◌}
 use Rattle.std.specs.Prelude.{filter}
 use Rattle.std.proofs.lemmas.Grind.{flat_map-append}
-use Rattle.std.proofs.lemmas.List.{append-nil, length-append}
+use Rattle.std.proofs.lemmas.List.{append-nil}
 use Rattle.std.proofs.lemmas.List.Elements.{filter-append}
 use Rattle.tcap_parts.specs.declared.component.Component.{Component}
 use Rattle.tcap_msg.specs.declared.kind.Kind.TheVariants as forms
@@ -20,11 +20,9 @@ use Rattle.tcap_faults.specs.Counts.{count}
 use Rattle.tcap_faults.specs.HalfOf.{from_first, responds}
 use Rattle.tcap_faults.specs.Told.{begin_from, goes_on_to}
 use Rattle.tcap_faults.proofs.Lives.{continues_to, from, heard_behind, may_have_heard}
+use Rattle.tcap_faults.proofs.LedLawsCounts.{count_both}
 
 -- ---- counts
-
-pub count_append : {A : Type 0} (p : A → Bool) (xs ys : List A) → count p (xs ++ ys) ≡ count p xs + count p ys
-count_append p xs ys = rw (filter-append p xs ys) (length-append (filter p xs) (filter p ys))
 
 -- how many components of these messages pass a test
 abbrev pub count_in : (Component → Bool) → List Message → ℕ
@@ -33,11 +31,11 @@ count_in p messages = count p (components_of messages)
 pub count_in_append : (p : Component → Bool) (xs ys : List Message)
     → count_in p (xs ++ ys) ≡ count_in p xs + count_in p ys
 count_in_append p xs ys =
-    ap (count p) (flat_map-append components_in xs ys) ∙ count_append p (components_of xs) (components_of ys)
+    ap (count p) (flat_map-append components_in xs ys) ∙ count_both p (components_of xs) (components_of ys)
 
 pub count_in_first : (p : Component → Bool) (m : Message) (xs : List Message)
     → count_in p (m ∷ xs) ≡ count p (components_in m) + count_in p xs
-count_in_first p m xs = count_append p (components_in m) (components_of xs)
+count_in_first p m xs = count_both p (components_in m) (components_of xs)
 
 pub count_in_one : (p : Component → Bool) (m : Message) → count_in p (m ∷ []) ≡ count p (components_in m)
 count_in_one p m = ap (count p) (append-nil (components_in m))

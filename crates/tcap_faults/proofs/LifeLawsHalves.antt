@@ -25,8 +25,9 @@ use Rattle.tcap_refute.specs.Kind.{is_begin_with_request}
 use Rattle.tcap_faults.specs.Counts.{count}
 use Rattle.tcap_faults.specs.HalfOf.{responds}
 use Rattle.tcap_faults.specs.Told.{begin_from, goes_on_to, told}
-use Rattle.tcap_faults.proofs.LifeLawsCome.{HaveNoMore, KeepsBegins, count_append, count_in, count_in_append, count_in_one, filters_append, heard_chosen, heard_grows, heard_later, no_more_self}
+use Rattle.tcap_faults.proofs.LifeLawsCome.{HaveNoMore, KeepsBegins, count_in, count_in_append, count_in_one, filters_append, heard_chosen, heard_grows, heard_later, no_more_self}
 use Rattle.tcap_faults.proofs.Lives.{Happening, Sends, Gets, Ends, IsLed, SameLists, continues_to, got_in, may_have_heard, sent_in, told_to}
+use Rattle.tcap_faults.proofs.LedLawsCounts.{count_both}
 
 -- ---- happenings
 
@@ -63,8 +64,8 @@ sends_on table (c ∷ more) past g k led is =
         → (p : Component → Bool) → count p (sent_in now) ≡ count p (sent_in past) + count p (c ∷ more)
     counts now sent p =
         let all = sent p in
-        let front = count_append p (c ∷ []) (sent_in past) in
-        let behind = count_append p (c ∷ []) more in omega arith
+        let front = count_both p (c ∷ []) (sent_in past) in
+        let behind = count_both p (c ∷ []) more in omega arith
 
 -- or received.
 pub record GotOn (table : Table) (past : List Happening) (components : List Component) (k : Half) : Type 0 where
@@ -85,8 +86,8 @@ gets_on table (c ∷ more) past g led =
         → (p : Component → Bool) → count p (got_in now) ≡ count p (got_in past) + count p (c ∷ more)
     counts now got p =
         let all = got p in
-        let front = count_append p (c ∷ []) (got_in past) in
-        let behind = count_append p (c ∷ []) more in omega arith
+        let front = count_both p (c ∷ []) (got_in past) in
+        let behind = count_both p (c ∷ []) more in omega arith
 
 -- ---- the story of an open half
 
@@ -128,12 +129,11 @@ answered_still : (own : List ℕ) (gone more : List Message) (standing : Standin
     (phase : Phase)
     → IsAnswered own gone standing peer phase → IsAnswered own (gone ++ more) standing peer phase
 answered_still own gone more standing peer phases.Sent is = is
-answered_still own gone more standing peer phases.Received is = tt
-answered_still own gone more standing peer phases.Closed is = tt
 answered_still own gone more standing peer phases.Active is = λ id same.
     ap (list_any responds) (filters_append (λ m. is_id id (otid_in m)) (goes_on_to own) gone more)
     ∙ list_any-append responds (continues_to id gone (Some own)) (continues_to id more (Some own))
     ∙ rw (is id same) refl
+answered_still own gone more standing peer phase is = tt
 
 pub begun_still : (side : Side) (items : List Item) (gone more : List Message) (slot : Slot) (key : List ℕ) (h : Half)
     → HasBegun side items gone slot key h → HasBegun side items (gone ++ more) slot key h

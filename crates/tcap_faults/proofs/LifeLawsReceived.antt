@@ -157,8 +157,7 @@ module _ (table : Table) (side : Side) (items : List Item) (gone : List Message)
     over_got phases.Active at is =
         let peer = needs_ok (is_id otid f.half.peer) faults.NoTransaction _ next is in
         next_got at (id_is otid f.half.peer peer.0) (is_this _ next peer.1)
-    over_got phases.Received at is = cc
-    over_got phases.Closed at is = cc
+    over_got phase at is = cc
 
   continue_got : (otid dtid : List ℕ) (dialogue : Option Dialogue) (components : Option (List Component))
       → receive_continue table e otid dtid dialogue (items_of components) ≡ Ok next

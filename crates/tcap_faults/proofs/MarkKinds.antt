@@ -20,7 +20,7 @@ use Rattle.tcap_end.specs.Half.{Half, is_closed}
 use Rattle.tcap_end.specs.End.{End, KeptHalf, all_closed, nothing}
 use Rattle.tcap_end.specs.Sound.{Has}
 use Rattle.tcap_model.specs.World.{Item, OnItsWay, Sent, World, end_at}
-use Rattle.tcap_model.specs.Run.{Adds, Event, Sends, Receives, Replies, Loses, Expires, Closes, Quiet, Tells, KeepsRules, Runs, after, after_quiet, then_so}
+use Rattle.tcap_model.specs.Run.{Adds, Event, Sends, Replies, Quiet, Tells, KeepsRules, Runs, after, after_quiet, then_so}
 use Rattle.tcap_model.proofs.RunLaws.{grows, runs_keep}
 use Rattle.tcap_refute.specs.Before.{is_a, sent_by, since_quiet}
 use Rattle.tcap_refute.proofs.MomentLaws.{kept_before, last_or_before}
@@ -151,10 +151,7 @@ module _ (table : Table) (side : Side) (before : List Event) (w next : World) (r
       by Quiet step items adds same =
           one_more Item.Quiet (same ∙ ap (λ more. w.sent ++ more) adds)
           (λ last. none_open (view_of table side before w runs kept) (mark_closed table w next step side))
-      by (Receives receiver number) step items adds same = none_more (same ∙ ap (λ more. w.sent ++ more) adds)
-      by (Loses sender number) step items adds same = none_more (same ∙ ap (λ more. w.sent ++ more) adds)
-      by (Expires place name id) step items adds same = none_more (same ∙ ap (λ more. w.sent ++ more) adds)
-      by (Closes place name) step items adds same = none_more (same ∙ ap (λ more. w.sent ++ more) adds)
+      by event step items adds same = none_more (same ∙ ap (λ more. w.sent ++ more) adds)
 
 none_at_first : {P : Type 0} (front behind : List Item) → [] ≡ front ++ Item.Quiet ∷ behind → P
 none_at_first [] behind is = cc

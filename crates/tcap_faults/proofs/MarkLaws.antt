@@ -14,7 +14,7 @@ use Rattle.std.proofs.lemmas.Map.Views.{btree_map_get_iff}
 use Rattle.std.proofs.lemmas.Slice.Eq.{bytes_eq-Decides}
 use Rattle.tcap_msg.specs.declared.kind.Kind.TheVariants as forms
 use Rattle.tcap_msg.specs.declared.message.Message.{Message}
-use Rattle.tcap_msg.specs.declared.message.Message.TheVariants.{Unidirectional, Begin, Continue, End as EndMessage, Abort}
+use Rattle.tcap_msg.specs.declared.message.Message.TheVariants.{Begin, Continue}
 use Rattle.tcap_msg.specs.Parts.{cause_in, dtid_in, otid_in}
 use Rattle.tcap_record.specs.declared.entry.End.{End as Side}
 use Rattle.tcap_record.specs.Ends.{other}
@@ -40,22 +40,21 @@ use Rattle.tcap_faults.specs.Ids.{AreAmong, AreIds, ids_first, ids_kept}
 use Rattle.tcap_faults.specs.Kept.{IsFrom, IsFromAt, IsSide, dtids_of, sent_from, sent_to}
 use Rattle.tcap_faults.specs.Tangled.{are_tangled, is_own_tangled, near, owns_of, two_differ}
 use Rattle.tcap_faults.proofs.HalfLawsFinds.{any_is, filter_is}
-use Rattle.tcap_faults.proofs.LedLawsCounts.{count_more, one}
 use Rattle.tcap_faults.proofs.JoinLaws.{dtids_are}
 use Rattle.tcap_faults.proofs.ReplyLaws.{accepted_stands}
 use Rattle.tcap_faults.proofs.SameLaws.{any_one, first_has, left_differ}
 use Rattle.tcap_faults.proofs.TwoTests.{any_both, filter_both, found_both, none_passes}
+use Rattle.tcap_faults.proofs.JoinedLaws.{any_kept, any_same}
+use Rattle.tcap_faults.proofs.ShownLaws.{some_go, some_there}
+use Rattle.tcap_faults.proofs.FewSums.{count_within}
 
 -- ---- a half that is surely open
 
 -- where the first Continue goes
 first_goes : (ms : List Message) → then_so (find (is_a forms.Continue) ms) dtid_in ≡ ids_first (dtids_of ms)
 first_goes [] = refl
-first_goes (Unidirectional dialogue components ∷ ms) = first_goes ms
-first_goes (Begin otid dialogue components ∷ ms) = first_goes ms
 first_goes (Continue otid dtid dialogue components ∷ ms) = refl
-first_goes (EndMessage dtid dialogue components ∷ ms) = first_goes ms
-first_goes (Abort dtid reason ∷ ms) = first_goes ms
+first_goes (m ∷ ms) = first_goes ms
 
 module _ (table : Table) (side : Side) (items : List Item) (own : List ℕ) where
   -- whether it is, by where its first Continue goes
@@ -93,26 +92,11 @@ module _ (table : Table) (side : Side) (items : List Item) (own : List ℕ) wher
 
 -- ---- IDs that are kept
 
--- What is so of one of those that are kept is so of one of these,
-pub any_kept_of : (p : List ℕ → Bool) (ids : List (List ℕ)) (kept : Ids) → AreAmong ids (Some kept)
-    → list_any p (ids_kept kept.first kept.more.items) ≡ list_any p ids
-any_kept_of p ids kept (those, are, same) = tests.both_ways _ _ there back
-  where
-    there : list_any p (ids_kept kept.first kept.more.items) ≡ true → list_any p ids ≡ true
-    there is =
-        let (id, has, passes) = any_is p (ids_kept kept.first kept.more.items) is in
-        any_has p ids id (same.there id (are.back id has)) passes
-
-    back : list_any p ids ≡ true → list_any p (ids_kept kept.first kept.more.items) ≡ true
-    back is =
-        let (id, has, passes) = any_is p ids is in
-        any_has p (ids_kept kept.first kept.more.items) id (are.there id (same.back id has)) passes
-
--- of the first of them,
+-- What is so of one of these is so of the first of those that are kept,
 module _ (p : List ℕ → Bool) (ids : List (List ℕ)) (kept : Ids) (are : AreAmong ids (Some kept)) (first : List ℕ)
     (is : kept.first ≡ Some first) where
   either_kept : (p first || list_any p kept.more.items) ≡ list_any p ids
-  either_kept = ap (λ o. list_any p (ids_kept o kept.more.items)) (sym is) ∙ any_kept_of p ids kept are
+  either_kept = ap (λ o. list_any p (ids_kept o kept.more.items)) (sym is) ∙ any_kept p ids kept are
 
   pub first_so : p first ≡ true → true ≡ list_any p ids
   first_so so = sym (or_left (p first) (list_any p kept.more.items) so) ∙ either_kept
@@ -125,24 +109,12 @@ first_there : (ids : List (List ℕ)) → is_some (ids_first ids) ≡ list_any (
 first_there [] = refl
 first_there (id ∷ more) = refl
 
-some_there : (ids : List (List ℕ)) → list_any (λ id. true) ids ≡ not (is_nothing ids)
-some_there [] = refl
-some_there (id ∷ more) = refl
-
 -- and there is one where there is a first.
 pub some_kept_of : (o : Option (List ℕ)) (ids : List (List ℕ)) (kept : Ids)
     → ((those : List (List ℕ)) → AreIds those kept → o ≡ ids_first those)
     → AreAmong ids (Some kept) → is_some o ≡ not (is_nothing ids)
 some_kept_of o ids kept says (those, are, same) =
-    ap is_some (says those are) ∙ first_there those ∙ tests.both_ways _ _ there back ∙ some_there ids
-  where
-    there : list_any (λ id. true) those ≡ true → list_any (λ id. true) ids ≡ true
-    there is =
-        let (id, has, passes) = any_is (λ id. true) those is in any_has (λ id. true) ids id (same.there id has) refl
-
-    back : list_any (λ id. true) ids ≡ true → list_any (λ id. true) those ≡ true
-    back is =
-        let (id, has, passes) = any_is (λ id. true) ids is in any_has (λ id. true) those id (same.back id has) refl
+    ap is_some (says those are) ∙ first_there those ∙ any_same (λ id. true) those ids same ∙ sym (some_there ids)
 
 -- A search through them, one after the other: the next passes,
 module _ (p : List ℕ → Bool) (xs : List (List ℕ)) (i : ℕ) (left : list_any p (drop i xs) ≡ list_any p xs) where
@@ -164,27 +136,16 @@ module _ (p : List ℕ → Bool) (xs : List (List ℕ)) (i : ℕ) (left : list_a
 
 -- ---- Continues that go to halves that are open
 
-went_on : (ms : List Message) → not (is_nothing (dtids_of ms)) ≡ has_a forms.Continue ms
-went_on [] = refl
-went_on (Unidirectional dialogue components ∷ ms) = went_on ms
-went_on (Begin otid dialogue components ∷ ms) = went_on ms
-went_on (Continue otid dtid dialogue components ∷ ms) = refl
-went_on (EndMessage dtid dialogue components ∷ ms) = went_on ms
-went_on (Abort dtid reason ∷ ms) = went_on ms
-
 went_where : (q : List ℕ → Bool) (ms : List Message)
     → list_any (λ own. not (q own)) (dtids_of ms) ≡ list_any (λ m. is_a forms.Continue m && not (holds q (dtid_in m))) ms
 went_where q [] = refl
-went_where q (Unidirectional dialogue components ∷ ms) = went_where q ms
-went_where q (Begin otid dialogue components ∷ ms) = went_where q ms
 went_where q (Continue otid dtid dialogue components ∷ ms) = ap (λ b. not (q dtid) || b) (went_where q ms)
-went_where q (EndMessage dtid dialogue components ∷ ms) = went_where q ms
-went_where q (Abort dtid reason ∷ ms) = went_where q ms
+went_where q (m ∷ ms) = went_where q ms
 
 pub all_open_is : (table : Table) (side : Side) (items : List Item) (ms : List Message)
     → (not (is_nothing (dtids_of ms)) && not (list_any (λ own. not (is_surely_open table side items own)) (dtids_of ms)))
     ≡ all_go_to_open table side items ms
-all_open_is table side items ms = ap₂ (λ a b. a && not b) (went_on ms) (went_where (is_surely_open table side items) ms)
+all_open_is table side items ms = ap₂ (λ a b. a && not b) (sym (some_go ms)) (went_where (is_surely_open table side items) ms)
 
 -- ---- what is left to answer
 
@@ -233,20 +194,12 @@ fewer_made {B = B} f (x ∷ xs) = by (f x) (fewer_made f xs)
     by None few = omega arith
     by (Some y) few = omega arith
 
-fewer_kept : {A : Type 0} (p : A → Bool) (xs : List A) → length (filter p xs) ≤ length xs
-fewer_kept p [] = omega arith
-fewer_kept p (x ∷ xs) = omega (arith, count_more p x xs, at_most (p x), fewer_kept p xs)
-  where
-    at_most : (b : Bool) → one b ≤ 1
-    at_most true = omega arith
-    at_most false = omega arith
-
 module _ (side : Side) (items : List Item) (id : List ℕ) (few : length items ≤ 2 ^ 63) where
   pub few_from : length (sent_from side items id) ≤ 2 ^ 126
   few_from =
       omega (
         arith,
-        fewer_kept (λ m. is_id id (otid_in m)) (sent_by side items),
+        count_within (λ m. is_id id (otid_in m)) (sent_by side items),
         fewer_made (message_of side) items,
       )
 
@@ -254,7 +207,7 @@ module _ (side : Side) (items : List Item) (id : List ℕ) (few : length items �
   few_to =
       omega (
         arith,
-        fewer_kept (λ m. is_id id (dtid_in m)) (sent_by side items),
+        count_within (λ m. is_id id (dtid_in m)) (sent_by side items),
         fewer_made (message_of side) items,
       )
 
@@ -276,49 +229,34 @@ module _ (table : Table) (side : Side) (items : List Item) (own : List ℕ) wher
   spread true b c = refl
   spread false b c = refl
 
+  abbrev from_own : List Message → List Message
+  from_own ms = filter (λ m. is_id own (otid_in m)) ms
+
   -- It is by where its Continues go.
-  left_is : (ms : List Message)
-      → list_any (is_left_open table side items) (filter (λ m. is_id own (otid_in m)) ms)
-      ≡ (is_surely_open table side items own
-      && list_any is_plain (dtids_of (filter (λ m. is_id own (otid_in m)) ms)))
+  abbrev IsByDtids : List Message → Type 0
+  IsByDtids ms =
+      list_any (is_left_open table side items) ms
+      ≡ (is_surely_open table side items own && list_any is_plain (dtids_of ms))
+
+  left_is : (ms : List Message) → IsByDtids (from_own ms)
   left_is [] = sym (and_false (is_surely_open table side items own))
-  left_is (Unidirectional dialogue components ∷ ms) = left_is ms
   left_is (Begin otid dialogue components ∷ ms) = by (bytes_eq own otid) (left_is ms)
     where
-      by : (b : Bool)
-          → list_any (is_left_open table side items) (filter (λ m. is_id own (otid_in m)) ms)
-          ≡ (is_surely_open table side items own
-          && list_any is_plain (dtids_of (filter (λ m. is_id own (otid_in m)) ms)))
-          → list_any (is_left_open table side items)
-          (cond b (Begin otid dialogue components ∷ filter (λ m. is_id own (otid_in m)) ms)
-          (filter (λ m. is_id own (otid_in m)) ms))
-          ≡ (is_surely_open table side items own
-          && list_any is_plain
-          (dtids_of (cond b (Begin otid dialogue components ∷ filter (λ m. is_id own (otid_in m)) ms)
-          (filter (λ m. is_id own (otid_in m)) ms))))
+      by : (b : Bool) → IsByDtids (from_own ms)
+          → IsByDtids (cond b (Begin otid dialogue components ∷ from_own ms) (from_own ms))
       by true rest = rest
       by false rest = rest
   left_is (Continue otid dtid dialogue components ∷ ms) = by (bytes_eq own otid) refl (left_is ms)
     where
-      by : (b : Bool) → bytes_eq own otid ≡ b
-          → list_any (is_left_open table side items) (filter (λ m. is_id own (otid_in m)) ms)
-          ≡ (is_surely_open table side items own
-          && list_any is_plain (dtids_of (filter (λ m. is_id own (otid_in m)) ms)))
-          → list_any (is_left_open table side items)
-          (cond b (Continue otid dtid dialogue components ∷ filter (λ m. is_id own (otid_in m)) ms)
-          (filter (λ m. is_id own (otid_in m)) ms))
-          ≡ (is_surely_open table side items own
-          && list_any is_plain
-          (dtids_of (cond b (Continue otid dtid dialogue components ∷ filter (λ m. is_id own (otid_in m)) ms)
-          (filter (λ m. is_id own (otid_in m)) ms))))
+      by : (b : Bool) → bytes_eq own otid ≡ b → IsByDtids (from_own ms)
+          → IsByDtids (cond b (Continue otid dtid dialogue components ∷ from_own ms) (from_own ms))
       by true is rest =
           let same : own ≡ otid = (bytes_eq-Decides own otid).0 is in
           ap₂ (λ a b. a || b)
           (ap (λ x. is_surely_open table side items x && not (are_tangled side items (x ∷ []) dtid)) (sym same)) rest
           ∙ spread (is_surely_open table side items own) (is_plain dtid) _
       by false is rest = rest
-  left_is (EndMessage dtid dialogue components ∷ ms) = left_is ms
-  left_is (Abort dtid reason ∷ ms) = left_is ms
+  left_is (m ∷ ms) = left_is ms
 
   -- Where it goes on to two IDs it is tangled,
   own_tangled : two_differ (dtids_of (sent_from side items own)) ≡ true → is_own_tangled side items own ≡ true
@@ -380,11 +318,8 @@ module _ {table : Table} {side : Side} {items : List Item} {facts : SideFacts} (
 
   -- what is left open goes on from an ID
   left_from : (m : Message) → is_left_open table side items m ≡ true → (own : List ℕ) × (otid_in m ≡ Some own)
-  left_from (Unidirectional dialogue components) left = cc
-  left_from (Begin otid dialogue components) left = cc
   left_from (Continue otid dtid dialogue components) left = (otid, refl)
-  left_from (EndMessage dtid dialogue components) left = cc
-  left_from (Abort dtid reason) left = cc
+  left_from m left = cc
 
   -- A half is where one is of which something is kept.
   pub open_at_mark : list_any (leaves table side items) facts.from.entries ≡ is_open_at_mark table side items

@@ -1,7 +1,7 @@
 -- What matters for a half tells of it what all items tell.
-use Rattle.std.proofs.Common.{◌≡◌, ℕ, ◌+◌, Bool, true, false, cond, ◌&&◌, ◌||◌, List, [], ◌∷◌, ◌++◌, filter, Option, Some, None, Result, Ok, Err, refl, sym, ap, ap₂, ◌∙◌}
-use Rattle.std.specs.Prelude.{is_some}
-use Rattle.std.specs.List.{cons_option, find, list_any}
+use Rattle.std.proofs.Common.{◌≡◌, ℕ, Bool, true, false, cond, ◌&&◌, ◌||◌, List, [], ◌∷◌, ◌++◌, filter, Option, Some, None, Result, Ok, refl, sym, ap, ap₂, ◌∙◌}
+use Rattle.std.specs.Prelude.{is_some, not}
+use Rattle.std.specs.List.{cons_option, find}
 use Rattle.std.specs.Option.{option_to_list}
 use Rattle.std.proofs.lemmas.Option.{same_Some}
 use Rattle.tcap_parts.specs.declared.component.Component.{Component}
@@ -31,18 +31,12 @@ use Rattle.tcap_faults.specs.HalfOf.{accepted_half, answered_from, begun_from, b
 use Rattle.tcap_faults.specs.Subject.{alone_component, half_component, subject, subject_by}
 use Rattle.tcap_faults.specs.Matters.{matters, those_for, those_for_entry}
 use Rattle.tcap_faults.proofs.SubjectLaws.{alone_is, half_is}
+use Rattle.tcap_faults.proofs.TwoTests.{any_kept}
+use Rattle.std.proofs.lemmas.Bool.{and_parts, or_right}
 
 -- ---- tests, and what passes
 
-left_so : (a b : Bool) → (a && b) ≡ true → a ≡ true
-left_so true b so = refl
-left_so false b so = cc
-
-or_right : (a b : Bool) → b ≡ true → (a || b) ≡ true
-or_right true b so = refl
-or_right false b so = so
-
--- What is found, and whether any passes, is told by those that pass.
+-- What is found is told by those that pass.
 abbrev first_of : List Message → Option Message
 first_of [] = None
 first_of (m ∷ ms) = Some m
@@ -53,15 +47,6 @@ find_first test (m ∷ ms) = by (test m) (find_first test ms)
   where
     by : (b : Bool) → find test ms ≡ first_of (filter test ms)
         → cond b (Some m) (find test ms) ≡ first_of (cond b (m ∷ filter test ms) (filter test ms))
-    by true rest = refl
-    by false rest = rest
-
-any_first : (test : Message → Bool) (ms : List Message) → list_any test ms ≡ is_some (first_of (filter test ms))
-any_first test [] = refl
-any_first test (m ∷ ms) = by (test m) (any_first test ms)
-  where
-    by : (b : Bool) → list_any test ms ≡ is_some (first_of (filter test ms))
-        → (b || list_any test ms) ≡ is_some (first_of (cond b (m ∷ filter test ms) (filter test ms)))
     by true rest = refl
     by false rest = rest
 
@@ -153,12 +138,12 @@ module _ (side : Side) (id : List ℕ) where
 
   to_matters : (m : Message) (sender : Side) (b : Bool) → (is_id id (dtid_in m) && b) ≡ true → is_side side sender ≡ true
       → matters side id (Sent sender m) ≡ true
-  to_matters m sender b so = own_matters m sender (or_right (is_a forms.Begin m) _ (left_so (is_id id (dtid_in m)) b so))
+  to_matters m sender b so = own_matters m sender (or_right (is_a forms.Begin m) _ (and_parts (is_id id (dtid_in m)) b so).0)
 
   begin_matters : (m : Message) (sender : Side) (b : Bool) → (is_a forms.Begin m && b) ≡ true → is_side side sender ≡ true
       → matters side id (Sent sender m) ≡ true
   begin_matters m sender b so =
-      own_matters m sender (ap (λ x. x || is_id id (dtid_in m)) (left_so (is_a forms.Begin m) b so))
+      own_matters m sender (ap (λ x. x || is_id id (dtid_in m)) (and_parts (is_a forms.Begin m) b so).0)
 
   module _ (items : List Item) where
     same_asked : asked side id (those items) ≡ asked side id items
@@ -169,9 +154,9 @@ module _ (side : Side) (id : List ℕ) where
 
     same_refused : was_refused side id (those items) ≡ was_refused side id items
     same_refused =
-        any_first (is_abort_with 4 id) (sent_by side (those items))
-        ∙ ap (λ ms. is_some (first_of ms)) (passed (is_abort_with 4 id) side (λ m sender so. to_matters m sender _ so) items)
-        ∙ sym (any_first (is_abort_with 4 id) (sent_by side items))
+        any_kept (is_abort_with 4 id) (sent_by side (those items))
+        ∙ ap (λ ms. not (is_nothing ms)) (passed (is_abort_with 4 id) side (λ m sender so. to_matters m sender _ so) items)
+        ∙ sym (any_kept (is_abort_with 4 id) (sent_by side items))
 
     same_begin : (own : List ℕ) → begin_from side own (those items) ≡ begin_from side own items
     same_begin own =
@@ -180,11 +165,8 @@ module _ (side : Side) (id : List ℕ) where
         ∙ sym (find_first (begins_from own) (sent_by side items))
 
     same_goes : (m : Message) → goes_to_begun side (those items) m ≡ goes_to_begun side items m
-    same_goes (Unidirectional dialogue components) = refl
-    same_goes (Begin otid dialogue components) = refl
     same_goes (Continue otid dtid dialogue components) = ap is_some (same_begin dtid)
-    same_goes (EndMessage dtid dialogue components) = refl
-    same_goes (Abort dtid reason) = refl
+    same_goes m = refl
 
     -- ---- the half
 
@@ -247,19 +229,7 @@ module _ (of_one : Bool) (table : Table) (side : Side) where
       → first_component of_one table side xs m kind ≡ first_component of_one table side ys m kind
   same_first xs ys m kinds.AnswersNothing answers wrong = λ i. first_so (λ c. answers c i) 0 (components_in m)
   same_first xs ys m kinds.WrongOperation answers wrong = λ i. first_so (λ c. wrong c i) 0 (components_in m)
-  same_first xs ys m kinds.BadMessage answers wrong = refl
-  same_first xs ys m kinds.UnknownTransaction answers wrong = refl
-  same_first xs ys m kinds.ReusedId answers wrong = refl
-  same_first xs ys m kinds.AfterEnd answers wrong = refl
-  same_first xs ys m kinds.MisplacedDialogue answers wrong = refl
-  same_first xs ys m kinds.WrongHalf answers wrong = refl
-  same_first xs ys m kinds.WrongDialogue answers wrong = refl
-  same_first xs ys m kinds.InvokeIdBusy answers wrong = refl
-  same_first xs ys m kinds.BadLink answers wrong = refl
-  same_first xs ys m kinds.AnsweredAlready answers wrong = refl
-  same_first xs ys m kinds.RejectNotAllowed answers wrong = refl
-  same_first xs ys m kinds.WrongReply answers wrong = refl
-  same_first xs ys m kinds.OpenAtMark answers wrong = refl
+  same_first xs ys m kind answers wrong = refl
 
   module _ (items : List Item) where
     -- A message with that destination ID: what was asked from there tells it.
@@ -272,25 +242,23 @@ module _ (of_one : Bool) (table : Table) (side : Side) where
 
         answers : (m : Message) → Some id ≡ dtid_in m → (c : Component)
             → answers_nothing_in of_one side (those side id items) m c ≡ answers_nothing_in of_one side items m c
-        answers (Unidirectional dialogue components) to c = refl
-        answers (Begin otid dialogue components) to c = refl
         answers (Continue otid dtid dialogue components) to c =
             ap (λ ms. cond of_one (answers_none (components_of ms) c) (answers_none_of (components_of ms) c)) (asks dtid to)
         answers (EndMessage dtid dialogue components) to c =
             ap (λ ms. cond of_one (answers_none (components_of ms) c) (answers_none_of (components_of ms) c)) (asks dtid to)
         answers (Abort dtid reason) to c =
             ap (λ ms. cond of_one (answers_none (components_of ms) c) (answers_none_of (components_of ms) c)) (asks dtid to)
+        answers m to c = refl
 
         wrong : (m : Message) → Some id ≡ dtid_in m → (c : Component)
             → is_wrong_in table side (those side id items) m c ≡ is_wrong_in table side items m c
-        wrong (Unidirectional dialogue components) to c = refl
-        wrong (Begin otid dialogue components) to c = refl
         wrong (Continue otid dtid dialogue components) to c =
             ap (λ ms. is_unknown_operation table c || no_class_allows table (components_of ms) c) (asks dtid to)
         wrong (EndMessage dtid dialogue components) to c =
             ap (λ ms. is_unknown_operation table c || no_class_allows table (components_of ms) c) (asks dtid to)
         wrong (Abort dtid reason) to c =
             ap (λ ms. is_unknown_operation table c || no_class_allows table (components_of ms) c) (asks dtid to)
+        wrong m to c = refl
 
     -- ---- the subject
 
@@ -322,17 +290,13 @@ module _ (of_one : Bool) (table : Table) (side : Side) where
             → answers_nothing_in of_one side [] m c ≡ answers_nothing_in of_one side items m c
         answers (Unidirectional dialogue components) none c = refl
         answers (Begin otid dialogue components) none c = refl
-        answers (Continue otid dtid dialogue components) none c = cc
-        answers (EndMessage dtid dialogue components) none c = cc
-        answers (Abort dtid reason) none c = cc
+        answers m none c = cc
 
         wrong : (m : Message) → None ≡ dtid_in m → (c : Component)
             → is_wrong_in table side [] m c ≡ is_wrong_in table side items m c
         wrong (Unidirectional dialogue components) none c = refl
         wrong (Begin otid dialogue components) none c = refl
-        wrong (Continue otid dtid dialogue components) none c = cc
-        wrong (EndMessage dtid dialogue components) none c = cc
-        wrong (Abort dtid reason) none c = cc
+        wrong m none c = cc
 
   -- What a message is about, behind what matters for its half, is what it is about behind all.
   matters_for : (items : List Item) (m : Message) (kind : Kind) (o : Option (List ℕ)) → o ≡ dtid_in m
@@ -347,5 +311,4 @@ module _ (of_one : Bool) (table : Table) (side : Side) where
       → subject_by of_one table side (since_quiet (those_for_entry side r items)) (Some r) kind
       ≡ subject_by of_one table side (since_quiet items) (Some r) kind
   matters_alone items (Ok (Sent sender m)) kind = matters_for items m kind (dtid_in m) refl
-  matters_alone items (Ok Item.Quiet) kind = refl
-  matters_alone items (Err reason) kind = refl
+  matters_alone items r kind = refl

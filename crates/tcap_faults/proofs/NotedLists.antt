@@ -1,8 +1,7 @@
 -- Lists with one more behind.
-use Rattle.std.proofs.Common.{◌≡◌, ◌⊎◌, inl, inr, ℕ, ◌+◌, ◌≤◌, ◌^◌, Bool, true, false, cond, ◌||◌, List, [], ◌∷◌, ◌++◌, length, Option, Some, None, refl, sym, ap, ◌∙◌, arith}
+use Rattle.std.proofs.Common.{◌≡◌, ◌⊎◌, inl, inr, ℕ, ◌≤◌, ◌^◌, Bool, true, false, cond, ◌||◌, List, [], ◌∷◌, ◌++◌, length, Option, Some, None, refl, sym, ap, ◌∙◌, arith}
 use Rattle.std.specs.Prelude.{filter, filter_map}
 use Rattle.std.specs.List.{list_any}
-use Rattle.std.proofs.lemmas.Bool.Decides.{nat_tests}
 use Rattle.std.proofs.lemmas.List.{append-nil, length-append}
 use Rattle.std.proofs.lemmas.List.Elements.{filter-append, filter_map-append}
 use Rattle.std.proofs.lemmas.List.Folds.{list_any-append}
@@ -13,14 +12,12 @@ use Rattle.tcap_refute.specs.Before.{components_of}
 use Rattle.tcap_refute.proofs.TestLaws.{or_none}
 use Rattle.tcap_faults.specs.Counts.{count, is_nothing}
 use Rattle.tcap_faults.specs.Tallied.{more_if}
+use Rattle.tcap_faults.proofs.SumLaws.{count_one_more}
 
 module _ {A : Type 0} where
   pub something : (xs : List A) (x : A) → is_nothing (xs ++ x ∷ []) ≡ false
   something [] x = refl
   something (y ∷ xs) x = refl
-
-  pub longer : (xs : List A) (x : A) → length (xs ++ x ∷ []) ≡ length xs + 1
-  longer xs x = length-append xs (x ∷ [])
 
   module _ (p : A → Bool) where
     pub filter_more : (xs : List A) (x : A) → filter p (xs ++ x ∷ []) ≡ filter p xs ++ cond (p x) (x ∷ []) []
@@ -29,36 +26,11 @@ module _ {A : Type 0} where
     pub any_more : (xs : List A) (x : A) → list_any p (xs ++ x ∷ []) ≡ (list_any p xs || p x)
     any_more xs x = list_any-append p xs (x ∷ []) ∙ ap (λ b. list_any p xs || b) (sym (or_none (p x)))
 
-    pub count_more : (xs : List A) (x : A) → count p (xs ++ x ∷ []) ≡ count p xs + cond (p x) 1 0
-    count_more xs x = ap (length {A = A}) (filter_more xs x) ∙ length-append (filter p xs) _ ∙ by (p x)
-      where
-        by : (b : Bool) → length (filter p xs) + length (cond b (x ∷ []) []) ≡ length (filter p xs) + cond b 1 0
-        by true = refl
-        by false = refl
-
-    pub count_most : (xs : List A) → count p xs ≤ length xs
-    count_most [] = omega arith
-    count_most (x ∷ xs) = by (p x) (count_most xs)
-      where
-        by : (b : Bool) → count p xs ≤ length xs → length (cond b (x ∷ filter p xs) (filter p xs)) ≤ length (x ∷ xs)
-        by true most = omega arith
-        by false most = omega arith
-
     -- A count that is exact where there are few stays so.
     pub count_kept : (xs : List A) (x : A) (n more : ℕ) → (length xs ≤ 2 ^ 126 → n ≡ count p xs)
         → more ≡ more_if (p x) n → length (xs ++ x ∷ []) ≤ 2 ^ 126 → more ≡ count p (xs ++ x ∷ [])
     count_kept xs x n more was is few =
-        is ∙ by (p x) (was little) ∙ sym (count_more xs x)
-      where
-        little : length xs ≤ 2 ^ 126
-        little = omega (arith, longer xs x)
-
-        by : (b : Bool) → n ≡ count p xs → more_if b n ≡ count p xs + cond b 1 0
-        by true before =
-            let most : count p xs ≤ length xs = count_most xs in
-            let few_all : length xs ≤ 2 ^ 126 = little in
-            grind (arith, nat_tests)
-        by false before = omega arith
+        is ∙ ap (more_if (p x)) (was (omega (arith, length-append xs (x ∷ []), few))) ∙ count_one_more p xs x few
 
 -- ---- their IDs
 

@@ -6,7 +6,7 @@ use Rattle.std.proofs.lemmas.List.Elements.{filter-append, filter_map-append}
 use Rattle.std.proofs.lemmas.List.Folds.{list_any-append}
 use Rattle.tcap_msg.specs.declared.kind.Kind.TheVariants as forms
 use Rattle.tcap_msg.specs.declared.message.Message.{Message}
-use Rattle.tcap_msg.specs.declared.message.Message.TheVariants.{Unidirectional, Begin, Continue, End as EndMessage, Abort}
+use Rattle.tcap_msg.specs.declared.message.Message.TheVariants.{Continue, End as EndMessage, Abort}
 use Rattle.tcap_msg.specs.Parts.{dtid_in, otid_in, reason_cause}
 use Rattle.tcap_record.specs.declared.entry.End.{End as Side}
 use Rattle.tcap_record.specs.declared.entry.End.TheVariants as sides
@@ -28,47 +28,31 @@ use Rattle.tcap_faults.proofs.NotedLists.{any_more, filter_more}
 
 -- A message with no destination ID is no Continue, nor is one with no originating ID; one with both is.
 pub begin_only : (m : Message) → dtid_in m ≡ None → is_a forms.Continue m ≡ false
-begin_only (Unidirectional dialogue components) none = refl
-begin_only (Begin otid dialogue components) none = refl
 begin_only (Continue otid dtid dialogue components) none = cc
-begin_only (EndMessage dtid dialogue components) none = refl
-begin_only (Abort dtid reason) none = refl
+begin_only m none = refl
 
 pub end_only : (m : Message) → otid_in m ≡ None → is_a forms.Continue m ≡ false
-end_only (Unidirectional dialogue components) none = refl
-end_only (Begin otid dialogue components) none = refl
 end_only (Continue otid dtid dialogue components) none = cc
-end_only (EndMessage dtid dialogue components) none = refl
-end_only (Abort dtid reason) none = refl
+end_only m none = refl
 
 pub goes_both : (m : Message) (from to : List ℕ) → otid_in m ≡ Some from → dtid_in m ≡ Some to
     → is_a forms.Continue m ≡ true
-goes_both (Unidirectional dialogue components) from to otid_is dtid_is = cc
-goes_both (Begin otid dialogue components) from to otid_is dtid_is = cc
 goes_both (Continue otid dtid dialogue components) from to otid_is dtid_is = refl
-goes_both (EndMessage dtid dialogue components) from to otid_is dtid_is = cc
-goes_both (Abort dtid reason) from to otid_is dtid_is = cc
+goes_both m from to otid_is dtid_is = cc
 
 -- One with an originating ID ends nothing, nor does one with no destination ID;
 pub ends_none : (m : Message) (from : List ℕ) → otid_in m ≡ Some from → ended_by m ≡ None
-ends_none (Unidirectional dialogue components) from is = refl
-ends_none (Begin otid dialogue components) from is = refl
-ends_none (Continue otid dtid dialogue components) from is = refl
 ends_none (EndMessage dtid dialogue components) from is = cc
 ends_none (Abort dtid reason) from is = cc
+ends_none m from is = refl
 
 pub ends_nowhere : (m : Message) → dtid_in m ≡ None → ended_by m ≡ None
-ends_nowhere (Unidirectional dialogue components) none = refl
-ends_nowhere (Begin otid dialogue components) none = refl
-ends_nowhere (Continue otid dtid dialogue components) none = refl
 ends_nowhere (EndMessage dtid dialogue components) none = cc
 ends_nowhere (Abort dtid reason) none = cc
+ends_nowhere m none = refl
 
 -- else it ends its destination ID, if any.
 pub ends_it : (m : Message) (to : List ℕ) → dtid_in m ≡ Some to → is_some (ended_by m) ≡ true → ended_by m ≡ Some to
-ends_it (Unidirectional dialogue components) to is ends = cc
-ends_it (Begin otid dialogue components) to is ends = cc
-ends_it (Continue otid dtid dialogue components) to is ends = cc
 ends_it (EndMessage dtid dialogue components) to is ends = is
 ends_it (Abort dtid reason) to is ends = by (is_none (reason_cause reason)) refl ends
   where
@@ -76,6 +60,7 @@ ends_it (Abort dtid reason) to is ends = by (is_none (reason_cause reason)) refl
         → ended_by (Abort dtid reason) ≡ Some to
     by true none some = rw none is
     by false cause some = let bad : false ≡ true = rw cause at some in cc
+ends_it m to is ends = cc
 
 pub ends_not : {A : Type 0} (o : Option A) → is_some o ≡ false → o ≡ None
 ends_not None none = refl

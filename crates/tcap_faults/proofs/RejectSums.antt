@@ -20,8 +20,10 @@ use Rattle.tcap_faults.specs.Tallied.{AreFew, invokes_link, is_sort, results_so,
 use Rattle.tcap_faults.specs.ByTallies.{is_answer_reject_wrong_by, is_expected_by, is_invoke_reject_wrong_by, is_link_fine_by, rejects_wrongly_by, suited_by}
 use Rattle.tcap_faults.proofs.LedLawsCounts.{count_last, one}
 use Rattle.tcap_faults.proofs.LedLawsLists.{id_itself}
-use Rattle.tcap_faults.proofs.FewSums.{any_counted, any_same, count_invokes, count_within, sum_exact}
+use Rattle.tcap_faults.proofs.FewSums.{any_counted, count_invokes, count_within}
 use Rattle.tcap_faults.proofs.InvokeSums.{counted_of}
+use Rattle.tcap_faults.proofs.SumLaws.{sum_few}
+use Rattle.tcap_faults.proofs.TwoTests.{any_agree}
 
 -- ---- tests
 
@@ -36,7 +38,7 @@ and_same false x y same = refl
 one_more : (passes : Component → Bool) (before : List Component) (c : Component) → AreFew before → passes c ≡ true
     → sum (count passes before) 1 ≡ count passes (before ++ c ∷ [])
 one_more passes before c few is =
-    sum_exact (count passes before) 1 (omega (arith, few, count_within passes before))
+    sum_few (count passes before) 1 (omega (arith, few, count_within passes before))
     ∙ sym (count_last passes before c ∙ ap (λ b. count passes before + one b) is)
 
 -- ---- Rejects of Invokes
@@ -55,7 +57,7 @@ module _ (table : Table) (h : HalfOf) (all before own : List Component) (few : A
   any_linked : (passes : Code → Code → Bool)
       → list_any (invokes_link id (λ linked code. list_any (invokes_so linked (λ to. passes to code)) h.invoked)) h.heard
       ≡ list_any (is_linked_to passes h.invoked id) h.heard
-  any_linked passes = any_same _ _ h.heard (linked_same passes)
+  any_linked passes = any_agree _ _ h.heard (linked_same passes)
 
   fine_same : (problem : ℕ)
       → is_link_fine_by table (counted_of table h all before own) id problem ≡ is_link_fine table h id problem
@@ -110,11 +112,11 @@ module _ (table : Table) (h : HalfOf) (all before own : List Component) (few_hea
   -- So many own invocations are of class 1 or of another.
   suited_same : (of_result : Bool) → suited_by of_result (tallied table h.invoked) id
       ≡ count_suited table of_result id h.invoked
-  suited_same true = sum_exact _ _ (omega (arith, few_invoked, of_class 1, of_class 3))
+  suited_same true = sum_few _ _ (omega (arith, few_invoked, of_class 1, of_class 3))
     where
       of_class : (class : ℕ) → count_class table id class h.invoked ≤ length h.invoked
       of_class class = count_within (invokes_so id (has_class table class)) h.invoked
-  suited_same false = sum_exact _ _ (omega (arith, few_invoked, of_class 1, of_class 2))
+  suited_same false = sum_few _ _ (omega (arith, few_invoked, of_class 1, of_class 2))
     where
       of_class : (class : ℕ) → count_class table id class h.invoked ≤ length h.invoked
       of_class class = count_within (invokes_so id (has_class table class)) h.invoked
@@ -131,11 +133,8 @@ module _ (table : Table) (h : HalfOf) (all before own : List Component) (few_hea
 
   unknown_same : (c : Component)
       → results_so id (λ code. count (invokes_so id (is_code code)) h.invoked == 0) c ≡ is_of_no_operation h id c
-  unknown_same (Invoke other linked code parameter) = refl
-  unknown_same (ReturnResult last other None) = refl
   unknown_same (ReturnResult last other (Some body)) = ap (λ b. is_invoke_id id other && b) (none_same body.code)
-  unknown_same (ReturnError other code parameter) = refl
-  unknown_same (Reject other problem) = refl
+  unknown_same c = refl
 
   -- Whether an answer is expected.
   expected_same : (of_result : Bool)
@@ -145,12 +144,12 @@ module _ (table : Table) (h : HalfOf) (all before own : List Component) (few_hea
     where
       heard : sum (count (is_result id) h.heard) (count (is_error id) h.heard)
           ≡ count (is_result id) h.heard + count (is_error id) h.heard
-      heard = sum_exact _ _
+      heard = sum_few _ _
           (omega (arith, few_heard, count_within (is_result id) h.heard, count_within (is_error id) h.heard))
 
       unknown : list_any (results_so id (λ code. count (invokes_so id (is_code code)) h.invoked == 0)) h.heard
           ≡ list_any (is_of_no_operation h id) h.heard
-      unknown = any_same _ _ h.heard unknown_same
+      unknown = any_agree _ _ h.heard unknown_same
 
   result_wrong_same : (n : ℕ) → is_answer_reject_wrong_by (counted_of table h all before own) true id n
       ≡ is_reject_wrong table h (before ++ Reject (Some id) (problems.ReturnResult n) ∷ []) id (problems.ReturnResult n)
@@ -178,14 +177,10 @@ module _ (table : Table) (h : HalfOf) (all before own : List Component) (few_hea
 pub rejects_wrongly_same : (table : Table) (h : HalfOf) (all before own : List Component) → AreFew h.heard
     → AreFew h.invoked → AreFew before → (c : Component)
     → rejects_wrongly_by table (counted_of table h all before own) c ≡ rejects_wrongly table h own before c
-rejects_wrongly_same table h all before own few_heard few_invoked few (Invoke id linked code parameter) = refl
-rejects_wrongly_same table h all before own few_heard few_invoked few (ReturnResult last id body) = refl
-rejects_wrongly_same table h all before own few_heard few_invoked few (ReturnError id code parameter) = refl
-rejects_wrongly_same table h all before own few_heard few_invoked few (Reject None problem) = refl
-rejects_wrongly_same table h all before own few_heard few_invoked few (Reject (Some id) (problems.General n)) = refl
 rejects_wrongly_same table h all before own few_heard few_invoked few (Reject (Some id) (problems.Invoke n)) =
     invoke_wrong_same table h all before own few id n
 rejects_wrongly_same table h all before own few_heard few_invoked few (Reject (Some id) (problems.ReturnResult n)) =
     result_wrong_same table h all before own few_heard few_invoked few id n
 rejects_wrongly_same table h all before own few_heard few_invoked few (Reject (Some id) (problems.ReturnError n)) =
     error_wrong_same table h all before own few_heard few_invoked few id n
+rejects_wrongly_same table h all before own few_heard few_invoked few c = refl

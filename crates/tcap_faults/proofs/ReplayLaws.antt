@@ -22,6 +22,7 @@ use Rattle.tcap_faults.specs.Unblamed.{again_behind}
 use Rattle.tcap_faults.specs.UsedAgain.{has_used_again, is_used_again}
 use Rattle.tcap_faults.proofs.FewLaws.{counted_roomy, more_counted, none_counted, still_counted}
 use Rattle.tcap_faults.proofs.HalfLawsFinds.{one_more}
+use Rattle.tcap_faults.proofs.SubjectLaws.{either}
 
 -- ---- the items among the entries
 
@@ -118,10 +119,6 @@ module _ (table : Table) (side : Side) where
       ∙ sym (again_more seen (Sent sender m)))
 
 -- ---- what is kept, entry by entry
-
-either : {A : Type 0} (a b : Option A) → option_or a b ≡ or_else a b
-either None b = refl
-either (Some a) b = refl
 
 pub replayed_none : (table : Table) (side : Side) (entries : List Entry) (kept : Facts) → IsKept table [] kept
     → IsReplayed table side entries 0 (record { kept = kept; again = None })

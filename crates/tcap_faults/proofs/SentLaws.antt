@@ -33,8 +33,8 @@ use Rattle.tcap_faults.specs.Tangled.{guesses, owns_of}
 use Rattle.tcap_faults.specs.UsedAgain.{has_used_again, is_used_again, uses_again}
 use Rattle.tcap_faults.specs.Closed.{shows_closed}
 use Rattle.tcap_faults.specs.Told.{has_ended, has_used, one_passes}
-use Rattle.tcap_faults.proofs.JoinLaws.{otids_are}
-use Rattle.tcap_faults.proofs.JoinedLaws.{has_none, is_it}
+use Rattle.tcap_faults.proofs.JoinLaws.{otids_are, is_it}
+use Rattle.tcap_faults.proofs.JoinedLaws.{has_none}
 use Rattle.tcap_faults.proofs.HalfLawsFinds.{one_more}
 use Rattle.tcap_faults.proofs.NotingLaws.{backs, begin_only, end_only, ends_it, ends_none, from_own, from_theirs, goes_both, passes_of, to_own, to_theirs, used_theirs}
 use Rattle.tcap_faults.proofs.SideLaws.{other_twice}

@@ -5,7 +5,7 @@ use Rattle.std.proofs.lemmas.Bool.{and_from, and_left, and_right}
 use Rattle.std.proofs.lemmas.Slice.Eq.{bytes_eq-Decides}
 use Rattle.tcap_msg.specs.declared.kind.Kind.TheVariants as forms
 use Rattle.tcap_msg.specs.declared.message.Message.{Message}
-use Rattle.tcap_msg.specs.declared.message.Message.TheVariants.{Unidirectional, Begin, Continue, End as EndMessage, Abort}
+use Rattle.tcap_msg.specs.declared.message.Message.TheVariants.{Continue}
 use Rattle.tcap_msg.specs.Parts.{dtid_in, otid_in}
 use Rattle.tcap_record.specs.declared.entry.End.{End as Side}
 use Rattle.tcap_record.specs.Ends.{other}
@@ -29,35 +29,30 @@ use Rattle.tcap_faults.proofs.SideLaws.{began_asked, other_twice}
 abbrev all_to : List ℕ → List (List ℕ) → Bool
 all_to own ids = not (is_nothing ids) && not (list_any (λ x. not (bytes_eq own x)) ids)
 
-some_go : (ms : List Message) → has_a forms.Continue ms ≡ not (is_nothing (dtids_of ms))
+pub some_go : (ms : List Message) → has_a forms.Continue ms ≡ not (is_nothing (dtids_of ms))
 some_go [] = refl
-some_go (Unidirectional dialogue components ∷ ms) = some_go ms
-some_go (Begin otid dialogue components ∷ ms) = some_go ms
 some_go (Continue otid dtid dialogue components ∷ ms) = refl
-some_go (EndMessage dtid dialogue components ∷ ms) = some_go ms
-some_go (Abort dtid reason ∷ ms) = some_go ms
+some_go (m ∷ ms) = some_go ms
 
 elsewhere : (own : List ℕ) (ms : List Message)
     → list_any (λ m. is_a forms.Continue m && not (goes_on_to own m)) ms
     ≡ list_any (λ x. not (bytes_eq own x)) (dtids_of ms)
 elsewhere own [] = refl
-elsewhere own (Unidirectional dialogue components ∷ ms) = elsewhere own ms
-elsewhere own (Begin otid dialogue components ∷ ms) = elsewhere own ms
 elsewhere own (Continue otid dtid dialogue components ∷ ms) =
     ap (λ b. not (bytes_eq own dtid) || b) (elsewhere own ms)
-elsewhere own (EndMessage dtid dialogue components ∷ ms) = elsewhere own ms
-elsewhere own (Abort dtid reason ∷ ms) = elsewhere own ms
+elsewhere own (m ∷ ms) = elsewhere own ms
 
 all_go : (own : List ℕ) (ms : List Message) → all_go_on_to own ms ≡ all_to own (dtids_of ms)
 all_go own ms = rw (some_go ms, elsewhere own ms) refl
 
+pub some_there : (ids : List (List ℕ)) → not (is_nothing ids) ≡ list_any (λ id. true) ids
+some_there [] = refl
+some_there (id ∷ more) = refl
+
 all_same : (own : List ℕ) (xs ys : List (List ℕ)) → AreSame xs ys → all_to own xs ≡ all_to own ys
 all_same own xs ys same =
-    rw (some xs, some ys, any_same (λ x. true) xs ys same, any_same (λ x. not (bytes_eq own x)) xs ys same) refl
-  where
-    some : (zs : List (List ℕ)) → not (is_nothing zs) ≡ list_any (λ x. true) zs
-    some [] = refl
-    some (z ∷ zs) = refl
+    rw (some_there xs, some_there ys, any_same (λ x. true) xs ys same, any_same (λ x. not (bytes_eq own x)) xs ys same)
+    refl
 
 all_none : (own : List ℕ) (ids : List (List ℕ)) → None ≡ ids_first ids → all_to own ids ≡ false
 all_none own [] none = refl

@@ -6,7 +6,7 @@ use Rattle.std.specs.Map.{lookup}
 use Rattle.std.specs.BTreeMap.{is_at}
 use Rattle.tcap_msg.specs.declared.kind.Kind.TheVariants as forms
 use Rattle.tcap_msg.specs.declared.message.Message.{Message}
-use Rattle.tcap_msg.specs.declared.message.Message.TheVariants.{Unidirectional, Begin, Continue, End as EndMessage, Abort}
+use Rattle.tcap_msg.specs.declared.message.Message.TheVariants.{Continue, End as EndMessage, Abort}
 use Rattle.tcap_msg.specs.Parts.{cause_in, dtid_in, otid_in, reason_cause}
 use Rattle.tcap_record.specs.declared.entry.End.{End as Side}
 use Rattle.tcap_record.specs.declared.entry.End.TheVariants as sides
@@ -18,7 +18,7 @@ use Rattle.tcap_model.specs.Since.{ended_by}
 use Rattle.tcap_refute.specs.Before.{asked, ends_to, has_a, is_a, sent_by}
 use Rattle.tcap_refute.specs.Facts.{FromFact, From, shows_from, told_since}
 use Rattle.tcap_refute.specs.Kept.{tells_from}
-use Rattle.tcap_refute.proofs.TestLaws.{and_false}
+use Rattle.tcap_refute.proofs.TestLaws.{and_false, and_true}
 use Rattle.tcap_faults.specs.Counts.{is_nothing}
 use Rattle.tcap_faults.specs.Told.{began, begin_from, goes_on_to, has_ended, has_used, told}
 use Rattle.tcap_faults.specs.declared.facts.SideFacts.{SideFacts}
@@ -86,7 +86,7 @@ pub used_is : {table : Table} {side : Side} {items : List Item} {facts : SideFac
 used_is {table} {side} {items} {facts} is id = used_at table side items id _ (is.from id)
 
 -- It is there where the Begin is.
-begin_there : (table : Table) (o : Option Message) (kept : Option FirstBegin) → IsFirstBegin table o kept
+pub begin_there : (table : Table) (o : Option Message) (kept : Option FirstBegin) → IsFirstBegin table o kept
     → is_some kept ≡ is_some o
 begin_there table None None is = refl
 begin_there table None (Some kept) is = absurd is
@@ -134,13 +134,7 @@ pub silenced_is : (side : Side) (items : List Item) (id : List ℕ)
 silenced_is side items id = any_turned (λ m. is_id id (dtid_in m)) silences (sent_by side items)
 
 -- What ends an ID goes there.
-and_true : (b : Bool) → (b && true) ≡ b
-and_true true = refl
-and_true false = refl
-
 ends_it : (id : List ℕ) (m : Message) → (is_id id (dtid_in m) && ends m) ≡ is_id id (ended_by m)
-ends_it id (Unidirectional dialogue components) = refl
-ends_it id (Begin otid dialogue components) = refl
 ends_it id (Continue otid dtid dialogue components) = and_false (is_id id (Some dtid))
 ends_it id (EndMessage dtid dialogue components) = and_true (is_id id (Some dtid))
 ends_it id (Abort dtid reason) = by (is_none (reason_cause reason)) refl
@@ -149,6 +143,7 @@ ends_it id (Abort dtid reason) = by (is_none (reason_cause reason)) refl
         → (is_id id (Some dtid) && ends (Abort dtid reason)) ≡ is_id id (ended_by (Abort dtid reason))
     by true none = rw none (and_true (is_id id (Some dtid)))
     by false some = rw some (and_false (is_id id (Some dtid)))
+ends_it id m = refl
 
 pub ended_is : (side : Side) (items : List Item) (id : List ℕ)
     → list_any ends (sent_to side items id) ≡ has_ended side items id

@@ -8,20 +8,13 @@ use Rattle.tcap_parts.specs.declared.component.Component.{Component}
 use Rattle.tcap_parts.specs.declared.component.Component.TheVariants.{Invoke, ReturnResult, ReturnError, Reject}
 use Rattle.tcap_end.specs.Table.{Table}
 use Rattle.tcap_refute.specs.Before.{is_invoke_id}
-use Rattle.tcap_refute.proofs.TestLaws.{and_false}
+use Rattle.tcap_refute.proofs.TestLaws.{and_false, and_true}
 use Rattle.tcap_faults.specs.Counts.{invokes_so, is_result_of}
 use Rattle.tcap_faults.specs.declared.sort.Sort.{Sort}
 use Rattle.tcap_faults.specs.declared.sort.Sort.TheVariants as sorts
 use Rattle.tcap_faults.specs.Tallied.{invokes_link, is_sort, results_so}
 use Rattle.tcap_faults.specs.Noted.{answers_by, error_has, has_sort, invoke_has, invoke_id, invokes_by, is_its_id, links_so, names_code, reject_has, result_has}
-
-and_true : (a : Bool) → a ≡ (a && true)
-and_true true = refl
-and_true false = refl
-
-turned : (a b : Bool) → (a && b) ≡ (b && a)
-turned true b = and_true b
-turned false b = sym (and_false b)
+use Rattle.tcap_faults.proofs.TwoTests.{and_turned}
 
 module _ (table : Table) (id : ℤ) where
   invoke_sort : (n : ℤ) (linked : Option ℤ) (code : Code) (parameter : Option (List ℕ)) (sort : Sort)
@@ -34,14 +27,14 @@ module _ (table : Table) (id : ℤ) where
 
   result_sort : (last : Bool) (n : ℤ) (body : Option ResultBody) (sort : Sort)
       → is_sort table id sort (ReturnResult last n body) ≡ (is_invoke_id id n && result_has last sort)
-  result_sort last n body sorts.Results = and_true _
-  result_sort last n body sorts.LastResults = turned last _
-  result_sort last n body sorts.NotLasts = turned (not last) _
+  result_sort last n body sorts.Results = sym (and_true _)
+  result_sort last n body sorts.LastResults = and_turned last _
+  result_sort last n body sorts.NotLasts = and_turned (not last) _
   result_sort last n body sort = sym (and_false _)
 
   error_sort : (n : ℤ) (code : Code) (parameter : Option (List ℕ)) (sort : Sort)
       → is_sort table id sort (ReturnError n code parameter) ≡ (is_invoke_id id n && error_has sort)
-  error_sort n code parameter sorts.Errors = and_true _
+  error_sort n code parameter sorts.Errors = sym (and_true _)
   error_sort n code parameter sort = sym (and_false _)
 
   no_sort : (problem : Problem) (sort : Sort) → is_sort table id sort (Reject None problem) ≡ false
@@ -50,7 +43,7 @@ module _ (table : Table) (id : ℤ) where
 
   reject_sort : (n : ℤ) (problem : Problem) (sort : Sort)
       → is_sort table id sort (Reject (Some n) problem) ≡ (is_invoke_id id n && reject_has problem sort)
-  reject_sort n (problems.General k) sorts.GeneralRejects = and_true _
+  reject_sort n (problems.General k) sorts.GeneralRejects = sym (and_true _)
   reject_sort n (problems.Invoke k) sorts.InvokeRejects = refl
   reject_sort n (problems.Invoke k) sorts.DuplicateRejects = refl
   reject_sort n (problems.Invoke k) sorts.LinkRejects = refl
@@ -70,32 +63,21 @@ module _ (id : ℤ) where
   pub its_operation : (passes : Code → Bool) (c : Component)
       → invokes_so id passes c ≡ (is_its_id id (invoke_id c) && invokes_by passes c)
   its_operation passes (Invoke n linked code parameter) = refl
-  its_operation passes (ReturnResult last n body) = sym (and_false _)
-  its_operation passes (ReturnError n code parameter) = sym (and_false _)
-  its_operation passes (Reject n problem) = sym (and_false _)
+  its_operation passes c = sym (and_false _)
 
   pub its_name : (code : Code) (c : Component)
       → is_result_of id code c ≡ (is_its_id id (invoke_id c) && names_code code c)
-  its_name code (Invoke n linked other parameter) = sym (and_false _)
-  its_name code (ReturnResult true n None) = sym (and_false _)
   its_name code (ReturnResult true n (Some body)) = refl
   its_name code (ReturnResult false n None) = sym (and_false _)
   its_name code (ReturnResult false n (Some body)) = sym (and_false _)
-  its_name code (ReturnError n other parameter) = sym (and_false _)
-  its_name code (Reject n problem) = sym (and_false _)
+  its_name code c = sym (and_false _)
 
   pub its_link : (passes : ℤ → Code → Bool) (c : Component)
       → invokes_link id passes c ≡ (is_its_id id (invoke_id c) && links_so passes c)
-  its_link passes (Invoke n None code parameter) = sym (and_false _)
   its_link passes (Invoke n (Some linked) code parameter) = refl
-  its_link passes (ReturnResult last n body) = sym (and_false _)
-  its_link passes (ReturnError n code parameter) = sym (and_false _)
-  its_link passes (Reject n problem) = sym (and_false _)
+  its_link passes c = sym (and_false _)
 
   pub its_answer : (passes : Code → Bool) (c : Component)
       → results_so id passes c ≡ (is_its_id id (invoke_id c) && answers_by passes c)
-  its_answer passes (Invoke n linked code parameter) = sym (and_false _)
-  its_answer passes (ReturnResult last n None) = sym (and_false _)
   its_answer passes (ReturnResult last n (Some body)) = refl
-  its_answer passes (ReturnError n code parameter) = sym (and_false _)
-  its_answer passes (Reject n problem) = sym (and_false _)
+  its_answer passes c = sym (and_false _)

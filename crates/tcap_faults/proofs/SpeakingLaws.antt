@@ -9,7 +9,7 @@ use Rattle.std.proofs.lemmas.Grind.{flat_map-append}
 use Rattle.tcap_parts.specs.declared.component.Component.{Component}
 use Rattle.tcap_msg.specs.declared.kind.Kind.TheVariants as forms
 use Rattle.tcap_msg.specs.declared.message.Message.{Message}
-use Rattle.tcap_msg.specs.declared.message.Message.TheVariants.{Unidirectional, Begin, Continue, End as EndMessage, Abort}
+use Rattle.tcap_msg.specs.declared.message.Message.TheVariants.{Continue, Abort}
 use Rattle.tcap_msg.specs.Parts.{cause_in, components_in, dialogue_in, dtid_in, kind_in, otid_in, reason_cause}
 use Rattle.tcap_record.specs.declared.entry.End.{End as Side}
 use Rattle.tcap_record.specs.Ends.{other}
@@ -34,16 +34,14 @@ use Rattle.tcap_faults.specs.Kept.{IsCame, IsCameAt, IsFirstBegin, IsFrom, IsTo,
 use Rattle.tcap_faults.specs.Speaking.{IsBegunBy, IsCameBack, came_counted, heard_counted, told_counted}
 use Rattle.tcap_faults.specs.HalfKinds.{is_first_answer, is_wrong_aborting, is_wrong_dialogue, is_wrong_going_on}
 use Rattle.tcap_faults.proofs.TalliedLaws.{are_more, are_none, are_one}
-use Rattle.tcap_faults.proofs.TwoTests.{any_both, filter_both}
+use Rattle.tcap_faults.proofs.TwoTests.{any_both}
+use Rattle.tcap_faults.proofs.SideLaws.{told_is}
 
 -- ---- two tests
 
 -- ---- what was told
 
 -- What was told is what was sent there, without the Aborts of the provider;
-told_is : (side : Side) (id : List ℕ) (items : List Item) → of_user (sent_to side items id) ≡ told side id items
-told_is side id items = filter_both (λ m. is_id id (dtid_in m)) (λ m. is_none (cause_in m)) (sent_by side items)
-
 -- and by one of these a Begin was refused.
 pub refused_is : (side : Side) (id : List ℕ) (items : List Item)
     → list_any (λ m. is_cause 4 (cause_in m)) (sent_to side items id) ≡ was_refused side id items
@@ -54,9 +52,6 @@ refused_is side id items =
 first_told : (ms : List Message) → ids_first (otids_of ms) ≡ then_so (find (is_a forms.Continue) (of_user ms)) otid_in
 first_told [] = refl
 first_told (Continue otid dtid dialogue components ∷ ms) = refl
-first_told (Unidirectional dialogue components ∷ ms) = first_told ms
-first_told (Begin otid dialogue components ∷ ms) = first_told ms
-first_told (EndMessage dtid dialogue components ∷ ms) = first_told ms
 first_told (Abort dtid reason ∷ ms) = by (is_none (reason_cause reason)) (first_told ms)
   where
     by : (b : Bool) → ids_first (otids_of ms) ≡ then_so (find (is_a forms.Continue) (of_user ms)) otid_in
@@ -64,22 +59,20 @@ first_told (Abort dtid reason ∷ ms) = by (is_none (reason_cause reason)) (firs
         ≡ then_so (find (is_a forms.Continue) (cond b (Abort dtid reason ∷ of_user ms) (of_user ms))) otid_in
     by true rest = rest
     by false rest = rest
+first_told (m ∷ ms) = first_told ms
 
 pub first_answer : (side : Side) (id : List ℕ) (items : List Item)
     → ids_first (otids_of (sent_to side items id)) ≡ answered_from side items id
 first_answer side id items =
     first_told (sent_to side items id)
-    ∙ ap (λ ms. then_so (find (is_a forms.Continue) ms) otid_in) (told_is side id items)
+    ∙ ap (λ ms. then_so (find (is_a forms.Continue) ms) otid_in) (told_is side items id)
 
 -- It is there where there is a Continue.
 first_there : (ms : List Message)
     → is_none (then_so (find (is_a forms.Continue) ms) otid_in) ≡ not (has_a forms.Continue ms)
 first_there [] = refl
 first_there (Continue otid dtid dialogue components ∷ ms) = refl
-first_there (Unidirectional dialogue components ∷ ms) = first_there ms
-first_there (Begin otid dialogue components ∷ ms) = first_there ms
-first_there (EndMessage dtid dialogue components ∷ ms) = first_there ms
-first_there (Abort dtid reason ∷ ms) = first_there ms
+first_there (m ∷ ms) = first_there ms
 
 pub went_on : (side : Side) (id : List ℕ) (items : List Item)
     → is_none (ids_first (otids_of (sent_to side items id))) ≡ not (has_a forms.Continue (told side id items))
@@ -150,10 +143,10 @@ module _ (table : Table) where
       → AreTallies table (components_of (told side id items)) (told_counted kept)
   told_are side id items None none =
       subst (λ (ms : List Message). AreTallies table (components_of ms) [])
-      (ap of_user (sym none) ∙ told_is side id items) (are_none table)
+      (ap of_user (sym none) ∙ told_is side items id) (are_none table)
   told_are side id items (Some kept) (some, is) =
       subst (λ (ms : List Message). AreTallies table (components_of ms) (kept.components ∷ []))
-      (told_is side id items) (are_one table _ kept.components is.components)
+      (told_is side items id) (are_one table _ kept.components is.components)
 
   behind : (begin : Option Message) (kept : FirstBegin) (ms : List Message) (tallies : List Tally)
       → IsFirstBegin table begin (Some kept) → AreTallies table (components_of ms) tallies
@@ -256,18 +249,12 @@ pub aborting_so : (side : Side) (items : List Item) (id : List ℕ) (m : Message
     → kind_in m ≡ forms.Abort
     → is_wrong_aborting (is_first_answer side items id h) (is_request_of h.begin) (dialogue_in m)
     ≡ is_wrong_dialogue side items id m h
-aborting_so side items id (Unidirectional dialogue components) h so = cc
-aborting_so side items id (Begin otid dialogue components) h so = cc
-aborting_so side items id (Continue otid dtid dialogue components) h so = cc
-aborting_so side items id (EndMessage dtid dialogue components) h so = cc
 aborting_so side items id (Abort dtid reason) h so = refl
+aborting_so side items id m h so = cc
 
 pub going_on_else : (side : Side) (items : List Item) (id : List ℕ) (m : Message) (h : HalfOf)
     → (kind_in m ≡ forms.Abort → ⊥)
     → is_wrong_going_on (is_first_answer side items id h) (is_request_of h.begin) (dialogue_in m)
     ≡ is_wrong_dialogue side items id m h
-going_on_else side items id (Unidirectional dialogue components) h not_so = refl
-going_on_else side items id (Begin otid dialogue components) h not_so = refl
-going_on_else side items id (Continue otid dtid dialogue components) h not_so = refl
-going_on_else side items id (EndMessage dtid dialogue components) h not_so = refl
 going_on_else side items id (Abort dtid reason) h not_so = absurd (not_so refl)
+going_on_else side items id m h not_so = refl

@@ -1,5 +1,5 @@
 -- What is kept of joined IDs, step by step.
-use Rattle.std.proofs.Common.{◌≡◌, ℕ, Bool, true, false, not, ◌&&◌, ◌||◌, List, [], Some, None, bytes_eq, refl, ap, ◌∙◌}
+use Rattle.std.proofs.Common.{◌≡◌, ℕ, Bool, true, false, not, ◌&&◌, ◌||◌, List, [], Some, None, bytes_eq, refl, sym, ap, ◌∙◌}
 use Rattle.std.specs.Prelude.{OnOk, filter, filter_map}
 use Rattle.std.specs.List.{list_any}
 use Rattle.std.specs.Map.{lookup}
@@ -28,6 +28,7 @@ use Rattle.tcap_faults.specs.Tangled.{owns_of}
 use Rattle.tcap_faults.proofs.JoinLaws.{dtids_are, otids_are}
 use Rattle.tcap_faults.proofs.JoinedLaws.{bytes_turned, gets_none, gets_same, has_none, same_itself}
 use Rattle.tcap_faults.proofs.SideLaws.{other_twice}
+use Rattle.tcap_refute.proofs.TestLaws.{and_true}
 
 -- What holds of each where a call succeeds.
 pub on_ok_each : {A E X : Type 0} (r : Result A E) (P : X → Type 0) → ((x : X) → OnOk r (P x))
@@ -87,14 +88,10 @@ module _ (side : Side) (items : List Item) (id : List ℕ) where
 
 -- ---- a Continue
 
-and_yes : (b : Bool) → b ≡ (b && true)
-and_yes true = refl
-and_yes false = refl
-
 pub continue_gets : (from to : List ℕ) (used : Bool) → used ≡ true → (old new : BTreeMap (List ℕ) Ids)
     → GetsMore (bytes_eq from) to old new → GetsMore (λ key. bytes_eq key from && used) to old new
 continue_gets from to used is old new gets =
-    gets_same to _ _ old new (λ key. bytes_turned from key ∙ rw is (and_yes (bytes_eq key from))) gets
+    gets_same to _ _ old new (λ key. bytes_turned from key ∙ rw is (sym (and_true (bytes_eq key from)))) gets
 
 -- ---- an end
 

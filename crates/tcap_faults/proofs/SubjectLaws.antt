@@ -31,7 +31,7 @@ use Rattle.tcap_faults.proofs.FewLaws.{all_more}
 
 -- ---- of a message
 
-either : {A : Type 0} (a b : Option A) → option_or a b ≡ or_else a b
+pub either : {A : Type 0} (a b : Option A) → option_or a b ≡ or_else a b
 either None b = refl
 either (Some a) b = refl
 
@@ -44,9 +44,7 @@ module _ (of_one : Bool) (table : Table) (side : Side) (items : List Item) (kind
       } ≡ subject of_one table side items m kind
   alone_is (Unidirectional dialogue components) none = refl
   alone_is (Begin otid dialogue components) none = refl
-  alone_is (Continue otid dtid dialogue components) none = cc
-  alone_is (EndMessage dtid dialogue components) none = cc
-  alone_is (Abort dtid reason) none = cc
+  alone_is m none = cc
 
   pub half_is : (m : Message) (id : List ℕ) → Some id ≡ dtid_in m
       → record {
@@ -55,11 +53,10 @@ module _ (of_one : Bool) (table : Table) (side : Side) (items : List Item) (kind
         component = or_else (first_component of_one table side items m kind)
             (half_component table (half_of side items id) (components_in m) kind);
       } ≡ subject of_one table side items m kind
-  half_is (Unidirectional dialogue components) id to = cc
-  half_is (Begin otid dialogue components) id to = cc
   half_is (Continue otid dtid dialogue components) id to = rw (same_Some id dtid to) refl
   half_is (EndMessage dtid dialogue components) id to = rw (same_Some id dtid to) refl
   half_is (Abort dtid reason) id to = rw (same_Some id dtid to) refl
+  half_is m id to = cc
 
   module _ (m : Message) (first rest : Option ℕ) (is_first : first ≡ first_component of_one table side items m kind) where
     -- Without a destination ID,

@@ -1,12 +1,9 @@
 -- What is counted behind one component more.
 use Rattle.std.proofs.Common.{◌≡◌, ℕ, ℤ, Bool, true, false, cond, ◌&&◌, ◌||◌, List, [], ◌∷◌, ◌++◌, Option, Some, None, option_map, int_cmp, refl, sym, ap, ◌∙◌, arith}
-use Rattle.std.proofs.Math.Path.{fun_ext}
 use Rattle.std.specs.BTreeMap.{is_at}
 use Rattle.std.specs.Global.{Box}
-use Rattle.std.specs.List.{list_any}
 use Rattle.std.proofs.lemmas.Cmp.{eq_by_cmp_equiv, int_cmp_total}
 use Rattle.std.proofs.lemmas.List.{length-append}
-use Rattle.std.proofs.lemmas.List.Folds.{list_any-append}
 use Rattle.tcap_parts.specs.declared.code.Code.{Code}
 use Rattle.tcap_parts.specs.declared.component.Component.{Component}
 use Rattle.tcap_end.specs.Component.{is_code}
@@ -22,33 +19,7 @@ use Rattle.tcap_faults.specs.Noted.{IsNoted, IsNothing, answers_by, has_sort, in
 use Rattle.tcap_faults.proofs.FoundLaws.{Puts, read_put}
 use Rattle.tcap_faults.proofs.SortLaws.{its_answer, its_link, its_name, its_operation, its_sort}
 use Rattle.tcap_faults.proofs.SumLaws.{count_one_more}
-
--- ---- what is counted, part by part
-
-abbrev made : (ℤ → Sort → ℕ) → (ℤ → Code → ℕ) → (ℤ → Code → ℕ) → (ℤ → (Code → Bool) → Bool)
-    → (ℤ → (ℤ → Code → Bool) → Bool) → (ℤ → (Code → Bool) → Bool) → Tallied
-made counts invokes results operations links answers = record {
-  count = counts;
-  invokes_of = invokes;
-  results_of = results;
-  has_operation = operations;
-  has_link = links;
-  has_result = answers;
-}
-
-pub same_tallied : (a b : Tallied) → ((id : ℤ) (sort : Sort) → a.count id sort ≡ b.count id sort)
-    → ((id : ℤ) (code : Code) → a.invokes_of id code ≡ b.invokes_of id code)
-    → ((id : ℤ) (code : Code) → a.results_of id code ≡ b.results_of id code)
-    → ((id : ℤ) (passes : Code → Bool) → a.has_operation id passes ≡ b.has_operation id passes)
-    → ((id : ℤ) (passes : ℤ → Code → Bool) → a.has_link id passes ≡ b.has_link id passes)
-    → ((id : ℤ) (passes : Code → Bool) → a.has_result id passes ≡ b.has_result id passes) → a ≡ b
-same_tallied a b counts invokes results operations links answers =
-    ap (λ f. made f a.invokes_of a.results_of a.has_operation a.has_link a.has_result) (fun_ext λ id. fun_ext (counts id))
-    ∙ (ap (λ f. made b.count f a.results_of a.has_operation a.has_link a.has_result) (fun_ext λ id. fun_ext (invokes id))
-    ∙ (ap (λ f. made b.count b.invokes_of f a.has_operation a.has_link a.has_result) (fun_ext λ id. fun_ext (results id))
-    ∙ (ap (λ f. made b.count b.invokes_of b.results_of f a.has_link a.has_result) (fun_ext λ id. fun_ext (operations id))
-    ∙ (ap (λ f. made b.count b.invokes_of b.results_of b.has_operation f a.has_result) (fun_ext λ id. fun_ext (links id))
-    ∙ ap (λ f. made b.count b.invokes_of b.results_of b.has_operation b.has_link f) (fun_ext λ id. fun_ext (answers id))))))
+use Rattle.tcap_faults.proofs.NotedLists.{any_more}
 
 -- ---- a component of an ID
 
@@ -121,25 +92,27 @@ module _ (table : Table) (c : Component) (id : ℤ) (its : invoke_id c ≡ Some 
       puts is q
 
   pub tally_noted : tally_of new ≡ one_tallied table c (tally_of old)
-  tally_noted =
-      same_tallied (tally_of new) (one_tallied table c (tally_of old))
-      (λ q sort. read_at 0 (count_in sort) (more_if (has_sort table sort c)) (steps.counts sort) q
-      ∙ counted_at c id q its (is_sort table q sort c) (has_sort table sort c) (its_sort table q sort c) _)
-      (λ q code. read_at 0 (λ kept. count_of code kept.operations) (more_if (invokes_by (is_code code) c))
-      (steps.invokes code) q
-      ∙ counted_at c id q its (invokes_so q (is_code code) c) (invokes_by (is_code code) c)
-      (its_operation q (is_code code) c) _)
-      (λ q code. read_at 0 (λ kept. count_of code kept.named) (more_if (names_code code c)) (steps.results code) q
-      ∙ counted_at c id q its (is_result_of q code c) (names_code code c) (its_name q code c) _)
-      (λ q passes. read_at false (invokes_in passes) (λ b. b || invokes_by passes c)
-      (steps.operations passes) q
-      ∙ found_at c id q its (invokes_so q passes c) (invokes_by passes c) (its_operation q passes c) _)
-      (λ q passes. read_at false (links_in passes) (λ b. b || links_so passes c)
-      (steps.links passes) q
-      ∙ found_at c id q its (invokes_link q passes c) (links_so passes c) (its_link q passes c) _)
-      (λ q passes. read_at false (answers_in passes) (λ b. b || answers_by passes c)
-      (steps.answers passes) q
-      ∙ found_at c id q its (results_so q passes c) (answers_by passes c) (its_answer q passes c) _)
+  tally_noted = λ i. record {
+    count = λ q sort.
+        (read_at 0 (count_in sort) (more_if (has_sort table sort c)) (steps.counts sort) q
+        ∙ counted_at c id q its (is_sort table q sort c) (has_sort table sort c) (its_sort table q sort c) _) i;
+    invokes_of = λ q code.
+        (read_at 0 (λ kept. count_of code kept.operations) (more_if (invokes_by (is_code code) c)) (steps.invokes code) q
+        ∙ counted_at c id q its (invokes_so q (is_code code) c) (invokes_by (is_code code) c)
+        (its_operation q (is_code code) c) _) i;
+    results_of = λ q code.
+        (read_at 0 (λ kept. count_of code kept.named) (more_if (names_code code c)) (steps.results code) q
+        ∙ counted_at c id q its (is_result_of q code c) (names_code code c) (its_name q code c) _) i;
+    has_operation = λ q passes.
+        (read_at false (invokes_in passes) (λ b. b || invokes_by passes c) (steps.operations passes) q
+        ∙ found_at c id q its (invokes_so q passes c) (invokes_by passes c) (its_operation q passes c) _) i;
+    has_link = λ q passes.
+        (read_at false (links_in passes) (λ b. b || links_so passes c) (steps.links passes) q
+        ∙ found_at c id q its (invokes_link q passes c) (links_so passes c) (its_link q passes c) _) i;
+    has_result = λ q passes.
+        (read_at false (answers_in passes) (λ b. b || answers_by passes c) (steps.answers passes) q
+        ∙ found_at c id q its (results_so q passes c) (answers_by passes c) (its_answer q passes c) _) i;
+  }
 
 -- ---- a component of none
 
@@ -155,30 +128,29 @@ module _ (q : ℤ) (c : Component) (none : invoke_id c ≡ None) (so has : Bool)
   unfound b = rw is_none (or_none b)
 
 pub none_tallied : (table : Table) (c : Component) (t : Tallied) → invoke_id c ≡ None → t ≡ one_tallied table c t
-none_tallied table c t none =
-    same_tallied t (one_tallied table c t)
-    (λ q sort. uncounted q c none _ (has_sort table sort c) (its_sort table q sort c) _)
-    (λ q code. uncounted q c none _ (invokes_by (is_code code) c) (its_operation q (is_code code) c) _)
-    (λ q code. uncounted q c none _ (names_code code c) (its_name q code c) _)
-    (λ q passes. unfound q c none _ (invokes_by passes c) (its_operation q passes c) _)
-    (λ q passes. unfound q c none _ (links_so passes c) (its_link q passes c) _)
-    (λ q passes. unfound q c none _ (answers_by passes c) (its_answer q passes c) _)
+none_tallied table c t none = λ i. record {
+  count = λ q sort. uncounted q c none _ (has_sort table sort c) (its_sort table q sort c) (t.count q sort) i;
+  invokes_of = λ q code.
+      uncounted q c none _ (invokes_by (is_code code) c) (its_operation q (is_code code) c) (t.invokes_of q code) i;
+  results_of = λ q code. uncounted q c none _ (names_code code c) (its_name q code c) (t.results_of q code) i;
+  has_operation = λ q passes.
+      unfound q c none _ (invokes_by passes c) (its_operation q passes c) (t.has_operation q passes) i;
+  has_link = λ q passes. unfound q c none _ (links_so passes c) (its_link q passes c) (t.has_link q passes) i;
+  has_result = λ q passes. unfound q c none _ (answers_by passes c) (its_answer q passes c) (t.has_result q passes) i;
+}
 
 -- ---- few components
 
 module _ (table : Table) (cs : List Component) (c : Component) where
-  any_more : (p : Component → Bool) → (list_any p cs || p c) ≡ list_any p (cs ++ c ∷ [])
-  any_more p = sym (list_any-append p cs (c ∷ []) ∙ ap (λ b. list_any p cs || b) (sym (or_none (p c))))
-
   one_more : AreFew (cs ++ c ∷ []) → one_tallied table c (tallied table cs) ≡ tallied table (cs ++ c ∷ [])
-  one_more few =
-      same_tallied (one_tallied table c (tallied table cs)) (tallied table (cs ++ c ∷ []))
-      (λ q sort. count_one_more (is_sort table q sort) cs c few)
-      (λ q code. count_one_more (invokes_so q (is_code code)) cs c few)
-      (λ q code. count_one_more (is_result_of q code) cs c few)
-      (λ q passes. any_more (invokes_so q passes))
-      (λ q passes. any_more (invokes_link q passes))
-      (λ q passes. any_more (results_so q passes))
+  one_more few = λ i. record {
+    count = λ q sort. count_one_more (is_sort table q sort) cs c few i;
+    invokes_of = λ q code. count_one_more (invokes_so q (is_code code)) cs c few i;
+    results_of = λ q code. count_one_more (is_result_of q code) cs c few i;
+    has_operation = λ q passes. sym (any_more (invokes_so q passes) cs c) i;
+    has_link = λ q passes. sym (any_more (invokes_link q passes) cs c) i;
+    has_result = λ q passes. sym (any_more (results_so q passes) cs c) i;
+  }
 
   pub is_more : (old new : Tally) → tally_of new ≡ one_tallied table c (tally_of old) → IsTally table cs old
       → IsTally table (cs ++ c ∷ []) new

@@ -4,7 +4,7 @@ use Rattle.std.specs.Prelude.{is_none}
 use Rattle.std.proofs.lemmas.List.{append-nil}
 use Rattle.tcap_msg.specs.declared.kind.Kind.TheVariants as forms
 use Rattle.tcap_msg.specs.declared.message.Message.{Message}
-use Rattle.tcap_msg.specs.declared.message.Message.TheVariants.{Unidirectional, Begin, Continue, End as EndMessage, Abort}
+use Rattle.tcap_msg.specs.declared.message.Message.TheVariants.{Continue}
 use Rattle.tcap_msg.specs.Parts.{cause_in, components_in, otid_in}
 use Rattle.tcap_end.specs.Table.{Table}
 use Rattle.tcap_refute.specs.Before.{components_of, is_a}
@@ -22,11 +22,8 @@ use Rattle.tcap_faults.proofs.NotedLists.{any_more, components_more, count_kept,
 -- ---- kinds of messages
 
 no_continue : (m : Message) (cause : ℕ) → cause_in m ≡ Some cause → is_a forms.Continue m ≡ false
-no_continue (Unidirectional dialogue components) cause is = refl
-no_continue (Begin otid dialogue components) cause is = refl
 no_continue (Continue otid dtid dialogue components) cause is = cc
-no_continue (EndMessage dtid dialogue components) cause is = refl
-no_continue (Abort dtid reason) cause is = refl
+no_continue m cause is = refl
 
 -- ---- a message more
 

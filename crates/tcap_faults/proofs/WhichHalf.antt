@@ -5,7 +5,7 @@ use Rattle.std.specs.List.{find}
 use Rattle.std.proofs.lemmas.Bool.{and_from, and_parts, both_ways}
 use Rattle.tcap_msg.specs.declared.kind.Kind.TheVariants as forms
 use Rattle.tcap_msg.specs.declared.message.Message.{Message}
-use Rattle.tcap_msg.specs.declared.message.Message.TheVariants.{Unidirectional, Begin, Continue, End as EndMessage, Abort}
+use Rattle.tcap_msg.specs.declared.message.Message.TheVariants.{Continue}
 use Rattle.tcap_msg.specs.Parts.{dtid_in, otid_in}
 use Rattle.tcap_record.specs.declared.entry.End.{End as Side}
 use Rattle.tcap_record.specs.Ends.{other}
@@ -111,10 +111,6 @@ module _ (side : Side) (items : List Item) (id : List ℕ) where
       by : (ms : List Message)
           → find (λ own. began side own items) (dtids_of ms) ≡ then_so (find (goes_to_begun side items) ms) dtid_in
       by [] = refl
-      by (Unidirectional dialogue components ∷ ms) = by ms
-      by (Begin otid dialogue components ∷ ms) = by ms
-      by (EndMessage dtid dialogue components ∷ ms) = by ms
-      by (Abort dtid reason ∷ ms) = by ms
       by (Continue otid dtid dialogue components ∷ ms) = here (began side dtid items) (by ms)
         where
           here : (b : Bool)
@@ -123,6 +119,7 @@ module _ (side : Side) (items : List Item) (id : List ℕ) where
               ≡ then_so (cond b (Some (Continue otid dtid dialogue components)) (find (goes_to_begun side items) ms)) dtid_in
           here true rest = refl
           here false rest = rest
+      by (m ∷ ms) = by ms
 
   -- Where there is none, no half began so;
   none_own : IsBegunOwn side items id None → begun_from side items id ≡ None

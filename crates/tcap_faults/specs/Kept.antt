@@ -50,6 +50,11 @@ dtids_of ms = filter_map dtid_in (filter (is_a forms.Continue) ms)
 abbrev pub otids_of : List Message → List (List ℕ)
 otids_of ms = filter_map otid_in (filter (is_a forms.Continue) ms)
 
+-- what is kept of these messages, if there are any
+abbrev pub IsAt : {X : Type 0} → (List Message → X → Type 0) → List Message → Option X → Type 0
+IsAt of ms None = ms ≡ []
+IsAt of ms (Some kept) = (is_nothing ms ≡ false) × of ms kept
+
 -- ---- Continues to an ID, apart by the first that answers a dialogue request
 
 abbrev pub before_response : List Message → List Message
@@ -62,10 +67,8 @@ pub record IsCame (table : Table) (ms : List Message) (kept : Came) : Type 0 whe
   pub sooner : IsTally table (components_of (before_response ms)) kept.sooner
   pub since : IsTally table (components_of (from_first responds ms)) kept.since
 
--- what is kept of these Continues, if there are any
 abbrev pub IsCameAt : Table → List Message → Option Came → Type 0
-IsCameAt table ms None = ms ≡ []
-IsCameAt table ms (Some kept) = (is_nothing ms ≡ false) × IsCame table ms kept
+IsCameAt table ms kept = IsAt (IsCame table) ms kept
 
 -- ---- what was sent from an ID
 
@@ -90,8 +93,7 @@ pub record IsFromWhole (table : Table) (ms : List Message) (kept : SentFrom) : T
   pub first : (fact : FromFact) → tells_from fact kept.first ≡ list_any (shows_from table fact) ms
 
 abbrev pub IsFromAt : Table → List Message → Option SentFrom → Type 0
-IsFromAt table ms None = ms ≡ []
-IsFromAt table ms (Some kept) = (is_nothing ms ≡ false) × IsFromWhole table ms kept
+IsFromAt table ms kept = IsAt (IsFromWhole table) ms kept
 
 -- ---- what was sent to an ID
 
@@ -117,8 +119,7 @@ pub record IsTo (table : Table) (ms : List Message) (kept : SentTo) : Type 0 whe
   pub components : IsTally table (components_of (of_user ms)) kept.components
 
 abbrev pub IsToAt : Table → List Message → Option SentTo → Type 0
-IsToAt table ms None = ms ≡ []
-IsToAt table ms (Some kept) = (is_nothing ms ≡ false) × IsTo table ms kept
+IsToAt table ms kept = IsAt (IsTo table) ms kept
 
 -- ---- all of an end
 

@@ -10,7 +10,7 @@ use Rattle.tcap_faults.specs.declared.sent_from.Came.{Came}
 use Rattle.tcap_faults.specs.declared.sent_from.SentFrom.{SentFrom}
 use Rattle.tcap_faults.specs.declared.sent_to.SentTo.{SentTo}
 use Rattle.tcap_faults.specs.Ids.{AreIds}
-use Rattle.tcap_faults.specs.Kept.{IsCameAt, IsFromAt, IsToAt, of_user, otids_of}
+use Rattle.tcap_faults.specs.Kept.{IsAt, IsCame, IsFromWhole, IsTo, of_user, otids_of}
 use Rattle.tcap_faults.specs.Tallied.{more_if}
 use Rattle.tcap_faults.specs.Tallies.{IsTally}
 
@@ -20,14 +20,18 @@ use Rattle.tcap_faults.specs.Tallies.{IsTally}
 abbrev pub with_more : (Message → Option (List ℕ)) → Message → (List ℕ → List Message) → List ℕ → List Message
 with_more id_in m lists id = lists id ++ cond (is_id id (id_in m)) (m ∷ []) []
 
+-- what is kept of them at each ID
+abbrev pub AreAt : {X : Type 0} → (List Message → X → Type 0) → (List ℕ → List Message) → BTreeMap (List ℕ) X → Type 0
+AreAt of lists kept = (id : List ℕ) → IsAt of (lists id) (lookup (is_at (octets_cmp id)) kept.entries)
+
 abbrev pub AreCame : Table → (List ℕ → List Message) → BTreeMap (List ℕ) Came → Type 0
-AreCame table lists kept = (id : List ℕ) → IsCameAt table (lists id) (lookup (is_at (octets_cmp id)) kept.entries)
+AreCame table lists kept = AreAt (IsCame table) lists kept
 
 abbrev pub AreFrom : Table → (List ℕ → List Message) → BTreeMap (List ℕ) SentFrom → Type 0
-AreFrom table lists kept = (id : List ℕ) → IsFromAt table (lists id) (lookup (is_at (octets_cmp id)) kept.entries)
+AreFrom table lists kept = AreAt (IsFromWhole table) lists kept
 
 abbrev pub AreTo : Table → (List ℕ → List Message) → BTreeMap (List ℕ) SentTo → Type 0
-AreTo table lists kept = (id : List ℕ) → IsToAt table (lists id) (lookup (is_at (octets_cmp id)) kept.entries)
+AreTo table lists kept = AreAt (IsTo table) lists kept
 
 -- ---- parts of what is kept of an ID
 

@@ -1,24 +1,23 @@
 //! What is kept of what both ends sent, since the last quiet mark.
 
-ghost use Rattle.std.specs.Prelude.{◌≡◌, ℕ, List, [], nat_le, not, option_copied};
+ghost use Rattle.std.specs.Prelude.{◌≡◌, ℕ, List, [], not, option_copied};
 ghost use Rattle.std.specs.List.{list_any};
-ghost use Rattle.tcap_msg.specs.declared.kind.Kind.TheVariants as forms;
 ghost use Rattle.tcap_msg.specs.Meaning.{id_of};
 ghost use Rattle.tcap_record.specs.declared.entry.End.{End as Side};
 ghost use Rattle.tcap_record.specs.Ends.{other};
 ghost use Rattle.tcap_end.specs.Table.{Table};
 ghost use Rattle.tcap_model.specs.World.{Item};
-ghost use Rattle.tcap_refute.specs.Before.{ends_to, is_a, sent_by};
+ghost use Rattle.tcap_refute.specs.Before.{ends_to, sent_by};
 ghost use Rattle.tcap_refute.specs.Asking.{told_from};
 ghost use Rattle.tcap_refute.specs.Facts.{FromFact, told_since};
 ghost use Rattle.tcap_refute.specs.Kept.{told_by_from};
-ghost use Rattle.tcap_faults.specs.Counts.{count, is_nothing};
+ghost use Rattle.tcap_faults.specs.Counts.{is_nothing};
 ghost use Rattle.tcap_faults.specs.Tangled.{guesses};
 ghost use Rattle.tcap_faults.specs.Told.{began, has_ended, has_used, one_passes, told};
-ghost use Rattle.tcap_faults.specs.Kept.{AreFacts, IsSide, sent_from};
+ghost use Rattle.tcap_faults.specs.Kept.{AreFacts, IsSide};
 
 use crate::ids::Ids;
-use crate::sent_from::{SentFrom, begins, begins_twice, first_of};
+use crate::sent_from::{SentFrom, begins, first_of};
 use crate::sent_to::{SentTo, is_ended, is_silenced, tells};
 use std::alloc::Global;
 use std::collections::{BTreeMap, BTreeSet};
@@ -93,14 +92,6 @@ impl SideFacts {
             → result ≡ began side id.now items }
     {
         begins(self.from.get(id))
-    }
-
-    /// Whether it sent two there, or more.
-    pub(crate) fn began_twice(&self, id: &TransactionId) -> bool
-        ensures { (table : Table) (side : Side) (items : List Item) → IsSide table side items self.now
-            → result ≡ nat_le 2 (count (is_a forms.Begin) (sent_from side items id.now)) }
-    {
-        begins_twice(self.from.get(id))
     }
 
     /// Whether, behind a Begin from there, it went on to an ID that the other end had not used.

@@ -77,20 +77,25 @@ fn differ(some: Option<&Ids>, others: Option<&Ids>) -> bool
     }
 }
 
+/// The first of these IDs, if there is any.
+fn first_in(ids: Option<&Ids>) -> Option<TransactionId>
+    ensures { (xs : List (List ℕ)) → AreAmong xs (option_copied ids.entry) → IsOneOf xs result }
+{
+    match ids {
+        Some(ids) => key_of(ids.first()),
+        None => None,
+    }
+}
+
 /// One of these IDs or those, if there is any.
 fn one_of(some: Option<&Ids>, others: Option<&Ids>) -> Option<TransactionId>
     ensures { (xs ys : List (List ℕ)) → AreAmong xs (option_copied some.entry) → AreAmong ys (option_copied others.entry)
         → IsOneOf (xs ++ ys) result }
 {
-    let one = match some {
-        Some(ids) => ids.first(),
-        None => None,
-    };
-    let one = match (one, others) {
-        (None, Some(ids)) => ids.first()?,
-        (one, _) => one?,
-    };
-    Some(one.to_transaction_id())
+    match first_in(some) {
+        Some(one) => Some(one),
+        None => first_in(others),
+    }
 }
 
 impl<'a> Own<'a> {

@@ -78,7 +78,7 @@ impl Facts {
             ≡ fault_since table.now side (since_quiet items) (Sent side (M.meaning message.now))) }
     {
         let ends = self.ends(side);
-        if ends.own.again || effects.again || ends.goes_over_tangled(found) {
+        if ends.own.again || effects.again || ends.tangled_in(side, found).is_some() {
             return Ok(None);
         }
         match found.first_kind(table, message) {
@@ -93,7 +93,7 @@ impl Facts {
             → result ≡ fault_since table.now side (since_quiet items) Item.Quiet }
     {
         let ends = self.ends(side);
-        if !ends.own.again && ends.is_open_at_mark(table) {
+        if !ends.own.again && ends.is_open_at_mark(table, side) {
             Some(Kind::OpenAtMark)
         } else {
             None

@@ -3,6 +3,7 @@
 #![tactic(auto)]
 
 mod answers;
+mod at_id;
 mod before;
 mod blaming;
 mod by_class;

@@ -20,11 +20,11 @@ ghost use Rattle.tcap_faults.specs.Searching.{IsKept};
 ghost use Rattle.tcap_faults.specs.Tangled.{guesses, owns_of};
 ghost use Rattle.tcap_faults.specs.Effects.{AreEffects};
 
+use crate::at_id::note_at;
 use crate::effects::Effects;
 use crate::facts::{Facts, SideFacts};
 use crate::ids::Ids;
-use crate::sent_from::note_from;
-use crate::sent_to::{SentTo, ends, note_to};
+use crate::sent_to::{SentTo, ends};
 use std::alloc::{AllocError, Global};
 use std::collections::{BTreeMap, BTreeSet};
 use tcap_end::Table;
@@ -328,8 +328,8 @@ fn note_sent<M: MessageParts>(
     own.again |= effects.again;
     insert_some(&mut own.closed, closed)?;
     note_guessed(&mut own.guessed, message, effects)?;
-    note_from(&mut own.from, alloc, table, message)?;
-    note_to(&mut own.to, alloc, table, message)
+    note_at(&mut own.from, message.otid(), alloc, table, message)?;
+    note_at(&mut own.to, message.dtid(), alloc, table, message)
 }
 
 impl Facts {

@@ -1,6 +1,6 @@
 //! Aborts of the provider that answer nothing that is left, and halves that are open at a quiet mark (Q.774 3.3).
 
-ghost use Rattle.std.specs.Prelude.{◌≡◌, ◌≤◌, ◌+◌, ◌^◌, ◌||◌, ℕ, Bool, List, Some, length, nat_lt, not};
+ghost use Rattle.std.specs.Prelude.{◌≡◌, ◌≤◌, ◌+◌, ◌^◌, ◌||◌, ℕ, List, Some, length, nat_lt, not};
 ghost use Rattle.std.specs.List.{list_any};
 ghost use Rattle.tcap_msg.specs.declared.kind.Kind.TheVariants as forms;
 ghost use Rattle.tcap_record.specs.declared.entry.End.{End as Side};
@@ -24,6 +24,7 @@ use crate::tangled::Ends;
 use tcap_ber::SmallView;
 use tcap_end::Table;
 use tcap_msg::TransactionId;
+use tcap_record::End;
 
 impl Ends<'_> {
     /// Whether the half with that own ID is surely open, of which that is kept.
@@ -137,28 +138,31 @@ impl Ends<'_> {
     }
 
     /// Whether the half with that own ID, of which that is kept, is left open over no tangled IDs.
-    fn is_left_open(self, table: &Table, own: &TransactionId, kept: &SentFrom) -> bool
-        ensures { (side : Side) (items : List Item) → IsSide table.now side items self.entry.own.now
-            → IsSide table.now (other side) items self.entry.peer.now → IsKeptFrom table.now side items own.now kept.now
-            → result ≡ list_any (is_left_open table.now side items) (sent_from side items own.now) }
+    fn is_left_open(self, table: &Table, end: End, own: &TransactionId, kept: &SentFrom) -> bool
+        ensures { (items : List Item) → IsSide table.now end items self.entry.own.now
+            → IsSide table.now (other end) items self.entry.peer.now → IsKeptFrom table.now end items own.now kept.now
+            → result ≡ list_any (is_left_open table.now end items) (sent_from end items own.now) }
     {
         if kept.to.differ() || !self.is_open(table, own, kept) {
             return false;
         }
         match &kept.to.first {
-            Some(to) => !self.are_tangled(self.there(to), Some(self.own_at(own))),
+            Some(to) => {
+                let tangled = self.tangled_id(end, self.there(to), Some(self.own_at(own)));
+                tangled.is_none()
+            }
             None => false,
         }
     }
 
     /// Whether a half is, where a quiet mark stands behind.
-    pub(crate) fn is_open_at_mark(self, table: &Table) -> bool
-        ensures { (side : Side) (items : List Item) → IsSide table.now side items self.entry.own.now
-            → IsSide table.now (other side) items self.entry.peer.now
-            → result ≡ is_open_at_mark table.now side items }
+    pub(crate) fn is_open_at_mark(self, table: &Table, end: End) -> bool
+        ensures { (items : List Item) → IsSide table.now end items self.entry.own.now
+            → IsSide table.now (other end) items self.entry.peer.now
+            → result ≡ is_open_at_mark table.now end items }
     {
         for (own, kept) in &self.own.from {
-            if self.is_left_open(table, own, kept) {
+            if self.is_left_open(table, end, own, kept) {
                 return true;
             }
         }

@@ -5,20 +5,19 @@ ghost use Rattle.std.specs.List.{list_any};
 ghost use Rattle.tcap_parts.specs.DialogueMeaning.{dialogue_of};
 ghost use Rattle.tcap_msg.specs.declared.kind.Kind.TheVariants as forms;
 ghost use Rattle.tcap_msg.specs.declared.message.Message.{Message};
-ghost use Rattle.tcap_msg.specs.Parts.{dtid_in, otid_in};
 ghost use Rattle.tcap_record.specs.declared.entry.End.{End as Side};
 ghost use Rattle.tcap_end.specs.Dialogue.{is_request, is_response};
 ghost use Rattle.tcap_end.specs.Table.{Table};
 ghost use Rattle.tcap_model.specs.World.{Item};
 ghost use Rattle.tcap_refute.specs.Before.{is_a};
 ghost use Rattle.tcap_refute.specs.Facts.{From, FromFact, told_since};
-ghost use Rattle.tcap_refute.specs.Kept.{tells_from, told_by_from};
+ghost use Rattle.tcap_refute.specs.Kept.{told_by_from};
 ghost use Rattle.tcap_faults.specs.Counts.{count};
 ghost use Rattle.tcap_faults.specs.Told.{began, goes_on_to};
 ghost use Rattle.tcap_faults.specs.Ids.{AreAmong};
 ghost use Rattle.tcap_faults.specs.Kept.{IsCame, IsFirstBegin, IsFrom, IsFromAt, IsFromWhole, dtids_of, sent_from};
-ghost use Rattle.tcap_faults.specs.Noting.{AreCame, AreFrom, with_more};
 
+use crate::at_id::{OfMessages, note_at};
 use crate::ids::Ids;
 use crate::tally::Tally;
 use std::alloc::{AllocError, Global};
@@ -77,11 +76,10 @@ pub(crate) fn is_response(dialogue: Option<DialogueView>) -> bool
     matches!(dialogue, Some(DialogueView::Response { .. }))
 }
 
-impl Came {
-    /// That of none.
-    fn new(alloc: Global) -> Came
-        ensures { (table : Table) → IsCame table [] result }
-    {
+impl OfMessages for Came {
+    ghost of = { IsCame };
+
+    fn new(alloc: Global) -> Came {
         Came {
             answered: false,
             sooner: Tally::new(alloc),
@@ -89,16 +87,12 @@ impl Came {
         }
     }
 
-    /// A Continue more.
     fn note<M: MessageParts>(
         &mut self,
         alloc: Global,
         table: &Table,
         message: &M,
-    ) -> Result<(), AllocError>
-        ensures { (ms : List Message) → IsCame table.now ms self.old
-            → OnOk result (IsCame table.now (ms ++ M.meaning message.now ∷ []) self.new) }
-    {
+    ) -> Result<(), AllocError> {
         self.answered |= is_response(message.dialogue());
         if self.answered {
             self.since.note_all(alloc, table, message.components())
@@ -106,29 +100,6 @@ impl Came {
             self.sooner.note_all(alloc, table, message.components())
         }
     }
-}
-
-/// A Continue more, by its destination ID.
-fn note_came<M: MessageParts>(
-    came: &mut BTreeMap<TransactionId, Came>,
-    alloc: Global,
-    table: &Table,
-    message: &M,
-) -> Result<(), AllocError>
-    ensures { (lists : List ℕ → List Message) → AreCame table.now lists came.old
-        → OnOk result (AreCame table.now (with_more dtid_in (M.meaning message.now) lists) came.new) }
-{
-    let Some(dtid) = message.dtid() else {
-        return Ok(());
-    };
-    let key = dtid.to_transaction_id();
-    if let Some(kept) = came.get_mut(&key) {
-        return kept.note(alloc, table, message);
-    }
-    let mut kept = Came::new(alloc);
-    kept.note(alloc, table, message)?;
-    came.insert(key, kept)?;
-    Ok(())
 }
 
 impl FirstBegin {
@@ -151,21 +122,6 @@ impl FirstBegin {
 }
 
 impl SentFrom {
-    /// That of no messages.
-    fn new(alloc: Global) -> SentFrom
-        ensures from { (table : Table) → IsFrom table [] result }
-        ensures first { (fact : FromFact) → tells_from fact result.first ≡ false }
-    {
-        SentFrom {
-            first: FromId::new(alloc),
-            begin: None,
-            begun_twice: false,
-            continues: 0,
-            to: Ids::new(alloc),
-            came: BTreeMap::new(alloc),
-        }
-    }
-
     /// A Begin more.
     fn note_begin<M: MessageParts>(
         &mut self,
@@ -201,19 +157,30 @@ impl SentFrom {
         if let Some(dtid) = message.dtid() {
             self.to.add(dtid)?;
         }
-        note_came(&mut self.came, alloc, table, message)
+        note_at(&mut self.came, message.dtid(), alloc, table, message)
+    }
+}
+
+impl OfMessages for SentFrom {
+    ghost of = { IsFromWhole };
+
+    fn new(alloc: Global) -> SentFrom {
+        SentFrom {
+            first: FromId::new(alloc),
+            begin: None,
+            begun_twice: false,
+            continues: 0,
+            to: Ids::new(alloc),
+            came: BTreeMap::new(alloc),
+        }
     }
 
-    /// A message more.
     fn note<M: MessageParts>(
         &mut self,
         alloc: Global,
         table: &Table,
         message: &M,
-    ) -> Result<(), AllocError>
-        ensures { (ms : List Message) → IsFromWhole table.now ms self.old
-            → OnOk result (IsFromWhole table.now (ms ++ M.meaning message.now ∷ []) self.new) }
-    {
+    ) -> Result<(), AllocError> {
         self.first.note(alloc, table, message)?;
         match message.kind() {
             Form::Begin => self.note_begin(alloc, table, message),
@@ -221,29 +188,6 @@ impl SentFrom {
             _ => Ok(()),
         }
     }
-}
-
-/// A message more, by its originating ID.
-pub(crate) fn note_from<M: MessageParts>(
-    from: &mut BTreeMap<TransactionId, SentFrom>,
-    alloc: Global,
-    table: &Table,
-    message: &M,
-) -> Result<(), AllocError>
-    ensures { (lists : List ℕ → List Message) → AreFrom table.now lists from.old
-        → OnOk result (AreFrom table.now (with_more otid_in (M.meaning message.now) lists) from.new) }
-{
-    let Some(otid) = message.otid() else {
-        return Ok(());
-    };
-    let key = otid.to_transaction_id();
-    if let Some(kept) = from.get_mut(&key) {
-        return kept.note(alloc, table, message);
-    }
-    let mut kept = SentFrom::new(alloc);
-    kept.note(alloc, table, message)?;
-    from.insert(key, kept)?;
-    Ok(())
 }
 
 /// The destination IDs of the Continues.

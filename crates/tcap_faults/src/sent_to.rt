@@ -1,9 +1,9 @@
 //! What an end sent to a transaction ID, since the last quiet mark.
 
-ghost use Rattle.std.specs.Prelude.{◌≡◌, [], ◌∷◌, ◌++◌, None, ℕ, List, OnOk, not, option_copied};
+ghost use Rattle.std.specs.Prelude.{◌≡◌, [], None, ℕ, List, OnOk, not, option_copied};
 ghost use Rattle.std.specs.List.{list_any};
 ghost use Rattle.tcap_msg.specs.declared.message.Message.{Message};
-ghost use Rattle.tcap_msg.specs.Parts.{cause_in, dtid_in};
+ghost use Rattle.tcap_msg.specs.Parts.{cause_in};
 ghost use Rattle.tcap_record.specs.declared.entry.End.{End as Side};
 ghost use Rattle.tcap_end.specs.Table.{Table};
 ghost use Rattle.tcap_model.specs.World.{Item};
@@ -12,16 +12,16 @@ ghost use Rattle.tcap_faults.specs.Counts.{is_nothing};
 ghost use Rattle.tcap_faults.specs.Told.{has_ended, told};
 ghost use Rattle.tcap_faults.specs.Ids.{AreAmong, AreIds};
 ghost use Rattle.tcap_faults.specs.Kept.{IsTo, IsToAt, ends, of_user, otids_of, sent_to, silences};
-ghost use Rattle.tcap_faults.specs.Noting.{AreTo, IsCaused, IsTold, with_more};
+ghost use Rattle.tcap_faults.specs.Noting.{IsCaused, IsTold};
 ghost use Rattle.tcap_faults.specs.Tallies.{IsTally};
 
+use crate::at_id::OfMessages;
 use crate::ids::Ids;
 use crate::tally::Tally;
 use std::alloc::{AllocError, Global};
-use std::collections::BTreeMap;
 use tcap_ber::SmallView;
 use tcap_end::Table;
-use tcap_msg::{Kind as Form, MessageParts, TransactionId};
+use tcap_msg::{Kind as Form, MessageParts};
 
 /// What was sent to an ID.
 #[derive(Drop)]
@@ -61,21 +61,6 @@ fn silences<M: MessageParts>(message: &M) -> bool
 }
 
 impl SentTo {
-    /// That of no messages.
-    fn new(alloc: Global) -> SentTo
-        ensures { (table : Table) → IsTo table [] result }
-    {
-        SentTo {
-            spoke: false,
-            from: Ids::new(alloc),
-            refused: false,
-            unknown: 0,
-            ended: false,
-            silenced: false,
-            components: Tally::new(alloc),
-        }
-    }
-
     /// The cause of an Abort of the provider.
     fn note_cause(&mut self, cause: SmallView)
         ensures { IsCaused cause.number self.old self.new }
@@ -104,17 +89,29 @@ impl SentTo {
         }
         self.components.note_all(alloc, table, message.components())
     }
+}
 
-    /// A message more.
+impl OfMessages for SentTo {
+    ghost of = { IsTo };
+
+    fn new(alloc: Global) -> SentTo {
+        SentTo {
+            spoke: false,
+            from: Ids::new(alloc),
+            refused: false,
+            unknown: 0,
+            ended: false,
+            silenced: false,
+            components: Tally::new(alloc),
+        }
+    }
+
     fn note<M: MessageParts>(
         &mut self,
         alloc: Global,
         table: &Table,
         message: &M,
-    ) -> Result<(), AllocError>
-        ensures { (ms : List Message) → IsTo table.now ms self.old
-            → OnOk result (IsTo table.now (ms ++ M.meaning message.now ∷ []) self.new) }
-    {
+    ) -> Result<(), AllocError> {
         self.ended |= ends(message);
         self.silenced |= silences(message);
         match message.cause() {
@@ -125,29 +122,6 @@ impl SentTo {
             None => self.note_of_user(alloc, table, message),
         }
     }
-}
-
-/// A message more, by its destination ID.
-pub(crate) fn note_to<M: MessageParts>(
-    to: &mut BTreeMap<TransactionId, SentTo>,
-    alloc: Global,
-    table: &Table,
-    message: &M,
-) -> Result<(), AllocError>
-    ensures { (lists : List ℕ → List Message) → AreTo table.now lists to.old
-        → OnOk result (AreTo table.now (with_more dtid_in (M.meaning message.now) lists) to.new) }
-{
-    let Some(dtid) = message.dtid() else {
-        return Ok(());
-    };
-    let key = dtid.to_transaction_id();
-    if let Some(kept) = to.get_mut(&key) {
-        return kept.note(alloc, table, message);
-    }
-    let mut kept = SentTo::new(alloc);
-    kept.note(alloc, table, message)?;
-    to.insert(key, kept)?;
-    Ok(())
 }
 
 /// The originating IDs of the Continues.

@@ -13,7 +13,6 @@ use crate::replay::{Replay, entry_at};
 use crate::why::{TangledId, Unblamed};
 use std::alloc::Global;
 use tcap_end::Table;
-use tcap_msg::MessageParts;
 use tcap_record::{Body, End, Entry, Record};
 use tcap_refute::SearchFault;
 
@@ -25,7 +24,7 @@ impl Facts {
     {
         match (entry.side, &entry.body) {
             (Some(sender), Body::Good(message)) if sender == end => {
-                self.ends(end).tangled_in(end, &message.view())
+                self.ends(end).tangled_of(end, &message.view())
             }
             _ => None,
         }

@@ -1,5 +1,5 @@
 -- What is asked of what was noted is what a kind asks of the list.
-use Rattle.std.proofs.Common.{◌≡◌, ℕ, Bool, true, false, cond, ◌&&◌, ◌||◌, List, [], ◌∷◌, Option, Some, None, refl, sym, ap, ap₂, ◌∙◌}
+use Rattle.std.proofs.Common.{◌≡◌, ℕ, Bool, true, false, cond, ◌&&◌, ◌||◌, List, [], ◌∷◌, Option, Some, None, refl, sym, ap, ◌∙◌}
 use Rattle.std.proofs.Math.Path.{fun_ext}
 use Rattle.std.specs.List.{find, list_any}
 use Rattle.tcap_msg.specs.declared.kind.Kind.TheVariants as forms
@@ -30,11 +30,9 @@ use Rattle.tcap_refute.proofs.ToldLaws.{answering, component_told, from_id, noth
 
 -- A message from an ID is a Begin or a Continue.
 spoke : (table : Table) (id : List ℕ) (m : Message) → is_id id (otid_in m) ≡ true → shows_from table Spoke m ≡ true
-spoke table id (Unidirectional dialogue components) is = cc
 spoke table id (Begin otid dialogue components) is = refl
 spoke table id (Continue otid dtid dialogue components) is = refl
-spoke table id (EndMessage dtid dialogue components) is = cc
-spoke table id (Abort dtid reason) is = cc
+spoke table id m is = cc
 
 -- So one was sent from there where there are any.
 spoke_where : (table : Table) (id : List ℕ) (xs : List Message) (m : Message) (ms : List Message)
@@ -70,11 +68,10 @@ unasked table items side dtid cause =
 transaction : (table : Table) (items : List Item) (side : Side) (m : Message)
     → transaction_is_unknown (told_from (told_by_list table items (other side)) (dtid_in m)) m
     ≡ is_unknown_transaction side (since_quiet items) m
-transaction table items side (Unidirectional dialogue components) = refl
-transaction table items side (Begin otid dialogue components) = refl
 transaction table items side (Continue otid dtid dialogue components) = unasked table items side dtid None
 transaction table items side (EndMessage dtid dialogue components) = unasked table items side dtid None
 transaction table items side (Abort dtid reason) = unasked table items side dtid (cause_in (Abort dtid reason))
+transaction table items side m = refl
 
 -- ---- an ID that was used
 
@@ -88,22 +85,17 @@ begin_reused table id m = by (is_id id (otid_in m)) refl
 
 continue_reused : (table : Table) (id dtid : List ℕ) (m : Message)
     → (is_id id (otid_in m) && shows_from table (WentElsewhere dtid) m) ≡ goes_elsewhere id dtid m
-continue_reused table id dtid (Unidirectional dialogue components) = refl
 continue_reused table id dtid (Begin otid dialogue components) = and_false _
-continue_reused table id dtid (Continue otid to dialogue components) = refl
-continue_reused table id dtid (EndMessage to dialogue components) = refl
-continue_reused table id dtid (Abort to reason) = refl
+continue_reused table id dtid m = refl
 
 reused : (table : Table) (items : List Item) (side : Side) (m : Message)
     → id_is_reused (told_from (told_by_list table items side) (otid_in m)) (dtid_in m) (kind_in m)
     ≡ is_reused side (since_quiet items) m
-reused table items side (Unidirectional dialogue components) = refl
 reused table items side (Begin otid dialogue components) =
     same_any _ _ (sent_by side (since_quiet items)) (begin_reused table otid)
 reused table items side (Continue otid dtid dialogue components) =
     same_any _ _ (sent_by side (since_quiet items)) (continue_reused table otid dtid)
-reused table items side (EndMessage dtid dialogue components) = refl
-reused table items side (Abort dtid reason) = refl
+reused table items side m = refl
 
 -- ---- behind the end
 
@@ -137,14 +129,13 @@ module _ (table : Table) (items : List Item) (side : Side) where
   misplaced : (m : Message)
       → dialogue_is_misplaced (there table items side m Asked) (kind_in m) (dialogue_in m)
       ≡ is_misplaced_dialogue side (since_quiet items) m
-  misplaced (Unidirectional dialogue components) = refl
-  misplaced (Begin otid dialogue components) = refl
   misplaced (Continue otid dtid dialogue components) =
       ap (λ b. dialogue_is_misplaced b forms.Continue dialogue) (asked_there dtid)
   misplaced (EndMessage dtid dialogue components) =
       ap (λ b. dialogue_is_misplaced b forms.End dialogue) (asked_there dtid)
   misplaced (Abort dtid reason) =
       ap (λ b. dialogue_is_misplaced b forms.Abort (dialogue_in (Abort dtid reason))) (asked_there dtid)
+  misplaced m = refl
 
 -- ---- the lowest kind
 

@@ -53,14 +53,12 @@ has_invoke cs id item (linked, parameter, has) is =
 -- an answer with its ID is.
 is_answered : (is_result : Bool) (id : ℤ) (answer : Answer) (c : Component) → answer.is_result ≡ is_result
     → IsAnswer answer id c → answers is_result id c ≡ true
-is_answered true id answer (Invoke other linked code parameter) sort is = absurd is
 is_answered true id answer (ReturnResult last other body) sort is = rw (is.1) (same_id id)
 is_answered true id answer (ReturnError other code parameter) sort is = let bad = sym (is.0) ∙ sort in cc
-is_answered true id answer (Reject other problem) sort is = absurd is
-is_answered false id answer (Invoke other linked code parameter) sort is = absurd is
 is_answered false id answer (ReturnResult last other body) sort is = let bad = sym (is.0) ∙ sort in cc
 is_answered false id answer (ReturnError other code parameter) sort is = rw (is.1) (same_id id)
-is_answered false id answer (Reject other problem) sort is = absurd is
+is_answered true id answer c sort is = absurd is
+is_answered false id answer c sort is = absurd is
 
 has_answer : (cs : List Component) (is_result : Bool) (id : ℤ) → MayReject cs is_result id
     → not (list_any (answers is_result id) cs) ≡ true → ⊥
@@ -73,22 +71,17 @@ answers_one : (table : Table) (cs : List Component) (c : Component) → IsFounde
 answers_one table cs (Invoke id linked code parameter) founded is = cc
 answers_one table cs (ReturnResult last id body) founded is = has_invoke cs id founded.0 founded.1 is
 answers_one table cs (ReturnError id code parameter) founded is = has_invoke cs id founded.0 founded.1 is
-answers_one table cs (Reject None problem) founded is = absurd founded
-answers_one table cs (Reject (Some id) (problems.General n)) founded is = absurd founded
 answers_one table cs (Reject (Some id) (problems.Invoke n)) founded is = has_invoke cs id founded.0 founded.1 is
 answers_one table cs (Reject (Some id) (problems.ReturnResult n)) founded is = has_answer cs true id founded is
 answers_one table cs (Reject (Some id) (problems.ReturnError n)) founded is = has_answer cs false id founded is
+answers_one table cs c founded is = absurd founded
 
 -- and where there are none it is an Invoke;
 of_nothing : (table : Table) (c : Component) → IsFounded table [] c → (is_answer c || is_reject c) ≡ true → ⊥
 of_nothing table (Invoke id linked code parameter) founded is = cc
-of_nothing table (ReturnResult last id body) founded is = has_not _ founded.1.2
-of_nothing table (ReturnError id code parameter) founded is = has_not _ founded.1.2
 of_nothing table (Reject None problem) founded is = absurd founded
 of_nothing table (Reject (Some id) (problems.General n)) founded is = absurd founded
-of_nothing table (Reject (Some id) (problems.Invoke n)) founded is = has_not _ founded.1.2
-of_nothing table (Reject (Some id) (problems.ReturnResult n)) founded is = has_not _ founded.1.2
-of_nothing table (Reject (Some id) (problems.ReturnError n)) founded is = has_not _ founded.1.2
+of_nothing table c founded is = has_not _ founded.1.2
 
 -- the table has its operation;
 known_operation : (table : Table) (cs : List Component) (c : Component) → IsFounded table cs c
@@ -98,9 +91,7 @@ known_operation table cs (Invoke id linked code parameter) founded is = by (oper
     by : {A : Type 0} (o : Option A) → is_some o ≡ true → is_none o ≡ true → ⊥
     by None some none = cc
     by (Some x) some none = cc
-known_operation table cs (ReturnResult last id body) founded is = cc
-known_operation table cs (ReturnError id code parameter) founded is = cc
-known_operation table cs (Reject id problem) founded is = cc
+known_operation table cs c founded is = cc
 
 -- and an answer is one that the class of an invocation allows.
 class_allows : (table : Table) (cs : List Component) (is_result : Bool) (id : ℤ) (named : Option Code)
@@ -113,10 +104,9 @@ class_allows table cs is_result id named (item, (linked, parameter, has), may) i
 
 of_its_class : (table : Table) (cs : List Component) (c : Component) → IsFounded table cs c
     → no_class_allows table cs c ≡ true → ⊥
-of_its_class table cs (Invoke id linked code parameter) founded is = cc
 of_its_class table cs (ReturnResult last id body) founded is = class_allows table cs true id _ founded is
 of_its_class table cs (ReturnError id code parameter) founded is = class_allows table cs false id None founded is
-of_its_class table cs (Reject id problem) founded is = cc
+of_its_class table cs c founded is = cc
 
 -- ---- a Unidirectional
 
@@ -135,9 +125,7 @@ all_uni table ids (Invoke id linked code parameter ∷ more) is =
     let alone = needs_ok (is_none linked) faults.BadLink _ tt free.1 in
     let found = some_ok (class_of table code) faults.UnknownOperation class ok in
     (rw found (four.0), all_uni table (id ∷ ids) more alone.1)
-all_uni table ids (ReturnResult last id body ∷ more) is = cc
-all_uni table ids (ReturnError id code parameter ∷ more) is = cc
-all_uni table ids (Reject id problem ∷ more) is = cc
+all_uni table ids (c ∷ more) is = cc
 
 uni_sent : (table : Table) (e made : End) (dialogue : Option Dialogue) (components : List Component)
     → send_uni table e dialogue components ≡ Ok made → AllByRecursion (IsUni table) components
@@ -151,15 +139,11 @@ uni_sent table e made dialogue components is =
 
 no_answer : (table : Table) (c : Component) → IsUni table c → is_answer c ≡ true → ⊥
 no_answer table (Invoke id linked code parameter) uni is = cc
-no_answer table (ReturnResult last id body) uni is = absurd uni
-no_answer table (ReturnError id code parameter) uni is = absurd uni
-no_answer table (Reject id problem) uni is = absurd uni
+no_answer table c uni is = absurd uni
 
 of_class_4 : (table : Table) (c : Component) → IsUni table c → is_not_of_class_4 table c ≡ true → ⊥
 of_class_4 table (Invoke id linked code parameter) uni is = both_ways _ (not-true _ is) uni
-of_class_4 table (ReturnResult last id body) uni is = absurd uni
-of_class_4 table (ReturnError id code parameter) uni is = absurd uni
-of_class_4 table (Reject id problem) uni is = absurd uni
+of_class_4 table c uni is = absurd uni
 
 -- ---- both kinds
 

@@ -71,23 +71,17 @@ answer_misplaced is_asked (Some d) asked accepts is = let bad : false ≡ true =
 -- nor, in an Abort, none or an ABRT of the user,
 user_misplaced : (is_asked : Bool) (d : Option Dialogue) → (is_none d || is_user_abort d) ≡ true
     → is_misplaced_aborting is_asked d ≡ true → ⊥
-user_misplaced is_asked None so is = cc
 user_misplaced is_asked (Some (dialogues.Abort source info)) so is =
     let zero : source ≡ 0 = eqb-true source 0 so in
     let bad : false ≡ true = rw zero at is in cc
-user_misplaced is_asked (Some (dialogues.Request context info)) so is = cc
-user_misplaced is_asked (Some (dialogues.Response context result diagnostic info)) so is = cc
-user_misplaced is_asked (Some (dialogues.Uni context info)) so is = cc
+user_misplaced is_asked o so is = cc
 
 -- or one that refuses a dialogue that was asked for.
 refusal_misplaced : (is_asked : Bool) (d : Option Dialogue) → is_asked ≡ true → refuses_dialogue d ≡ true
     → is_misplaced_aborting is_asked d ≡ true → ⊥
-refusal_misplaced is_asked None asked refuses is = cc
-refusal_misplaced is_asked (Some (dialogues.Abort source info)) asked refuses is = cc
-refusal_misplaced is_asked (Some (dialogues.Request context info)) asked refuses is = cc
 refusal_misplaced is_asked (Some (dialogues.Response context result diagnostic info)) asked refuses is =
     let bad : false ≡ true = rw (asked, refuses) at is in cc
-refusal_misplaced is_asked (Some (dialogues.Uni context info)) asked refuses is = cc
+refusal_misplaced is_asked o asked refuses is = cc
 
 -- A portion that has to pass where it is there does not fail.
 only_such : {A : Type 0} (o : Option A) (passes : Bool) → (is_none o || passes) ≡ true

@@ -9,7 +9,7 @@ use Rattle.tcap_msg.specs.Parts.{components_in, dtid_in}
 use Rattle.tcap_end.specs.Table.{Table}
 use Rattle.tcap_refute.specs.declared.from_id.FromId.{FromId}
 use Rattle.tcap_refute.specs.declared.from_id.Toward.{Toward}
-use Rattle.tcap_refute.specs.declared.from_id.Toward.TheVariants.{Nowhere, One, Several}
+use Rattle.tcap_refute.specs.declared.from_id.Toward.TheVariants.{One, Several}
 use Rattle.tcap_refute.specs.Before.{is_a}
 use Rattle.tcap_refute.specs.Facts.{IdFact, FromFact, Spoke, Begun, Asked, WentOn, WentElsewhere, OfId, is_other, shows, shows_from}
 use Rattle.tcap_refute.specs.Kept.{is_elsewhere, tells, tells_from}
@@ -39,14 +39,13 @@ one_of_two id a b apart = by (bytes_eq id a) (bytes_eq id b) refl refl
 
 pub elsewhere_with : (id to : List ℕ) (toward : Toward)
     → is_elsewhere id (toward_with to toward) ≡ (is_elsewhere id toward || is_other id (Some to))
-elsewhere_with id to Nowhere = refl
 elsewhere_with id to (One other) = by (bytes_eq to other) refl
   where
     by : (b : Bool) → bytes_eq to other ≡ b
         → is_elsewhere id (cond b (One other) Several) ≡ (not (bytes_eq id other) || not (bytes_eq id to))
     by true same = rw (same_octets to other same) (or_itself _)
     by false apart = one_of_two id other to apart
-elsewhere_with id to Several = refl
+elsewhere_with id to how = refl
 
 elsewhere_behind : (id : List ℕ) (goes_on : Bool) (dtid : Option (List ℕ)) (toward : Toward)
     → is_elsewhere id (toward_behind goes_on dtid toward) ≡ (is_elsewhere id toward || (goes_on && is_other id dtid))

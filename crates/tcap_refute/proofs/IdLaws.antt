@@ -12,14 +12,10 @@ use Rattle.tcap_end.specs.Table.{Table}
 use Rattle.tcap_refute.specs.declared.by_id.ById.{ById}
 use Rattle.tcap_refute.specs.Facts.{IdFact, Invoked, Answered, Succeeds, Fails, noted_id, shows}
 use Rattle.tcap_refute.specs.Kept.{tells}
-use Rattle.tcap_refute.proofs.TestLaws.{and_false}
+use Rattle.tcap_refute.proofs.TestLaws.{and_false, and_true}
 use Rattle.tcap_refute.proofs.SetLaws.{Puts, made, told_at, written}
 
 -- ---- a component tells of its ID alone
-
-and_true : (a : Bool) → (a && true) ≡ a
-and_true true = refl
-and_true false = refl
 
 of_invoke : (a r n : Bool) → (a && (true && r && n)) ≡ (a && r && n)
 of_invoke true r n = refl
@@ -49,18 +45,11 @@ module _ (table : Table) (id other : ℤ) where
   of_that_id (Invoke n linked code parameter) Fails e =
       let same : n ≡ id = cc in
       rw (same, it, turned) (of_invoke (is_at (int_cmp id) other) (class_reports table false code) true)
-  of_that_id (ReturnResult last n body) Invoked e = and_false _
   of_that_id (ReturnResult last n body) (Answered true) e = let same : n ≡ id = cc in rw (same, it, turned) (and_true _)
-  of_that_id (ReturnResult last n body) (Answered false) e = and_false _
-  of_that_id (ReturnResult last n body) (Succeeds named) e = and_false _
-  of_that_id (ReturnResult last n body) Fails e = and_false _
-  of_that_id (ReturnError n code parameter) Invoked e = and_false _
-  of_that_id (ReturnError n code parameter) (Answered true) e = and_false _
   of_that_id (ReturnError n code parameter) (Answered false) e =
       let same : n ≡ id = cc in rw (same, it, turned) (and_true _)
-  of_that_id (ReturnError n code parameter) (Succeeds named) e = and_false _
-  of_that_id (ReturnError n code parameter) Fails e = and_false _
   of_that_id (Reject n problem) f e = cc
+  of_that_id c fact e = and_false _
 
 -- ---- behind it
 

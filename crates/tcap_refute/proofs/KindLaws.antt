@@ -3,7 +3,7 @@ use Rattle.std.proofs.Common.{◌≡◌, ◌⊎◌, inl, inr, true, ℕ, List, �
 use Rattle.std.proofs.lemmas.Option.{cond_some}
 use Rattle.tcap_msg.specs.declared.message.AbortReason.TheVariants.{Cause}
 use Rattle.tcap_msg.specs.declared.message.Message.{Message}
-use Rattle.tcap_msg.specs.declared.message.Message.TheVariants.{Unidirectional, Begin, Continue, End as EndMessage, Abort}
+use Rattle.tcap_msg.specs.declared.message.Message.TheVariants.{Begin, Continue, Abort}
 use Rattle.tcap_record.specs.declared.entry.End.{End as Side}
 use Rattle.tcap_end.specs.Table.{Table}
 use Rattle.tcap_end.specs.End.{End}
@@ -23,49 +23,26 @@ use Rattle.tcap_refute.proofs.TransactionKinds.{after_end_sent, reused_sent, unk
 module _ (table : Table) (events : List Event) (w : World) (side : Side) (message : Message)
     (it : IsSent table events w side message) where
   kind_sent : (kind : Kind) → is_of_kind table side (since_quiet w.sent) message kind ≡ true → ⊥
-  kind_sent kinds.BadMessage is = cc
   kind_sent kinds.UnknownTransaction is = unknown_sent table events w side message it is
   kind_sent kinds.ReusedId is = reused_sent table events w side message it is
   kind_sent kinds.AfterEnd is = after_end_sent table events w side message it is
   kind_sent kinds.AnswersNothing is = answers_nothing_sent table events w side message it is
   kind_sent kinds.WrongOperation is = wrong_operation_sent table events w side message it is
   kind_sent kinds.MisplacedDialogue is = misplaced_sent table events w side message it is
-  kind_sent kinds.WrongHalf is = cc
-  kind_sent kinds.WrongDialogue is = cc
-  kind_sent kinds.InvokeIdBusy is = cc
-  kind_sent kinds.BadLink is = cc
-  kind_sent kinds.AnsweredAlready is = cc
-  kind_sent kinds.RejectNotAllowed is = cc
-  kind_sent kinds.WrongReply is = cc
-  kind_sent kinds.OpenAtMark is = cc
+  kind_sent kind is = cc
 
 -- A provider's reply is an Abort with a cause,
 reply_aborts : (e : End) (m message : Message) → reply_to e m ≡ Some message
     → (id : List ℕ) × (cause : ℕ) × (message ≡ provider_abort id cause)
-reply_aborts e (Unidirectional dialogue components) message is = cc
 reply_aborts e (Begin otid dialogue components) message is = (otid, 4, sym ((cond_some _ _ message is).1))
 reply_aborts e (Continue otid dtid dialogue components) message is = (otid, 1, sym ((cond_some _ _ message is).1))
-reply_aborts e (EndMessage dtid dialogue components) message is = cc
-reply_aborts e (Abort dtid reason) message is = cc
+reply_aborts e m message is = cc
 
 -- and of that only one kind speaks, which it is not.
 abort_kind : (table : Table) (side : Side) (before : List Item) (id : List ℕ) (cause : ℕ) (kind : Kind)
     → is_of_kind table side before (Abort id (Some (Cause cause))) kind ≡ true → kind ≡ kinds.UnknownTransaction
-abort_kind table side before id cause kinds.BadMessage is = cc
 abort_kind table side before id cause kinds.UnknownTransaction is = refl
-abort_kind table side before id cause kinds.ReusedId is = cc
-abort_kind table side before id cause kinds.AfterEnd is = cc
-abort_kind table side before id cause kinds.AnswersNothing is = cc
-abort_kind table side before id cause kinds.WrongOperation is = cc
-abort_kind table side before id cause kinds.MisplacedDialogue is = cc
-abort_kind table side before id cause kinds.WrongHalf is = cc
-abort_kind table side before id cause kinds.WrongDialogue is = cc
-abort_kind table side before id cause kinds.InvokeIdBusy is = cc
-abort_kind table side before id cause kinds.BadLink is = cc
-abort_kind table side before id cause kinds.AnsweredAlready is = cc
-abort_kind table side before id cause kinds.RejectNotAllowed is = cc
-abort_kind table side before id cause kinds.WrongReply is = cc
-abort_kind table side before id cause kinds.OpenAtMark is = cc
+abort_kind table side before id cause kind is = cc
 
 kind_replied : (table : Table) (events : List Event) (w : World) (side : Side) (message : Message) (kind : Kind)
     → Runs table events w → RepliesIt w side message

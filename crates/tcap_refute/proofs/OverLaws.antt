@@ -6,7 +6,7 @@ use Rattle.tcap_parts.specs.declared.component.Component.{Component}
 use Rattle.tcap_parts.specs.declared.dialogue.Dialogue.{Dialogue}
 use Rattle.tcap_msg.specs.declared.message.AbortReason.{AbortReason}
 use Rattle.tcap_msg.specs.declared.message.Message.{Message}
-use Rattle.tcap_msg.specs.declared.message.Message.TheVariants.{Unidirectional, Begin, Continue, End as EndMessage, Abort}
+use Rattle.tcap_msg.specs.declared.message.Message.TheVariants.{Continue, End as EndMessage, Abort}
 use Rattle.tcap_msg.specs.Parts.{cause_in, components_in, dialogue_in, dtid_in, items_of, reason_cause, reason_dialogue}
 use Rattle.tcap_end.specs.declared.fault.EndFault.TheVariants as faults
 use Rattle.tcap_end.specs.declared.half.Phase.{Phase}
@@ -276,11 +276,10 @@ module _ (table : Table) (e made : End) (sound : IsEnd e) where
 
   -- A message with a destination ID that is sent is sent over such a half.
   pub over : (m : Message) (id : List ℕ) → send table e m ≡ Ok made → dtid_in m ≡ Some id → IsOver table e m id
-  over (Unidirectional dialogue components) id is to = cc
-  over (Begin otid dialogue components) id is to = cc
   over (Continue otid dtid dialogue components) id is to =
       let same : dtid ≡ id = cc in
       rw (← same) (continue_over otid dtid dialogue components (with_own e otid) refl is)
   over (EndMessage dtid dialogue components) id is to =
       let same : dtid ≡ id = cc in rw (← same) (end_over dtid dialogue components is)
   over (Abort dtid reason) id is to = let same : dtid ≡ id = cc in rw (← same) (abort_over dtid reason is)
+  over m id is to = cc

@@ -56,16 +56,7 @@ bad_reason (reasons.BadMessage fault) kind is = by (is_limit fault.reason) refl 
         × (is_limit f.reason ≡ false)
     by true so is = cc
     by false so is = (cc, fault, refl, so)
-bad_reason reasons.CertificateShape kind is = cc
-bad_reason reasons.FateCount kind is = cc
-bad_reason reasons.FateRange kind is = cc
-bad_reason reasons.OutOfOrder kind is = cc
-bad_reason reasons.BadReply kind is = cc
-bad_reason (reasons.SendRefused fault) kind is = cc
-bad_reason (reasons.HiddenRefused fault) kind is = cc
-bad_reason reasons.NotQuiet kind is = cc
-bad_reason reasons.NoItem kind is = cc
-bad_reason reasons.Memory kind is = cc
+bad_reason reason kind is = cc
 
 -- Behind these items, of which none has a kind, the entry that is named is at fault.
 at_fault_behind : (table : Table) (before : List Item) (more : List (Result Item Reason)) (r : Refutation)
@@ -144,9 +135,8 @@ bad_by_kind table entries r (inr it) = (
 -- as of an entry that is named, if one is.
 pub named_by_kind : {F : Type 0} (table : Table) (entries : List (Result Item Reason)) (found : Result (Option Refutation) F)
     → IfOk found (λ r. r ≡ refuted table entries) → IfOk found (λ r. IfSome r (IsBadByKind entries))
-named_by_kind table entries (Err fault) is = tt
-named_by_kind table entries (Ok None) is = tt
 named_by_kind table entries (Ok (Some r)) is = bad_by_kind table entries r (at_fault table entries r (sym is))
+named_by_kind table entries r is = tt
 
 -- ---- and so it is lawful by no certificate
 

@@ -1,5 +1,5 @@
 -- What is told of an ID is what its messages tell, and what a component is asked by that is what it is asked of them.
-use Rattle.std.proofs.Common.{◌≡◌, ℕ, ℤ, Bool, true, false, cond, not, ◌==◌, ◌&&◌, ◌||◌, List, [], ◌∷◌, filter, Some, None, is_some, refl, sym, ap, ap₂, ◌∙◌}
+use Rattle.std.proofs.Common.{◌≡◌, ℕ, ℤ, Bool, true, false, cond, not, ◌==◌, ◌&&◌, ◌||◌, List, [], ◌∷◌, filter, Some, is_some, refl, sym, ap, ap₂, ◌∙◌}
 use Rattle.std.proofs.Math.Path.{fun_ext}
 use Rattle.std.specs.List.{flat_map, list_any}
 use Rattle.std.proofs.lemmas.List.Folds.{list_any-append}
@@ -81,8 +81,7 @@ module _ (table : Table) (messages : List Message) where
   has_id id (Invoke other linked code parameter) =
       sym (or_none (is_invoke_id id other || false)) ∙ sym (or_none (is_invoke_id id other))
   has_id id (ReturnResult last other body) = sym (or_none (is_invoke_id id other))
-  has_id id (ReturnError other code parameter) = refl
-  has_id id (Reject other problem) = refl
+  has_id id c = refl
 
   come : (id : ℤ) → has_come (told_of table messages) id ≡ list_any (is_of_id id) (components_of messages)
   come id =
@@ -95,35 +94,31 @@ module _ (table : Table) (messages : List Message) where
 
   answers_of : (c : Component)
       → answers_none false (told_of table messages) c ≡ answers_none_of (components_of messages) c
-  answers_of (Invoke id linked code parameter) = refl
   answers_of (ReturnResult last id body) = ap not (told_id id Invoked)
   answers_of (ReturnError id code parameter) = ap not (told_id id Invoked)
-  answers_of (Reject None problem) = refl
-  answers_of (Reject (Some id) (problems.General n)) = refl
   answers_of (Reject (Some id) (problems.Invoke n)) = ap not (told_id id Invoked)
   answers_of (Reject (Some id) (problems.ReturnResult n)) = ap not (told_id id (Answered true))
   answers_of (Reject (Some id) (problems.ReturnError n)) = ap not (told_id id (Answered false))
+  answers_of c = refl
 
   answers_asked : (of_one : Bool) (c : Component)
       → answers_none of_one (told_of table messages) c
       ≡ cond of_one (answers_none_there (components_of messages) c) (answers_none_of (components_of messages) c)
   answers_asked false c = answers_of c
-  answers_asked true (Invoke id linked code parameter) = refl
   answers_asked true (ReturnResult last id body) = answers_of (ReturnResult last id body)
   answers_asked true (ReturnError id code parameter) = answers_of (ReturnError id code parameter)
-  answers_asked true (Reject None problem) = refl
   answers_asked true (Reject (Some id) (problems.General n)) = ap (λ b. not ((n == 1 || n == 2) && b)) (come id)
   answers_asked true (Reject (Some id) (problems.Invoke n)) = answers_of (Reject (Some id) (problems.Invoke n))
   answers_asked true (Reject (Some id) (problems.ReturnResult n)) =
       answers_of (Reject (Some id) (problems.ReturnResult n))
   answers_asked true (Reject (Some id) (problems.ReturnError n)) = answers_of (Reject (Some id) (problems.ReturnError n))
+  answers_asked true c = refl
 
   allowed : (c : Component)
       → is_not_allowed (told_of table messages) c ≡ no_class_allows table (components_of messages) c
-  allowed (Invoke id linked code parameter) = refl
   allowed (ReturnResult last id body) = ap not (told_id id (Succeeds _))
   allowed (ReturnError id code parameter) = ap not (told_id id Fails)
-  allowed (Reject id problem) = refl
+  allowed c = refl
 
   -- Whether one is of a wrong operation.
   wrong_asked : (c : Component)
@@ -159,11 +154,10 @@ module _ (table : Table) (items : List Item) (side : Side) where
 
   answering_is : (of_one : Bool) (m : Message) (c : Component)
       → passes table (there m) (answer_test of_one (kind_in m)) c ≡ answers_nothing_in of_one side (since_quiet items) m c
-  answering_is of_one (Unidirectional dialogue components) c = refl
-  answering_is of_one (Begin otid dialogue components) c = refl
   answering_is of_one (Continue otid dtid dialogue components) c = answers_to of_one dtid c
   answering_is of_one (EndMessage dtid dialogue components) c = answers_to of_one dtid c
   answering_is of_one (Abort dtid reason) c = answers_to of_one dtid c
+  answering_is of_one m c = refl
 
   wrong_is : (m : Message) (c : Component)
       → passes table (there m) (operation_test (kind_in m)) c ≡ is_wrong_in table side (since_quiet items) m c
@@ -204,7 +198,6 @@ one_answers false side items (Abort dtid reason) = refl
 
 one_wrong : (table : Table) (side : Side) (items : List Item) (m : Message)
     → list_any (is_wrong_in table side items m) (components_in m) ≡ is_wrong_operation table side items m
-one_wrong table side items (Unidirectional dialogue components) = refl
 one_wrong table side items (Begin otid dialogue components) =
     sym (same_any _ _ (components_in (Begin otid dialogue components)) (λ c. or_none (is_unknown_operation table c)))
     ∙ or_none _
@@ -212,7 +205,7 @@ one_wrong table side items (Continue otid dtid dialogue components) =
     sym (any_or (is_unknown_operation table) _ (components_in (Continue otid dtid dialogue components)))
 one_wrong table side items (EndMessage dtid dialogue components) =
     sym (any_or (is_unknown_operation table) _ (components_in (EndMessage dtid dialogue components)))
-one_wrong table side items (Abort dtid reason) = refl
+one_wrong table side items m = refl
 
 module _ (table : Table) (items : List Item) (side : Side) (m : Message) where
   pub answering : (of_one : Bool)

@@ -8,7 +8,7 @@ use Rattle.tcap_parts.specs.declared.component.Component.{Component}
 use Rattle.tcap_parts.specs.declared.dialogue.Dialogue.{Dialogue}
 use Rattle.tcap_msg.specs.declared.kind.Kind.TheVariants as forms
 use Rattle.tcap_msg.specs.declared.message.Message.{Message}
-use Rattle.tcap_msg.specs.declared.message.Message.TheVariants.{Unidirectional, Begin, Continue, End as EndMessage, Abort}
+use Rattle.tcap_msg.specs.declared.message.Message.TheVariants.{Begin, Continue, End as EndMessage, Abort}
 use Rattle.tcap_msg.specs.Parts.{cause_in, dtid_in, otid_in, reason_cause}
 use Rattle.tcap_record.specs.declared.entry.End.{End as Side}
 use Rattle.tcap_end.specs.declared.fault.EndFault.TheVariants as faults
@@ -61,11 +61,9 @@ both_pass false b is = cc
 -- A message with that originating ID has its half.
 uses_own : (w : World) (side : Side) (otid : List ℕ) (m : Message) → HasUsed w side m → otid_in m ≡ Some otid
     → (f : KeptHalf) × Has (end_at side w) f × (f.half.own ≡ Some otid)
-uses_own w side otid (Unidirectional dialogue components) used from = cc
 uses_own w side otid (Begin id dialogue components) (f, had, own) from = (f, had, own ∙ from)
 uses_own w side otid (Continue id dtid dialogue components) (f, had, own, peer) from = (f, had, own ∙ from)
-uses_own w side otid (EndMessage dtid dialogue components) used from = cc
-uses_own w side otid (Abort dtid reason) used from = cc
+uses_own w side otid m used from = cc
 
 -- At one place an end has one half.
 pub one_half : (e : End) (f g : KeptHalf) → Has e f → Has e g → IsSame f g → g.half ≡ f.half
@@ -96,14 +94,11 @@ module _ (table : Table) (w : World) (side : Side) (made : End) (otid dtid : Lis
 
   -- So none was sent to another.
   goes_nowhere_else : (m : Message) → HasUsed w side m → goes_elsewhere otid dtid m ≡ true → ⊥
-  goes_nowhere_else (Unidirectional d c) used goes = cc
-  goes_nowhere_else (Begin id d c) used goes = cc
   goes_nowhere_else (Continue id to d c) (f, had, own, peer) goes =
       let (from, elsewhere) = and_parts (is_id otid (Some id)) (not (is_id dtid (Some to))) goes in
       let same = continue_goes to f had (own ∙ id_is otid (Some id) from) peer in
       both_ways (is_id dtid (Some to)) (not-true _ elsewhere) (is_that_id dtid (Some to) (ap Some (sym same)))
-  goes_nowhere_else (EndMessage id d c) used goes = cc
-  goes_nowhere_else (Abort id reason) used goes = cc
+  goes_nowhere_else m used goes = cc
 
 -- ---- a message that an end sends
 
@@ -129,11 +124,10 @@ module _ (table : Table) (events : List Event) (w : World) (side : Side) where
   -- It is to a transaction that the peer spoke of.
   pub unknown_sent : (message : Message) → IsSent table events w side message
       → is_unknown_transaction side (since_quiet w.sent) message ≡ true → ⊥
-  unknown_sent (Unidirectional dialogue components) it is = cc
-  unknown_sent (Begin otid dialogue components) it is = cc
   unknown_sent (Continue otid dtid dialogue components) it is = unknown_to dtid it refl is
   unknown_sent (EndMessage dtid dialogue components) it is = unknown_to dtid it refl is
   unknown_sent (Abort dtid reason) it is = unknown_to dtid it refl is
+  unknown_sent m it is = cc
 
   -- A Begin is from an ID that no half has.
   begin_sent : (otid : List ℕ) (dialogue : Option Dialogue) (components : Option (List Component))
@@ -157,21 +151,18 @@ module _ (table : Table) (events : List Event) (w : World) (side : Side) where
   -- It reuses no ID.
   pub reused_sent : (message : Message) → IsSent table events w side message
       → is_reused side (since_quiet w.sent) message ≡ true → ⊥
-  reused_sent (Unidirectional dialogue components) it is = cc
   reused_sent (Begin otid dialogue components) it is = begin_sent otid dialogue components it is
   reused_sent (Continue otid dtid dialogue components) it is = continue_sent otid dtid dialogue components it is
-  reused_sent (EndMessage dtid dialogue components) it is = cc
-  reused_sent (Abort dtid reason) it is = cc
+  reused_sent m it is = cc
 
   -- It does not follow the end of its dialogue.
   pub after_end_sent : (message : Message) → IsSent table events w side message
       → is_after_end side (since_quiet w.sent) message ≡ true → ⊥
-  after_end_sent (Unidirectional dialogue components) it is = cc
-  after_end_sent (Begin otid dialogue components) it is = cc
   after_end_sent (Continue otid dtid dialogue components) it is = ended_to dtid it refl is
   after_end_sent (EndMessage dtid dialogue components) it is = ended_to dtid it refl is
   after_end_sent (Abort dtid reason) it is =
       ended_to dtid it refl (both_pass (is_none (reason_cause reason)) _ is)
+  after_end_sent m it is = cc
 
 -- ---- a message that a provider replies
 
@@ -179,7 +170,6 @@ module _ (table : Table) (events : List Event) (w : World) (side : Side) where
 module _ (table : Table) (events : List Event) (w : World) (side : Side) (message : Message)
     (is : is_unknown_transaction side (since_quiet w.sent) message ≡ true) where
   answers_sent : (m : Message) → SentSince (other side) m w.sent → reply_to (end_at side w) m ≡ Some message → ⊥
-  answers_sent (Unidirectional dialogue components) since replied = cc
   answers_sent (Begin otid dialogue components) since replied =
       let m = Begin otid dialogue components in
       let messages = asked side otid (since_quiet w.sent) in
@@ -192,8 +182,7 @@ module _ (table : Table) (events : List Event) (w : World) (side : Side) (messag
       let has = asked_has side otid m w.sent since refl in
       let abort : provider_abort otid 1 ≡ message = (cond_some _ _ message replied).1 in
       answers_one 1 messages m has (ap not (any_has (is_a forms.Continue) messages m has refl)) (rw (← abort) at is)
-  answers_sent (EndMessage dtid dialogue components) since replied = cc
-  answers_sent (Abort dtid reason) since replied = cc
+  answers_sent m since replied = cc
 
 pub unknown_replied : (table : Table) (events : List Event) (w : World) (side : Side) (message : Message)
     → Runs table events w → RepliesIt w side message

@@ -1,4 +1,5 @@
 use Rattle.std.proofs.lemmas.Result.{on_ok_weaker}
+use Rattle.tcap_msg.specs.Parts.{dtid_in, otid_in}
 use Rattle.tcap_faults.specs.Kept.{sent_from, sent_to}
 use Rattle.tcap_faults.proofs.SentLaws.{from_was, own_sent, peer_sent, to_was}
 use Rattle.tcap_faults.proofs.noting.note_sent.Goals as goal
@@ -12,13 +13,13 @@ returns g c = λ side items was their are.
     let peer = c.args.peer.now in
     let one = c.note_joined.new.own in
     let there = c.note_joined.new.peer in
-    on_ok_weaker c.note_to.result
+    on_ok_weaker c.note_at-2.result
     (λ tos. (
-      own_sent table side items m own peer was their one there joined c.note_from.new.from c.note_to.new.to
+      own_sent table side items m own peer was their one there joined c.note_at.new.map c.note_at-2.new.map
           c.note_guessed.new.guessed c.insert_some.new.set c.args.effects.again c.closed_by-closed.result
-          (c.in_ok-note_from.ensures (sent_from side items) (from_was table side items m own peer was their one there joined))
+          (c.in_ok-note_at.ensures otid_in (sent_from side items) c.otid.ensures (from_was table side items m own peer was their one there joined))
           tos are.again (λ id. c.closed_by-closed.ensures table side items id was their) c.in_ok-insert_some.ensures
           (c.in_ok-note_guessed.ensures table side items are),
       peer_sent table side items m own peer was their one there joined,
     ))
-    (c.note_to.ensures (sent_to side items) (to_was table side items m own peer was their one there joined))
+    (c.note_at-2.ensures dtid_in (sent_to side items) c.dtid.ensures (to_was table side items m own peer was their one there joined))

@@ -3,8 +3,8 @@ use Rattle.tcap_refute.specs.Before.{since_quiet}
 use Rattle.tcap_faults.specs.Tangled.{goes_over_tangled}
 use Rattle.tcap_faults.specs.UsedAgain.{has_used_again, uses_again}
 use Rattle.tcap_faults.proofs.FewLaws.{still_roomy}
-use Rattle.tcap_faults.proofs.KeptLaws.{first_fault, first_so, further_fault, no_fault, none_so, second_so, third_so}
-use Rattle.tcap_faults.proofs.facts.Facts.fault_of.Goals.{then-ends-via-then-ends, then-ends-via-else-ends+then-effects, then-ends-via-else-ends+else-effects+then-goes_over_tangled}
+use Rattle.tcap_faults.proofs.KeptLaws.{first_fault, first_so, further_fault, no_fault, none_so, second_so, third_so, over}
+use Rattle.tcap_faults.proofs.facts.Facts.fault_of.Goals.{then-ends-via-then-ends, then-ends-via-else-ends+then-effects, then-ends-via-else-ends+else-effects+then-is_some}
 use Rattle.tcap_faults.proofs.facts.Facts.fault_of.Goals as goal
 
 pub returns-then-ends : goal.returns-then-ends
@@ -19,8 +19,8 @@ returns-then-ends g c = λ items are roomy found effects.
       | then-ends-via-then-ends w ↦ first_so (has_used_again table side xs) (uses_again table side xs m) _ (sym own.again ∙ w.if-ends.true)
       | then-ends-via-else-ends+then-effects w ↦
           second_so (has_used_again table side xs) (uses_again table side xs m) _ (sym effects.again ∙ w.if-effects.true)
-      | then-ends-via-else-ends+else-effects+then-goes_over_tangled w ↦
-          third_so (has_used_again table side xs) (uses_again table side xs m) _ (sym (w.goes_over_tangled.ensures table side xs m own peer found) ∙ w.if-goes_over_tangled.true)
+      | then-ends-via-else-ends+else-effects+then-is_some w ↦
+          third_so (has_used_again table side xs) (uses_again table side xs m) _ (over table side xs m w.tangled_in.result w.is_some.result (w.tangled_in.ensures table xs m own peer found) w.is_some.ensures ∙ w.if-is_some.true)
     ] in
     no_fault table side xs m so
 
@@ -34,7 +34,7 @@ returns-in-Some g c = λ items are roomy found effects.
     first_fault table side xs m c.in-Some.kind
     (none_so (has_used_again table side xs) (uses_again table side xs m) _ (sym own.again ∙ c.if-ends.false)
     (sym effects.again ∙ c.if-effects.false)
-    (sym (c.goes_over_tangled.ensures table side xs m own peer found) ∙ c.if-goes_over_tangled.false))
+    (over table side xs m c.tangled_in.result c.is_some.result (c.tangled_in.ensures table xs m own peer found) c.is_some.ensures ∙ c.if-is_some.false))
     (c.in-Some.ensures side items found)
 
 pub returns-in-None : goal.returns-in-None
@@ -44,7 +44,7 @@ returns-in-None g c = λ items are roomy found effects.
     let side = c.args.side in
     let xs = since_quiet items in
     let (own, peer) = c.ends-ends.ensures table items are in
-    let plain = sym (c.goes_over_tangled.ensures table side xs m own peer found) ∙ c.if-goes_over_tangled.false in
+    let plain = over table side xs m c.tangled_in.result c.is_some.result (c.tangled_in.ensures table xs m own peer found) c.is_some.ensures ∙ c.if-is_some.false in
     further_fault table side xs m c.further_kind.result
     (none_so (has_used_again table side xs) (uses_again table side xs m) _ (sym own.again ∙ c.if-ends.false)
     (sym effects.again ∙ c.if-effects.false) plain)

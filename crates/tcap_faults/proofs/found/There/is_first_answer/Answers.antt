@@ -20,10 +20,7 @@ use Rattle.tcap_faults.proofs.found.There.is_first_answer.Goals as goal
 
 is_so : (how : How) → false ≡ not (sameb the_type how hows.Accepted) → is_accepted how ≡ true
 is_so hows.Accepted same = refl
-is_so hows.Refused same = cc
-is_so hows.Begun same = cc
-is_so hows.Unanswered same = cc
-is_so hows.Nowhere same = cc
+is_so how same = cc
 
 -- What is kept of the first own ID tells whether a Continue was told.
 is_first : (side : Side) (items : List Item) (id : List ℕ) (h : HalfOf) (first : Option (List ℕ))

@@ -1,6 +1,7 @@
 use Rattle.std.proofs.Common.{◌≡◌, rules, sym}
 use Rattle.std.specs.Prelude.{filter}
 use Rattle.std.proofs.lemmas.Result.{on_ok_weaker}
+use Rattle.tcap_msg.specs.Parts.{dtid_in}
 use Rattle.tcap_faults.specs.Told.{goes_on_to}
 use Rattle.tcap_faults.specs.Kept.{dtids_of}
 use Rattle.tcap_faults.specs.Tallied.{sum}
@@ -20,6 +21,6 @@ returns-clause-from g c = λ ms it was.
           (w.in_ok-add.ensures (dtids_of ms) was.to))
       | in_default w ↦ rw w.self-is (continued_nowhere table ms m old was it _ counted (sym w.in_default.ensures))
     ] in
-    on_ok_weaker c.note_came.result
-    (from_continue table ms m old was it c.match-dtid.self c.note_came.new.came noted)
-    (c.note_came.ensures (λ own. filter (goes_on_to own) ms) (rw noted.came was.came))
+    on_ok_weaker c.note_at.result
+    (from_continue table ms m old was it c.match-dtid.self c.note_at.new.map noted)
+    (c.note_at.ensures dtid_in (λ own. filter (goes_on_to own) ms) c.dtid-2.ensures (rw noted.came was.came))

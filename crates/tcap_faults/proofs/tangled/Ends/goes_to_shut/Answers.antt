@@ -2,14 +2,15 @@ use Rattle.std.proofs.Common.{ℕ, List, Bool, not, refl, sym, ap, ◌∙◌}
 use Rattle.std.specs.List.{list_any}
 use Rattle.tcap_faults.specs.Closed.{is_surely_open}
 use Rattle.tcap_faults.specs.Ids.{ids_kept}
-use Rattle.tcap_faults.proofs.MarkLaws.{any_first, any_kept_of, any_last, any_next, first_so, others_so}
+use Rattle.tcap_faults.proofs.JoinedLaws.{any_kept}
+use Rattle.tcap_faults.proofs.MarkLaws.{any_first, any_last, any_next, first_so, others_so}
 use Rattle.tcap_faults.proofs.tangled.Ends.goes_to_shut.Goals as goal
 
 pub returns-in_default : goal.returns-in_default
 returns-in_default c = λ side items those own_is peer_is are.
     let shut : List ℕ → Bool = λ own. not (is_surely_open c.args.table.now side items own) in
     ap (λ first. list_any shut (ids_kept first c.args.ids.now.more.items)) (sym c.in_default.is)
-    ∙ any_kept_of shut those c.args.ids.now are
+    ∙ any_kept shut those c.args.ids.now are
 
 pub returns-then-not-is_surely_open : goal.returns-then-not-is_surely_open
 returns-then-not-is_surely_open c = λ side items those own_is peer_is are.

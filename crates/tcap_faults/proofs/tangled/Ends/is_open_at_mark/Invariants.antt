@@ -2,7 +2,6 @@
 use Rattle.std.proofs.Common.{◌≡◌, ℕ, List}
 use Rattle.std.specs.Prelude.{Contains}
 use Rattle.std.specs.List.{list_any}
-use Rattle.tcap_record.specs.declared.entry.End.{End as Side}
 use Rattle.tcap_record.specs.Ends.{other}
 use Rattle.tcap_model.specs.World.{Item}
 use Rattle.tcap_faults.specs.declared.sent_from.SentFrom.{SentFrom}
@@ -13,8 +12,8 @@ use Rattle.tcap_faults.proofs.tangled.Ends.is_open_at_mark.Given as goal
 abbrev pub invariant-loop-own : goal.invariant-loop-own
 invariant-loop-own l = record {
   kept : (e : List ℕ × SentFrom) → Contains l.own-iterator e → Contains l.self.own.now.from.entries e;
-  left : (side : Side) (items : List Item) → IsSide l.table side items l.self.own.now
-      → IsSide l.table (other side) items l.self.peer.now
-      → list_any (leaves l.table side items) l.own-iterator
-      ≡ list_any (leaves l.table side items) l.self.own.now.from.entries;
+  left : (items : List Item) → IsSide l.table l.end items l.self.own.now
+      → IsSide l.table (other l.end) items l.self.peer.now
+      → list_any (leaves l.table l.end items) l.own-iterator
+      ≡ list_any (leaves l.table l.end items) l.self.own.now.from.entries;
 }

@@ -4,12 +4,11 @@ use Rattle.tcap_faults.proofs.FirstTangled.{first_none_of, first_one_of}
 use Rattle.tcap_faults.proofs.tangled.Ends.tangled_behind.Goals as goal
 
 pub returns-in-Some : goal.returns-in-Some
-returns-in-Some c = λ table side items own_is peer_is same.
-    c.tangled_peer.ensures table side items own_is peer_is
-    ∙ first_one_of c.args.peer (tangle_of_peer side items) (peers_of side items c.args.own.now) c.in-Some.joined
-    (c.in-Some.ensures table side items own_is peer_is) same
+returns-in-Some c = λ table side items id own_is peer_is is same.
+    c.tangled_peer.ensures table side items c.in-Some.joined own_is peer_is (c.there.ensures table side items own_is peer_is)
+    ∙ first_one_of c.args.peer (tangle_of_peer side items) (peers_of side items id) c.in-Some.joined
+    (c.in-Some.ensures table side items id is) same
 
 pub returns-in-None : goal.returns-in-None
-returns-in-None c = λ table side items own_is peer_is same.
-    first_none_of c.args.peer (tangle_of_peer side items) (peers_of side items c.args.own.now)
-    (c.in-None.ensures table side items own_is peer_is)
+returns-in-None c = λ table side items id own_is peer_is is same.
+    first_none_of c.args.peer (tangle_of_peer side items) (peers_of side items id) (c.in-None.ensures table side items id is)

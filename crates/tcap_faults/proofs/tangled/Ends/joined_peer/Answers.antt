@@ -1,5 +1,0 @@
-use Rattle.tcap_faults.proofs.tangled.Ends.joined_peer.Goals as goal
-
-pub returns : goal.returns
-returns c = λ table side items own_is peer_is.
-    c.joined.ensures table side items c.args.own.now (c.own_at.ensures table side items own_is peer_is)
