@@ -1,36 +1,32 @@
 -- A gap of both ends, and of one: what is listed of that end and what is delivered to it happens in both, and the rest
 -- is not seen.
-use Rattle.std.proofs.Common.{◌≡◌, ℕ, ◌+◌, ℤ, ◌==◌, Bool, true, false, cond, List, [], ◌∷◌, filter, length, Some, Result, Ok, option_map, refl, sym, ap, subst, ◌∙◌, None}
-use Rattle.std.specs.Prelude.{◌&&◌, ok_or, slice_get}
-use Rattle.tcap_msg.specs.declared.message.Message.TheVariants.{Unidirectional, Begin, Continue, End as EndMessage, Abort}
-use Rattle.tcap_msg.specs.Parts.{components_in}
+use Rattle.std.proofs.Common.{◌≡◌, ℕ, ◌+◌, ℤ, ◌==◌, Bool, true, false, cond, List, [], ◌∷◌, length, Some, Result, Ok, option_map, refl, sym, ap, subst, ◌∙◌, None}
+use Rattle.std.specs.Prelude.{◌&&◌, ok_or}
 use Rattle.tcap_record.specs.declared.entry.End.{End as Side}
 use Rattle.tcap_record.specs.declared.entry.End.TheVariants.{A, B}
-use Rattle.tcap_end.specs.declared.fault.EndFault.TheVariants as faults
 use Rattle.tcap_end.specs.declared.half.HalfName.{HalfName}
-use Rattle.tcap_end.specs.declared.half.HalfName.TheVariants as names
 use Rattle.tcap_end.specs.Table.{Table}
 use Rattle.tcap_end.specs.Step.{◌>>=◌}
 use Rattle.tcap_end.proofs.AnsweringLaws.{ok_same, some_ok, then_ok}
-use Rattle.tcap_certificate.specs.declared.certificate.Closing.{Closing}
-use Rattle.tcap_certificate.specs.declared.certificate.Expiry.{Expiry}
 use Rattle.tcap_certificate.specs.declared.certificate.Fate.{Fate}
 use Rattle.tcap_certificate.specs.declared.certificate.Fate.TheVariants.{Gap, Lost, By}
 use Rattle.tcap_certificate.specs.declared.fault.CheckFault.{CheckFault}
 use Rattle.tcap_model.specs.declared.reason.Reason.{Reason}
-use Rattle.tcap_model.specs.declared.reason.Reason.TheVariants.{BadReply, FateRange, HiddenRefused}
+use Rattle.tcap_model.specs.declared.reason.Reason.TheVariants.{BadReply, FateRange}
 use Rattle.tcap_record.specs.Ends.{other}
 use Rattle.tcap_model.specs.World.{Item, Sent, World, is_side, with_channel, with_end}
-use Rattle.tcap_model.specs.Run.{Event, Receives, Expires, Closes, after, then_so}
+use Rattle.tcap_model.specs.Run.{Event, Receives, Expires, Closes, after}
 use Rattle.tcap_certificate.specs.Certificate.{Certificate}
-use Rattle.tcap_model.specs.Since.{originating}
-use Rattle.tcap_certificate.specs.Follows.{closing_by, closing_event, expiry_by, expiry_event, half_begun, invoke_id, losses_from, named_entry}
-use Rattle.tcap_certificate.specs.Replayed.{Replay, closings_replayed, deliveries_by, delivery_by, expiries_replayed, fault_at, gap_by, happens, heard, lost_before, lost_from_front, next_entry, stepped}
-use Rattle.tcap_check.proofs.DescribedGaps.{ok_some, ok_then}
+use Rattle.tcap_certificate.specs.Follows.{losses_from}
+use Rattle.tcap_certificate.specs.Replayed.{Replay, deliveries_by, delivery_by, fault_at, gap_by, happens, heard, lost_before, lost_from_front, next_entry, stepped}
+use Rattle.tcap_check.proofs.DescribedGaps.{ok_some}
 use Rattle.tcap_model.proofs.RunLaws.{same_side}
-use Rattle.tcap_model.proofs.RunLaws.{closing, delivery, expiry, some_is, then_some, where_some}
+use Rattle.tcap_model.proofs.RunLaws.{closing, delivery, expiry}
 use Rattle.tcap_check.proofs.AloneMirrors.{Mirrors, Reflects, front_mirrors, own_front_mirrors, reflects_then, reflects_this, same_sent, seen_step, unseen_step}
 use Rattle.tcap_check.proofs.AloneViews.{seen_by, seen_closing, seen_delivery, seen_expiry, unseen_channel, unseen_end}
+use Rattle.tcap_check.specs.declared.listed.Listed.{Listed}
+use Rattle.tcap_check.specs.Listed.{all_replayed, entry_of, event_listed, listed_for, listed_in, listed_judged, listed_replayed, side_of, why_refused}
+use Rattle.tcap_check.proofs.ListedLaws.{gap_is_listed, gap_parts, judged_all, listed_so}
 
 -- ---- what is listed
 
@@ -65,33 +61,6 @@ hidden_expiry table place name id = record {
 }
 
 -- That is what is listed.
-closing_hidden : (table : Table) (items : List Item) (x : Closing) (event : Event) → closing_event items x ≡ Some event
-    → IsHiddenOf table x.side event
-closing_hidden table items x event is =
-    let found = then_some (named_entry items x.gap x.entry) (closing_by x) event is in by found.0 found.2
-  where
-    by : (item : Item) → closing_by x item ≡ Some event → IsHiddenOf table x.side event
-    by (Sent sender (Begin otid dialogue components)) e =
-        subst (IsHiddenOf table x.side) (some_is e) (hidden_closing table x.side (half_begun x.side sender otid))
-    by (Sent sender (Unidirectional dialogue components)) e = cc
-    by (Sent sender (Continue otid dtid dialogue components)) e = cc
-    by (Sent sender (EndMessage dtid dialogue components)) e = cc
-    by (Sent sender (Abort dtid reason)) e = cc
-    by Item.Quiet e = cc
-
-expiry_hidden : (table : Table) (items : List Item) (x : Expiry) (event : Event) → expiry_event items x ≡ Some event
-    → IsHiddenOf table x.side event
-expiry_hidden table items x event is =
-    let found = then_some (named_entry items x.gap x.entry) (expiry_by x) event is in by found.0 found.2
-  where
-    by : (item : Item) → expiry_by x item ≡ Some event → IsHiddenOf table x.side event
-    by (Sent sender message) e =
-        let so = where_some (is_side x.side sender) _ event e in
-        let name = then_some (originating message) _ event so.1 in
-        let id = then_some (then_so (slice_get (components_in message) x.component) invoke_id) _ event name.2 in
-        subst (IsHiddenOf table x.side) (some_is id.2) (hidden_expiry table x.side (names.Own name.0) id.0)
-    by Item.Quiet e = cc
-
 pub other_side : (side place : Side) → is_side side place ≡ false → place ≡ other side
 other_side A A is = cc
 other_side A B is = refl
@@ -130,69 +99,30 @@ listed_step side table c place event reason entry r next s hidden is mirrors = b
     by false same = unseen_step side table event r next s (hidden.none (other side)) step
         (λ w at. hidden.unseen side (other_side side place same) r.world w at) mirrors
 
-closings_reflect : (side : Side) (table : Table) (c : Certificate) (listed : List Closing) (r next s : Replay)
-    → closings_replayed table c listed r ≡ Ok next → Mirrors side r s
-    → Reflects side next (closings_replayed table c (filter (λ x. is_side side x.side) listed) s)
-closings_reflect side table c [] r next s is mirrors =
+listed_reflect : (side : Side) (table : Table) (c : Certificate) (listed : List Listed) (r next s : Replay)
+    → all_replayed table c listed r ≡ Ok next → Mirrors side r s
+    → Reflects side next (all_replayed table c (listed_judged (Some side) listed) s)
+listed_reflect side table c [] r next s is mirrors =
     reflects_this side next s (subst (λ (x : Replay). Mirrors side x s) (ok_same {F = CheckFault} r next is) mirrors)
-closings_reflect side table c (x ∷ more) r next s is mirrors =
-    let found = then_ok (ok_or (closing_event r.world.sent x) (fault_at FateRange x.entry)) _ next is in
-    let event = some_ok (closing_event r.world.sent x) (fault_at FateRange x.entry) found.0 found.1 in
-    let then = then_ok (happens table c found.0 (HiddenRefused faults.CannotClose) x.entry r) _ next found.2 in
-    let one = listed_step side table c x.side found.0 (HiddenRefused faults.CannotClose) x.entry r then.0 s
-    (closing_hidden table r.world.sent x found.0 event) then.1 mirrors in
-    by found.0 (ap (λ (items : List Item). closing_event items x) (same_sent side r s mirrors) ∙ event) then.0
-    (λ v on. closings_reflect side table c more then.0 next v then.2 on) (is_side side x.side) one
+listed_reflect side table c (x ∷ more) r next s is mirrors =
+    let then = then_ok (listed_replayed table c x r) (all_replayed table c more) next is in
+    let found = then_ok (ok_or (event_listed r.world.sent x) (fault_at FateRange (entry_of x))) _ then.0 then.1 in
+    let event = some_ok (event_listed r.world.sent x) (fault_at FateRange (entry_of x)) found.0 found.1 in
+    let one = listed_step side table c (side_of x) found.0 (why_refused x) (entry_of x) r then.0 s
+    (listed_so (IsHiddenOf table (side_of x)) r.world.sent x (hidden_closing table (side_of x)) (hidden_expiry table (side_of x)) found.0 event)
+    found.2 mirrors in
+    let same : listed_replayed table c x s ≡ happens table c found.0 (why_refused x) (entry_of x) s =
+    rw (ap (λ (items : List Item). event_listed items x) (same_sent side r s mirrors) ∙ event) refl in
+    by then.0 (λ v on. listed_reflect side table c more then.0 next v then.2 on) (is_side side (side_of x))
+    (subst (λ (answer : Result Replay CheckFault). IsListed side then.0 s answer (is_side side (side_of x))) (sym same) one)
   where
-    mine : List Closing
-    mine = filter (λ (y : Closing). is_side side y.side) more
+    mine : List Listed
+    mine = listed_judged (Some side) more
 
-    by : (event : Event) → closing_event s.world.sent x ≡ Some event → (mid : Replay)
-        → ((v : Replay) → Mirrors side mid v → Reflects side next (closings_replayed table c mine v)) → (b : Bool)
-        → IsListed side mid s (happens table c event (HiddenRefused faults.CannotClose) x.entry s) b
-        → Reflects side next (closings_replayed table c (cond b (x ∷ mine) mine) s)
-    by event at mid on false one = on s one
-    by event at mid on true one =
-        let rest = reflects_then side mid next (happens table c event (HiddenRefused faults.CannotClose) x.entry s)
-        (closings_replayed table c mine) one on in
-        record {
-          made = rest.made;
-          is = ok_then (ok_or (closing_event s.world.sent x) (fault_at FateRange x.entry)) _ event rest.made
-              (ok_some (closing_event s.world.sent x) (fault_at FateRange x.entry) event at) rest.is;
-          mirrors = rest.mirrors;
-        }
-
-expiries_reflect : (side : Side) (table : Table) (c : Certificate) (listed : List Expiry) (r next s : Replay)
-    → expiries_replayed table c listed r ≡ Ok next → Mirrors side r s
-    → Reflects side next (expiries_replayed table c (filter (λ x. is_side side x.side) listed) s)
-expiries_reflect side table c [] r next s is mirrors =
-    reflects_this side next s (subst (λ (x : Replay). Mirrors side x s) (ok_same {F = CheckFault} r next is) mirrors)
-expiries_reflect side table c (x ∷ more) r next s is mirrors =
-    let found = then_ok (ok_or (expiry_event r.world.sent x) (fault_at FateRange x.entry)) _ next is in
-    let event = some_ok (expiry_event r.world.sent x) (fault_at FateRange x.entry) found.0 found.1 in
-    let then = then_ok (happens table c found.0 (HiddenRefused faults.CannotExpire) x.entry r) _ next found.2 in
-    let one = listed_step side table c x.side found.0 (HiddenRefused faults.CannotExpire) x.entry r then.0 s
-    (expiry_hidden table r.world.sent x found.0 event) then.1 mirrors in
-    by found.0 (ap (λ (items : List Item). expiry_event items x) (same_sent side r s mirrors) ∙ event) then.0
-    (λ v on. expiries_reflect side table c more then.0 next v then.2 on) (is_side side x.side) one
-  where
-    mine : List Expiry
-    mine = filter (λ (y : Expiry). is_side side y.side) more
-
-    by : (event : Event) → expiry_event s.world.sent x ≡ Some event → (mid : Replay)
-        → ((v : Replay) → Mirrors side mid v → Reflects side next (expiries_replayed table c mine v)) → (b : Bool)
-        → IsListed side mid s (happens table c event (HiddenRefused faults.CannotExpire) x.entry s) b
-        → Reflects side next (expiries_replayed table c (cond b (x ∷ mine) mine) s)
-    by event at mid on false one = on s one
-    by event at mid on true one =
-        let rest = reflects_then side mid next (happens table c event (HiddenRefused faults.CannotExpire) x.entry s)
-        (expiries_replayed table c mine) one on in
-        record {
-          made = rest.made;
-          is = ok_then (ok_or (expiry_event s.world.sent x) (fault_at FateRange x.entry)) _ event rest.made
-              (ok_some (expiry_event s.world.sent x) (fault_at FateRange x.entry) event at) rest.is;
-          mirrors = rest.mirrors;
-        }
+    by : (mid : Replay) → ((v : Replay) → Mirrors side mid v → Reflects side next (all_replayed table c mine v)) → (b : Bool)
+        → IsListed side mid s (listed_replayed table c x s) b → Reflects side next (all_replayed table c (cond b (x ∷ mine) mine) s)
+    by mid on false one = on s one
+    by mid on true one = reflects_then side mid next (listed_replayed table c x s) (all_replayed table c mine) one on
 
 -- ---- deliveries
 
@@ -271,26 +201,20 @@ deliveries_reflect side table c gap n (fate ∷ fates) (item ∷ items) r next s
 -- a gap for one end, where these items were sent
 abbrev heard_at : Table → Certificate → Side → List Item → Replay → Result Replay CheckFault
 heard_at table c side items s =
-    closings_replayed table c (filter (λ x. is_side side x.side) (filter (λ x. x.gap == length items) c.close)) s
-    >>= λ closed.
-    expiries_replayed table c (filter (λ x. is_side side x.side) (filter (λ x. x.gap == length items) c.expire)) closed
-    >>= deliveries_by (Some side) table c (length items) 0 c.fates items
+    all_replayed table c (listed_for (Some side) c (length items)) s >>= deliveries_by (Some side) table c (length items) 0 c.fates items
 
 pub gap_reflects : (side : Side) (table : Table) (c : Certificate) (r next s : Replay)
     → gap_by None table c r ≡ Ok next
     → Mirrors side r s → Reflects side next (gap_by (Some side) table c s)
 gap_reflects side table c r next s is mirrors =
-    let closing = filter (λ (x : Closing). x.gap == next_entry r) c.close in
-    let expiring = filter (λ (x : Expiry). x.gap == next_entry r) c.expire in
-    let a = then_ok (closings_replayed table c closing r) _ next is in
-    let b = then_ok (expiries_replayed table c expiring a.0) _ next a.2 in
-    let mine : Reflects side next (heard_at table c side r.world.sent s) =
-    reflects_then side a.0 next (closings_replayed table c (filter (λ (x : Closing). is_side side x.side) closing) s) _
-    (closings_reflect side table c closing r a.0 s a.1 mirrors)
-    (λ v on.
-    reflects_then side b.0 next (expiries_replayed table c (filter (λ (x : Expiry). is_side side x.side) expiring) v)
-    (deliveries_by (Some side) table c (next_entry r) 0 c.fates r.world.sent)
-    (expiries_reflect side table c expiring a.0 b.0 v b.1 on)
-    (λ u behind. deliveries_reflect side table c (next_entry r) 0 c.fates r.world.sent b.0 next u b.2 behind)) in
-    subst (λ (items : List Item). Reflects side next (heard_at table c side items s))
-    (sym (same_sent side r s mirrors)) mine
+    let items = r.world.sent in
+    let parts = gap_parts None table c r next is in
+    let all : all_replayed table c (listed_in c (next_entry r)) r ≡ Ok parts.0 =
+    ap (λ (xs : List Listed). all_replayed table c xs r) (sym (judged_all c (next_entry r))) ∙ parts.1 in
+    let mine : Reflects side next (heard_at table c side items s) =
+    reflects_then side parts.0 next (all_replayed table c (listed_for (Some side) c (next_entry r)) s)
+    (deliveries_by (Some side) table c (next_entry r) 0 c.fates items)
+    (listed_reflect side table c (listed_in c (next_entry r)) r parts.0 s all mirrors)
+    (λ v on. deliveries_reflect side table c (next_entry r) 0 c.fates items parts.0 next v parts.2 on) in
+    subst (Reflects side next)
+    (ap (λ (items : List Item). heard_at table c side items s) (sym (same_sent side r s mirrors)) ∙ sym (gap_is_listed (Some side) table c s)) mine

@@ -26,11 +26,12 @@ use Rattle.tcap_certificate.specs.Unheard.{is_lost_from, unheard_of}
 use Rattle.tcap_model.proofs.ChannelLaws.{in_order, were_sent}
 use Rattle.tcap_check.proofs.GivenLosses.{all_numbered, fits_gap, fits_reply, is_lost, says_lost}
 use Rattle.tcap_check.proofs.GivenRuns.{are_fit, both_ok, front_empty}
-use Rattle.tcap_check.proofs.NumberLaws.{IsAmong, parts_apart}
 use Rattle.tcap_check.proofs.ReplaySteps.{channel_with}
 use Rattle.tcap_check.proofs.AloneReplays.{entries_lead, gap_leads}
 use Rattle.tcap_check.proofs.AloneSteps.{front_leads, leads_then}
 use Rattle.tcap_check.proofs.AloneTaken.{IsAhead, Took, entries_take}
+use Rattle.tcap_check.proofs.MemberLaws.{IsIn}
+use Rattle.tcap_check.proofs.NumberLaws.{parts_apart}
 
 -- ---- what is left
 
@@ -79,7 +80,7 @@ left_is_lost side table c r fit count runs taken =
     (were_sent table r.events r.world runs (other side))
     (λ m was there. by m was there (slice_get c.fates m.number) refl)
   where
-    apart : (m : OnItsWay) → IsAmong m.number (numbers_of (channel_from (other side) r.world))
+    apart : (m : OnItsWay) → IsIn m.number (numbers_of (channel_from (other side) r.world))
         → Took side m.number r → ⊥
     apart m there took = parts_apart m.number (numbers_taken (other side) r.events)
         (numbers_of (channel_from (other side) r.world)) (in_order table r.events r.world runs (other side)) took there
@@ -97,7 +98,7 @@ left_is_lost side table c r fit count runs taken =
         which (inr past) = absurd (omega (arith, past.0, count, within))
 
     by : (m : OnItsWay) → WasSent r.world (other side) m
-        → IsAmong m.number (numbers_of (channel_from (other side) r.world))
+        → IsIn m.number (numbers_of (channel_from (other side) r.world))
         → (o : Option Fate) → slice_get c.fates m.number ≡ o → is_lost c.fates m.number ≡ true
     by m was there None at = absurd (absent m was at)
     by m was there (Some Lost) at = ap says_lost at

@@ -24,10 +24,9 @@ use Rattle.tcap_check.proofs.AloneCounts.{IsOwn}
 use Rattle.tcap_check.proofs.AloneReplays.{gap_leads, item_leads}
 use Rattle.tcap_check.proofs.AloneSteps.{Leads}
 use Rattle.tcap_check.proofs.AloneTaken.{IsNext, gap_takes, item_takes}
-use Rattle.tcap_check.proofs.NumberLaws.{IsAmong}
 use Rattle.tcap_check.proofs.PendingLaws.{IsOver, SendsSoFar, stands_more, stands_on, stands_still, taken_next, taken_on}
-use Rattle.tcap_check.proofs.TakenLaws.{IsIn}
 use Rattle.tcap_model.proofs.WorldLaws.{end_joined, end_with_channel, peer_with_end}
+use Rattle.tcap_check.proofs.MemberLaws.{IsIn}
 
 -- ---- steps
 
@@ -46,18 +45,11 @@ leads_still side table c front gaps r next old leads =
 
 -- ---- a gap
 
--- A number among others is one of them.
-among_in : (n : ℕ) (xs : List ℕ) → IsAmong n xs → IsIn n xs
-among_in n [] is = is
-among_in n (x ∷ xs) (inl same) = inl same
-among_in n (x ∷ xs) (inr more) = inr (among_in n xs more)
-
 -- What the peer sent that the end has taken.
 peer_taken : (side sender : Side) (n : ℕ) (next : Replay) → is_side (other side) sender ≡ true
-    → IsAmong n (numbers_taken (other side) next.events) → IsIn n (numbers_taken sender next.events)
+    → IsIn n (numbers_taken (other side) next.events) → IsIn n (numbers_taken sender next.events)
 peer_taken side sender n next of_peer took =
-    subst (λ (s : Side). IsIn n (numbers_taken s next.events)) (same_side (other side) sender of_peer)
-    (among_in n (numbers_taken (other side) next.events) took)
+    subst (λ (s : Side). IsIn n (numbers_taken s next.events)) (same_side (other side) sender of_peer) took
 
 -- The peer sent it.
 by_peer : (side sender : Side) (message : Message) (n : ℕ) (items : List Item) → is_side (other side) sender ≡ true

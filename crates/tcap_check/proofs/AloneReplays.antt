@@ -3,8 +3,6 @@ use Rattle.std.proofs.Common.{◌≡◌, ℕ, ◌+◌, ◌==◌, Bool, true, fal
 use Rattle.std.specs.Prelude.{◌&&◌, not, ok_or, slice_get}
 use Rattle.std.specs.List.{AllByRecursion}
 use Rattle.tcap_msg.specs.declared.message.Message.{Message}
-use Rattle.tcap_msg.specs.declared.message.Message.TheVariants.{Unidirectional, Begin, Continue, End as EndMessage, Abort}
-use Rattle.tcap_msg.specs.Parts.{components_in}
 use Rattle.tcap_record.specs.declared.entry.End.{End as Side}
 use Rattle.tcap_record.specs.declared.entry.End.TheVariants.{A, B}
 use Rattle.tcap_end.specs.declared.half.HalfName.{HalfName}
@@ -12,8 +10,6 @@ use Rattle.tcap_end.specs.Hidden.{open_halves}
 use Rattle.tcap_end.specs.Table.{Table}
 use Rattle.tcap_end.specs.Step.{needs, ◌>>◌, ◌>>=◌}
 use Rattle.tcap_end.proofs.AnsweringLaws.{needs_ok, ok_same, some_ok, then_ok}
-use Rattle.tcap_certificate.specs.declared.certificate.Closing.{Closing}
-use Rattle.tcap_certificate.specs.declared.certificate.Expiry.{Expiry}
 use Rattle.tcap_certificate.specs.declared.certificate.Fate.{Fate}
 use Rattle.tcap_certificate.specs.declared.certificate.Fate.TheVariants.{Gap, Lost, By}
 use Rattle.tcap_certificate.specs.declared.fault.CheckFault.{CheckFault}
@@ -21,18 +17,20 @@ use Rattle.tcap_model.specs.declared.reason.Reason.{Reason}
 use Rattle.tcap_model.specs.declared.reason.Reason.TheVariants.{BadReply, FateCount, FateRange, NotQuiet, OutOfOrder}
 use Rattle.tcap_record.specs.Ends.{other}
 use Rattle.tcap_model.specs.World.{World, Item, Sent, end_at, is_side}
-use Rattle.tcap_model.specs.Run.{Event, Sends, Receives, Replies, Loses, Expires, Closes, Quiet, Tells, joined, then_so}
+use Rattle.tcap_model.specs.Run.{Event, Sends, Receives, Replies, Loses, Expires, Closes, Quiet, Tells, joined}
 use Rattle.tcap_certificate.specs.Certificate.{Certificate}
-use Rattle.tcap_model.specs.Since.{originating}
-use Rattle.tcap_certificate.specs.Follows.{IsImplied, closing_by, closing_event, expiry_by, expiry_event, invoke_id, invoking_half, named_entry, sending_by, taken_by}
-use Rattle.tcap_certificate.specs.Replayed.{Replay, all_lost_from, closed_at_mark, closings_replayed, deliveries_by, delivery_by, discarded, entries_by, entry_by, expiries_replayed, fault_at, gap_by, heard, implied_over, is_gap, is_nothing, is_overtaking, is_sent_by, item_by, lost_from_front, mark_judged, message_by, next_entry, or_else, own_judged, stepped, tied, told_replayed, with_step}
+use Rattle.tcap_certificate.specs.Follows.{IsImplied, invoking_half, sending_by, taken_by}
+use Rattle.tcap_certificate.specs.Replayed.{Replay, all_lost_from, closed_at_mark, deliveries_by, delivery_by, discarded, entries_by, entry_by, fault_at, gap_by, heard, implied_over, is_gap, is_nothing, is_overtaking, is_sent_by, item_by, lost_from_front, mark_judged, message_by, next_entry, or_else, own_judged, stepped, tied, told_replayed, with_step}
 use Rattle.tcap_check.proofs.ReplaySteps.{discard_is}
-use Rattle.tcap_model.proofs.RunLaws.{some_is, then_some, where_some}
 use Rattle.tcap_model.proofs.RunLaws.{same_side}
 use Rattle.tcap_check.proofs.ReplayEntries.{ok_item}
-use Rattle.tcap_check.proofs.ReplayLaws.{closings_replay, expiries_replay, implied_by, reply_replays, send_replays}
+use Rattle.tcap_check.proofs.ReplayLaws.{implied_by, reply_replays, send_replays, listed_replay}
 use Rattle.tcap_check.proofs.AloneCounts.{IsOwn}
 use Rattle.tcap_check.proofs.AloneSteps.{Leads, all_lost_leads, front_leads, leads_nothing, leads_then, replays_lead, step_leads, told_leads}
+use Rattle.tcap_check.specs.declared.listed.Listed.{Listed}
+use Rattle.tcap_check.specs.Listed.{all_replayed, event_listed, listed_in, listed_judged, side_of}
+use Rattle.tcap_check.proofs.ListedLaws.{gap_parts, listed_so, implied_so}
+use Rattle.tcap_model.proofs.ListLaws.{all_weaker}
 
 -- ---- a gap
 
@@ -46,32 +44,10 @@ all_passed {X} p (x ∷ xs) = by (p x) refl (all_passed p xs)
     by true is rest = (is, rest)
     by false is rest = rest
 
-closing_own : (side : Side) (items : List Item) (x : Closing) (event : Event) → is_side side x.side ≡ true
-    → closing_event items x ≡ Some event → IsOwn side event
-closing_own side items x event of_side is =
-    let found = then_some (named_entry items x.gap x.entry) (closing_by x) event is in by found.0 found.2
-  where
-    by : (item : Item) → closing_by x item ≡ Some event → IsOwn side event
-    by (Sent sender (Begin otid dialogue components)) e =
-        subst (IsOwn side) (some_is e) (sym (same_side side x.side of_side))
-    by (Sent sender (Unidirectional dialogue components)) e = cc
-    by (Sent sender (Continue otid dtid dialogue components)) e = cc
-    by (Sent sender (EndMessage dtid dialogue components)) e = cc
-    by (Sent sender (Abort dtid reason)) e = cc
-    by Item.Quiet e = cc
-
-expiry_own : (side : Side) (items : List Item) (x : Expiry) (event : Event) → is_side side x.side ≡ true
-    → expiry_event items x ≡ Some event → IsOwn side event
-expiry_own side items x event of_side is =
-    let found = then_some (named_entry items x.gap x.entry) (expiry_by x) event is in by found.0 found.2
-  where
-    by : (item : Item) → expiry_by x item ≡ Some event → IsOwn side event
-    by (Sent sender message) e =
-        let so = where_some (is_side x.side sender) _ event e in
-        let name = then_some (originating message) _ event so.1 in
-        let id = then_some (then_so (slice_get (components_in message) x.component) invoke_id) _ event name.2 in
-        subst (IsOwn side) (some_is id.2) (sym (same_side side x.side of_side))
-    by Item.Quiet e = cc
+listed_own : (side : Side) (items : List Item) (x : Listed) (event : Event) → is_side side (side_of x) ≡ true
+    → event_listed items x ≡ Some event → IsOwn side event
+listed_own side items x event of_side =
+    let mine = sym (same_side side (side_of x) of_side) in listed_so (IsOwn side) items x (λ name. mine) (λ name id. mine) event
 
 -- Where each that is listed is, the events are.
 all_own : {X : Type 0} (side : Side) (of : X → Option Event) (passes : X → Bool) (xs : List X) (events : List Event)
@@ -83,23 +59,14 @@ all_own side of passes (x ∷ xs) [] own all are = cc
 all_own side of passes (x ∷ xs) (event ∷ events) own all are =
     (own x event all.0 cc, all_own side of passes xs events own all.1 cc)
 
-closings_lead : (side : Side) (table : Table) (c : Certificate) (listed : List Closing) (r next : Replay)
-    → closings_replayed table c (filter (λ x. is_side side x.side) listed) r ≡ Ok next → Leads side table r [] next
-closings_lead side table c listed r next is =
-    let mine = filter (λ (x : Closing). is_side side x.side) listed in
-    let found = closings_replay table c mine r.world.sent r next refl is in
+listed_lead : (side : Side) (table : Table) (c : Certificate) (listed : List Listed) (r next : Replay)
+    → all_replayed table c (listed_judged (Some side) listed) r ≡ Ok next → Leads side table r [] next
+listed_lead side table c listed r next is =
+    let mine = listed_judged (Some side) listed in
+    let found = listed_replay table c mine r.world.sent r next refl is in
     replays_lead side table r next found.0 [] found.2
-    (all_own side (closing_event r.world.sent) (λ x. is_side side x.side) mine found.0 (closing_own side r.world.sent)
-    (all_passed (λ x. is_side side x.side) listed) found.1)
-
-expiries_lead : (side : Side) (table : Table) (c : Certificate) (listed : List Expiry) (r next : Replay)
-    → expiries_replayed table c (filter (λ x. is_side side x.side) listed) r ≡ Ok next → Leads side table r [] next
-expiries_lead side table c listed r next is =
-    let mine = filter (λ (x : Expiry). is_side side x.side) listed in
-    let found = expiries_replay table c mine r.world.sent r next refl is in
-    replays_lead side table r next found.0 [] found.2
-    (all_own side (expiry_event r.world.sent) (λ x. is_side side x.side) mine found.0 (expiry_own side r.world.sent)
-    (all_passed (λ x. is_side side x.side) listed) found.1)
+    (all_own side (event_listed r.world.sent) (λ x. is_side side (side_of x)) mine found.0 (listed_own side r.world.sent)
+    (all_passed (λ x. is_side side (side_of x)) listed) found.1)
 
 -- A message is received, or lost.
 pub heard_leads : (side : Side) (table : Table) (c : Certificate) (n : ℕ) (r next : Replay)
@@ -163,28 +130,16 @@ deliveries_lead side table c gap n (fate ∷ fates) (item ∷ items) r next is =
 pub gap_leads : (side : Side) (table : Table) (c : Certificate) (r next : Replay) → gap_by (Some side) table c r ≡ Ok next
     → Leads side table r [] next
 gap_leads side table c r next is =
-    let closing = filter (λ (x : Closing). x.gap == next_entry r) c.close in
-    let expiring = filter (λ (x : Expiry). x.gap == next_entry r) c.expire in
-    let a = then_ok (closings_replayed table c (filter (λ (x : Closing). is_side side x.side) closing) r) _ next is in
-    let b = then_ok (expiries_replayed table c (filter (λ (x : Expiry). is_side side x.side) expiring) a.0)
-    _ next a.2 in
-    leads_then side table r a.0 next [] [] (closings_lead side table c closing r a.0 a.1)
-    (leads_then side table a.0 b.0 next [] [] (expiries_lead side table c expiring a.0 b.0 b.1)
-    (deliveries_lead side table c (next_entry r) 0 c.fates r.world.sent b.0 next b.2))
+    let parts = gap_parts (Some side) table c r next is in
+    leads_then side table r parts.0 next [] [] (listed_lead side table c (listed_in c (next_entry r)) r parts.0 parts.1)
+    (deliveries_lead side table c (next_entry r) 0 c.fates r.world.sent parts.0 next parts.2)
 
 -- ---- a message
 
 implied_own : (side : Side) (m : Message) (events : List Event) → AllByRecursion (IsImplied (Sent side m)) events
     → AllByRecursion (IsOwn side) events
-implied_own side m [] all = tt
-implied_own side m (Expires actor name id ∷ events) all = (all.0.0, implied_own side m events all.1)
-implied_own side m (Sends sender n ∷ events) all = absurd all.0
-implied_own side m (Receives receiver n ∷ events) all = absurd all.0
-implied_own side m (Replies replier n ∷ events) all = absurd all.0
-implied_own side m (Loses sender n ∷ events) all = absurd all.0
-implied_own side m (Closes actor name ∷ events) all = absurd all.0
-implied_own side m (Quiet ∷ events) all = absurd all.0
-implied_own side m (Tells teller n ∷ events) all = absurd all.0
+implied_own side m events all =
+    all_weaker (IsImplied (Sent side m)) (IsOwn side) events (implied_so (IsOwn side) side m (λ name id over. refl)) all
 
 -- The end sends it, or its provider.
 message_leads : (side : Side) (table : Table) (c : Certificate) (m : Message) (o : Option Event) (r next : Replay)

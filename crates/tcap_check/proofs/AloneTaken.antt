@@ -1,5 +1,5 @@
 -- What is replayed for one end takes each of its peer's messages.
-use Rattle.std.proofs.Common.{arith, ◌≡◌, ◌≤◌, ◌<◌, ◌⊎◌, inl, inr, ℕ, zero, suc, ◌+◌, ◌==◌, Bool, true, false, cond, List, [], ◌∷◌, filter, length, Option, Some, None, Result, Ok, Err, refl, sym, ap, ap₂, subst, ◌∙◌}
+use Rattle.std.proofs.Common.{arith, ◌≡◌, ◌≤◌, ◌<◌, ◌⊎◌, inl, inr, ℕ, zero, suc, ◌+◌, ◌==◌, Bool, true, false, cond, List, [], ◌∷◌, length, Option, Some, None, Result, Ok, Err, refl, sym, ap, ap₂, subst, ◌∙◌}
 use Rattle.std.specs.Prelude.{◌&&◌, not, ok_or, slice_get}
 use Rattle.std.proofs.lemmas.Bool.{eq-eqb, eqb-false, eqb-true}
 use Rattle.std.proofs.lemmas.List.{length-append}
@@ -8,8 +8,6 @@ use Rattle.tcap_record.specs.declared.entry.End.{End as Side}
 use Rattle.tcap_record.specs.declared.entry.End.TheVariants.{A, B}
 use Rattle.tcap_end.specs.Table.{Table}
 use Rattle.tcap_end.proofs.AnsweringLaws.{needs_ok, ok_same, some_ok, then_ok}
-use Rattle.tcap_certificate.specs.declared.certificate.Closing.{Closing}
-use Rattle.tcap_certificate.specs.declared.certificate.Expiry.{Expiry}
 use Rattle.tcap_certificate.specs.declared.certificate.Fate.{Fate}
 use Rattle.tcap_certificate.specs.declared.certificate.Fate.TheVariants.{Gap, Lost, By}
 use Rattle.tcap_certificate.specs.declared.fault.CheckFault.{CheckFault}
@@ -20,11 +18,11 @@ use Rattle.tcap_model.specs.World.{Item, Sent, is_side}
 use Rattle.tcap_model.specs.Run.{Event, Receives, Replies, Loses, after, numbers_taken, takes_from}
 use Rattle.tcap_certificate.specs.Certificate.{Certificate}
 use Rattle.tcap_certificate.specs.Follows.{sending_by, taken_by}
-use Rattle.tcap_certificate.specs.Replayed.{Replay, all_lost_from, closings_replayed, deliveries_by, delivery_by, discarded, entries_by, entry_by, expiries_replayed, fault_at, gap_by, heard, is_gap, is_nothing, is_overtaking, item_by, lost_from_front, mark_judged, message_by, next_entry, or_else, own_judged, reply_replayed, stepped, tied, told_replayed}
+use Rattle.tcap_certificate.specs.Replayed.{Replay, all_lost_from, deliveries_by, delivery_by, discarded, entries_by, entry_by, fault_at, gap_by, heard, is_gap, is_nothing, is_overtaking, item_by, lost_from_front, mark_judged, message_by, next_entry, or_else, own_judged, reply_replayed, stepped, tied, told_replayed}
 use Rattle.tcap_check.proofs.ReplaySteps.{discard_is}
 use Rattle.tcap_check.proofs.GivenEvents.{IsSender, by_mark, by_reply, by_send, sender_is}
 use Rattle.tcap_check.proofs.GivenRuns.{replied_at}
-use Rattle.tcap_check.proofs.NumberLaws.{IsAmong, among_plain, taken_left, taken_right}
+use Rattle.tcap_check.proofs.NumberLaws.{among_plain, taken_left, taken_right}
 use Rattle.tcap_check.proofs.ReplayEntries.{nothing_is}
 use Rattle.tcap_check.proofs.ReplayGaps.{get_before}
 use Rattle.tcap_check.proofs.ReplayLaws.{reply_replays}
@@ -35,17 +33,19 @@ use Rattle.tcap_check.proofs.AloneTies.{is_from}
 use Rattle.tcap_model.proofs.WorldLaws.{itself}
 use Rattle.tcap_check.proofs.TakenLaws.{takes_replied}
 use Rattle.tcap_check.proofs.LeftLaws.{among_filter}
+use Rattle.tcap_check.proofs.ListedLaws.{gap_parts}
+use Rattle.tcap_check.proofs.MemberLaws.{IsIn}
 
 -- The message of that number was taken from the peer's channel.
 abbrev pub Took : Side → ℕ → Replay → Type 0
-Took side n r = IsAmong n (numbers_taken (other side) r.events)
+Took side n r = IsIn n (numbers_taken (other side) r.events)
 
 -- It stays taken.
 pub took_on : (side : Side) (table : Table) (n : ℕ) (r : Replay) (items : List Item) (next : Replay)
     → Leads side table r items next
     → Took side n r → Took side n next
 took_on side table n r items next leads took =
-    subst (λ (events : List Event). IsAmong n (numbers_taken (other side) events)) (sym leads.extends.events)
+    subst (λ (events : List Event). IsIn n (numbers_taken (other side) events)) (sym leads.extends.events)
     (taken_left (other side) n r.events leads.steps took)
 
 -- A step that takes it,
@@ -54,7 +54,7 @@ took_by : (side : Side) (table : Table) (n : ℕ) (event : Event) (r next : Repl
     → stepped table event r ≡ Some next → Took side n next
 took_by side table n event r next takes is =
     let found = map_some _ (after table event r.world) next is in
-    let one : IsAmong n (numbers_taken (other side) (event ∷ [])) = rw takes (inl refl) in
+    let one : IsIn n (numbers_taken (other side) (event ∷ [])) = rw takes (inl refl) in
     subst (Took side n) found.2 (taken_right (other side) n r.events (event ∷ []) one)
 
 received_takes : (side : Side) (n : ℕ) → takes_from (other side) (Receives side n) ≡ n ∷ []
@@ -82,7 +82,7 @@ heard_takes side table c n r next is =
         before next (received_takes side n) (at ∙ found)
     by before None at found =
         let d = discard_is table side n before next found in
-        subst (λ (x : List Event). IsAmong n (numbers_taken (other side) x)) (sym d.events)
+        subst (λ (x : List Event). IsIn n (numbers_taken (other side) x)) (sym d.events)
         (took_by side table n (Loses (other side) n) before d.lost (lost_takes side n) d.step)
 
 -- In a gap each message of the peer that has it is taken,
@@ -117,52 +117,48 @@ pub gap_takes : (side : Side) (table : Table) (c : Certificate) (m : Message) (n
     → slice_get c.fates n ≡ Some (Gap (next_entry r)) → slice_get r.world.sent n ≡ Some (Sent (other side) m)
     → Took side n next
 gap_takes side table c m n r next is fate item =
-    let closing = filter (λ (x : Closing). x.gap == next_entry r) c.close in
-    let expiring = filter (λ (x : Expiry). x.gap == next_entry r) c.expire in
-    let a = then_ok (closings_replayed table c (filter (λ (x : Closing). is_side side x.side) closing) r) _ next is in
-    let b = then_ok (expiries_replayed table c (filter (λ (x : Expiry). is_side side x.side) expiring) a.0)
-    _ next a.2 in
+    let parts = gap_parts (Some side) table c r next is in
     let e : 0 + n ≡ n = omega arith in
     subst (λ (k : ℕ). Took side k next) e
-    (deliveries_take side table c m (next_entry r) 0 n c.fates r.world.sent b.0 next b.2 fate item)
+    (deliveries_take side table c m (next_entry r) 0 n c.fates r.world.sent parts.0 next parts.2 fate item)
 
 -- ---- ties
 
 -- A message of the peer whose fate is the next entry is tied to it.
 is_tied : (side : Side) (c : Certificate) (m : Message) (n : ℕ) (r : Replay) → slice_get c.fates n
     ≡ Some (By (next_entry r))
-    → slice_get r.world.sent n ≡ Some (Sent (other side) m) → IsAmong n (tied (Some side) c r)
+    → slice_get r.world.sent n ≡ Some (Sent (other side) m) → IsIn n (tied (Some side) c r)
 is_tied side c m n r fate item =
     let e : 0 + n ≡ n = omega arith in
     among_filter (is_from (other side) r.world.sent) n (taken_by (next_entry r) 0 c.fates)
     (rw item (itself (other side)))
-    (subst (λ (k : ℕ). IsAmong k (taken_by (next_entry r) 0 c.fates)) e (replied_at (next_entry r) 0 n c.fates fate))
+    (subst (λ (k : ℕ). IsIn k (taken_by (next_entry r) 0 c.fates)) e (replied_at (next_entry r) 0 n c.fates fate))
 
 -- Where nothing is tied none is.
-not_tied : (numbers : List ℕ) (n : ℕ) → is_nothing numbers ≡ true → IsAmong n numbers → ⊥
-not_tied numbers n none is = subst (IsAmong n) (nothing_is numbers none) is
+not_tied : (numbers : List ℕ) (n : ℕ) → is_nothing numbers ≡ true → IsIn n numbers → ⊥
+not_tied numbers n none is = subst (IsIn n) (nothing_is numbers none) is
 
 -- The Abort that is a reply takes what is tied to it.
 message_takes : (side : Side) (table : Table) (c : Certificate) (m : Message) (n k : ℕ) (taken : List ℕ)
     (r next : Replay)
-    → message_by table c side m (sending_by c k (Sent side m) taken) r ≡ Ok next → IsAmong n taken → Took side n next
+    → message_by table c side m (sending_by c k (Sent side m) taken) r ≡ Ok next → IsIn n taken → Took side n next
 message_takes side table c m n k taken r next is tied = by (sending_by c k (Sent side m) taken) refl is
   where
-    replied : (t : ℕ) → IsAmong n (t ∷ []) → reply_replayed table c side m t r ≡ Ok next → Took side n next
+    replied : (t : ℕ) → IsIn n (t ∷ []) → reply_replayed table c side m t r ≡ Ok next → Took side n next
     replied t (inr there) e = absurd there
     replied t (inl same) e =
         let steps = reply_replays table c side m t r next e in
-        let one : IsAmong n (numbers_taken (other side) (Replies side t ∷ [])) = rw (takes_replied side t) (inl same) in
-        let plain = subst (λ (events : List Event). IsAmong n (numbers_taken (other side) events))
+        let one : IsIn n (numbers_taken (other side) (Replies side t ∷ [])) = rw (takes_replied side t) (inl same) in
+        let plain = subst (λ (events : List Event). IsIn n (numbers_taken (other side) events))
         (sym steps.are) one in
-        subst (λ (events : List Event). IsAmong n (numbers_taken (other side) events)) (sym steps.extends.events)
+        subst (λ (events : List Event). IsIn n (numbers_taken (other side) events)) (sym steps.extends.events)
         (taken_right (other side) n r.events steps.steps (among_plain (other side) n steps.steps plain))
 
     sent : (event : Event) → IsSender taken event → message_by table c side m (Some event) r ≡ Ok next
         → Took side n next
-    sent event (by_send place message none) e = absurd (subst (IsAmong n) none tied)
-    sent event (by_mark none) e = absurd (subst (IsAmong n) none tied)
-    sent event (by_reply place t one) e = replied t (subst (IsAmong n) one tied) e
+    sent event (by_send place message none) e = absurd (subst (IsIn n) none tied)
+    sent event (by_mark none) e = absurd (subst (IsIn n) none tied)
+    sent event (by_reply place t one) e = replied t (subst (IsIn n) one tied) e
 
     by : (o : Option Event) → sending_by c k (Sent side m) taken ≡ o → message_by table c side m o r ≡ Ok next
         → Took side n next
@@ -181,7 +177,7 @@ IsNext Lost k = ⊥
 by_next : (side : Side) (table : Table) (c : Certificate) (m : Message) (n : ℕ) (f : Fate) (r mid : Replay)
     (items : List Item)
     (next : Replay) → gap_by (Some side) table c r ≡ Ok mid → Leads side table mid items next
-    → (IsAmong n (tied (Some side) c r) → Took side n next) → slice_get c.fates n ≡ Some f → IsNext f (next_entry r)
+    → (IsIn n (tied (Some side) c r) → Took side n next) → slice_get c.fates n ≡ Some f → IsNext f (next_entry r)
     → slice_get r.world.sent n ≡ Some (Sent (other side) m) → Took side n next
 by_next side table c m n (Gap gap) r mid items next is leads tied fate now item =
     let here : slice_get c.fates n ≡ Some (Gap (next_entry r)) = fate ∙ ap (λ (g : ℕ). Some (Gap g)) now in
@@ -205,7 +201,7 @@ own_takes side table c sent m n f r next is fate now item =
     subst (Took side n) (ok_same {F = CheckFault} (all_lost_from side behind.0) next behind.2)
     (took_on side table n behind.0 [] (all_lost_from side behind.0) (all_lost_leads side table behind.0)
     (message_takes side table c sent n (next_entry gap.0) taken gap.0 behind.0 behind.1
-    (subst (IsAmong n) (sym (tied_behind side table c r gap.0 gap.1)) tied)))) fate now item
+    (subst (IsIn n) (sym (tied_behind side table c r gap.0 gap.1)) tied)))) fate now item
 
 peer_takes : (side : Side) (table : Table) (c : Certificate) (own : Fate) (sent m : Message) (n : ℕ) (f : Fate)
     (r next : Replay)

@@ -20,6 +20,7 @@ use Rattle.tcap_model.proofs.ListLaws.{all_both}
 use Rattle.tcap_model.proofs.RunLaws.{same_events}
 use Rattle.tcap_check.proofs.PromptLaws.{none_taken}
 use Rattle.tcap_check.proofs.NumberLaws.{taken_both}
+use Rattle.tcap_check.proofs.ListedLaws.{all_implied}
 
 -- ---- prompt fates
 
@@ -285,21 +286,15 @@ skips (event ∷ front) tail (first ∷ before) behind silent split over =
 implied_silent : (item : Item) (events : List Event) → AllByRecursion (IsImplied item) events
     → AllByRecursion IsSilent events × (sent_in events ≡ []) × ((side : Side) → numbers_taken side events ≡ [])
 implied_silent item [] all = (tt, refl, λ side. refl)
-implied_silent item (event ∷ events) all = by item event all.0 (implied_silent item events all.1)
+implied_silent item (event ∷ events) all =
+    let one = all_implied Adds item (event ∷ []) (λ side name id more. (λ later. refl, refl, λ at. refl)) (all.0, tt) in
+    let more = implied_silent item events all.1 in
+    let first = one.0 events in ((first.0, more.0), first.1 ∙ more.1, λ side. first.2 side ∙ more.2 side)
   where
-    by : (item : Item) (event : Event) → IsImplied item event
-        → AllByRecursion IsSilent events × (sent_in events ≡ []) × ((side : Side) → numbers_taken side events ≡ [])
-        → AllByRecursion IsSilent (event ∷ events) × (sent_in (event ∷ events) ≡ [])
-        × ((side : Side) → numbers_taken side (event ∷ events) ≡ [])
-    by (Sent side message) (Expires other name id) is rest = ((λ more. refl, rest.0), rest.1, rest.2)
-    by (Sent side message) (Sends other m) is rest = absurd is
-    by (Sent side message) (Receives other number) is rest = absurd is
-    by (Sent side message) (Replies other number) is rest = absurd is
-    by (Sent side message) (Loses other number) is rest = absurd is
-    by (Sent side message) (Closes other name) is rest = absurd is
-    by (Sent side message) Quiet is rest = absurd is
-    by (Sent side message) (Tells other m) is rest = absurd is
-    by Item.Quiet event is rest = absurd is
+    -- It sends nothing, and takes nothing.
+    Adds : Event → Type 0
+    Adds event = (more : List Event) → IsSilent event × (sent_in (event ∷ more) ≡ sent_in more)
+        × ((side : Side) → numbers_taken side (event ∷ more) ≡ numbers_taken side more)
 
 -- nor does a delivery.
 delivery_silent : (n : ℕ) (item : Item)

@@ -224,14 +224,6 @@ no_fault s judged table c o k f is none refused =
 
 -- ---- how many messages wait
 
--- What it stands for is what it keeps.
-pub keeps_so : (s : Checking) (judged : Option Side) (table : Table) (c : Certificate) (o : Option CheckFault) (k : Kept)
-    → s ≡ checking judged table c o k → (kept : Kept) → s.so_far ≡ Ok kept → k ≡ kept
-keeps_so s judged table c None k is kept so =
-    let same : (let a : Result Kept CheckFault = Ok k in a) ≡ Ok kept = ap (λ (x : Checking). x.so_far) (sym is) ∙ so in cc
-keeps_so s judged table c (Some fault) k is kept so =
-    let same : (let a : Result Kept CheckFault = Err fault in a) ≡ Ok kept = ap (λ (x : Checking). x.so_far) (sym is) ∙ so in cc
-
 waits : (listing : Bool) (judged : Option Side) (table : Table) (c : Certificate) (k : Kept) (entries : List (Result Item Reason))
     → TookListed listing (checking judged table c None k) entries → count_waiting judged k.progress ≡ count_ahead judged (length entries) c.fates entries
 waits listing judged table c k entries took = by (taken judged table c entries) refl took

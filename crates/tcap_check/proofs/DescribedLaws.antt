@@ -14,15 +14,18 @@ use Rattle.tcap_certificate.specs.declared.certificate.Fate.{Fate}
 use Rattle.tcap_certificate.specs.declared.certificate.Fate.TheVariants.{Gap, Lost, By}
 use Rattle.tcap_record.specs.Ends.{other}
 use Rattle.tcap_model.specs.World.{Item, Sent, World, channel_from, is_side}
-use Rattle.tcap_model.specs.Run.{Event, Receives, Replies, Runs, numbers_of, numbers_sent, numbers_taken, takes_from, then_so, where_so}
+use Rattle.tcap_model.specs.Run.{Event, Receives, Replies, Runs, numbers_of, numbers_taken, takes_from, then_so, where_so}
 use Rattle.tcap_certificate.specs.Certificate.{Certificate}
 use Rattle.tcap_model.specs.World.{has_quiet}
 use Rattle.tcap_certificate.specs.Follows.{FatesFit, Follows, FollowsFrom, closing_by, closing_event, deliveries, expiry_by, expiry_event, gap_events, named_entry, taken_by, without_losses}
 use Rattle.tcap_certificate.specs.Replayed.{all_fit, certificate_fits, fates_fit, is_later, is_overtaking, time_of}
 use Rattle.tcap_model.proofs.ListLaws.{all_weaker}
-use Rattle.tcap_model.proofs.ChannelLaws.{are_whole, in_order}
-use Rattle.tcap_check.proofs.OrderLaws.{IsIn, Rises, Takes, here_takes, in_left, in_right, in_turn, rises_front, rises_without, run_timed, sending_takes, step_takes, taken_too}
+use Rattle.tcap_model.proofs.ChannelLaws.{in_order}
+use Rattle.tcap_check.proofs.OrderLaws.{Rises, Takes, here_takes, in_turn, rises_front, rises_without, run_timed, sending_takes, step_takes}
 use Rattle.tcap_check.proofs.ReplayGaps.{get_before}
+use Rattle.tcap_check.proofs.TakenLaws.{taken_sent}
+use Rattle.tcap_check.proofs.NumberLaws.{among_plain}
+use Rattle.tcap_check.proofs.MemberLaws.{IsIn, in_left, in_right}
 
 -- ---- numbers that fit
 
@@ -214,7 +217,7 @@ is_replied m reply n i [] fate_is at = cc
 is_replied m reply n zero (fate ∷ fates) fate_is at =
     let same : fate ≡ By reply = cc in
     let number : n ≡ m = omega (arith, at) in
-    rw (same, eq-eqb reply reply refl) (inl number)
+    rw (same, eq-eqb reply reply refl) (inl (sym number))
 is_replied m reply n (suc i) (fate ∷ fates) fate_is at =
     replied_next m reply n fate fates (is_replied m reply (n + 1) i fates fate_is (omega (arith, at)))
 
@@ -271,7 +274,7 @@ reply_takes n c items gap (item ∷ more) events (here, implied, rest, sends, he
         by (inl same) = (
           other replier,
           in_left n (takes_from (other replier) sends) (numbers_taken (other replier) rest)
-              (rw (sends_it, same) (answered replier)),
+              (rw (sends_it, sym same) (answered replier)),
         )
         by (inr never) = absurd never
 
@@ -292,41 +295,6 @@ same_side sides.A sides.A is = refl
 same_side sides.B sides.B is = refl
 same_side sides.A sides.B is = cc
 same_side sides.B sides.A is = cc
-
--- That number is the one of a message of this end, where the first of these items has number n.
-abbrev IsSentAt : Side → ℕ → ℕ → List Item → Type 0
-IsSentAt side m n items = (i : ℕ) × (message : Message) × (m ≡ n + i) × (slice_get items i ≡ Some (Sent side message))
-
--- It is so with one item before these.
-sent_next : (side : Side) (m n : ℕ) (item : Item) (items : List Item) → IsSentAt side m (n + 1) items
-    → IsSentAt side m n (item ∷ items)
-sent_next side m n item items (i, message, number, is) = (suc i, message, omega (arith, number), is)
-
--- So are the numbers of what an end sent.
-sent_at : (side : Side) (m n : ℕ) (items : List Item) → IsIn m (numbers_sent side n items) → IsSentAt side m n items
-sent_at side m n [] is = absurd is
-sent_at side m n (Item.Quiet ∷ items) is = sent_next side m n Item.Quiet items (sent_at side m (n + 1) items is)
-sent_at side m n (Sent sender message ∷ items) is = by (is_side side sender) refl (sent_at side m (n + 1) items) is
-  where
-    others : List ℕ
-    others = numbers_sent side (n + 1) items
-
-    by : (b : Bool) → is_side side sender ≡ b → (IsIn m others → IsSentAt side m (n + 1) items)
-        → IsIn m (cond b (n ∷ others) others) → IsSentAt side m n (Sent sender message ∷ items)
-    by true e on (inl same) =
-        (0, message, omega (arith, same), ap (λ (s : Side). Some (Sent s message)) (same_side side sender e))
-    by true e on (inr more) = sent_next side m n (Sent sender message) items (on more)
-    by false e on more = sent_next side m n (Sent sender message) items (on more)
-
--- What is taken from an end's channel, it sent.
-taken_was_sent : (table : Table) (events : List Event) (w : World) → Runs table events w → (side : Side) (n : ℕ)
-    → IsIn n (numbers_taken side events) → (message : Message) × (slice_get w.sent n ≡ Some (Sent side message))
-taken_was_sent table events w runs side n is =
-    let passed = in_left n (numbers_taken side events) (numbers_of (channel_from side w)) is in
-    let (i, message, number, there) = sent_at side n 0 w.sent
-    (subst (IsIn n) (are_whole table events w runs side) passed) in
-    let same : n ≡ i = omega (arith, number) in
-    (message, ap (slice_get w.sent) same ∙ there)
 
 -- An item has one sender.
 one_sender : (items others : List Item) (n : ℕ) (first second : Side) (one another : Message) → items ≡ others
@@ -367,7 +335,7 @@ module _ (table : Table) (c : Certificate) (items : List Item) (events : List Ev
       let within : k < length items = fate_within (length items) 0 n c.fates (By k) follows.fates has in
       let (sender, found) = reply_takes n c items 0 items (without_losses events) follows.gaps k (omega arith)
       (omega (arith, within)) (is_replied n k 0 n c.fates has (omega arith)) in
-      let (other_one, was) = taken_was_sent table events w runs sender n (taken_too sender n events found) in
+      let (other_one, was) = taken_sent table events w sender n runs (among_plain sender n events found) in
       let same = one_sender w.sent items n sender side other_one message sent was there in
       subst (λ (s : Side). IsIn n (numbers_taken s (without_losses events))) same found
   is_taken side n message Lost t there has timed = cc

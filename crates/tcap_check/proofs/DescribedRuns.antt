@@ -26,8 +26,9 @@ use Rattle.tcap_check.proofs.ReplayGaps.{gap_events_before}
 use Rattle.tcap_check.proofs.DescribedLaws.{described_fits, none_overtakes}
 use Rattle.tcap_check.proofs.GivenRuns.{gives}
 use Rattle.tcap_check.proofs.AlikeLaws.{Ahead, alike_same, go_on, next_step, quiet_goes}
-use Rattle.tcap_check.proofs.DescribedGaps.{all_steps, from_start, gap_goes, losses_fit, lost_are, ok_both, ok_needs, ok_some, ok_then, plain, plain_more, plain_step, some_same}
+use Rattle.tcap_check.proofs.DescribedGaps.{all_steps, gap_goes, losses_fit, lost_are, ok_both, ok_needs, ok_some, ok_then, plain, plain_more, plain_step, some_same}
 use Rattle.tcap_check.proofs.DescribedSends.{IsSent, message_goes, none_quiet}
+use Rattle.tcap_check.proofs.FateLaws.{from_start}
 
 -- ---- an entry
 

@@ -30,9 +30,11 @@ use Rattle.tcap_model.proofs.RunLaws.{expiry, grows, map_some, sending as sendin
 use Rattle.tcap_check.proofs.ReplayLaws.{reply_replays, send_replays}
 use Rattle.tcap_check.proofs.ImpliedLaws.{implied_same}
 use Rattle.tcap_check.proofs.AlikeLaws.{Ahead, Alike, alike_end, alike_joined, to_same, ends_same, expires_goes, go_on, next_step, replies_goes}
-use Rattle.tcap_check.proofs.DescribedGaps.{from_start, ok_needs, ok_some, ok_then, plain, plain_more, plain_step, some_same, taken_are}
+use Rattle.tcap_check.proofs.DescribedGaps.{ok_needs, ok_some, ok_then, plain, plain_more, plain_step, some_same}
 use Rattle.tcap_model.proofs.RunLaws.{then_some}
 use Rattle.tcap_model.proofs.WorldLaws.{sent_with_end}
+use Rattle.tcap_check.proofs.FateLaws.{from_start, taken_are}
+use Rattle.tcap_check.proofs.ListedLaws.{implied_so}
 
 -- ---- a message
 
@@ -128,14 +130,8 @@ implied_go table c final side message (Tells own m ∷ made) rest r all ahead = 
 none_implied : (side : Side) (message : Message) (made : List Event) → invoking_half message ≡ None
     → AllByRecursion (IsImplied (Sent side message)) made → made ≡ []
 none_implied side message [] over all = refl
-none_implied side message (Expires own name id ∷ made) over all = let named = (all.0).1 in cc
-none_implied side message (Sends own m ∷ made) over all = absurd (all.0)
-none_implied side message (Receives own n ∷ made) over all = absurd (all.0)
-none_implied side message (Replies own n ∷ made) over all = absurd (all.0)
-none_implied side message (Loses own n ∷ made) over all = absurd (all.0)
-none_implied side message (Closes own name ∷ made) over all = absurd (all.0)
-none_implied side message (Quiet ∷ made) over all = absurd (all.0)
-none_implied side message (Tells own m ∷ made) over all = absurd (all.0)
+none_implied side message (event ∷ made) over all =
+    absurd (implied_so (λ e. ⊥) side message (λ name id named. let none : None ≡ Some name = sym over ∙ named in cc) event all.0)
 
 -- nor does a quiet mark imply one.
 pub none_quiet : (made : List Event) → AllByRecursion (IsImplied Item.Quiet) made → made ≡ []

@@ -16,7 +16,6 @@ use Rattle.tcap_end.specs.End.{End}
 use Rattle.tcap_end.specs.Sound.{IsEnd}
 use Rattle.tcap_end.specs.Table.{Table}
 use Rattle.tcap_end.proofs.StepLaws.{expires}
-use Rattle.tcap_record.specs.Ends.{other}
 use Rattle.tcap_model.specs.World.{Item, OnItsWay, Sent, World, empty, end_at, with_channel, with_end}
 use Rattle.tcap_model.specs.Run.{Event, Sends, Receives, Replies, Loses, Expires, Closes, Quiet, Tells, IsRunOf, Runs, after, played, then_so, where_so}
 use Rattle.tcap_certificate.specs.declared.certificate.Closing.{Closing}
@@ -29,6 +28,7 @@ use Rattle.tcap_certificate.specs.Follows.{Follows, FollowsFrom, IsImplied, clos
 use Rattle.tcap_model.proofs.RunLaws.{played_on}
 use Rattle.tcap_model.proofs.RunLaws.{expiry, loss, sound as ends_sound}
 use Rattle.tcap_check.proofs.StepCounts.{expired, fewer, filter_map_most, hides, in_use, joins_most, one, one_most, steps_most, taken_most, total, total_both, total_most}
+use Rattle.tcap_check.proofs.FateLaws.{from_start, all_delivered}
 
 -- ---- runs in parts
 
@@ -248,21 +248,14 @@ same_total [] = refl
 same_total (event ∷ events) = ap (λ n. hides event + n) (same_total events)
 
 -- Deliveries are not hidden.
-deliveries_none : (gap n : ℕ) (fates : List Fate) (items : List Item) → total hides (deliveries gap n fates items) ≡ 0
-deliveries_none gap n [] items = refl
-deliveries_none gap n (fate ∷ fates) [] = refl
-deliveries_none gap n (Gap g ∷ fates) (Sent side message ∷ items) = by (g == gap) (deliveries_none gap (n + 1) fates items)
+deliveries_none : (gap : ℕ) (fates : List Fate) (items : List Item) → total hides (deliveries gap 0 fates items) ≡ 0
+deliveries_none gap fates items =
+    none (deliveries gap 0 fates items)
+    (all_delivered (λ event. hides event ≡ 0) fates gap 0 fates items (from_start fates) (λ side number at. refl))
   where
-    by : (b : Bool) → total hides (deliveries gap (n + 1) fates items) ≡ 0
-        → total hides (cond b (Receives (other side) n ∷ deliveries gap (n + 1) fates items)
-        (deliveries gap (n + 1) fates items)) ≡ 0
-    by true rest = omega (arith, rest)
-    by false rest = rest
-deliveries_none gap n (Gap g ∷ fates) (Item.Quiet ∷ items) = deliveries_none gap (n + 1) fates items
-deliveries_none gap n (Lost ∷ fates) (Sent side message ∷ items) = deliveries_none gap (n + 1) fates items
-deliveries_none gap n (Lost ∷ fates) (Item.Quiet ∷ items) = deliveries_none gap (n + 1) fates items
-deliveries_none gap n (By k ∷ fates) (Sent side message ∷ items) = deliveries_none gap (n + 1) fates items
-deliveries_none gap n (By k ∷ fates) (Item.Quiet ∷ items) = deliveries_none gap (n + 1) fates items
+    none : (events : List Event) → AllByRecursion (λ event. hides event ≡ 0) events → total hides events ≡ 0
+    none [] all = refl
+    none (event ∷ events) all = let here = all.0 in let rest = none events all.1 in omega (arith, here, rest)
 
 -- There is one for each that is listed for the gap.
 listed_most : (closes expiries : List (Option Event)) (received here : List Event)
@@ -290,7 +283,7 @@ here_most c items gap here is =
       arith,
       listed_most (map (closing_event items) (filter (λ x. x.gap == gap) c.close))
           (map (expiry_event items) (filter (λ x. x.gap == gap) c.expire)) (deliveries gap 0 c.fates items) here is
-          (deliveries_none gap 0 c.fates items),
+          (deliveries_none gap c.fates items),
       length-map (filter (λ x. x.gap == gap) c.close) (closing_event items),
       length-map (filter (λ x. x.gap == gap) c.expire) (expiry_event items),
     )

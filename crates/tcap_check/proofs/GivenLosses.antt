@@ -1,6 +1,6 @@
 -- Losses: where a run follows a certificate but for losses, and nothing is left on its way, a message is lost exactly
 -- where its fate says so.
-use Rattle.std.proofs.Common.{arith, ◌≡◌, ◌≤◌, ◌<◌, ◌⊎◌, inl, inr, ℕ, zero, suc, ◌+◌, ◌==◌, Bool, true, false, cond, List, [], ◌∷◌, ◌++◌, filter, length, Option, Some, None, refl, sym, ap, subst, ◌∙◌, append-nil}
+use Rattle.std.proofs.Common.{arith, ◌≡◌, ◌≤◌, ◌<◌, ◌⊎◌, inl, inr, ℕ, zero, suc, ◌+◌, Bool, true, false, cond, List, [], ◌∷◌, ◌++◌, filter, length, Option, Some, None, refl, sym, ap, subst, ◌∙◌, append-nil}
 use Rattle.std.specs.Prelude.{slice_get}
 use Rattle.std.specs.List.{AllByRecursion}
 use Rattle.std.specs.List.Sorted.{IsStrictlySortedBy}
@@ -14,11 +14,14 @@ use Rattle.tcap_model.specs.World.{Item, OnItsWay, Sent, World, channel_from, is
 use Rattle.tcap_model.specs.Run.{Event, Sends, Receives, Replies, Loses, Expires, Closes, Quiet, Tells, KeepsRules, Runs, numbers_of, numbers_sent, numbers_taken, takes_from}
 use Rattle.tcap_certificate.specs.declared.certificate.Fate.{Fate}
 use Rattle.tcap_certificate.specs.declared.certificate.Fate.TheVariants.{Gap, Lost, By}
-use Rattle.tcap_certificate.specs.Follows.{FatesFit, deliveries, is_loss, losses_from, lost_from, taken_by, without_losses}
+use Rattle.tcap_certificate.specs.Follows.{FatesFit, is_loss, losses_from, lost_from, taken_by, without_losses}
 use Rattle.tcap_model.specs.Since.{WasSent}
 use Rattle.tcap_model.proofs.ChannelLaws.{are_whole, in_order, were_sent}
-use Rattle.tcap_check.proofs.NumberLaws.{IsAmong, among_left, among_losses, among_plain, filter_all, loss_of, losses_apart, losses_first, parts_apart}
-use Rattle.tcap_model.proofs.RunLaws.{same_side}
+use Rattle.tcap_check.proofs.NumberLaws.{among_losses, among_plain, filter_all, loss_of, losses_apart, losses_first, parts_apart}
+use Rattle.tcap_model.proofs.ListLaws.{all_weaker}
+use Rattle.tcap_check.proofs.MemberLaws.{IsIn}
+use Rattle.tcap_check.proofs.FateLaws.{AreFrom, from_next, first_from, from_start, taken_are}
+use Rattle.tcap_check.proofs.TakenLaws.{taken_sent}
 
 -- ---- fates
 
@@ -33,30 +36,16 @@ says_lost (Some Lost) = true
 abbrev pub is_lost : List Fate → ℕ → Bool
 is_lost fates n = says_lost (slice_get fates n)
 
--- These are the fates from that number on.
-abbrev pub IsFrom : List Fate → ℕ → List Fate → Type 0
-IsFrom all n fates = (i : ℕ) → slice_get fates i ≡ slice_get all (n + i)
-
--- The first of them is the one of that number,
-from_head : (all : List Fate) (n : ℕ) (fate : Fate) (fates : List Fate) → IsFrom all n (fate ∷ fates)
-    → slice_get all n ≡ Some fate
-from_head all n fate fates from = let e : n + 0 ≡ n = omega arith in sym (from 0 ∙ ap (slice_get all) e)
-
--- and the rest are those from the next number on.
-from_tail : (all : List Fate) (n : ℕ) (fate : Fate) (fates : List Fate) → IsFrom all n (fate ∷ fates)
-    → IsFrom all (n + 1) fates
-from_tail all n fate fates from i = let e : n + suc i ≡ (n + 1) + i = omega arith in from (suc i) ∙ ap (slice_get all) e
-
 -- The messages that an end sent and whose fate says so are those that are lost.
-pub filter_sent : (side : Side) (all : List Fate) (n : ℕ) (fates : List Fate) (items : List Item) → IsFrom all n fates
+pub filter_sent : (side : Side) (all : List Fate) (n : ℕ) (fates : List Fate) (items : List Item) → AreFrom all n fates
     → length fates ≡ length items
     → filter (is_lost all) (numbers_sent side n items) ≡ lost_from side n fates items
 filter_sent side all n [] [] from counted = refl
 filter_sent side all n [] (item ∷ items) from counted = absurd (omega (arith, counted))
 filter_sent side all n (fate ∷ fates) [] from counted = absurd (omega (arith, counted))
 filter_sent side all n (fate ∷ fates) (item ∷ items) from counted =
-    by item fate (ap says_lost (from_head all n fate fates from))
-    (filter_sent side all (n + 1) fates items (from_tail all n fate fates from) (omega (arith, counted)))
+    by item fate (ap says_lost (first_from all fates n fate from))
+    (filter_sent side all (n + 1) fates items (from_next all fates n fate from) (omega (arith, counted)))
   where
     sent : List ℕ
     sent = numbers_sent side (n + 1) items
@@ -152,53 +141,11 @@ fated_keeps fates side (Closes place name ∷ events) all = fated_keeps fates si
 fated_keeps fates side (Quiet ∷ events) all = fated_keeps fates side events all.1
 fated_keeps fates side (Tells place m ∷ events) all = absurd all.0
 
--- Deliveries fit the fates, which say where.
-pub deliveries_fated : (all : List Fate) (gap n : ℕ) (fates : List Fate) (items : List Item) → IsFrom all n fates
-    → AllByRecursion (IsFated all) (deliveries gap n fates items)
-deliveries_fated all gap n [] items from = tt
-deliveries_fated all gap n (fate ∷ fates) [] from = tt
-deliveries_fated all gap n (fate ∷ fates) (item ∷ items) from =
-    by item fate (ap says_lost (from_head all n fate fates from))
-    (deliveries_fated all gap (n + 1) fates items (from_tail all n fate fates from))
-  where
-    others : List Event
-    others = deliveries gap (n + 1) fates items
-
-    if_so : (side : Side) (b : Bool) → is_lost all n ≡ false → AllByRecursion (IsFated all) others
-        → AllByRecursion (IsFated all) (cond b (Receives (other side) n ∷ others) others)
-    if_so side true says rest = (says, rest)
-    if_so side false says rest = rest
-
-    by : (item : Item) (fate : Fate) → is_lost all n ≡ says_lost (Some fate) → AllByRecursion (IsFated all) others
-        → AllByRecursion (IsFated all) (deliveries gap n (fate ∷ fates) (item ∷ items))
-    by (Sent side message) (Gap g) says rest = if_so side (g == gap) says rest
-    by (Sent side message) (By k) says rest = rest
-    by (Sent side message) Lost says rest = rest
-    by Item.Quiet (Gap g) says rest = rest
-    by Item.Quiet (By k) says rest = rest
-    by Item.Quiet Lost says rest = rest
-
 -- What a reply takes is not lost by its fate.
-pub taken_fated : (all : List Fate) (reply n : ℕ) (fates : List Fate) → IsFrom all n fates
-    → AllByRecursion (λ k. is_lost all k ≡ false) (taken_by reply n fates)
-taken_fated all reply n [] from = tt
-taken_fated all reply n (fate ∷ fates) from =
-    by fate (ap says_lost (from_head all n fate fates from))
-    (taken_fated all reply (n + 1) fates (from_tail all n fate fates from))
-  where
-    others : List ℕ
-    others = taken_by reply (n + 1) fates
-
-    if_so : (b : Bool) → is_lost all n ≡ false → AllByRecursion (λ k. is_lost all k ≡ false) others
-        → AllByRecursion (λ k. is_lost all k ≡ false) (cond b (n ∷ others) others)
-    if_so true says rest = (says, rest)
-    if_so false says rest = rest
-
-    by : (fate : Fate) → is_lost all n ≡ says_lost (Some fate) → AllByRecursion (λ k. is_lost all k ≡ false) others
-        → AllByRecursion (λ k. is_lost all k ≡ false) (taken_by reply n (fate ∷ fates))
-    by (Gap g) says rest = rest
-    by (By k) says rest = if_so (k == reply) says rest
-    by Lost says rest = rest
+pub taken_fated : (fates : List Fate) (reply : ℕ) → AllByRecursion (λ k. is_lost fates k ≡ false) (taken_by reply 0 fates)
+taken_fated fates reply =
+    all_weaker (λ k. slice_get fates k ≡ Some (By reply)) (λ k. is_lost fates k ≡ false) (taken_by reply 0 fates) (λ k at. ap says_lost at)
+    (taken_are fates fates reply 0 (from_start fates))
 
 -- A gap that a fate names is no later than the last,
 pub fits_gap : (count n : ℕ) (fates : List Fate) (i g : ℕ) → FatesFit count n fates → slice_get fates i ≡ Some (Gap g)
@@ -224,51 +171,14 @@ fits_reply count n (Lost ∷ fates) (suc i) k fit at = fits_reply count (n + 1) 
 
 -- ---- losses
 
--- The item of that number, counted from another on, is a message of the end.
-abbrev IsSentAt : Side → ℕ → List Item → ℕ → Type 0
-IsSentAt side n items k = (i : ℕ) × (m : Message) × (k ≡ n + i) × (slice_get items i ≡ Some (Sent side m))
-
--- A number that an end sent names a message of it.
-sent_at : (side : Side) (n k : ℕ) (items : List Item) → IsAmong k (numbers_sent side n items) → IsSentAt side n items k
-sent_at side n k [] is = absurd is
-sent_at side n k (item ∷ items) is = by item (sent_at side (n + 1) k items) is
-  where
-    behind : (first : Item) → IsSentAt side (n + 1) items k → IsSentAt side n (first ∷ items) k
-    behind first (i, m, e, at) = (suc i, m, omega (arith, e), at)
-
-    here : (sender : Side) (message : Message) (b : Bool) → is_side side sender ≡ b
-        → (IsAmong k (numbers_sent side (n + 1) items) → IsSentAt side (n + 1) items k)
-        → IsAmong k (cond b (n ∷ numbers_sent side (n + 1) items) (numbers_sent side (n + 1) items))
-        → IsSentAt side n (Sent sender message ∷ items) k
-    here sender message true same on (inl e) =
-        (0, message, omega (arith, e), ap (λ (x : Side). Some (Sent x message)) (sym (same_side side sender same)))
-    here sender message true same on (inr is) = behind (Sent sender message) (on is)
-    here sender message false same on is = behind (Sent sender message) (on is)
-
-    by : (item : Item) → (IsAmong k (numbers_sent side (n + 1) items) → IsSentAt side (n + 1) items k)
-        → IsAmong k (numbers_sent side n (item ∷ items)) → IsSentAt side n (item ∷ items) k
-    by Item.Quiet on is = behind Item.Quiet (on is)
-    by (Sent sender message) on is = here sender message (is_side side sender) refl on is
-
--- What was taken from an end's channel was a message of it.
-pub taken_sent : (table : Table) (events : List Event) (w : World) (side : Side) (k : ℕ) → Runs table events w
-    → IsAmong k (numbers_taken side events)
-    → (m : Message) × (slice_get w.sent k ≡ Some (Sent side m))
-taken_sent table events w side k runs is =
-    let among = rw (are_whole table events w runs side) at
-    (among_left k (numbers_taken side events) (numbers_of (channel_from side w)) is) in
-    let found = sent_at side 0 k w.sent among in
-    let e : k ≡ found.0 = omega (arith, found.2) in
-    (found.1, ap (slice_get w.sent) e ∙ found.3)
-
 -- Each message that an end sent is lost by its fate, or taken by an event that is no loss.
 abbrev pub IsSettled : List Fate → World → List Event → Type 0
 IsSettled fates w plain = (side : Side) (n : ℕ) (m : Message) → slice_get w.sent n ≡ Some (Sent side m)
-    → (is_lost fates n ≡ true) ⊎ IsAmong n (numbers_taken side plain)
+    → (is_lost fates n ≡ true) ⊎ IsIn n (numbers_taken side plain)
 
 -- What holds of each of these numbers and messages holds of the messages.
 pub all_numbered : (P : OnItsWay → Type 0) (Q : OnItsWay → Type 0) (messages : List OnItsWay) → AllByRecursion P messages
-    → ((m : OnItsWay) → P m → IsAmong m.number (numbers_of messages) → Q m) → AllByRecursion Q messages
+    → ((m : OnItsWay) → P m → IsIn m.number (numbers_of messages) → Q m) → AllByRecursion Q messages
 all_numbered P Q [] all on = tt
 all_numbered P Q (first ∷ more) all on =
     (on first all.0 (inl refl), all_numbered P Q more all.1 (λ m is there. on m is (inr there)))
@@ -282,8 +192,8 @@ left_lost table fates events w runs settled side =
     (were_sent table events w runs side)
     (λ m was there. by m there (settled side m.number m.message was.listed))
   where
-    by : (m : OnItsWay) → IsAmong m.number (numbers_of (channel_from side w))
-        → (is_lost fates m.number ≡ true) ⊎ IsAmong m.number (numbers_taken side (without_losses events))
+    by : (m : OnItsWay) → IsIn m.number (numbers_of (channel_from side w))
+        → (is_lost fates m.number ≡ true) ⊎ IsIn m.number (numbers_taken side (without_losses events))
         → is_lost fates m.number ≡ true
     by m there (inl says) = says
     by m there (inr taken) = absurd
@@ -320,12 +230,12 @@ losses_are table fates events w runs counted fated settled side none =
     all_taken =
         sym (ap (λ (more : List ℕ). taken ++ more) on_way ∙ append-nil taken) ∙ are_whole table events w runs side
 
-    says : (n : ℕ) → IsAmong n lost → is_lost fates n ≡ true
+    says : (n : ℕ) → IsIn n lost → is_lost fates n ≡ true
     says n is =
         let sent = taken_sent table events w side n runs (among_losses side n events is) in
         by (settled side n sent.0 sent.1)
       where
-        by : (is_lost fates n ≡ true) ⊎ IsAmong n (numbers_taken side (without_losses events)) → is_lost fates n ≡ true
+        by : (is_lost fates n ≡ true) ⊎ IsIn n (numbers_taken side (without_losses events)) → is_lost fates n ≡ true
         by (inl says) = says
         by (inr plain) = absurd
             (losses_apart side n events

@@ -27,12 +27,15 @@ use Rattle.tcap_certificate.specs.Follows.{FatesFit, Follows, FollowsFrom, deliv
 use Rattle.tcap_check.specs.Given.{IsGiven}
 use Rattle.tcap_certificate.specs.Replayed.{Replay, all_fit, certificate_fits, entries_by, fates_fit, if_lost, lost_from_both, lost_front, nothing_replayed, replayed_by}
 use Rattle.tcap_check.proofs.GivenBound.{described_bound}
-use Rattle.tcap_check.proofs.NumberLaws.{IsAmong, among_plain, among_right, taken_right}
-use Rattle.tcap_check.proofs.GivenLosses.{IsFated, IsSettled, fated_keeps, fits_gap, fits_reply, is_lost, left_lost, losses_are, says_lost, taken_sent}
+use Rattle.tcap_check.proofs.NumberLaws.{among_plain, taken_right}
+use Rattle.tcap_check.proofs.GivenLosses.{IsFated, IsSettled, fated_keeps, fits_gap, fits_reply, is_lost, left_lost, losses_are, says_lost}
 use Rattle.tcap_check.proofs.ReplayEntries.{entries_replay, item_is}
 use Rattle.tcap_check.proofs.ReplayGaps.{fates_ok, listed_ok}
 use Rattle.tcap_check.proofs.ReplaySteps.{Extends, both_replay, extends_then, without_both}
-use Rattle.tcap_check.proofs.GivenEvents.{follows_fated, gap_at, sender_at, sender_is, sender_takes, some_parts, unseen}
+use Rattle.tcap_check.proofs.GivenEvents.{follows_fated, gap_at, sender_at, sender_is, sender_takes}
+use Rattle.tcap_check.proofs.ListedLaws.{gap_split}
+use Rattle.tcap_check.proofs.TakenLaws.{taken_sent}
+use Rattle.tcap_check.proofs.MemberLaws.{IsIn, in_right}
 
 -- ---- each message is settled
 
@@ -44,7 +47,7 @@ is_other B = refl
 -- A message is delivered in the gap that its fate names,
 delivered_at : (side : Side) (m : Message) (g n i : ℕ) (fates : List Fate) (items : List Item)
     → slice_get fates i ≡ Some (Gap g)
-    → slice_get items i ≡ Some (Sent side m) → IsAmong (n + i) (numbers_taken side (deliveries g n fates items))
+    → slice_get items i ≡ Some (Sent side m) → IsIn (n + i) (numbers_taken side (deliveries g n fates items))
 delivered_at side m g n i [] items fate_is item_is = cc
 delivered_at side m g n i (fate ∷ fates) [] fate_is item_is = cc
 delivered_at side m g n zero (fate ∷ fates) (item ∷ items) fate_is item_is =
@@ -52,27 +55,27 @@ delivered_at side m g n zero (fate ∷ fates) (item ∷ items) fate_is item_is =
     let same_item : Sent side m ≡ item = cc in
     let others = deliveries g (n + 1) fates items in
     let e : n + 0 ≡ n = omega arith in
-    let here : IsAmong (n + 0) (numbers_taken side (deliveries g n (Gap g ∷ fates) (Sent side m ∷ items))) =
+    let here : IsIn (n + 0) (numbers_taken side (deliveries g n (Gap g ∷ fates) (Sent side m ∷ items))) =
     rw (eq-eqb g g refl, is_other side) (inl e) in
-    subst (λ (x : Fate). IsAmong (n + 0) (numbers_taken side (deliveries g n (x ∷ fates) (item ∷ items)))) same_fate
-    (subst (λ (x : Item). IsAmong (n + 0) (numbers_taken side (deliveries g n (Gap g ∷ fates) (x ∷ items))))
+    subst (λ (x : Fate). IsIn (n + 0) (numbers_taken side (deliveries g n (x ∷ fates) (item ∷ items)))) same_fate
+    (subst (λ (x : Item). IsIn (n + 0) (numbers_taken side (deliveries g n (Gap g ∷ fates) (x ∷ items))))
     same_item here)
 delivered_at side m g n (suc i) (fate ∷ fates) (item ∷ items) fate_is item_is =
     let e : (n + 1) + i ≡ n + suc i = omega arith in
-    by item fate (subst (λ (k : ℕ). IsAmong k (numbers_taken side (deliveries g (n + 1) fates items))) e
+    by item fate (subst (λ (k : ℕ). IsIn k (numbers_taken side (deliveries g (n + 1) fates items))) e
     (delivered_at side m g (n + 1) i fates items fate_is item_is))
   where
     others : List Event
     others = deliveries g (n + 1) fates items
 
-    if_so : (sender : Side) (b : Bool) → IsAmong (n + suc i) (numbers_taken side others)
-        → IsAmong (n + suc i) (numbers_taken side (cond b (Receives (other sender) n ∷ others) others))
+    if_so : (sender : Side) (b : Bool) → IsIn (n + suc i) (numbers_taken side others)
+        → IsIn (n + suc i) (numbers_taken side (cond b (Receives (other sender) n ∷ others) others))
     if_so sender true rest =
-        among_right (n + suc i) (takes_from side (Receives (other sender) n)) (numbers_taken side others) rest
+        in_right (n + suc i) (takes_from side (Receives (other sender) n)) (numbers_taken side others) rest
     if_so sender false rest = rest
 
-    by : (item : Item) (fate : Fate) → IsAmong (n + suc i) (numbers_taken side others)
-        → IsAmong (n + suc i) (numbers_taken side (deliveries g n (fate ∷ fates) (item ∷ items)))
+    by : (item : Item) (fate : Fate) → IsIn (n + suc i) (numbers_taken side others)
+        → IsIn (n + suc i) (numbers_taken side (deliveries g n (fate ∷ fates) (item ∷ items)))
     by (Sent sender message) (Gap h) rest = if_so sender (h == g) rest
     by (Sent sender message) (By k) rest = rest
     by (Sent sender message) Lost rest = rest
@@ -81,25 +84,25 @@ delivered_at side m g n (suc i) (fate ∷ fates) (item ∷ items) fate_is item_i
     by Item.Quiet Lost rest = rest
 
 -- or taken by the reply that it names.
-pub replied_at : (k n i : ℕ) (fates : List Fate) → slice_get fates i ≡ Some (By k) → IsAmong (n + i) (taken_by k n fates)
+pub replied_at : (k n i : ℕ) (fates : List Fate) → slice_get fates i ≡ Some (By k) → IsIn (n + i) (taken_by k n fates)
 replied_at k n i [] is = cc
 replied_at k n zero (fate ∷ fates) is =
     let same : By k ≡ fate = cc in
     let e : n + 0 ≡ n = omega arith in
-    let here : IsAmong (n + 0) (taken_by k n (By k ∷ fates)) = rw (eq-eqb k k refl) (inl e) in
-    subst (λ (x : Fate). IsAmong (n + 0) (taken_by k n (x ∷ fates))) same here
+    let here : IsIn (n + 0) (taken_by k n (By k ∷ fates)) = rw (eq-eqb k k refl) (inl e) in
+    subst (λ (x : Fate). IsIn (n + 0) (taken_by k n (x ∷ fates))) same here
 replied_at k n (suc i) (fate ∷ fates) is =
     let e : (n + 1) + i ≡ n + suc i = omega arith in
-    by fate (subst (λ (x : ℕ). IsAmong x (taken_by k (n + 1) fates)) e (replied_at k (n + 1) i fates is))
+    by fate (subst (λ (x : ℕ). IsIn x (taken_by k (n + 1) fates)) e (replied_at k (n + 1) i fates is))
   where
     others : List ℕ
     others = taken_by k (n + 1) fates
 
-    if_so : (b : Bool) → IsAmong (n + suc i) others → IsAmong (n + suc i) (cond b (n ∷ others) others)
+    if_so : (b : Bool) → IsIn (n + suc i) others → IsIn (n + suc i) (cond b (n ∷ others) others)
     if_so true rest = inr rest
     if_so false rest = rest
 
-    by : (fate : Fate) → IsAmong (n + suc i) others → IsAmong (n + suc i) (taken_by k n (fate ∷ fates))
+    by : (fate : Fate) → IsIn (n + suc i) others → IsIn (n + suc i) (taken_by k n (fate ∷ fates))
     by (Gap g) rest = rest
     by (By h) rest = if_so (h == k) rest
     by Lost rest = rest
@@ -114,7 +117,7 @@ one_sender B m n o is also = cc
 pub settled_by : (c : Certificate) (w : World) (plain : List Event) → length c.fates ≡ length w.sent
     → FatesFit (length w.sent) 0 c.fates
     → FollowsFrom c w.sent 0 w.sent plain
-    → ((side : Side) (n : ℕ) → IsAmong n (numbers_taken side plain)
+    → ((side : Side) (n : ℕ) → IsIn n (numbers_taken side plain)
     → (m : Message) × (slice_get w.sent n ≡ Some (Sent side m)))
     → IsSettled c.fates w plain
 settled_by c w plain counted fit follows sent side n m at = by (slice_get c.fates n) refl
@@ -130,37 +133,37 @@ settled_by c w plain counted fit follows sent side n m at = by (slice_get c.fate
         absent (inl found) = let is = found.2 in cc
         absent (inr past) = absurd (omega (arith, past.0, counted, within))
 
-    by_gap : (g : ℕ) → slice_get c.fates n ≡ Some (Gap g) → IsAmong n (numbers_taken side plain)
+    by_gap : (g : ℕ) → slice_get c.fates n ≡ Some (Gap g) → IsIn n (numbers_taken side plain)
     by_gap g is =
         let high = fits_gap (length w.sent) 0 c.fates n g fit is in
         let found = gap_at c w.sent 0 g w.sent plain follows (omega arith) (omega (arith, high)) in
-        let parts = some_parts found.here (unseen c w.sent g) (deliveries g 0 c.fates w.sent) found.is in
+        let parts = gap_split (λ event. Unit {0}) c w.sent g found.here (λ side name. tt) (λ side name id. tt) found.is in
         let e : 0 + n ≡ n = omega arith in
-        let among = subst (λ (k : ℕ). IsAmong k (numbers_taken side (deliveries g 0 c.fates w.sent))) e
+        let among = subst (λ (k : ℕ). IsIn k (numbers_taken side (deliveries g 0 c.fates w.sent))) e
         (delivered_at side m g 0 n c.fates w.sent is at) in
-        found.takes side n (subst (λ (x : List Event). IsAmong n (numbers_taken side x)) (sym parts.2)
+        found.takes side n (subst (λ (x : List Event). IsIn n (numbers_taken side x)) (sym parts.2)
         (taken_right side n parts.0 (deliveries g 0 c.fates w.sent) among))
 
-    by_reply : (k : ℕ) → slice_get c.fates n ≡ Some (By k) → IsAmong n (numbers_taken side plain)
+    by_reply : (k : ℕ) → slice_get c.fates n ≡ Some (By k) → IsIn n (numbers_taken side plain)
     by_reply k is =
         let high = fits_reply (length w.sent) 0 c.fates n k fit is in
         let found = sender_at c w.sent 0 k w.sent plain follows (omega arith) (omega (arith, high)) in
         let taken = taken_by k 0 c.fates in
         let e : 0 + n ≡ n = omega arith in
-        let among = subst (λ (x : ℕ). IsAmong x (taken_by k 0 c.fates)) e (replied_at k 0 n c.fates is) in
+        let among = subst (λ (x : ℕ). IsIn x (taken_by k 0 c.fates)) e (replied_at k 0 n c.fates is) in
         which found.sends (found.takes side n) (found.takes (other side) n)
         (sender_takes side taken found.sends n among (sender_is c k found.item taken found.sends found.is))
       where
-        which : (sends : Event) → (IsAmong n (takes_from side sends) → IsAmong n (numbers_taken side plain))
-            → (IsAmong n (takes_from (other side) sends) → IsAmong n (numbers_taken (other side) plain))
-            → IsAmong n (takes_from side sends) ⊎ IsAmong n (takes_from (other side) sends)
-            → IsAmong n (numbers_taken side plain)
+        which : (sends : Event) → (IsIn n (takes_from side sends) → IsIn n (numbers_taken side plain))
+            → (IsIn n (takes_from (other side) sends) → IsIn n (numbers_taken (other side) plain))
+            → IsIn n (takes_from side sends) ⊎ IsIn n (takes_from (other side) sends)
+            → IsIn n (numbers_taken side plain)
         which sends here away (inl one) = here one
         which sends here away (inr one) =
             let found = sent (other side) n (away one) in
             absurd (one_sender side m found.0 (slice_get w.sent n) at found.1)
 
-    by : (o : Option Fate) → slice_get c.fates n ≡ o → (is_lost c.fates n ≡ true) ⊎ IsAmong n (numbers_taken side plain)
+    by : (o : Option Fate) → slice_get c.fates n ≡ o → (is_lost c.fates n ≡ true) ⊎ IsIn n (numbers_taken side plain)
     by None is = absurd (there is)
     by (Some (Gap g)) is = inr (by_gap g is)
     by (Some (By k)) is = inr (by_reply k is)

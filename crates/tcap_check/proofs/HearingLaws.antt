@@ -1,18 +1,16 @@
 -- Steps over what is kept, one after the other: what is left, and what it does to what is kept now, tell of all.
-use Rattle.std.proofs.Common.{◌≡◌, ℕ, zero, suc, true, false, ◌+◌, ◌^◌, ◌≤◌, ◌<◌, List, [], ◌∷◌, length, drop, get_or, Option, Some, None, Result, Ok, Err, refl, ap, ◌∙◌, arith}
+use Rattle.std.proofs.Common.{◌≡◌, ℕ, zero, suc, true, false, ◌+◌, ◌^◌, ◌≤◌, ◌<◌, List, [], ◌∷◌, length, drop, get_or, Option, Result, Ok, Err, refl, ap, ◌∙◌, arith}
 use Rattle.tcap_record.specs.declared.entry.End.{End as Side}
 use Rattle.tcap_certificate.specs.declared.fault.CheckFault.{CheckFault}
 use Rattle.tcap_check.specs.declared.progress.Progress.{Progress}
-use Rattle.tcap_end.specs.Step.{◌>>=◌}
 use Rattle.tcap_end.specs.Table.{Table}
 use Rattle.tcap_check.specs.declared.outline.Outline.{Outline}
-use Rattle.tcap_certificate.specs.declared.certificate.Closing.{Closing}
-use Rattle.tcap_certificate.specs.declared.certificate.Expiry.{Expiry}
-use Rattle.tcap_certificate.specs.Replayed.{closings_judged, expiries_judged, is_judged}
-use Rattle.tcap_check.specs.Progress.{HasNoMore, closing_kept, closings_kept, expiries_kept, expiry_kept}
+use Rattle.tcap_certificate.specs.Replayed.{is_judged}
+use Rattle.tcap_check.specs.Progress.{HasNoMore}
 use Rattle.tcap_check.specs.Hearing.{deliveries_kept}
-use Rattle.tcap_check.specs.Left.{closings_left, expiries_left}
 use Rattle.tcap_check.specs.SoFar.{behind_or}
+use Rattle.tcap_check.specs.declared.listed.Listed.{Listed}
+use Rattle.tcap_check.specs.Listed.{listed_judged, side_of}
 
 -- What the items from that index on do to what is kept now is what all do to what was kept first; there is room for them.
 pub record Going {X : Type 0} (all : List X → Progress → Result Progress CheckFault) (first : Progress) (xs : List X)
@@ -56,81 +54,13 @@ going_next all first xs p q i default going less step grows =
 
 -- ---- what is listed
 
--- The first of what is listed happens where its end is judged,
-pub closes_first : (judged : Option Side) (table : Table) (entries : List Outline) (since : ℕ) (x : Closing) (more : List Closing) (p : Progress)
-    → is_judged judged x.side ≡ true
-    → closings_kept table entries since (closings_judged judged (x ∷ more)) p
-    ≡ (closing_kept table entries since x p >>= closings_kept table entries since (closings_judged judged more))
-closes_first None table entries since x more p is = refl
-closes_first (Some judged) table entries since x more p is = rw is refl
+-- The first of what is listed is looked at if its end is judged, and is passed over if it is not.
+module _ (judged : Option Side) (x : Listed) (more : List Listed) where
+  pub listed_first : is_judged judged (side_of x) ≡ true → listed_judged judged (x ∷ more) ≡ x ∷ listed_judged judged more
+  listed_first is = rw is refl
 
--- and is passed over where it is not.
-pub closes_none : (judged : Option Side) (table : Table) (entries : List Outline) (since : ℕ) (x : Closing) (more : List Closing) (p : Progress)
-    → is_judged judged x.side ≡ false
-    → closings_kept table entries since (closings_judged judged (x ∷ more)) p
-    ≡ closings_kept table entries since (closings_judged judged more) p
-closes_none None table entries since x more p is = cc
-closes_none (Some judged) table entries since x more p is = rw is refl
-
-pub ends_first : (judged : Option Side) (table : Table) (entries : List Outline) (since : ℕ) (x : Expiry) (more : List Expiry) (p : Progress)
-    → is_judged judged x.side ≡ true
-    → expiries_kept table entries since (expiries_judged judged (x ∷ more)) p
-    ≡ (expiry_kept table entries since x p >>= expiries_kept table entries since (expiries_judged judged more))
-ends_first None table entries since x more p is = refl
-ends_first (Some judged) table entries since x more p is = rw is refl
-
-pub ends_none : (judged : Option Side) (table : Table) (entries : List Outline) (since : ℕ) (x : Expiry) (more : List Expiry) (p : Progress)
-    → is_judged judged x.side ≡ false
-    → expiries_kept table entries since (expiries_judged judged (x ∷ more)) p
-    ≡ expiries_kept table entries since (expiries_judged judged more) p
-ends_none None table entries since x more p is = cc
-ends_none (Some judged) table entries since x more p is = rw is refl
-
--- The same of what is left.
-module _ (judged : Option Side) (table : Table) (entries : List Outline) (since : ℕ) (p : Progress) where
-  pub closing_left : (x : Closing) (more : List Closing) → is_judged judged x.side ≡ true
-      → closings_left table entries since (closings_judged judged (x ∷ more)) p
-      ≡ behind_or (closing_kept table entries since x p) p (closings_left table entries since (closings_judged judged more))
-  closing_left x more is = by judged is
-    where
-      by : (judged : Option Side) → is_judged judged x.side ≡ true
-          → closings_left table entries since (closings_judged judged (x ∷ more)) p
-          ≡ behind_or (closing_kept table entries since x p) p (closings_left table entries since (closings_judged judged more))
-      by None is = refl
-      by (Some side) is = rw is refl
-
-  pub closing_passed : (x : Closing) (more : List Closing) → is_judged judged x.side ≡ false
-      → closings_left table entries since (closings_judged judged (x ∷ more)) p
-      ≡ closings_left table entries since (closings_judged judged more) p
-  closing_passed x more is = by judged is
-    where
-      by : (judged : Option Side) → is_judged judged x.side ≡ false
-          → closings_left table entries since (closings_judged judged (x ∷ more)) p
-          ≡ closings_left table entries since (closings_judged judged more) p
-      by None is = cc
-      by (Some side) is = rw is refl
-
-  pub expiry_left : (x : Expiry) (more : List Expiry) → is_judged judged x.side ≡ true
-      → expiries_left table entries since (expiries_judged judged (x ∷ more)) p
-      ≡ behind_or (expiry_kept table entries since x p) p (expiries_left table entries since (expiries_judged judged more))
-  expiry_left x more is = by judged is
-    where
-      by : (judged : Option Side) → is_judged judged x.side ≡ true
-          → expiries_left table entries since (expiries_judged judged (x ∷ more)) p
-          ≡ behind_or (expiry_kept table entries since x p) p (expiries_left table entries since (expiries_judged judged more))
-      by None is = refl
-      by (Some side) is = rw is refl
-
-  pub expiry_passed : (x : Expiry) (more : List Expiry) → is_judged judged x.side ≡ false
-      → expiries_left table entries since (expiries_judged judged (x ∷ more)) p
-      ≡ expiries_left table entries since (expiries_judged judged more) p
-  expiry_passed x more is = by judged is
-    where
-      by : (judged : Option Side) → is_judged judged x.side ≡ false
-          → expiries_left table entries since (expiries_judged judged (x ∷ more)) p
-          ≡ expiries_left table entries since (expiries_judged judged more) p
-      by None is = cc
-      by (Some side) is = rw is refl
+  pub listed_none : is_judged judged (side_of x) ≡ false → listed_judged judged (x ∷ more) ≡ listed_judged judged more
+  listed_none is = rw is refl
 
 -- What is left after a step that is Ok,
 pub left_behind : {A F : Type 0} (o : Result A F) (left next : A) (on : A → A) → o ≡ Ok next → behind_or o left on ≡ on next

@@ -118,11 +118,6 @@ pub end_step_is : (listing : Bool) (judged : Option Side) (c : Certificate) (eve
 end_step_is listing judged c event sides.A e r none = moved_counts listing judged r.events r.discards event (with_seat_end sides.A e (progress_of listing judged c r)) none
 end_step_is listing judged c event sides.B e r none = moved_counts listing judged r.events r.discards event (with_seat_end sides.B e (progress_of listing judged c r)) none
 
--- A step that changes nothing but that it is made.
-pub lost_step_is : (listing : Bool) (judged : Option Side) (c : Certificate) (side : Side) (number : ℕ) (r : Replay)
-    → progress_of listing judged c (with_step (Loses side number) r r.world) ≡ lost_told judged side number (progress_of listing judged c r)
-lost_step_is listing judged c side number r = lost_counts listing judged side number r.events r.discards (progress_of listing judged c r)
-
 -- The replay behind a discard, which changes nothing else.
 abbrev pub discarding : Side → ℕ → EndFault → Replay → Replay
 discarding side number reason r = record {

@@ -1,12 +1,11 @@
 -- By how much a checker's count of steps grows.
-use Rattle.std.proofs.Common.{◌≡◌, ℕ, ℤ, suc, ◌+◌, ◌≤◌, Bool, true, false, List, [], ◌∷◌, ◌++◌, length, filter, ◌==◌, cond, Option, Some, None, Result, Ok, Err, refl, ap, subst, ◌∙◌, arith}
+use Rattle.std.proofs.Common.{◌≡◌, ℕ, ℤ, suc, ◌+◌, ◌≤◌, Bool, true, false, List, [], ◌∷◌, ◌++◌, length, ◌==◌, cond, Option, Some, None, Result, Ok, Err, refl, ap, subst, ◌∙◌, arith}
 use Rattle.std.specs.Prelude.{ok_or, ◌&&◌, OnOk}
 use Rattle.std.proofs.lemmas.List.{length-append}
 use Rattle.tcap_msg.specs.declared.message.Message.{Message}
 use Rattle.tcap_record.specs.declared.entry.End.{End as Side}
 use Rattle.tcap_record.specs.declared.entry.End.TheVariants as sides
 use Rattle.tcap_end.specs.declared.fault.EndFault.{EndFault}
-use Rattle.tcap_end.specs.declared.fault.EndFault.TheVariants as faults
 use Rattle.tcap_end.specs.declared.half.HalfName.{HalfName}
 use Rattle.tcap_end.specs.End.{End}
 use Rattle.tcap_end.specs.Hidden.{close, expire}
@@ -14,21 +13,20 @@ use Rattle.tcap_end.specs.Step.{◌>>=◌}
 use Rattle.tcap_end.specs.Table.{Table}
 use Rattle.tcap_end.proofs.AnsweringLaws.{needs_ok, ok_same, then_ok}
 use Rattle.tcap_certificate.specs.declared.fault.CheckFault.{CheckFault}
-use Rattle.tcap_certificate.specs.declared.certificate.Closing.{Closing}
-use Rattle.tcap_certificate.specs.declared.certificate.Expiry.{Expiry}
 use Rattle.tcap_certificate.specs.declared.certificate.Fate.{Fate}
-use Rattle.tcap_certificate.specs.declared.certificate.Fate.TheVariants.{Gap, Lost, By}
-use Rattle.tcap_model.specs.declared.reason.Reason.TheVariants.{BadReply, FateRange, HiddenRefused, NotQuiet}
+use Rattle.tcap_model.specs.declared.reason.Reason.TheVariants.{BadReply, NotQuiet}
 use Rattle.tcap_record.specs.Ends.{other}
 use Rattle.tcap_check.specs.declared.outline.Outline.{Outline}
 use Rattle.tcap_check.specs.declared.progress.Progress.{Progress}
 use Rattle.tcap_check.specs.declared.progress.Waiting.{Waiting}
-use Rattle.tcap_model.specs.World.{is_side}
 use Rattle.tcap_check.specs.Outlines.{half_closed, invocation_ended}
-use Rattle.tcap_check.specs.Progress.{GrewBy, HasNoMore, YieldsInMemory, closing_kept, closings_kept, discard_told, due_in, end_moved, expiries_kept, expiry_kept, first_answered, front_lost, half_closes, invocation_ends, is_none_kept, losing_kept, lost_counted, lost_told, may_be_answered, moved, on_way, reply_kept, seat_at, sent_by, unless_lost, with_seat_end, with_told, with_waiting}
+use Rattle.tcap_check.specs.Progress.{GrewBy, HasNoMore, YieldsInMemory, discard_told, end_moved, first_answered, front_lost, is_none_kept, losing_kept, lost_counted, lost_told, may_be_answered, moved, on_way, reply_kept, seat_at, sent_by, unless_lost, with_seat_end, with_told, with_waiting, all_kept, listed_kept}
 use Rattle.tcap_model.specs.Run.{Event, Closes, Expires, Loses, Receives, Replies}
 use Rattle.tcap_check.specs.Hearing.{first_heard, first_received, halves_shut, message_received, received_or_not}
-use Rattle.tcap_certificate.specs.Replayed.{closings_judged, expiries_judged, fault_at}
+use Rattle.tcap_certificate.specs.Replayed.{fault_at, is_judged}
+use Rattle.tcap_check.specs.declared.listed.Listed.{Listed}
+use Rattle.tcap_check.specs.declared.listed.Listed.TheVariants as listings
+use Rattle.tcap_check.specs.Listed.{listed_judged, side_of}
 
 -- ---- one step
 
@@ -43,28 +41,19 @@ end_moves sides.A event fault p next (Ok e) is = subst (IsMoved 1 p) (ok_same _ 
 end_moves sides.B event fault p next (Ok e) is = subst (IsMoved 1 p) (ok_same _ next is) (refl, refl, refl)
 end_moves side event fault p next (Err reason) is = cc
 
-closing_grows : (table : Table) (entries : List Outline) (since : ℕ) (x : Closing) (p next : Progress)
-    → closing_kept table entries since x p ≡ Ok next → IsMoved 1 p next
-closing_grows table entries since x p next is = by (half_closed entries since x) is
-  where
-    by : (o : Option HalfName) → (ok_or o (fault_at FateRange x.entry) >>= λ name. half_closes table x name p) ≡ Ok next
-        → IsMoved 1 p next
-    by None is = cc
-    by (Some name) is =
-        end_moves x.side (Closes x.side name) (fault_at (HiddenRefused faults.CannotClose) x.entry) p next
-        (close table (seat_at x.side p).end name) is
+-- What is listed is one, where there is what it names.
+named_moves : {N : Type 0} (side : Side) (event : N → Event) (answer : N → Result End EndFault) (none refused : CheckFault) (p next : Progress)
+    (o : Option N) → (ok_or o none >>= λ name. end_moved side (event name) refused p (answer name)) ≡ Ok next → IsMoved 1 p next
+named_moves side event answer none refused p next None is = cc
+named_moves side event answer none refused p next (Some name) is = end_moves side (event name) refused p next (answer name) is
 
-expiry_grows : (table : Table) (entries : List Outline) (since : ℕ) (x : Expiry) (p next : Progress)
-    → expiry_kept table entries since x p ≡ Ok next → IsMoved 1 p next
-expiry_grows table entries since x p next is = by (invocation_ended entries since x) is
-  where
-    by : (o : Option (HalfName × ℤ))
-        → (ok_or o (fault_at FateRange x.entry) >>= λ invocation. invocation_ends table x invocation p) ≡ Ok next
-        → IsMoved 1 p next
-    by None is = cc
-    by (Some invocation) is =
-        end_moves x.side (Expires x.side invocation.0 invocation.1) (fault_at (HiddenRefused faults.CannotExpire) x.entry) p next
-        (expire table (seat_at x.side p).end invocation.0 invocation.1) is
+one_listed_grows : (table : Table) (entries : List Outline) (since : ℕ) (x : Listed) (p next : Progress)
+    → listed_kept table entries since x p ≡ Ok next → IsMoved 1 p next
+one_listed_grows table entries since (listings.Closes x) p next is =
+    named_moves x.side (Closes x.side) (close table (seat_at x.side p).end) _ _ p next (half_closed entries since x) is
+one_listed_grows table entries since (listings.Expires x) p next is =
+    named_moves x.side (λ (n : HalfName × ℤ). Expires x.side n.0 n.1) (λ n. expire table (seat_at x.side p).end n.0 n.1) _ _ p next
+    (invocation_ended entries since x) is
 
 -- ---- losses
 
@@ -218,24 +207,14 @@ reply_grows judged side fate number abort taken p next is =
 
 -- ---- a gap
 
-pub closings_grow : (table : Table) (entries : List Outline) (since : ℕ) (xs : List Closing) (p next : Progress)
-    → closings_kept table entries since xs p ≡ Ok next → IsMoved (length xs) p next
-closings_grow table entries since [] p next is =
+pub listed_grows : (table : Table) (entries : List Outline) (since : ℕ) (xs : List Listed) (p next : Progress)
+    → all_kept table entries since xs p ≡ Ok next → IsMoved (length xs) p next
+listed_grows table entries since [] p next is =
     subst (IsMoved 0 p) (ok_same p next is) (omega arith, refl, refl)
-closings_grow table entries since (x ∷ xs) p next is =
+listed_grows table entries since (x ∷ xs) p next is =
     let found = then_ok _ _ next is in
-    let one = closing_grows table entries since x p found.0 found.1 in
-    let rest = closings_grow table entries since xs found.0 next found.2 in
-    let m0 = one.0 in let m1 = rest.0 in (omega (arith, m0, m1), rest.1 ∙ one.1, rest.2 ∙ one.2)
-
-pub expiries_grow : (table : Table) (entries : List Outline) (since : ℕ) (xs : List Expiry) (p next : Progress)
-    → expiries_kept table entries since xs p ≡ Ok next → IsMoved (length xs) p next
-expiries_grow table entries since [] p next is =
-    subst (IsMoved 0 p) (ok_same p next is) (omega arith, refl, refl)
-expiries_grow table entries since (x ∷ xs) p next is =
-    let found = then_ok _ _ next is in
-    let one = expiry_grows table entries since x p found.0 found.1 in
-    let rest = expiries_grow table entries since xs found.0 next found.2 in
+    let one = one_listed_grows table entries since x p found.0 found.1 in
+    let rest = listed_grows table entries since xs found.0 next found.2 in
     let m0 = one.0 in let m1 = rest.0 in (omega (arith, m0, m1), rest.1 ∙ one.1, rest.2 ∙ one.2)
 
 -- Halves that close are so many steps.
@@ -248,32 +227,12 @@ shut_grows side table number (name ∷ more) p next is =
     let rest = shut_grows side table number more found.0 next found.2 in
     let m0 = one.0 in let m1 = rest.0 in (omega (arith, m0, m1), rest.1 ∙ one.1, rest.2 ∙ one.2)
 
--- what is listed for a gap is no more than all that is listed
-some_listed : {X : Type 0} (so : X → Bool) (xs : List X) → length (filter so xs) ≤ length xs
-some_listed so [] = omega arith
-some_listed so (x ∷ xs) = by (so x) (some_listed so xs)
+-- What is listed of the ends that are judged is no more than all that is listed.
+pub some_listed : (judged : Option Side) (xs : List Listed) → length (listed_judged judged xs) ≤ length xs
+some_listed judged [] = omega arith
+some_listed judged (x ∷ xs) = by (is_judged judged (side_of x)) (some_listed judged xs)
   where
-    by : (b : Bool) → length (filter so xs) ≤ length xs
-        → length (cond b (x ∷ filter so xs) (filter so xs)) ≤ suc (length xs)
+    by : (b : Bool) → length (listed_judged judged xs) ≤ length xs
+        → length (cond b (x ∷ listed_judged judged xs) (listed_judged judged xs)) ≤ suc (length xs)
     by true less = omega arith
     by false less = omega arith
-
-pub some_due : (gap n : ℕ) (fates : List Fate) → length (due_in gap n fates) ≤ length fates
-some_due gap n [] = omega arith
-some_due gap n (Gap g ∷ fates) = by (g == gap) (some_due gap (n + 1) fates)
-  where
-    by : (b : Bool) → length (due_in gap (n + 1) fates) ≤ length fates
-        → length (cond b (n ∷ due_in gap (n + 1) fates) (due_in gap (n + 1) fates)) ≤ suc (length fates)
-    by true less = omega arith
-    by false less = omega arith
-some_due gap n (Lost ∷ fates) = let less = some_due gap (n + 1) fates in omega arith
-some_due gap n (By reply ∷ fates) = let less = some_due gap (n + 1) fates in omega arith
-
--- nor is what is listed of the ends that are judged.
-pub some_closings : (judged : Option Side) (xs : List Closing) → length (closings_judged judged xs) ≤ length xs
-some_closings None xs = omega arith
-some_closings (Some judged) xs = some_listed (λ (x : Closing). is_side judged x.side) xs
-
-pub some_expiries : (judged : Option Side) (xs : List Expiry) → length (expiries_judged judged xs) ≤ length xs
-some_expiries None xs = omega arith
-some_expiries (Some judged) xs = some_listed (λ (x : Expiry). is_side judged x.side) xs

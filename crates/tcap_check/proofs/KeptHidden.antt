@@ -31,14 +31,19 @@ use Rattle.tcap_check.specs.declared.outline.Outline.TheVariants as outlines
 use Rattle.tcap_model.specs.World.{has_quiet}
 use Rattle.tcap_model.specs.Since.{originating}
 use Rattle.tcap_certificate.specs.Follows.{closing_by, closing_event, expiry_by, expiry_event, invoke_id, named_entry}
-use Rattle.tcap_certificate.specs.Replayed.{Replay, closings_judged, closings_replayed, expiries_judged, expiries_replayed, fault_at, happens, with_step}
+use Rattle.tcap_certificate.specs.Replayed.{Replay, fault_at, happens, with_step, is_judged}
 use Rattle.tcap_check.specs.Outlines.{begins, half_closed, half_closed_by, invocation_ended, invocation_ended_by, is_named, outline_named, outline_of, outlines_from, since_from}
-use Rattle.tcap_check.specs.Progress.{closing_kept, closings_kept, end_moved, expiries_kept, expiry_kept, half_closes, invocation_ends}
+use Rattle.tcap_check.specs.Progress.{end_moved, half_closes, invocation_ends, all_kept, listed_kept}
 use Rattle.tcap_check.specs.Checking.{map_ok, progress_of}
 use Rattle.tcap_certificate.specs.Unheard.{is_lost_from}
-use Rattle.tcap_check.proofs.KeptBasics.{end_kept, end_step_is, ok_behind, then_is, then_then}
-use Rattle.tcap_model.proofs.ListLaws.{all_weaker}
-use Rattle.tcap_check.proofs.ReplayLaws.{closings_replay, expiries_replay}
+use Rattle.tcap_check.proofs.KeptBasics.{end_kept, end_step_is, then_is}
+use Rattle.tcap_model.proofs.ListLaws.{all_weaker, all_both}
+use Rattle.tcap_check.specs.declared.listed.Listed.{Listed}
+use Rattle.tcap_check.specs.declared.listed.Listed.TheVariants as listings
+use Rattle.tcap_check.specs.Listed.{all_replayed, entry_of, event_listed, gap_of, listed_for, listed_in, listed_replayed, side_of, why_refused}
+use Rattle.tcap_check.proofs.ReplayLaws.{one_replays}
+use Rattle.tcap_check.specs.declared.outline.Outline.{Outline}
+use Rattle.tcap_check.specs.declared.progress.Progress.{Progress}
 
 pub outlines_count : (c : Certificate) (n : ℕ) (items : List Item) → length (outlines_from c n items) ≡ length items
 outlines_count c n [] = refl
@@ -158,53 +163,36 @@ each_any entry (x ∷ xs) = (
       (λ y is. so_or (entry x == entry y) (list_any (λ z. entry z == entry y) xs) is) (each_any entry xs),
 )
 
+-- What holds of what each is made from holds of what is made.
+all_made : {A B : Type 0} (P : B → Type 0) (f : A → B) (xs : List A) → AllByRecursion (λ x. P (f x)) xs → AllByRecursion P (map f xs)
+all_made P f [] all = tt
+all_made P f (x ∷ xs) all = (all.0, all_made P f xs all.1)
+
 -- in that gap, and of an entry that is named
-abbrev pub IsListed : Certificate → ℕ → ℕ → ℕ → Type 0
-IsListed c count gap entry = (gap ≡ count) × (is_named c entry ≡ true)
+abbrev pub IsNamed : Certificate → ℕ → Listed → Type 0
+IsNamed c count x = (gap_of x ≡ count) × (is_named c (entry_of x) ≡ true)
 
 -- What is listed for a gap is so.
-closings_listed : (c : Certificate) (count : ℕ)
-    → AllByRecursion (λ (x : Closing). IsListed c count x.gap x.entry) (filter (λ x. x.gap == count) c.close)
-closings_listed c count =
-    all_weaker (λ (x : Closing). ((x.gap == count) ≡ true)
-    × (list_any (λ (y : Closing). y.entry == x.entry) c.close ≡ true))
-    (λ (x : Closing). IsListed c count x.gap x.entry) (filter (λ (x : Closing). x.gap == count) c.close)
-    (λ x both. (
-      eqb-true x.gap count both.0,
-      or_so (list_any (λ (y : Closing). y.entry == x.entry) c.close)
-          (list_any (λ (y : Expiry). y.entry == x.entry) c.expire) both.1,
-    ))
-    (each_passing (λ (x : Closing). list_any (λ (y : Closing). y.entry == x.entry) c.close ≡ true)
-    (λ (x : Closing). x.gap == count) c.close
-    (each_any (λ (x : Closing). x.entry) c.close))
+each_named : {X : Type 0} (c : Certificate) (count : ℕ) (of : X → Listed) (entry gap : X → ℕ) (xs : List X)
+    → ((x : X) → (gap x ≡ count) → list_any (λ y. entry y == entry x) xs ≡ true → IsNamed c count (of x))
+    → AllByRecursion (IsNamed c count) (map of (filter (λ x. gap x == count) xs))
+each_named c count of entry gap xs named =
+    all_made (IsNamed c count) of (filter (λ x. gap x == count) xs)
+    (all_weaker (λ x. ((gap x == count) ≡ true) × (list_any (λ y. entry y == entry x) xs ≡ true)) (λ x. IsNamed c count (of x))
+    (filter (λ x. gap x == count) xs) (λ x both. named x (eqb-true (gap x) count both.0) both.1)
+    (each_passing (λ x. list_any (λ y. entry y == entry x) xs ≡ true) (λ x. gap x == count) xs (each_any entry xs)))
 
-expiries_listed : (c : Certificate) (count : ℕ)
-    → AllByRecursion (λ (x : Expiry). IsListed c count x.gap x.entry) (filter (λ x. x.gap == count) c.expire)
-expiries_listed c count =
-    all_weaker (λ (x : Expiry). ((x.gap == count) ≡ true)
-    × (list_any (λ (y : Expiry). y.entry == x.entry) c.expire ≡ true))
-    (λ (x : Expiry). IsListed c count x.gap x.entry) (filter (λ (x : Expiry). x.gap == count) c.expire)
-    (λ x both. (
-      eqb-true x.gap count both.0,
-      so_or (list_any (λ (y : Closing). y.entry == x.entry) c.close)
-          (list_any (λ (y : Expiry). y.entry == x.entry) c.expire) both.1,
-    ))
-    (each_passing (λ (x : Expiry). list_any (λ (y : Expiry). y.entry == x.entry) c.expire ≡ true)
-    (λ (x : Expiry). x.gap == count) c.expire
-    (each_any (λ (x : Expiry). x.entry) c.expire))
+-- Of those of the ends that are judged, too.
+pub listed_named : (judged : Option Side) (c : Certificate) (count : ℕ) → AllByRecursion (IsNamed c count) (listed_for judged c count)
+listed_named judged c count =
+    some_hold (IsNamed c count) (λ x. is_judged judged (side_of x)) (listed_in c count)
+    (all_both (IsNamed c count) (map listings.Closes (filter (λ x. x.gap == count) c.close)) (map listings.Expires (filter (λ x. x.gap == count) c.expire))
+    (each_named c count listings.Closes (λ (x : Closing). x.entry) (λ (x : Closing). x.gap) c.close
+    (λ x here any. (here, or_so (list_any (λ (y : Closing). y.entry == x.entry) c.close) (list_any (λ (y : Expiry). y.entry == x.entry) c.expire) any)))
+    (each_named c count listings.Expires (λ (x : Expiry). x.entry) (λ (x : Expiry). x.gap) c.expire
+    (λ x here any. (here, so_or (list_any (λ (y : Closing). y.entry == x.entry) c.close) (list_any (λ (y : Expiry). y.entry == x.entry) c.expire) any))))
 
--- ---- steps
-
--- A step of an end alone.
-pub end_is : (listing : Bool) (judged : Option Side) (c : Certificate) (side : Side) (event : Event) (fault : CheckFault) (r : Replay) (step : Result End EndFault)
-    → ((at : Side) → is_lost_from at event ≡ false)
-    → end_moved side event fault (progress_of listing judged c r) step
-    ≡ map_ok (progress_of listing judged c) (ok_or (option_map (with_step event r)
-    (option_map (λ e. with_end side e r.world) (result_ok step))) fault)
-end_is listing judged c side event fault r (Ok e) none = ap Ok (sym (end_step_is listing judged c event side e r none))
-end_is listing judged c side event fault r (Err reason) none = refl
-
--- ---- closings
+-- ---- what it names
 
 -- A closing is of the half that what is kept of its entry names.
 closing_by_is : (x : Closing) (item : Item)
@@ -215,96 +203,6 @@ closing_by_is x (Sent sender (Continue otid dtid dialogue components)) = refl
 closing_by_is x (Sent sender (EndMessage dtid dialogue components)) = refl
 closing_by_is x (Sent sender (Abort dtid reason)) = refl
 closing_by_is x Item.Quiet = refl
-
--- What is listed of a closing names the same half in both.
-closing_named : (c : Certificate) (items : List Item) (x : Closing) → IsListed c (length items) x.gap x.entry
-    → closing_event items x ≡ option_map (Closes x.side)
-    (half_closed (outlines_from c 0 items) (since_from 0 0 items) x)
-closing_named c items x is = by (named_entry items x.gap x.entry)
-    ∙ ap (λ o. option_map (Closes x.side) (then_so o (half_closed_by x)))
-    (sym (named_is c items x.gap x.entry is.0 is.1))
-  where
-    by : (o : Option Item) → then_so o (closing_by x)
-        ≡ option_map (Closes x.side) (then_so (option_map (outline_of true) o) (half_closed_by x))
-    by None = refl
-    by (Some item) = closing_by_is x item
-
--- one closing
-abbrev closing_replayed : Table → Certificate → Closing → Replay → Result Replay CheckFault
-closing_replayed table c x r = ok_or (closing_event r.world.sent x) (fault_at FateRange x.entry)
-    >>= λ event. happens table c event (HiddenRefused faults.CannotClose) x.entry r
-
-pub half_closes_is : (listing : Bool) (judged : Option Side) (table : Table) (c : Certificate) (x : Closing) (name : HalfName) (r : Replay)
-    → half_closes table x name (progress_of listing judged c r)
-    ≡ map_ok (progress_of listing judged c) (happens table c (Closes x.side name) (HiddenRefused faults.CannotClose) x.entry r)
-half_closes_is listing judged table c x name r =
-    let fault = fault_at (HiddenRefused faults.CannotClose) x.entry in
-    ap (λ (e : End). end_moved x.side (Closes x.side name) fault (progress_of listing judged c r) (close table e name)) (end_kept listing judged c x.side r)
-    ∙ end_is listing judged c x.side (Closes x.side name) fault r (close table (end_at x.side r.world) name) (λ at. refl)
-
-closing_is : (listing : Bool) (judged : Option Side) (table : Table) (c : Certificate) (items : List Item) (x : Closing) (r : Replay)
-    → IsListed c (length items) x.gap x.entry
-    → r.world.sent ≡ items
-    → closing_kept table (outlines_from c 0 items) (since_from 0 0 items) x (progress_of listing judged c r)
-    ≡ map_ok (progress_of listing judged c) (closing_replayed table c x r)
-closing_is listing judged table c items x r is sent =
-    by (half_closed (outlines_from c 0 items) (since_from 0 0 items) x)
-    ∙ ap (λ o. map_ok (progress_of listing judged c) (ok_or o none >>= step))
-    (sym (ap (λ s. closing_event s x) sent ∙ closing_named c items x is))
-  where
-    none : CheckFault
-    none = fault_at FateRange x.entry
-
-    step : Event → Result Replay CheckFault
-    step event = happens table c event (HiddenRefused faults.CannotClose) x.entry r
-
-    by : (o : Option HalfName) → (ok_or o none >>= λ name. half_closes table x name (progress_of listing judged c r))
-        ≡ map_ok (progress_of listing judged c) (ok_or (option_map (Closes x.side) o) none >>= step)
-    by None = refl
-    by (Some name) = half_closes_is listing judged table c x name r
-
--- Closings that are listed for the gap behind these items.
-pub closings_from : (listing : Bool) (judged : Option Side) (table : Table) (c : Certificate) (items : List Item) (listed : List Closing) (r : Replay)
-    → AllByRecursion (λ (x : Closing). IsListed c (length items) x.gap x.entry) listed → r.world.sent ≡ items
-    → closings_kept table (outlines_from c 0 items) (since_from 0 0 items) listed (progress_of listing judged c r)
-    ≡ map_ok (progress_of listing judged c) (closings_replayed table c listed r)
-closings_from listing judged table c items [] r all sent = refl
-closings_from listing judged table c items (x ∷ more) r all sent =
-    ap (λ s. s >>= closings_kept table (outlines_from c 0 items) (since_from 0 0 items) more)
-    (closing_is listing judged table c items x r all.0 sent)
-    ∙ then_is (progress_of listing judged c) (closing_replayed table c x r)
-    (closings_kept table (outlines_from c 0 items) (since_from 0 0 items) more)
-    (closings_replayed table c more) (λ next is. closings_from listing judged table c items more next all.1 (still next is ∙ sent))
-    ∙ ap (map_ok (progress_of listing judged c))
-    (then_then (ok_or (closing_event r.world.sent x) (fault_at FateRange x.entry))
-    (λ event. happens table c event (HiddenRefused faults.CannotClose) x.entry r) (closings_replayed table c more))
-  where
-    alone : closings_replayed table c (x ∷ []) r ≡ closing_replayed table c x r
-    alone = sym (then_then (ok_or (closing_event r.world.sent x) (fault_at FateRange x.entry))
-        (λ event. happens table c event (HiddenRefused faults.CannotClose) x.entry r) (λ next. Ok next))
-        ∙ ok_behind (closing_replayed table c x r)
-
-    still : (next : Replay) → closing_replayed table c x r ≡ Ok next → next.world.sent ≡ r.world.sent
-    still next is =
-        (closings_replay table c (x ∷ []) r.world.sent r next refl (alone ∙ is)).2.sent ∙ append-nil r.world.sent
-
--- Those of the ends that are judged.
-pub judged_closings : (judged : Option Side) (c : Certificate) (count : ℕ) → AllByRecursion (λ (x : Closing). IsListed c count x.gap x.entry)
-    (closings_judged judged (filter (λ x. x.gap == count) c.close))
-judged_closings None c count = closings_listed c count
-judged_closings (Some judged) c count =
-    some_hold (λ (x : Closing). IsListed c count x.gap x.entry) (λ x. is_side judged x.side)
-    (filter (λ x. x.gap == count) c.close) (closings_listed c count)
-
-pub closings_are : (listing : Bool) (judged : Option Side) (table : Table) (c : Certificate) (items : List Item) (r : Replay) → r.world.sent ≡ items
-    → closings_kept table (outlines_from c 0 items) (since_from 0 0 items)
-    (closings_judged judged (filter (λ x. x.gap == length items) c.close)) (progress_of listing judged c r)
-    ≡ map_ok (progress_of listing judged c) (closings_replayed table c (closings_judged judged (filter (λ x. x.gap == length items) c.close)) r)
-closings_are listing judged table c items r sent =
-    closings_from listing judged table c items (closings_judged judged (filter (λ x. x.gap == length items) c.close)) r
-    (judged_closings judged c (length items)) sent
-
--- ---- expiries
 
 -- the expiry of what is named
 abbrev expires_by : Expiry → HalfName × ℤ → Event
@@ -348,23 +246,36 @@ expiry_by_is x (Sent sender message) = by (originating message)
         (λ id. id))
 expiry_by_is x Item.Quiet = refl
 
--- What is listed of an expiry names the same invocation in both.
-expiry_named : (c : Certificate) (items : List Item) (x : Expiry) → IsListed c (length items) x.gap x.entry
-    → expiry_event items x ≡ option_map (expires_by x)
-    (invocation_ended (outlines_from c 0 items) (since_from 0 0 items) x)
-expiry_named c items x is = by (named_entry items x.gap x.entry)
-    ∙ ap (λ o. option_map (expires_by x) (then_so o (invocation_ended_by x)))
-    (sym (named_is c items x.gap x.entry is.0 is.1))
+-- What is listed names the same in both.
+same_named : {N : Type 0} (c : Certificate) (items : List Item) (gap entry : ℕ) (event : N → Event) (by : Item → Option Event) (kept_by : Outline → Option N)
+    → (gap ≡ length items) × (is_named c entry ≡ true) → ((item : Item) → by item ≡ option_map event (kept_by (outline_of true item)))
+    → then_so (named_entry items gap entry) by
+    ≡ option_map event (then_so (outline_named (outlines_from c 0 items) (since_from 0 0 items) entry) kept_by)
+same_named c items gap entry event by kept_by is same = of (named_entry items gap entry)
+    ∙ ap (λ o. option_map event (then_so o kept_by)) (sym (named_is c items gap entry is.0 is.1))
   where
-    by : (o : Option Item) → then_so o (expiry_by x)
-        ≡ option_map (expires_by x) (then_so (option_map (outline_of true) o) (invocation_ended_by x))
-    by None = refl
-    by (Some item) = expiry_by_is x item
+    of : (o : Option Item) → then_so o by ≡ option_map event (then_so (option_map (outline_of true) o) kept_by)
+    of None = refl
+    of (Some item) = same item
 
--- one expiry
-abbrev expiry_replayed : Table → Certificate → Expiry → Replay → Result Replay CheckFault
-expiry_replayed table c x r = ok_or (expiry_event r.world.sent x) (fault_at FateRange x.entry)
-    >>= λ event. happens table c event (HiddenRefused faults.CannotExpire) x.entry r
+-- ---- steps
+
+-- A step of an end alone.
+pub end_is : (listing : Bool) (judged : Option Side) (c : Certificate) (side : Side) (event : Event) (fault : CheckFault) (r : Replay) (step : Result End EndFault)
+    → ((at : Side) → is_lost_from at event ≡ false)
+    → end_moved side event fault (progress_of listing judged c r) step
+    ≡ map_ok (progress_of listing judged c) (ok_or (option_map (with_step event r)
+    (option_map (λ e. with_end side e r.world) (result_ok step))) fault)
+end_is listing judged c side event fault r (Ok e) none = ap Ok (sym (end_step_is listing judged c event side e r none))
+end_is listing judged c side event fault r (Err reason) none = refl
+
+pub half_closes_is : (listing : Bool) (judged : Option Side) (table : Table) (c : Certificate) (x : Closing) (name : HalfName) (r : Replay)
+    → half_closes table x name (progress_of listing judged c r)
+    ≡ map_ok (progress_of listing judged c) (happens table c (Closes x.side name) (HiddenRefused faults.CannotClose) x.entry r)
+half_closes_is listing judged table c x name r =
+    let fault = fault_at (HiddenRefused faults.CannotClose) x.entry in
+    ap (λ (e : End). end_moved x.side (Closes x.side name) fault (progress_of listing judged c r) (close table e name)) (end_kept listing judged c x.side r)
+    ∙ end_is listing judged c x.side (Closes x.side name) fault r (close table (end_at x.side r.world) name) (λ at. refl)
 
 pub invocation_ends_is : (listing : Bool) (judged : Option Side) (table : Table) (c : Certificate) (x : Expiry) (invocation : HalfName × ℤ) (r : Replay)
     → invocation_ends table x invocation (progress_of listing judged c r)
@@ -376,65 +287,41 @@ invocation_ends_is listing judged table c x invocation r =
     (end_kept listing judged c x.side r)
     ∙ end_is listing judged c x.side (expires_by x invocation) fault r (expire table (end_at x.side r.world) invocation.0 invocation.1) (λ at. refl)
 
-expiry_is : (listing : Bool) (judged : Option Side) (table : Table) (c : Certificate) (items : List Item) (x : Expiry) (r : Replay)
-    → IsListed c (length items) x.gap x.entry
-    → r.world.sent ≡ items
-    → expiry_kept table (outlines_from c 0 items) (since_from 0 0 items) x (progress_of listing judged c r)
-    ≡ map_ok (progress_of listing judged c) (expiry_replayed table c x r)
-expiry_is listing judged table c items x r is sent =
-    by (invocation_ended (outlines_from c 0 items) (since_from 0 0 items) x)
-    ∙ ap (λ o. map_ok (progress_of listing judged c) (ok_or o none >>= step))
-    (sym (ap (λ s. expiry_event s x) sent ∙ expiry_named c items x is))
-  where
-    none : CheckFault
-    none = fault_at FateRange x.entry
+-- What names the same in both happens in both.
+happens_same : {N : Type 0} (listing : Bool) (judged : Option Side) (table : Table) (c : Certificate) (x : Listed) (r : Replay)
+    (event : N → Event) (kept : N → Result Progress CheckFault) (o : Option N) → event_listed r.world.sent x ≡ option_map event o
+    → ((name : N) → kept name ≡ map_ok (progress_of listing judged c) (happens table c (event name) (why_refused x) (entry_of x) r))
+    → (ok_or o (fault_at FateRange (entry_of x)) >>= kept) ≡ map_ok (progress_of listing judged c) (listed_replayed table c x r)
+happens_same listing judged table c x r event kept None is same = rw is refl
+happens_same listing judged table c x r event kept (Some name) is same = rw is (same name)
 
-    step : Event → Result Replay CheckFault
-    step event = happens table c event (HiddenRefused faults.CannotExpire) x.entry r
+pub one_is : (listing : Bool) (judged : Option Side) (table : Table) (c : Certificate) (items : List Item) (x : Listed) (r : Replay)
+    → IsNamed c (length items) x → r.world.sent ≡ items
+    → listed_kept table (outlines_from c 0 items) (since_from 0 0 items) x (progress_of listing judged c r)
+    ≡ map_ok (progress_of listing judged c) (listed_replayed table c x r)
+one_is listing judged table c items (listings.Closes x) r is sent =
+    happens_same listing judged table c (listings.Closes x) r (Closes x.side) (λ name. half_closes table x name (progress_of listing judged c r))
+    (half_closed (outlines_from c 0 items) (since_from 0 0 items) x)
+    (ap (λ s. closing_event s x) sent ∙ same_named c items x.gap x.entry (Closes x.side) (closing_by x) (half_closed_by x) is (closing_by_is x))
+    (λ name. half_closes_is listing judged table c x name r)
+one_is listing judged table c items (listings.Expires x) r is sent =
+    happens_same listing judged table c (listings.Expires x) r (expires_by x) (λ name. invocation_ends table x name (progress_of listing judged c r))
+    (invocation_ended (outlines_from c 0 items) (since_from 0 0 items) x)
+    (ap (λ s. expiry_event s x) sent ∙ same_named c items x.gap x.entry (expires_by x) (expiry_by x) (invocation_ended_by x) is (expiry_by_is x))
+    (λ name. invocation_ends_is listing judged table c x name r)
 
-    by : (o : Option (HalfName × ℤ))
-        → (ok_or o none >>= λ invocation. invocation_ends table x invocation (progress_of listing judged c r))
-        ≡ map_ok (progress_of listing judged c) (ok_or (option_map (expires_by x) o) none >>= step)
-    by None = refl
-    by (Some invocation) = invocation_ends_is listing judged table c x invocation r
+-- It sends nothing.
+pub one_sends : (table : Table) (c : Certificate) (x : Listed) (r next : Replay) → listed_replayed table c x r ≡ Ok next
+    → next.world.sent ≡ r.world.sent
+one_sends table c x r next is = (one_replays table c x r next is).2.sent ∙ append-nil r.world.sent
 
--- Expiries that are listed for it.
-pub expiries_from : (listing : Bool) (judged : Option Side) (table : Table) (c : Certificate) (items : List Item) (listed : List Expiry) (r : Replay)
-    → AllByRecursion (λ (x : Expiry). IsListed c (length items) x.gap x.entry) listed → r.world.sent ≡ items
-    → expiries_kept table (outlines_from c 0 items) (since_from 0 0 items) listed (progress_of listing judged c r)
-    ≡ map_ok (progress_of listing judged c) (expiries_replayed table c listed r)
-expiries_from listing judged table c items [] r all sent = refl
-expiries_from listing judged table c items (x ∷ more) r all sent =
-    ap (λ s. s >>= expiries_kept table (outlines_from c 0 items) (since_from 0 0 items) more)
-    (expiry_is listing judged table c items x r all.0 sent)
-    ∙ then_is (progress_of listing judged c) (expiry_replayed table c x r)
-    (expiries_kept table (outlines_from c 0 items) (since_from 0 0 items) more)
-    (expiries_replayed table c more) (λ next is. expiries_from listing judged table c items more next all.1 (still next is ∙ sent))
-    ∙ ap (map_ok (progress_of listing judged c))
-    (then_then (ok_or (expiry_event r.world.sent x) (fault_at FateRange x.entry))
-    (λ event. happens table c event (HiddenRefused faults.CannotExpire) x.entry r) (expiries_replayed table c more))
-  where
-    alone : expiries_replayed table c (x ∷ []) r ≡ expiry_replayed table c x r
-    alone = sym (then_then (ok_or (expiry_event r.world.sent x) (fault_at FateRange x.entry))
-        (λ event. happens table c event (HiddenRefused faults.CannotExpire) x.entry r) (λ next. Ok next))
-        ∙ ok_behind (expiry_replayed table c x r)
-
-    still : (next : Replay) → expiry_replayed table c x r ≡ Ok next → next.world.sent ≡ r.world.sent
-    still next is =
-        (expiries_replay table c (x ∷ []) r.world.sent r next refl (alone ∙ is)).2.sent ∙ append-nil r.world.sent
-
--- Those of the ends that are judged.
-pub judged_expiries : (judged : Option Side) (c : Certificate) (count : ℕ) → AllByRecursion (λ (x : Expiry). IsListed c count x.gap x.entry)
-    (expiries_judged judged (filter (λ x. x.gap == count) c.expire))
-judged_expiries None c count = expiries_listed c count
-judged_expiries (Some judged) c count =
-    some_hold (λ (x : Expiry). IsListed c count x.gap x.entry) (λ x. is_side judged x.side)
-    (filter (λ x. x.gap == count) c.expire) (expiries_listed c count)
-
-pub expiries_are : (listing : Bool) (judged : Option Side) (table : Table) (c : Certificate) (items : List Item) (r : Replay) → r.world.sent ≡ items
-    → expiries_kept table (outlines_from c 0 items) (since_from 0 0 items)
-    (expiries_judged judged (filter (λ x. x.gap == length items) c.expire)) (progress_of listing judged c r)
-    ≡ map_ok (progress_of listing judged c) (expiries_replayed table c (expiries_judged judged (filter (λ x. x.gap == length items) c.expire)) r)
-expiries_are listing judged table c items r sent =
-    expiries_from listing judged table c items (expiries_judged judged (filter (λ x. x.gap == length items) c.expire)) r
-    (judged_expiries judged c (length items)) sent
+-- All that is listed for the gap behind these items.
+pub listed_are : (listing : Bool) (judged : Option Side) (table : Table) (c : Certificate) (items : List Item) (listed : List Listed) (r : Replay)
+    → AllByRecursion (IsNamed c (length items)) listed → r.world.sent ≡ items
+    → all_kept table (outlines_from c 0 items) (since_from 0 0 items) listed (progress_of listing judged c r)
+    ≡ map_ok (progress_of listing judged c) (all_replayed table c listed r)
+listed_are listing judged table c items [] r all sent = refl
+listed_are listing judged table c items (x ∷ more) r all sent =
+    ap (λ s. s >>= all_kept table (outlines_from c 0 items) (since_from 0 0 items) more) (one_is listing judged table c items x r all.0 sent)
+    ∙ then_is (progress_of listing judged c) (listed_replayed table c x r) (all_kept table (outlines_from c 0 items) (since_from 0 0 items) more)
+    (all_replayed table c more) (λ next is. listed_are listing judged table c items more next all.1 (one_sends table c x r next is ∙ sent))

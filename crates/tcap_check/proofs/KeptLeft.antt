@@ -1,5 +1,5 @@
 -- What is left of what is kept where an entry is refused is what is kept of the replay, as far as it goes.
-use Rattle.std.proofs.Common.{◌≡◌, arith, ℕ, ◌+◌, ◌==◌, Bool, true, false, cond, List, [], ◌∷◌, filter, length, Option, Some, None, Result, Ok, Err, refl, sym, ap, ap₂, ◌∙◌, append-nil}
+use Rattle.std.proofs.Common.{◌≡◌, arith, ℕ, ◌+◌, ◌==◌, Bool, true, false, cond, List, [], ◌∷◌, length, Option, Some, None, Result, Ok, Err, refl, sym, ap, ap₂, ◌∙◌}
 use Rattle.std.specs.Prelude.{◌||◌, not, ok_or, slice_get}
 use Rattle.std.specs.List.{AllByRecursion}
 use Rattle.tcap_msg.specs.declared.message.AbortReason.TheVariants.{Cause, Dialogue as ByDialogue}
@@ -17,30 +17,29 @@ use Rattle.tcap_model.specs.declared.reason.Reason.{Reason}
 use Rattle.tcap_model.specs.declared.reason.Reason.TheVariants.{NotQuiet}
 use Rattle.tcap_model.specs.World.{Item, Sent, end_at}
 use Rattle.tcap_model.specs.Run.{Closes}
-use Rattle.tcap_certificate.specs.declared.certificate.Closing.{Closing}
-use Rattle.tcap_certificate.specs.declared.certificate.Expiry.{Expiry}
 use Rattle.tcap_certificate.specs.declared.certificate.Fate.{Fate}
 use Rattle.tcap_certificate.specs.declared.certificate.Fate.TheVariants.{Gap, Lost, By}
 use Rattle.tcap_certificate.specs.declared.fault.CheckFault.{CheckFault}
 use Rattle.tcap_certificate.specs.Certificate.{Certificate}
 use Rattle.tcap_certificate.specs.Follows.{invoking_half, sending_by}
-use Rattle.tcap_certificate.specs.Replayed.{Replay, closed_at_mark, closings_judged, closings_replayed, expiries_judged, expiries_replayed, fault_at, gap_by, is_gap, is_heard, is_judged, is_nothing, is_overtaking, lost_from_front, lost_last, next_entry, received, stepped, tied}
+use Rattle.tcap_certificate.specs.Replayed.{Replay, closed_at_mark, fault_at, gap_by, is_gap, is_heard, is_judged, is_nothing, is_overtaking, lost_from_front, lost_last, next_entry, received, stepped, tied}
 use Rattle.tcap_check.specs.declared.outline.Outline.{Outline}
 use Rattle.tcap_check.specs.declared.progress.Progress.{Progress}
 use Rattle.tcap_check.specs.Checking.{gap_before, is_alone, kept_of, map_ok, progress_of, tied_now}
 use Rattle.tcap_check.specs.Hearing.{delivery_kept, halves_shut}
-use Rattle.tcap_check.specs.Left.{closings_left, deliveries_left, end_left, entry_left, expiries_left, fated_left, gap_left, halves_left, item_left, mark_left, message_left, quiet_left, taken_left}
+use Rattle.tcap_check.specs.Left.{deliveries_left, end_left, entry_left, fated_left, gap_left, halves_left, item_left, mark_left, message_left, quiet_left, listed_left, taken_left}
 use Rattle.tcap_check.specs.Outlines.{outlines_from, since_from}
-use Rattle.tcap_check.specs.Progress.{closing_kept, closings_kept, due_in, end_moved, expiries_kept, expiry_kept, front_lost, last_lost, overtakes, seat_at}
-use Rattle.tcap_check.specs.SoFar.{behind_or, closings_so_far, deliveries_so_far, expiries_so_far, fated_so_far, gap_so_far, halves_so_far, item_so_far, mark_so_far, message_so_far, next_so_far, quiet_so_far, sending_so_far}
+use Rattle.tcap_check.specs.Progress.{due_in, end_moved, front_lost, last_lost, overtakes, seat_at, all_kept, listed_kept}
+use Rattle.tcap_check.specs.SoFar.{behind_or, deliveries_so_far, fated_so_far, gap_so_far, halves_so_far, item_so_far, mark_so_far, message_so_far, next_so_far, quiet_so_far, sending_so_far, listed_so_far}
 use Rattle.tcap_check.proofs.KeptBasics.{end_kept, front_is, last_is, ok_behind, then_is}
 use Rattle.tcap_check.proofs.KeptDeliveries.{StandsFrom, delivered_is, due_is, first_stands, none_next, stands_next}
 use Rattle.tcap_check.proofs.KeptEntries.{gap_sends, tied_is, tied_still}
 use Rattle.tcap_check.proofs.KeptGaps.{gap_is}
-use Rattle.tcap_check.proofs.KeptHidden.{IsListed, closings_are, closings_from, end_is, expiries_are, expiries_from, judged_closings, judged_expiries, outlines_count}
+use Rattle.tcap_check.proofs.KeptHidden.{end_is, outlines_count, IsNamed, listed_are, listed_named, one_is, one_sends}
 use Rattle.tcap_check.proofs.KeptMessages.{over_is}
 use Rattle.tcap_check.proofs.KeptSends.{overtakes_is}
-use Rattle.tcap_check.proofs.ReplayLaws.{closings_replay, expiries_replay}
+use Rattle.tcap_check.specs.declared.listed.Listed.{Listed}
+use Rattle.tcap_check.specs.Listed.{all_replayed, listed_for, listed_replayed}
 
 -- What follows a step, or is left, over what is kept.
 behind_is : {A B F : Type 0} (f : A → B) (o : Result A F) (kept : Result B F) (left : A) (left_kept : B) (on : A → A) (on_kept : B → B)
@@ -57,31 +56,15 @@ module _ (judged : Option Side) (table : Table) (c : Certificate) where
 
   -- ---- a gap
 
-  closings_far : (items : List Item) (xs : List Closing) (r : Replay)
-      → AllByRecursion (λ (x : Closing). IsListed c (length items) x.gap x.entry) xs → r.world.sent ≡ items
-      → closings_left table (outlines_from c 0 items) (since_from 0 0 items) xs (K r) ≡ K (closings_so_far table c xs r)
-  closings_far items [] r all sent = refl
-  closings_far items (x ∷ more) r all sent =
+  listed_far : (items : List Item) (xs : List Listed) (r : Replay) → AllByRecursion (IsNamed c (length items)) xs → r.world.sent ≡ items
+      → listed_left table (outlines_from c 0 items) (since_from 0 0 items) xs (K r) ≡ K (listed_so_far table c xs r)
+  listed_far items [] r all sent = refl
+  listed_far items (x ∷ more) r all sent =
       let es = outlines_from c 0 items in
       let since = since_from 0 0 items in
-      behind_is K (closings_replayed table c (x ∷ []) r) (closing_kept table es since x (K r)) r (K r) (closings_so_far table c more)
-      (closings_left table es since more)
-      (sym (ok_behind (closing_kept table es since x (K r))) ∙ closings_from true judged table c items (x ∷ []) r (all.0, tt) sent) refl
-      (λ next is. closings_far items more next all.1
-      ((closings_replay table c (x ∷ []) r.world.sent r next refl is).2.sent ∙ append-nil r.world.sent ∙ sent))
-
-  expiries_far : (items : List Item) (xs : List Expiry) (r : Replay)
-      → AllByRecursion (λ (x : Expiry). IsListed c (length items) x.gap x.entry) xs → r.world.sent ≡ items
-      → expiries_left table (outlines_from c 0 items) (since_from 0 0 items) xs (K r) ≡ K (expiries_so_far table c xs r)
-  expiries_far items [] r all sent = refl
-  expiries_far items (x ∷ more) r all sent =
-      let es = outlines_from c 0 items in
-      let since = since_from 0 0 items in
-      behind_is K (expiries_replayed table c (x ∷ []) r) (expiry_kept table es since x (K r)) r (K r) (expiries_so_far table c more)
-      (expiries_left table es since more)
-      (sym (ok_behind (expiry_kept table es since x (K r))) ∙ expiries_from true judged table c items (x ∷ []) r (all.0, tt) sent) refl
-      (λ next is. expiries_far items more next all.1
-      ((expiries_replay table c (x ∷ []) r.world.sent r next refl is).2.sent ∙ append-nil r.world.sent ∙ sent))
+      behind_is K (listed_replayed table c x r) (listed_kept table es since x (K r)) r (K r) (listed_so_far table c more)
+      (listed_left table es since more) (one_is true judged table c items x r all.0 sent) refl
+      (λ next is. listed_far items more next all.1 (one_sends table c x r next is ∙ sent))
 
   none_far : (entries : List Outline) (gap n : ℕ) (fates : List Fate) (p : Progress) → StandsFrom entries n []
       → deliveries_left judged table entries (due_in gap n fates) p ≡ p
@@ -145,27 +128,16 @@ module _ (judged : Option Side) (table : Table) (c : Certificate) where
       let items = r.world.sent in
       let es = outlines_from c 0 items in
       let since = since_from 0 0 items in
-      let closings : List Closing = closings_judged judged (filter (λ x. x.gap == next_entry r) c.close) in
-      let expiries : List Expiry = expiries_judged judged (filter (λ x. x.gap == next_entry r) c.expire) in
-      let last = deliveries_so_far judged table c (next_entry r) 0 c.fates items in
-      let last_kept = deliveries_left judged table es (due_in (next_entry r) 0 c.fates) in
-      let then = λ (closed : Replay). behind_or (expiries_replayed table c expiries closed) (expiries_so_far table c expiries closed) last in
-      let then_kept = λ (p : Progress). behind_or (expiries_kept table es since expiries p) (expiries_left table es since expiries p) last_kept in
-      ap (λ (n : ℕ). behind_or (closings_kept table es since (closings_judged judged (filter (λ x. x.gap == n) c.close)) (K r))
-      (closings_left table es since (closings_judged judged (filter (λ x. x.gap == n) c.close)) (K r))
-      (λ (p : Progress). behind_or (expiries_kept table es since (expiries_judged judged (filter (λ x. x.gap == n) c.expire)) p)
-      (expiries_left table es since (expiries_judged judged (filter (λ x. x.gap == n) c.expire)) p)
-      (deliveries_left judged table es (due_in n 0 c.fates)))) (outlines_count c 0 items)
-      ∙ behind_is K (closings_replayed table c closings r) (closings_kept table es since closings (K r)) (closings_so_far table c closings r)
-      (closings_left table es since closings (K r)) then then_kept
-      (closings_are true judged table c items r refl) (closings_far items closings r (judged_closings judged c (next_entry r)) refl)
-      (λ closed is.
-      let sent = (closings_replay table c closings items r closed refl is).2.sent ∙ append-nil items in
-      behind_is K (expiries_replayed table c expiries closed) (expiries_kept table es since expiries (K closed)) (expiries_so_far table c expiries closed)
-      (expiries_left table es since expiries (K closed)) last last_kept
-      (expiries_are true judged table c items closed sent) (expiries_far items expiries closed (judged_expiries judged c (next_entry r)) sent)
-      (λ expired at. deliveries_far es (next_entry r) 0 c.fates items expired
-      (λ i. let same : 0 + i ≡ i = omega arith in ap (slice_get es) same)))
+      let listed : List Listed = listed_for judged c (next_entry r) in
+      ap (λ (n : ℕ). behind_or (all_kept table es since (listed_for judged c n) (K r)) (listed_left table es since (listed_for judged c n) (K r))
+      (deliveries_left judged table es (due_in n 0 c.fates))) (outlines_count c 0 items)
+      ∙ behind_is K (all_replayed table c listed r) (all_kept table es since listed (K r)) (listed_so_far table c listed r)
+      (listed_left table es since listed (K r)) (deliveries_so_far judged table c (next_entry r) 0 c.fates items)
+      (deliveries_left judged table es (due_in (next_entry r) 0 c.fates))
+      (listed_are true judged table c items listed r (listed_named judged c (next_entry r)) refl)
+      (listed_far items listed r (listed_named judged c (next_entry r)) refl)
+      (λ hidden is. deliveries_far es (next_entry r) 0 c.fates items hidden
+      (λ i. let same : 0 + i ≡ i = omega arith in ap (slice_get es) same))
 
   -- ---- a message
 

@@ -1,5 +1,5 @@
 -- Between entries nothing is on its way from the end: what it sends is lost at once, and a gap sends nothing.
-use Rattle.std.proofs.Common.{◌≡◌, ℕ, ◌+◌, ◌==◌, Bool, true, false, cond, List, [], ◌∷◌, drop, filter, length, Option, Some, None, Result, Ok, Err, refl, sym, ap, ◌∙◌}
+use Rattle.std.proofs.Common.{◌≡◌, ℕ, ◌+◌, ◌==◌, Bool, true, false, cond, List, [], ◌∷◌, drop, length, Option, Some, None, Result, Ok, Err, refl, sym, ap, ◌∙◌}
 use Rattle.std.specs.Prelude.{◌&&◌, not, ok_or, slice_get}
 use Rattle.tcap_msg.specs.declared.message.Message.{Message}
 use Rattle.tcap_record.specs.declared.entry.End.{End as Side}
@@ -8,8 +8,6 @@ use Rattle.tcap_end.specs.Hidden.{open_halves}
 use Rattle.tcap_end.specs.Table.{Table}
 use Rattle.tcap_end.specs.Step.{◌>>◌}
 use Rattle.tcap_end.proofs.AnsweringLaws.{needs_ok, ok_same, some_ok, then_ok}
-use Rattle.tcap_certificate.specs.declared.certificate.Closing.{Closing}
-use Rattle.tcap_certificate.specs.declared.certificate.Expiry.{Expiry}
 use Rattle.tcap_certificate.specs.declared.certificate.Fate.{Fate}
 use Rattle.tcap_certificate.specs.declared.certificate.Fate.TheVariants.{Gap, Lost, By}
 use Rattle.tcap_certificate.specs.declared.fault.CheckFault.{CheckFault}
@@ -20,13 +18,15 @@ use Rattle.tcap_model.specs.World.{Item, OnItsWay, Sent, World, channel_from, en
 use Rattle.tcap_model.specs.Run.{Loses, Quiet, Receives, Tells, after, joined, numbers_of}
 use Rattle.tcap_certificate.specs.Certificate.{Certificate}
 use Rattle.tcap_certificate.specs.Follows.{sending_by}
-use Rattle.tcap_certificate.specs.Replayed.{Replay, all_lost_from, certificate_fits, closed_at_mark, closings_replayed, deliveries_by, delivery_by, discarded, entry_by, expiries_replayed, fault_at, gap_by, heard, is_gap, is_nothing, is_overtaking, item_by, lost_from_front, mark_judged, message_by, next_entry, nothing_replayed, or_else, own_judged, stepped, tied, told_replayed, with_step}
+use Rattle.tcap_certificate.specs.Replayed.{Replay, all_lost_from, certificate_fits, closed_at_mark, deliveries_by, delivery_by, discarded, entry_by, fault_at, gap_by, heard, is_gap, is_nothing, is_overtaking, item_by, lost_from_front, mark_judged, message_by, next_entry, nothing_replayed, or_else, own_judged, stepped, tied, told_replayed, with_step}
 use Rattle.tcap_check.specs.Checking.{taken, taken_from, taken_next}
 use Rattle.tcap_model.proofs.RunLaws.{delivery, loss, map_some}
-use Rattle.tcap_check.proofs.KeptStays.{closings_stay, expiries_stay}
 use Rattle.tcap_check.proofs.KeptMarks.{quiet_empty}
 use Rattle.tcap_check.proofs.ReplaySteps.{channel_with, discard_is}
 use Rattle.tcap_model.proofs.WorldLaws.{own_with_channel, own_with_end}
+use Rattle.tcap_check.specs.Listed.{listed_for}
+use Rattle.tcap_check.proofs.ListedLaws.{gap_parts}
+use Rattle.tcap_check.proofs.KeptStays.{listed_stay}
 
 -- ---- what is on its way from the end
 
@@ -103,13 +103,9 @@ deliveries_keep side table c gap n (fate ∷ fates) (item ∷ items) r next is =
 pub gap_keeps : (side : Side) (table : Table) (c : Certificate) (r next : Replay) → gap_by (Some side) table c r ≡ Ok next
     → channel_from side next.world ≡ channel_from side r.world
 gap_keeps side table c r next is =
-    let closings : List Closing = filter (λ x. is_side side x.side) (filter (λ x. x.gap == next_entry r) c.close) in
-    let expiries : List Expiry = filter (λ x. is_side side x.side) (filter (λ x. x.gap == next_entry r) c.expire) in
-    let a = then_ok (closings_replayed table c closings r) _ next is in
-    let b = then_ok (expiries_replayed table c expiries a.0) _ next a.2 in
-    deliveries_keep side table c (next_entry r) 0 c.fates r.world.sent b.0 next b.2
-    ∙ (expiries_stay table c expiries a.0 b.0 b.1).channels side
-    ∙ (closings_stay table c closings r a.0 a.1).channels side
+    let parts = gap_parts (Some side) table c r next is in
+    deliveries_keep side table c (next_entry r) 0 c.fates r.world.sent parts.0 next parts.2
+    ∙ (listed_stay table c (listed_for (Some side) c (next_entry r)) r parts.0 parts.1).channels side
 
 -- ---- entries
 

@@ -1,30 +1,27 @@
 -- What happens unseen in a replay: nothing is lost, sent or taken, and each channel stays as it is.
-use Rattle.std.proofs.Common.{◌≡◌, ℕ, ℤ, ◌+◌, Bool, true, false, cond, List, [], ◌∷◌, ◌++◌, filter, length, Option, Some, None, Ok, refl, sym, ap, subst, ◌∙◌, arith}
-use Rattle.std.specs.Prelude.{filter_map, ok_or, slice_get}
+use Rattle.std.proofs.Common.{◌≡◌, ℕ, ℤ, ◌+◌, Bool, true, false, cond, List, [], ◌∷◌, ◌++◌, filter, length, Option, Some, None, Ok, refl, sym, ap, ◌∙◌, arith}
+use Rattle.std.specs.Prelude.{filter_map, ok_or}
 use Rattle.tcap_msg.specs.declared.message.Message.{Message}
-use Rattle.tcap_msg.specs.declared.message.Message.TheVariants.{Unidirectional, Begin, Continue, End as EndMessage, Abort}
 use Rattle.tcap_msg.specs.Parts.{components_in}
 use Rattle.tcap_record.specs.declared.entry.End.{End as Side}
 use Rattle.tcap_record.specs.declared.entry.End.TheVariants as sides
-use Rattle.tcap_end.specs.declared.fault.EndFault.TheVariants as faults
 use Rattle.tcap_end.specs.declared.half.HalfName.{HalfName}
-use Rattle.tcap_end.specs.declared.half.HalfName.TheVariants as names
 use Rattle.tcap_end.specs.End.{End}
 use Rattle.tcap_end.specs.Table.{Table}
 use Rattle.tcap_end.proofs.AnsweringLaws.{ok_same, some_ok, then_ok}
-use Rattle.tcap_certificate.specs.declared.certificate.Closing.{Closing}
-use Rattle.tcap_certificate.specs.declared.certificate.Expiry.{Expiry}
 use Rattle.tcap_certificate.specs.declared.fault.CheckFault.{CheckFault}
 use Rattle.tcap_model.specs.declared.reason.Reason.{Reason}
-use Rattle.tcap_model.specs.declared.reason.Reason.TheVariants.{FateRange, HiddenRefused}
-use Rattle.tcap_model.specs.World.{Item, Sent, World, channel_from, is_side, with_end}
-use Rattle.tcap_model.specs.Run.{Event, Closes, Expires, after, then_so}
+use Rattle.tcap_model.specs.declared.reason.Reason.TheVariants.{FateRange}
+use Rattle.tcap_model.specs.World.{World, channel_from, with_end}
+use Rattle.tcap_model.specs.Run.{Event, Closes, Expires, after}
 use Rattle.tcap_certificate.specs.Certificate.{Certificate}
-use Rattle.tcap_model.specs.Since.{originating}
-use Rattle.tcap_certificate.specs.Follows.{closing_by, closing_event, expiry_by, expiry_event, half_begun, invoke_id, named_entry}
+use Rattle.tcap_certificate.specs.Follows.{invoke_id}
 use Rattle.tcap_certificate.specs.Unheard.{is_lost_from}
-use Rattle.tcap_certificate.specs.Replayed.{Replay, closings_replayed, expiries_replayed, fault_at, happens, implied, implied_over, or_same, stepped, with_step}
-use Rattle.tcap_model.proofs.RunLaws.{closing, expiry, map_some, some_is, then_some, where_some}
+use Rattle.tcap_certificate.specs.Replayed.{Replay, fault_at, happens, implied, implied_over, or_same, stepped, with_step}
+use Rattle.tcap_model.proofs.RunLaws.{closing, expiry, map_some}
+use Rattle.tcap_check.specs.declared.listed.Listed.{Listed}
+use Rattle.tcap_check.specs.Listed.{all_replayed, entry_of, event_listed, listed_replayed, side_of, why_refused}
+use Rattle.tcap_check.proofs.ListedLaws.{listed_so}
 
 -- ---- losses
 
@@ -95,34 +92,6 @@ end_step_stays event at e r next w none w_is is = record {
 
 -- ---- what is listed
 
--- What holds of each closing holds of what is listed as one, and the same of expiries.
-pub of_closing : (P : Event → Type 0) → ((side : Side) (name : HalfName) → P (Closes side name))
-    → (items : List Item) (x : Closing) (event : Event) → closing_event items x ≡ Some event → P event
-of_closing P closes items x event is =
-    let found = then_some (named_entry items x.gap x.entry) (closing_by x) event is in by found.0 found.2
-  where
-    by : (item : Item) → closing_by x item ≡ Some event → P event
-    by (Sent sender (Begin otid dialogue components)) e =
-        subst P (some_is e) (closes x.side (half_begun x.side sender otid))
-    by (Sent sender (Unidirectional dialogue components)) e = cc
-    by (Sent sender (Continue otid dtid dialogue components)) e = cc
-    by (Sent sender (EndMessage dtid dialogue components)) e = cc
-    by (Sent sender (Abort dtid reason)) e = cc
-    by Item.Quiet e = cc
-
-pub of_expiry : (P : Event → Type 0) → ((side : Side) (name : HalfName) (id : ℤ) → P (Expires side name id))
-    → (items : List Item) (x : Expiry) (event : Event) → expiry_event items x ≡ Some event → P event
-of_expiry P expires items x event is =
-    let found = then_some (named_entry items x.gap x.entry) (expiry_by x) event is in by found.0 found.2
-  where
-    by : (item : Item) → expiry_by x item ≡ Some event → P event
-    by (Sent sender message) e =
-        let so = where_some (is_side x.side sender) _ event e in
-        let named = then_some (originating message) _ event so.1 in
-        let id = then_some (then_so (slice_get (components_in message) x.component) invoke_id) _ event named.2 in
-        subst P (some_is id.2) (expires x.side (names.Own named.0) id.0)
-    by Item.Quiet e = cc
-
 abbrev IsUnseen : Event → Type 0
 IsUnseen event = (table : Table) (c : Certificate) (reason : Reason) (entry : ℕ) (r next : Replay)
     → happens table c event reason entry r ≡ Ok next → Stays r next
@@ -151,27 +120,16 @@ expires_unseen : (at : Side) (name : HalfName) (id : ℤ) → IsUnseen (Expires 
 expires_unseen at name id table c reason entry r next is =
     expires_stays table at name id r next (some_ok (stepped table (Expires at name id) r) (fault_at reason entry) next is)
 
-pub closings_stay : (table : Table) (c : Certificate) (listed : List Closing) (r next : Replay)
-    → closings_replayed table c listed r ≡ Ok next → Stays r next
-closings_stay table c [] r next is = stays_same r next (ok_same {F = CheckFault} r next is)
-closings_stay table c (x ∷ more) r next is =
-    let found = then_ok (ok_or (closing_event r.world.sent x) (fault_at FateRange x.entry)) _ next is in
-    let named = some_ok (closing_event r.world.sent x) (fault_at FateRange x.entry) found.0 found.1 in
-    let then = then_ok (happens table c found.0 (HiddenRefused faults.CannotClose) x.entry r) _ next found.2 in
+pub listed_stay : (table : Table) (c : Certificate) (listed : List Listed) (r next : Replay)
+    → all_replayed table c listed r ≡ Ok next → Stays r next
+listed_stay table c [] r next is = stays_same r next (ok_same {F = CheckFault} r next is)
+listed_stay table c (x ∷ more) r next is =
+    let then = then_ok (listed_replayed table c x r) (all_replayed table c more) next is in
+    let found = then_ok (ok_or (event_listed r.world.sent x) (fault_at FateRange (entry_of x))) _ then.0 then.1 in
+    let named = some_ok (event_listed r.world.sent x) (fault_at FateRange (entry_of x)) found.0 found.1 in
     stays_then r then.0 next
-    (of_closing IsUnseen closes_unseen r.world.sent x found.0 named table c (HiddenRefused faults.CannotClose) x.entry r then.0 then.1)
-    (closings_stay table c more then.0 next then.2)
-
-pub expiries_stay : (table : Table) (c : Certificate) (listed : List Expiry) (r next : Replay)
-    → expiries_replayed table c listed r ≡ Ok next → Stays r next
-expiries_stay table c [] r next is = stays_same r next (ok_same {F = CheckFault} r next is)
-expiries_stay table c (x ∷ more) r next is =
-    let found = then_ok (ok_or (expiry_event r.world.sent x) (fault_at FateRange x.entry)) _ next is in
-    let named = some_ok (expiry_event r.world.sent x) (fault_at FateRange x.entry) found.0 found.1 in
-    let then = then_ok (happens table c found.0 (HiddenRefused faults.CannotExpire) x.entry r) _ next found.2 in
-    stays_then r then.0 next
-    (of_expiry IsUnseen expires_unseen r.world.sent x found.0 named table c (HiddenRefused faults.CannotExpire) x.entry r then.0 then.1)
-    (expiries_stay table c more then.0 next then.2)
+    (listed_so IsUnseen r.world.sent x (closes_unseen (side_of x)) (expires_unseen (side_of x)) found.0 named table c (why_refused x) (entry_of x) r then.0
+    found.2) (listed_stay table c more then.0 next then.2)
 
 -- ---- what a message implies
 

@@ -1,5 +1,5 @@
 -- How many messages wait for the ends that are judged behind each step of a replay, behind a gap, and behind what an item is.
-use Rattle.std.proofs.Common.{◌≡◌, ℕ, ◌+◌, ◌==◌, arith, Bool, true, false, cond, nat_le, List, [], ◌∷◌, filter, length, Option, Some, None, Result, Ok, Err, refl, sym, ap, ap₂, ◌∙◌}
+use Rattle.std.proofs.Common.{◌≡◌, ℕ, ◌+◌, ◌==◌, arith, Bool, true, false, cond, nat_le, List, [], ◌∷◌, length, Option, Some, None, Result, Ok, Err, refl, sym, ap, ap₂, ◌∙◌}
 use Rattle.std.specs.Prelude.{◌&&◌, ok_or, slice_get}
 use Rattle.std.proofs.lemmas.Bool.{eqb-false}
 use Rattle.tcap_msg.specs.declared.message.AbortReason.TheVariants.{Cause, Dialogue as ByDialogue}
@@ -17,8 +17,6 @@ use Rattle.tcap_end.specs.Step.{◌>>=◌}
 use Rattle.tcap_end.proofs.AnsweringLaws.{needs_ok, ok_same, some_ok, then_ok}
 use Rattle.tcap_certificate.specs.declared.fault.CheckFault.{CheckFault}
 use Rattle.tcap_model.specs.declared.reason.Reason.TheVariants.{BadReply, NotQuiet}
-use Rattle.tcap_certificate.specs.declared.certificate.Closing.{Closing}
-use Rattle.tcap_certificate.specs.declared.certificate.Expiry.{Expiry}
 use Rattle.tcap_certificate.specs.declared.certificate.Fate.{Fate}
 use Rattle.tcap_certificate.specs.declared.certificate.Fate.TheVariants.{Gap, Lost, By}
 use Rattle.tcap_record.specs.Ends.{other}
@@ -26,7 +24,7 @@ use Rattle.tcap_model.specs.World.{Item, OnItsWay, Sent, World, channel_from, en
 use Rattle.tcap_model.specs.Run.{Sends, Receives, Replies, Loses, Closes, Quiet, after, joined}
 use Rattle.tcap_certificate.specs.Certificate.{Certificate}
 use Rattle.tcap_certificate.specs.Follows.{invoking_half, sending_by}
-use Rattle.tcap_certificate.specs.Replayed.{Replay, all_lost_from, behind_sending, closed_at_mark, closed_before, closings_judged, closings_replayed, deliveries_by, discarded, expiries_judged, expiries_replayed, fault_at, gap_by, happens, heard, implied_over, is_abort, lost_from_front, lost_last, message_by, next_entry, or_else, received, send_replayed, sent_or_refused, stepped, with_step}
+use Rattle.tcap_certificate.specs.Replayed.{Replay, all_lost_from, behind_sending, closed_at_mark, closed_before, deliveries_by, discarded, fault_at, gap_by, happens, heard, implied_over, is_abort, lost_from_front, lost_last, message_by, next_entry, or_else, received, send_replayed, sent_or_refused, stepped, with_step}
 use Rattle.tcap_check.proofs.ReplaySteps.{discard_is}
 use Rattle.tcap_check.specs.Hearing.{is_heard}
 use Rattle.tcap_model.proofs.RunLaws.{delivery, loss, map_some, quiet as quiet_step, reply}
@@ -34,8 +32,10 @@ use Rattle.tcap_check.proofs.KeptCounts.{count_behind, count_for, counts_same, i
 use Rattle.tcap_check.proofs.WaitingLaws.{waiting}
 use Rattle.tcap_check.proofs.KeptDeliveries.{due_is}
 use Rattle.tcap_model.proofs.WorldLaws.{peer_stays}
-use Rattle.tcap_check.proofs.KeptStays.{Stays, closes_stays, closings_stay, expiries_stay, implied_over_stays, stays_same, stays_then}
+use Rattle.tcap_check.proofs.KeptStays.{Stays, closes_stays, implied_over_stays, stays_same, stays_then, listed_stay}
 use Rattle.tcap_model.proofs.WorldLaws.{itself, sent_with_channel, sent_with_end}
+use Rattle.tcap_check.specs.Listed.{listed_for}
+use Rattle.tcap_check.proofs.ListedLaws.{gap_parts}
 
 -- ---- steps
 
@@ -213,14 +213,10 @@ pub gap_waits : (judged : Option Side) (table : Table) (c : Certificate) (r next
     ≡ count_for judged c.fates r.world + count_behind judged (next_entry r + 1) (next_entry r) c.fates r.world.sent
 gap_waits judged table c r next is =
     let gap = next_entry r in
-    let closings : List Closing = closings_judged judged (filter (λ x. x.gap == gap) c.close) in
-    let expiries : List Expiry = expiries_judged judged (filter (λ x. x.gap == gap) c.expire) in
-    let a = then_ok (closings_replayed table c closings r) _ next is in
-    let b = then_ok (expiries_replayed table c expiries a.0) _ next a.2 in
-    let closed = stays_wait judged c r a.0 (closings_stay table c closings r a.0 a.1) in
-    let expired = stays_wait judged c a.0 b.0 (expiries_stay table c expiries a.0 b.0 b.1) in
-    deliveries_wait judged table c gap 0 c.fates r.world.sent b.0 next b.2
-    ∙ ap (λ (n : ℕ). n + count_behind judged (gap + 1) gap c.fates r.world.sent) (expired ∙ closed)
+    let parts = gap_parts judged table c r next is in
+    deliveries_wait judged table c gap 0 c.fates r.world.sent parts.0 next parts.2
+    ∙ ap (λ (n : ℕ). n + count_behind judged (gap + 1) gap c.fates r.world.sent)
+    (stays_wait judged c r parts.0 (listed_stay table c (listed_for judged c gap) r parts.0 parts.1))
 
 -- ---- an item
 

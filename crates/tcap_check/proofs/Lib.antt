@@ -1,6 +1,9 @@
 pub mod PromptLaws
 pub mod WaitingLaws
 pub mod ReplaySteps
+pub mod ListedLaws
+pub mod MemberLaws
+pub mod FateLaws
 pub mod ReplayLaws
 pub mod ReplayGaps
 pub mod ReplayEntries

@@ -29,18 +29,12 @@ expire_found table e id found = do
   needs (may_expire table (own_invocation kept.half id)) faults.CannotExpire
   Ok (put e kept.slot kept.key (without_invocation id kept.half))
 
-expire_is : (table : Table) (e : End) (name : HalfName) (id : ℤ) → expire table e name id ≡ expire_found table e id (named e name)
-expire_is table e name id = refl
-
 -- and so is what a closing leaves.
 abbrev close_found : Table → End → Option KeptHalf → Result End EndFault
 close_found table e found = do
   kept ← ok_or found faults.CannotClose
   needs (may_close table kept.half.phase) faults.CannotClose
   Ok (put e kept.slot kept.key (closed_half kept.half))
-
-close_is : (table : Table) (e : End) (name : HalfName) → close table e name ≡ close_found table e (named e name)
-close_is table e name = refl
 
 -- So an event by either name leaves the same world,
 same_step : (table : Table) (w : World) (event first : Event) → IsSameEvent w event first → after table first w ≡ after table event w

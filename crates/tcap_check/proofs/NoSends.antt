@@ -1,5 +1,5 @@
 -- Which steps are refused for another reason than that a message may not be sent.
-use Rattle.std.proofs.Common.{◌≡◌, ◌⊎◌, inl, inr, ℕ, ℤ, ◌==◌, Bool, true, false, List, [], ◌∷◌, drop, filter, length, map, Option, Some, None, Result, Ok, Err, refl, sym, ap, ◌∙◌}
+use Rattle.std.proofs.Common.{◌≡◌, ◌⊎◌, inl, inr, ℕ, ℤ, ◌==◌, Bool, true, false, List, [], ◌∷◌, drop, length, map, Option, Some, None, Result, Ok, Err, refl, sym, ap, ◌∙◌}
 use Rattle.std.specs.Prelude.{◌&&◌, ok_or, slice_get}
 use Rattle.tcap_msg.specs.declared.message.Message.{Message}
 use Rattle.tcap_record.specs.declared.entry.End.{End as Side}
@@ -10,10 +10,8 @@ use Rattle.tcap_end.specs.End.{End, quiet}
 use Rattle.tcap_end.specs.Hidden.{close, expire, open_halves, quiet_unseen}
 use Rattle.tcap_end.specs.Table.{Table}
 use Rattle.tcap_end.specs.Step.{needs, ◌>>◌, ◌>>=◌}
-use Rattle.tcap_model.specs.declared.reason.Reason.TheVariants.{BadReply, FateRange, NotQuiet}
-use Rattle.tcap_model.specs.Run.{Closes, Event, Replies}
-use Rattle.tcap_certificate.specs.declared.certificate.Closing.{Closing}
-use Rattle.tcap_certificate.specs.declared.certificate.Expiry.{Expiry}
+use Rattle.tcap_model.specs.declared.reason.Reason.TheVariants.{BadReply, NotQuiet}
+use Rattle.tcap_model.specs.Run.{Closes, Event, Replies, Expires}
 use Rattle.tcap_certificate.specs.declared.certificate.Fate.{Fate}
 use Rattle.tcap_certificate.specs.declared.fault.CheckFault.{CheckFault}
 use Rattle.tcap_check.specs.declared.outline.Outline.{Outline}
@@ -23,10 +21,13 @@ use Rattle.tcap_certificate.specs.Certificate.{Certificate}
 use Rattle.tcap_check.specs.Checking.{taken}
 use Rattle.tcap_check.specs.Hearing.{closed_or_not, deliveries_kept, delivery_kept, first_heard, gap_kept, halves_closed, halves_quieted, heard_from, mark_taken, message_heard, message_received, received_or_not}
 use Rattle.tcap_check.specs.Outlines.{half_closed, invocation_ended}
-use Rattle.tcap_check.specs.Progress.{both_quiet, closing_kept, closings_kept, due_in, end_moved, expiries_kept, expiry_kept, first_answered, front_lost, half_closes, invocation_ends, is_empty, last_lost, map_ok, may_be_answered, quiet_kept, seat_at, sent_by, with_told, with_waiting}
-use Rattle.tcap_certificate.specs.Replayed.{closings_judged, expiries_judged, fault_at, is_nothing}
+use Rattle.tcap_check.specs.Progress.{both_quiet, due_in, end_moved, first_answered, front_lost, is_empty, last_lost, map_ok, may_be_answered, quiet_kept, seat_at, sent_by, with_told, with_waiting, all_kept, listed_kept}
+use Rattle.tcap_certificate.specs.Replayed.{fault_at, is_nothing}
 use Rattle.tcap_check.specs.Stands.{refusal_to_send}
-use Rattle.tcap_check.proofs.ReasonGaps.{needs_err, none_err, then_err}
+use Rattle.tcap_check.proofs.ReasonGaps.{needs_err, then_err}
+use Rattle.tcap_check.specs.declared.listed.Listed.{Listed}
+use Rattle.tcap_check.specs.declared.listed.Listed.TheVariants as listings
+use Rattle.tcap_check.specs.Listed.{listed_for}
 
 -- This fault is not that a message may not be sent.
 abbrev pub NoSend : CheckFault → Type 0
@@ -42,49 +43,29 @@ moved_no : (side : Side) (event : Event) (one fault : CheckFault) (p : Progress)
 moved_no side event one fault p (Ok e) is never = cc
 moved_no side event one fault p (Err reason) is never = let same : one ≡ fault = cc in same_no one fault same never
 
-closing_no : (table : Table) (entries : List Outline) (since : ℕ) (x : Closing) (p : Progress) (fault : CheckFault)
-    → closing_kept table entries since x p ≡ Err fault → NoSend fault
-closing_no table entries since x p fault is =
-    by (then_err (ok_or (half_closed entries since x) (fault_at FateRange x.entry)) (λ name. half_closes table x name p) fault is)
-  where
-    by : (ok_or (half_closed entries since x) (fault_at FateRange x.entry) ≡ Err fault)
-        ⊎ ((name : HalfName) × (ok_or (half_closed entries since x) (fault_at FateRange x.entry) ≡ Ok name) × (half_closes table x name p ≡ Err fault))
-        → NoSend fault
-    by (inl none) = same_no (fault_at FateRange x.entry) fault (none_err (half_closed entries since x) (fault_at FateRange x.entry) fault none).1 refl
-    by (inr (name, found, refused)) = moved_no x.side _ _ fault p (close table (seat_at x.side p).end name) refused refl
+-- What is listed, where there is what it names or not,
+named_no : {N : Type 0} (side : Side) (event : N → Event) (answer : N → Result End EndFault) (none refused fault : CheckFault) (p : Progress)
+    (o : Option N) → (ok_or o none >>= λ name. end_moved side (event name) refused p (answer name)) ≡ Err fault → NoSend none → NoSend refused → NoSend fault
+named_no side event answer none refused fault p None is never_none never = same_no none fault (cc) never_none
+named_no side event answer none refused fault p (Some name) is never_none never = moved_no side (event name) refused fault p (answer name) is never
 
-closings_no : (table : Table) (entries : List Outline) (since : ℕ) (xs : List Closing) (p : Progress) (fault : CheckFault)
-    → closings_kept table entries since xs p ≡ Err fault → NoSend fault
-closings_no table entries since [] p fault is = cc
-closings_no table entries since (x ∷ xs) p fault is =
-    by (λ q. closings_no table entries since xs q fault) (then_err (closing_kept table entries since x p) (closings_kept table entries since xs) fault is)
-  where
-    by : ((q : Progress) → closings_kept table entries since xs q ≡ Err fault → NoSend fault) → (closing_kept table entries since x p ≡ Err fault)
-        ⊎ ((q : Progress) × (closing_kept table entries since x p ≡ Ok q) × (closings_kept table entries since xs q ≡ Err fault)) → NoSend fault
-    by rest (inl first) = closing_no table entries since x p fault first
-    by rest (inr (q, first, more)) = rest q more
+one_no : (table : Table) (entries : List Outline) (since : ℕ) (x : Listed) (p : Progress) (fault : CheckFault)
+    → listed_kept table entries since x p ≡ Err fault → NoSend fault
+one_no table entries since (listings.Closes x) p fault is =
+    named_no x.side (Closes x.side) (close table (seat_at x.side p).end) _ _ fault p (half_closed entries since x) is refl refl
+one_no table entries since (listings.Expires x) p fault is =
+    named_no x.side (λ (n : HalfName × ℤ). Expires x.side n.0 n.1) (λ n. expire table (seat_at x.side p).end n.0 n.1) _ _ fault p
+    (invocation_ended entries since x) is refl refl
 
-expiry_no : (table : Table) (entries : List Outline) (since : ℕ) (x : Expiry) (p : Progress) (fault : CheckFault)
-    → expiry_kept table entries since x p ≡ Err fault → NoSend fault
-expiry_no table entries since x p fault is =
-    by (then_err (ok_or (invocation_ended entries since x) (fault_at FateRange x.entry)) (λ invocation. invocation_ends table x invocation p) fault is)
+listed_no : (table : Table) (entries : List Outline) (since : ℕ) (xs : List Listed) (p : Progress) (fault : CheckFault)
+    → all_kept table entries since xs p ≡ Err fault → NoSend fault
+listed_no table entries since [] p fault is = cc
+listed_no table entries since (x ∷ xs) p fault is =
+    by (λ q. listed_no table entries since xs q fault) (then_err (listed_kept table entries since x p) (all_kept table entries since xs) fault is)
   where
-    by : (ok_or (invocation_ended entries since x) (fault_at FateRange x.entry) ≡ Err fault)
-        ⊎ ((invocation : HalfName × ℤ) × (ok_or (invocation_ended entries since x) (fault_at FateRange x.entry) ≡ Ok invocation)
-        × (invocation_ends table x invocation p ≡ Err fault)) → NoSend fault
-    by (inl none) = same_no (fault_at FateRange x.entry) fault (none_err (invocation_ended entries since x) (fault_at FateRange x.entry) fault none).1 refl
-    by (inr (invocation, found, refused)) =
-        moved_no x.side _ _ fault p (expire table (seat_at x.side p).end invocation.0 invocation.1) refused refl
-
-expiries_no : (table : Table) (entries : List Outline) (since : ℕ) (xs : List Expiry) (p : Progress) (fault : CheckFault)
-    → expiries_kept table entries since xs p ≡ Err fault → NoSend fault
-expiries_no table entries since [] p fault is = cc
-expiries_no table entries since (x ∷ xs) p fault is =
-    by (λ q. expiries_no table entries since xs q fault) (then_err (expiry_kept table entries since x p) (expiries_kept table entries since xs) fault is)
-  where
-    by : ((q : Progress) → expiries_kept table entries since xs q ≡ Err fault → NoSend fault) → (expiry_kept table entries since x p ≡ Err fault)
-        ⊎ ((q : Progress) × (expiry_kept table entries since x p ≡ Ok q) × (expiries_kept table entries since xs q ≡ Err fault)) → NoSend fault
-    by rest (inl first) = expiry_no table entries since x p fault first
+    by : ((q : Progress) → all_kept table entries since xs q ≡ Err fault → NoSend fault) → (listed_kept table entries since x p ≡ Err fault)
+        ⊎ ((q : Progress) × (listed_kept table entries since x p ≡ Ok q) × (all_kept table entries since xs q ≡ Err fault)) → NoSend fault
+    by rest (inl first) = one_no table entries since x p fault first
     by rest (inr (q, first, more)) = rest q more
 
 heard_no : (judged : Option Side) (side : Side) (number : ℕ) (p : Progress) (o : Result End EndFault) (fault : CheckFault)
@@ -155,29 +136,18 @@ deliveries_no judged table entries (number ∷ numbers) p fault is =
 pub gap_no : (judged : Option Side) (table : Table) (c : Certificate) (entries : List Outline) (since : ℕ) (p : Progress) (fault : CheckFault)
     → gap_kept judged table c entries since p ≡ Err fault → NoSend fault
 gap_no judged table c entries since p fault is =
-    by (then_err (closings_kept table entries since closings p >>= expiries_kept table entries since expiries)
-    (deliveries_kept judged table entries due) fault is)
+    by (then_err (all_kept table entries since listed p) (deliveries_kept judged table entries due) fault is)
   where
-    closings : List Closing
-    closings = closings_judged judged (filter (λ x. x.gap == length entries) c.close)
-
-    expiries : List Expiry
-    expiries = expiries_judged judged (filter (λ x. x.gap == length entries) c.expire)
+    listed : List Listed
+    listed = listed_for judged c (length entries)
 
     due : List ℕ
     due = due_in (length entries) 0 c.fates
 
-    of : (closings_kept table entries since closings p ≡ Err fault)
-        ⊎ ((q : Progress) × (closings_kept table entries since closings p ≡ Ok q) × (expiries_kept table entries since expiries q ≡ Err fault))
-        → NoSend fault
-    of (inl none) = closings_no table entries since closings p fault none
-    of (inr (q, closed, none)) = expiries_no table entries since expiries q fault none
-
-    by : ((closings_kept table entries since closings p >>= expiries_kept table entries since expiries) ≡ Err fault)
-        ⊎ ((q : Progress) × ((closings_kept table entries since closings p >>= expiries_kept table entries since expiries) ≡ Ok q)
-        × (deliveries_kept judged table entries due q ≡ Err fault)) → NoSend fault
-    by (inl none) = of (then_err (closings_kept table entries since closings p) (expiries_kept table entries since expiries) fault none)
-    by (inr (q, expired, none)) = deliveries_no judged table entries due q fault none
+    by : (all_kept table entries since listed p ≡ Err fault)
+        ⊎ ((q : Progress) × (all_kept table entries since listed p ≡ Ok q) × (deliveries_kept judged table entries due q ≡ Err fault)) → NoSend fault
+    by (inl none) = listed_no table entries since listed p fault none
+    by (inr (q, hidden, none)) = deliveries_no judged table entries due q fault none
 
 -- ---- a reply, a mark
 

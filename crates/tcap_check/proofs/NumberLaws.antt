@@ -1,7 +1,6 @@
 -- Numbers of messages, and what was taken from a channel.
-use Rattle.std.proofs.Common.{◌≡◌, ◌⊎◌, inl, inr, ℕ, Bool, true, false, cond, List, [], ◌∷◌, ◌++◌, filter, refl, sym, ap, subst, ◌∙◌, append_assoc}
+use Rattle.std.proofs.Common.{◌≡◌, ◌⊎◌, inl, inr, ℕ, Bool, true, false, cond, List, [], ◌∷◌, ◌++◌, filter, refl, sym, ap, ◌∙◌, append_assoc}
 use Rattle.std.specs.Cmp.{nat_cmp_is}
-use Rattle.std.specs.List.{AllByRecursion}
 use Rattle.std.specs.List.Sorted.{IsStrictlySortedBy}
 use Rattle.std.specs.Ordering.{nat_cmp}
 use Rattle.std.specs.declared.cmp.Ordering.TheVariants.{Less, Equal}
@@ -9,40 +8,9 @@ use Rattle.tcap_record.specs.declared.entry.End.{End as Side}
 use Rattle.tcap_model.specs.World.{is_side}
 use Rattle.tcap_model.specs.Run.{Event, Sends, Receives, Replies, Loses, Expires, Closes, Quiet, Tells, numbers_taken, takes_from}
 use Rattle.tcap_certificate.specs.Follows.{is_loss, losses_from, without_losses}
+use Rattle.tcap_check.proofs.MemberLaws.{IsIn, in_left, in_right, in_either, all_in}
 
 -- ---- numbers
-
--- The number is one of these.
-abbrev pub IsAmong : ℕ → List ℕ → Type 0
-IsAmong n [] = ⊥
-IsAmong n (x ∷ xs) = (n ≡ x) ⊎ IsAmong n xs
-
--- It is one of two lists together where it is one of the first,
-pub among_left : (n : ℕ) (xs ys : List ℕ) → IsAmong n xs → IsAmong n (xs ++ ys)
-among_left n [] ys is = absurd is
-among_left n (x ∷ xs) ys (inl e) = inl e
-among_left n (x ∷ xs) ys (inr is) = inr (among_left n xs ys is)
-
--- or of the second,
-pub among_right : (n : ℕ) (xs ys : List ℕ) → IsAmong n ys → IsAmong n (xs ++ ys)
-among_right n [] ys is = is
-among_right n (x ∷ xs) ys is = inr (among_right n xs ys is)
-
--- and not else.
-among_parts : (n : ℕ) (xs ys : List ℕ) → IsAmong n (xs ++ ys) → IsAmong n xs ⊎ IsAmong n ys
-among_parts n [] ys is = inr is
-among_parts n (x ∷ xs) ys (inl e) = inl (inl e)
-among_parts n (x ∷ xs) ys (inr is) = by (among_parts n xs ys is)
-  where
-    by : IsAmong n xs ⊎ IsAmong n ys → IsAmong n (x ∷ xs) ⊎ IsAmong n ys
-    by (inl left) = inl (inr left)
-    by (inr right) = inr right
-
--- What holds of each holds of it.
-each_among : (P : ℕ → Type 0) (xs : List ℕ) (n : ℕ) → AllByRecursion P xs → IsAmong n xs → P n
-each_among P [] n all is = absurd is
-each_among P (x ∷ xs) n all (inl e) = subst P (sym e) all.0
-each_among P (x ∷ xs) n all (inr is) = each_among P xs n all.1 is
 
 -- No number is below itself.
 not_below : (n x : ℕ) → n ≡ x → nat_cmp x n ≡ Less → ⊥
@@ -51,11 +19,11 @@ not_below n x e below =
     let same = nat_cmp_is x x Equal refl in cc
 
 -- Where two lists together rise, no number is in both,
-pub parts_apart : (n : ℕ) (xs ys : List ℕ) → IsStrictlySortedBy nat_cmp (xs ++ ys) → IsAmong n xs → IsAmong n ys → ⊥
+pub parts_apart : (n : ℕ) (xs ys : List ℕ) → IsStrictlySortedBy nat_cmp (xs ++ ys) → IsIn n xs → IsIn n ys → ⊥
 unfolding IsStrictlySortedBy
 parts_apart n [] ys rises left right = left
 parts_apart n (x ∷ xs) ys rises (inl e) right =
-    not_below n x e (each_among (λ y. nat_cmp x y ≡ Less) (xs ++ ys) n rises.0 (among_right n xs ys right))
+    not_below n x e (all_in (λ y. nat_cmp x y ≡ Less) n (xs ++ ys) rises.0 (in_right n xs ys right))
 parts_apart n (x ∷ xs) ys rises (inr left) right = parts_apart n xs ys rises.1 left right
 
 -- and the second rises.
@@ -65,7 +33,7 @@ rises_behind [] ys rises = rises
 rises_behind (x ∷ xs) ys rises = rises_behind xs ys rises.1
 
 -- A test that all of these pass leaves all of them.
-pub filter_all : (p : ℕ → Bool) (xs : List ℕ) → ((n : ℕ) → IsAmong n xs → p n ≡ true) → filter p xs ≡ xs
+pub filter_all : (p : ℕ → Bool) (xs : List ℕ) → ((n : ℕ) → IsIn n xs → p n ≡ true) → filter p xs ≡ xs
 filter_all p [] pass = refl
 filter_all p (x ∷ xs) pass = rw (pass x (inl refl)) (ap (λ more. x ∷ more) (filter_all p xs (λ n is. pass n (inr is))))
 
@@ -80,16 +48,16 @@ taken_both side (x ∷ xs) ys =
     ∙ sym (append_assoc (takes_from side x) (numbers_taken side xs) (numbers_taken side ys))
 
 -- What the first takes is taken,
-pub taken_left : (side : Side) (n : ℕ) (xs ys : List Event) → IsAmong n (numbers_taken side xs)
-    → IsAmong n (numbers_taken side (xs ++ ys))
+pub taken_left : (side : Side) (n : ℕ) (xs ys : List Event) → IsIn n (numbers_taken side xs)
+    → IsIn n (numbers_taken side (xs ++ ys))
 taken_left side n xs ys is =
-    rw (taken_both side xs ys) (among_left n (numbers_taken side xs) (numbers_taken side ys) is)
+    rw (taken_both side xs ys) (in_left n (numbers_taken side xs) (numbers_taken side ys) is)
 
 -- and what the second takes.
-pub taken_right : (side : Side) (n : ℕ) (xs ys : List Event) → IsAmong n (numbers_taken side ys)
-    → IsAmong n (numbers_taken side (xs ++ ys))
+pub taken_right : (side : Side) (n : ℕ) (xs ys : List Event) → IsIn n (numbers_taken side ys)
+    → IsIn n (numbers_taken side (xs ++ ys))
 taken_right side n xs ys is =
-    rw (taken_both side xs ys) (among_right n (numbers_taken side xs) (numbers_taken side ys) is)
+    rw (taken_both side xs ys) (in_right n (numbers_taken side xs) (numbers_taken side ys) is)
 
 -- what a loss takes
 abbrev pub loss_of : Side → Event → List ℕ
@@ -114,8 +82,8 @@ losses_first side Quiet events = refl
 losses_first side (Tells place m) events = refl
 
 -- What is taken without the losses is taken,
-pub among_plain : (side : Side) (n : ℕ) (events : List Event) → IsAmong n (numbers_taken side (without_losses events))
-    → IsAmong n (numbers_taken side events)
+pub among_plain : (side : Side) (n : ℕ) (events : List Event) → IsIn n (numbers_taken side (without_losses events))
+    → IsIn n (numbers_taken side events)
 among_plain side n [] is = is
 among_plain side n (event ∷ events) is = by (is_loss event) (among_plain side n events) is
   where
@@ -128,23 +96,23 @@ among_plain side n (event ∷ events) is = by (is_loss event) (among_plain side 
     plain : List ℕ
     plain = numbers_taken side (without_losses events)
 
-    by_parts : (IsAmong n plain → IsAmong n rest) → IsAmong n first ⊎ IsAmong n plain → IsAmong n (first ++ rest)
-    by_parts on (inl here) = among_left n first rest here
-    by_parts on (inr more) = among_right n first rest (on more)
+    by_parts : (IsIn n plain → IsIn n rest) → IsIn n first ⊎ IsIn n plain → IsIn n (first ++ rest)
+    by_parts on (inl here) = in_left n first rest here
+    by_parts on (inr more) = in_right n first rest (on more)
 
-    by : (b : Bool) → (IsAmong n plain → IsAmong n rest)
-        → IsAmong n (numbers_taken side (cond b (without_losses events) (event ∷ without_losses events)))
-        → IsAmong n (first ++ rest)
-    by true on is = among_right n first rest (on is)
-    by false on is = by_parts on (among_parts n first plain is)
+    by : (b : Bool) → (IsIn n plain → IsIn n rest)
+        → IsIn n (numbers_taken side (cond b (without_losses events) (event ∷ without_losses events)))
+        → IsIn n (first ++ rest)
+    by true on is = in_right n first rest (on is)
+    by false on is = by_parts on (in_either n first plain is)
 
 -- and so is what is lost.
-pub among_losses : (side : Side) (n : ℕ) (events : List Event) → IsAmong n (losses_from side events)
-    → IsAmong n (numbers_taken side events)
+pub among_losses : (side : Side) (n : ℕ) (events : List Event) → IsIn n (losses_from side events)
+    → IsIn n (numbers_taken side events)
 among_losses side n [] is = is
 among_losses side n (event ∷ events) is =
     by (is_loss event) (among_losses side n events)
-    (among_parts n (loss_of side event) (losses_from side events) (rw (losses_first side event events) at is))
+    (in_either n (loss_of side event) (losses_from side events) (rw (losses_first side event events) at is))
   where
     first : List ℕ
     first = takes_from side event
@@ -155,20 +123,20 @@ among_losses side n (event ∷ events) is =
     lost : List ℕ
     lost = losses_from side events
 
-    by : (b : Bool) → (IsAmong n lost → IsAmong n rest) → IsAmong n (cond b first []) ⊎ IsAmong n lost
-        → IsAmong n (first ++ rest)
-    by true on (inl here) = among_left n first rest here
+    by : (b : Bool) → (IsIn n lost → IsIn n rest) → IsIn n (cond b first []) ⊎ IsIn n lost
+        → IsIn n (first ++ rest)
+    by true on (inl here) = in_left n first rest here
     by false on (inl here) = absurd here
-    by b on (inr more) = among_right n first rest (on more)
+    by b on (inr more) = in_right n first rest (on more)
 
 -- No message is lost and taken else, where the numbers rise.
 pub losses_apart : (side : Side) (n : ℕ) (events : List Event) → IsStrictlySortedBy nat_cmp (numbers_taken side events)
-    → IsAmong n (losses_from side events) → IsAmong n (numbers_taken side (without_losses events)) → ⊥
+    → IsIn n (losses_from side events) → IsIn n (numbers_taken side (without_losses events)) → ⊥
 losses_apart side n [] rises lost plain = lost
 losses_apart side n (event ∷ events) rises lost plain =
     by (is_loss event)
     (losses_apart side n events (rises_behind (takes_from side event) (numbers_taken side events) rises))
-    (among_parts n (loss_of side event) (losses_from side events) (rw (losses_first side event events) at lost)) plain
+    (in_either n (loss_of side event) (losses_from side events) (rw (losses_first side event events) at lost)) plain
   where
     first : List ℕ
     first = takes_from side event
@@ -179,16 +147,16 @@ losses_apart side n (event ∷ events) rises lost plain =
     left : List ℕ
     left = numbers_taken side (without_losses events)
 
-    apart : IsAmong n first → IsAmong n (numbers_taken side events) → ⊥
+    apart : IsIn n first → IsIn n (numbers_taken side events) → ⊥
     apart = parts_apart n first (numbers_taken side events) rises
 
-    by_plain : (IsAmong n also → IsAmong n left → ⊥) → IsAmong n also → IsAmong n first ⊎ IsAmong n left → ⊥
+    by_plain : (IsIn n also → IsIn n left → ⊥) → IsIn n also → IsIn n first ⊎ IsIn n left → ⊥
     by_plain on lost (inl here) = apart here (among_losses side n events lost)
     by_plain on lost (inr more) = on lost more
 
-    by : (b : Bool) → (IsAmong n also → IsAmong n left → ⊥) → IsAmong n (cond b first []) ⊎ IsAmong n also
-        → IsAmong n (numbers_taken side (cond b (without_losses events) (event ∷ without_losses events))) → ⊥
+    by : (b : Bool) → (IsIn n also → IsIn n left → ⊥) → IsIn n (cond b first []) ⊎ IsIn n also
+        → IsIn n (numbers_taken side (cond b (without_losses events) (event ∷ without_losses events))) → ⊥
     by true on (inl here) plain = apart here (among_plain side n events plain)
     by true on (inr lost) plain = on lost plain
     by false on (inl here) plain = here
-    by false on (inr lost) plain = by_plain on lost (among_parts n first left plain)
+    by false on (inr lost) plain = by_plain on lost (in_either n first left plain)

@@ -1,65 +1,32 @@
 -- The order in which a run that follows a certificate takes the messages of an end: by number, and by time.
-use Rattle.std.proofs.Common.{arith, ◌≡◌, ◌⊎◌, inl, inr, ℕ, suc, ◌+◌, ◌*◌, ◌≤◌, ◌<◌, ◌==◌, Bool, true, false, cond, nat_lt, List, [], ◌∷◌, ◌++◌, map, filter, Option, Some, None, refl, sym, ap, subst, ◌∙◌, append-nil}
+use Rattle.std.proofs.Common.{arith, ◌≡◌, ◌⊎◌, inl, inr, ℕ, ◌+◌, ◌*◌, ◌≤◌, ◌<◌, ◌==◌, Bool, true, false, cond, nat_lt, List, [], ◌∷◌, ◌++◌, map, Option, Some, None, refl, sym, ap, subst, ◌∙◌, append-nil}
 use Rattle.std.specs.Prelude.{slice_get}
 use Rattle.std.specs.Cmp.{nat_cmp_is}
 use Rattle.std.specs.List.{AllByRecursion}
 use Rattle.std.specs.List.Sorted.{IsStrictlySortedBy}
 use Rattle.std.specs.Ordering.{nat_cmp}
 use Rattle.std.specs.declared.cmp.Ordering.TheVariants.{Less, Greater}
-use Rattle.std.proofs.lemmas.Bool.{eqb-true, ltb-false, ltb-true}
+use Rattle.std.proofs.lemmas.Bool.{ltb-false, ltb-true}
 use Rattle.tcap_msg.specs.declared.message.AbortReason.TheVariants.{Cause, Dialogue as ByDialogue}
 use Rattle.tcap_msg.specs.declared.message.Message.{Message}
 use Rattle.tcap_msg.specs.declared.message.Message.TheVariants.{Unidirectional, Begin, Continue, End as EndMessage, Abort}
-use Rattle.tcap_msg.specs.Parts.{components_in}
 use Rattle.tcap_record.specs.declared.entry.End.{End as Side}
 use Rattle.tcap_record.specs.Ends.{other}
 use Rattle.tcap_model.specs.World.{Item, Sent, is_side}
-use Rattle.tcap_model.specs.Run.{Event, Sends, Receives, Replies, Loses, Expires, Closes, Quiet, Tells, numbers_taken, takes_from, then_so}
-use Rattle.tcap_certificate.specs.declared.certificate.Closing.{Closing}
-use Rattle.tcap_certificate.specs.declared.certificate.Expiry.{Expiry}
+use Rattle.tcap_model.specs.Run.{Event, Sends, Replies, numbers_taken, takes_from, then_so}
 use Rattle.tcap_certificate.specs.declared.certificate.Fate.{Fate}
 use Rattle.tcap_certificate.specs.declared.certificate.Fate.TheVariants.{Gap, Lost, By}
 use Rattle.tcap_certificate.specs.Certificate.{Certificate}
-use Rattle.tcap_model.specs.Since.{originating}
-use Rattle.tcap_certificate.specs.Follows.{FollowsFrom, IsImplied, closing_by, closing_event, deliveries, expiry_by, expiry_event, gap_events, invoke_id, is_loss, named_entry, quiet_by, sending_by, taken_by, without_losses}
+use Rattle.tcap_certificate.specs.Follows.{FollowsFrom, IsImplied, deliveries, gap_events, is_loss, quiet_by, sending_by, taken_by, without_losses}
 use Rattle.tcap_certificate.specs.Replayed.{time_of}
-use Rattle.tcap_model.proofs.ListLaws.{all_both}
-use Rattle.tcap_model.proofs.RunLaws.{where_some, then_some, some_is, same_events}
-use Rattle.tcap_check.proofs.NumberLaws.{taken_both}
+use Rattle.tcap_model.proofs.ListLaws.{all_both, all_weaker}
+use Rattle.tcap_model.proofs.RunLaws.{where_some, some_is}
+use Rattle.tcap_check.proofs.ListedLaws.{gap_split, all_implied}
+use Rattle.tcap_check.proofs.MemberLaws.{IsIn, in_left, in_right, in_either, all_in}
+use Rattle.tcap_check.proofs.FateLaws.{from_start, all_delivered, taken_are}
+use Rattle.tcap_check.proofs.NumberLaws.{taken_both, among_plain}
 
 -- ---- numbers in lists
-
--- A number is one of these.
-abbrev pub IsIn : ℕ → List ℕ → Type 0
-IsIn n [] = ⊥
-IsIn n (x ∷ xs) = (x ≡ n) ⊎ IsIn n xs
-
--- One of the first is one of both together,
-pub in_left : (n : ℕ) (xs ys : List ℕ) → IsIn n xs → IsIn n (xs ++ ys)
-in_left n [] ys is = absurd is
-in_left n (x ∷ xs) ys (inl same) = inl same
-in_left n (x ∷ xs) ys (inr more) = inr (in_left n xs ys more)
-
--- so is one of the second,
-pub in_right : (n : ℕ) (xs ys : List ℕ) → IsIn n ys → IsIn n (xs ++ ys)
-in_right n [] ys is = is
-in_right n (x ∷ xs) ys is = inr (in_right n xs ys is)
-
--- and there is no other.
-in_either : (n : ℕ) (xs ys : List ℕ) → IsIn n (xs ++ ys) → IsIn n xs ⊎ IsIn n ys
-in_either n [] ys is = inr is
-in_either n (x ∷ xs) ys (inl same) = inl (inl same)
-in_either n (x ∷ xs) ys (inr more) = by (in_either n xs ys more)
-  where
-    by : IsIn n xs ⊎ IsIn n ys → IsIn n (x ∷ xs) ⊎ IsIn n ys
-    by (inl left) = inl (inr left)
-    by (inr right) = inr right
-
--- What holds of each holds of one of them.
-all_in : (P : ℕ → Type 0) (n : ℕ) (xs : List ℕ) → AllByRecursion P xs → IsIn n xs → P n
-all_in P n [] all is = absurd is
-all_in P n (x ∷ xs) all (inl same) = subst P same all.0
-all_in P n (x ∷ xs) all (inr more) = all_in P n xs all.1 more
 
 -- No number is below one before it.
 abbrev pub Rises : List ℕ → Type 0
@@ -101,26 +68,6 @@ rises_fewer (x ∷ xs) ys zs fewer on rises =
 
 -- ---- losses left out
 
--- What is taken by events that are no losses is taken by the events.
-pub taken_too : (side : Side) (n : ℕ) (events : List Event) → IsIn n (numbers_taken side (without_losses events))
-    → IsIn n (numbers_taken side events)
-taken_too side n [] is = is
-taken_too side n (event ∷ events) is = by (is_loss event) (taken_too side n events) is
-  where
-    both : (first plain all : List ℕ) → (IsIn n plain → IsIn n all) → IsIn n first ⊎ IsIn n plain
-        → IsIn n (first ++ all)
-    both first plain all on (inl left) = in_left n first all left
-    both first plain all on (inr right) = in_right n first all (on right)
-
-    by : (b : Bool) → (IsIn n (numbers_taken side (without_losses events)) → IsIn n (numbers_taken side events))
-        → IsIn n (numbers_taken side (cond b (without_losses events) (event ∷ without_losses events)))
-        → IsIn n (takes_from side event ++ numbers_taken side events)
-    by true on more = in_right n (takes_from side event) (numbers_taken side events) (on more)
-    by false on more =
-        let plain = numbers_taken side (without_losses events) in
-        both (takes_from side event) plain (numbers_taken side events) on
-        (in_either n (takes_from side event) plain more)
-
 -- Its numbers rise where theirs do.
 pub rises_without : (side : Side) (events : List Event) → Rises (numbers_taken side events)
     → Rises (numbers_taken side (without_losses events))
@@ -132,7 +79,7 @@ rises_without side (event ∷ events) rises = by (is_loss event) (rises_without 
     by true on = on (rises_tail (takes_from side event) (numbers_taken side events) rises)
     by false on =
         let plain = numbers_taken side (without_losses events) in
-        rises_fewer (takes_from side event) (numbers_taken side events) plain (λ n. taken_too side n events) on rises
+        rises_fewer (takes_from side event) (numbers_taken side events) plain (λ n. among_plain side n events) on rises
 
 -- ---- times
 
@@ -168,7 +115,7 @@ timed_in : (fates : List Fate) (t u n : ℕ) (xs : List ℕ) → Timed fates t x
 timed_in fates t u n [] timed is at = absurd is
 timed_in fates t u n (x ∷ xs) timed (inl same) at =
     let here = timed.2 in
-    let equal : Some timed.0 ≡ Some u = sym here ∙ ap (time_at fates) same ∙ at in
+    let equal : Some timed.0 ≡ Some u = sym here ∙ ap (time_at fates) (sym same) ∙ at in
     let so : timed.0 ≡ u = cc in
     omega (arith, timed.1, so)
 timed_in fates t u n (x ∷ xs) timed (inr more) at =
@@ -183,7 +130,7 @@ in_turn fates t first second u v (x ∷ xs) rises timed (inl same_a) (inl same_b
     absurd (omega (arith, same_a, same_b))
 in_turn fates t first second u v (x ∷ xs) rises timed (inl same_a) (inr more_b) below at_a at_b =
     let here = timed.2 in
-    let equal : Some timed.0 ≡ Some u = sym here ∙ ap (time_at fates) same_a ∙ at_a in
+    let equal : Some timed.0 ≡ Some u = sym here ∙ ap (time_at fates) (sym same_a) ∙ at_a in
     let so : timed.0 ≡ u = cc in
     let later : timed.0 ≤ v = timed_in fates timed.0 v second xs timed.3 more_b at_b in
     omega (arith, so, later)
@@ -194,83 +141,26 @@ in_turn fates t first second u v (x ∷ xs) rises timed (inr more_a) (inr more_b
 
 -- ---- what events take
 
--- A closing takes no message,
-closing_takes : (side : Side) (items : List Item) (x : Closing) (event : Event)
-    → closing_event items x ≡ Some event → takes_from side event ≡ []
-closing_takes side items x event is =
-    let found = then_some (named_entry items x.gap x.entry) (closing_by x) event is in by found.0 found.2
-  where
-    by : (item : Item) → closing_by x item ≡ Some event → takes_from side event ≡ []
-    by (Sent sender (Begin otid dialogue components)) e = subst (λ f. takes_from side f ≡ []) (some_is e) refl
-    by (Sent sender (Unidirectional dialogue components)) e = cc
-    by (Sent sender (Continue otid dtid dialogue components)) e = cc
-    by (Sent sender (EndMessage dtid dialogue components)) e = cc
-    by (Sent sender (Abort dtid reason)) e = cc
-    by Item.Quiet e = cc
-
--- nor does an expiry.
-expiry_takes : (side : Side) (items : List Item) (x : Expiry) (event : Event) → expiry_event items x ≡ Some event
-    → takes_from side event ≡ []
-expiry_takes side items x event is =
-    let found = then_some (named_entry items x.gap x.entry) (expiry_by x) event is in by found.0 found.2
-  where
-    by : (item : Item) → expiry_by x item ≡ Some event → takes_from side event ≡ []
-    by (Sent sender message) e =
-        let so = where_some (is_side x.side sender) _ event e in
-        let named = then_some (originating message) _ event so.1 in
-        let id = then_some (then_so (slice_get (components_in message) x.component) invoke_id) _ event named.2 in
-        subst (λ f. takes_from side f ≡ []) (some_is id.2) refl
-    by Item.Quiet e = cc
-
--- what takes no message of this end, where it is an event
-abbrev TakesNone : Side → Option Event → Type 0
-TakesNone side o = (event : Event) → o ≡ Some event → takes_from side event ≡ []
-
--- Where the first take none, the last take all.
-last_take : (side : Side) (here : List Event) (xs : List (Option Event)) (last : List Event)
-    → AllByRecursion (TakesNone side) xs
-    → map Some here ≡ xs ++ map Some last → numbers_taken side here ≡ numbers_taken side last
-last_take side here [] last all is = ap (numbers_taken side) (same_events here last is)
-last_take side [] (x ∷ xs) last all is = cc
-last_take side (event ∷ here) (x ∷ xs) last all is =
-    let first : Some event ≡ x = cc in
-    let none = all.0 event (sym first) in
-    rw none (last_take side here xs last all.1 cc)
-
--- What holds of each that is made holds of all of them.
-all_map : {A B : Type 0} (P : B → Type 0) (f : A → B) (xs : List A) → ((x : A) → P (f x)) → AllByRecursion P (map f xs)
-all_map P f [] each = tt
-all_map P f (x ∷ xs) each = (each x, all_map P f xs each)
+-- What takes none adds none.
+none_take : (side : Side) (xs ys : List Event) → AllByRecursion (λ event. takes_from side event ≡ []) xs
+    → numbers_taken side (xs ++ ys) ≡ numbers_taken side ys
+none_take side [] ys all = refl
+none_take side (event ∷ xs) ys all = rw (all.0) (none_take side xs ys all.1)
 
 -- What is taken in a gap is delivered in it.
 pub here_takes : (side : Side) (c : Certificate) (items : List Item) (gap : ℕ) (here : List Event)
     → map Some here ≡ gap_events c items gap
     → numbers_taken side here ≡ numbers_taken side (deliveries gap 0 c.fates items)
 here_takes side c items gap here is =
-    let closings = filter (λ (x : Closing). x.gap == gap) c.close in
-    let expiries = filter (λ (x : Expiry). x.gap == gap) c.expire in
-    let none = all_both (TakesNone side) (map (closing_event items) closings) (map (expiry_event items) expiries)
-    (all_map (TakesNone side) (closing_event items) closings (closing_takes side items))
-    (all_map (TakesNone side) (expiry_event items) expiries (expiry_takes side items)) in
-    last_take side here (map (closing_event items) closings ++ map (expiry_event items) expiries)
-    (deliveries gap 0 c.fates items) none is
+    let parts = gap_split (λ event. takes_from side event ≡ []) c items gap here (λ at name. refl) (λ at name id. refl) is in
+    ap (numbers_taken side) parts.2 ∙ none_take side parts.0 (deliveries gap 0 c.fates items) parts.1
 
 -- What an item implies takes none.
 implied_takes : (side : Side) (item : Item) (events : List Event) → AllByRecursion (IsImplied item) events
     → numbers_taken side events ≡ []
-implied_takes side item [] all = refl
-implied_takes side item (event ∷ events) all = rw (by item event all.0) (implied_takes side item events all.1)
-  where
-    by : (item : Item) (event : Event) → IsImplied item event → takes_from side event ≡ []
-    by (Sent sender message) (Expires place name id) is = refl
-    by (Sent sender message) (Sends place m) is = absurd is
-    by (Sent sender message) (Receives place number) is = absurd is
-    by (Sent sender message) (Replies place number) is = absurd is
-    by (Sent sender message) (Loses place number) is = absurd is
-    by (Sent sender message) (Closes place name) is = absurd is
-    by (Sent sender message) Quiet is = absurd is
-    by (Sent sender message) (Tells place m) is = absurd is
-    by Item.Quiet event is = absurd is
+implied_takes side item events all =
+    ap (numbers_taken side) (sym (append-nil events))
+    ∙ none_take side events [] (all_implied (λ event. takes_from side event ≡ []) item events (λ at name id. refl) all)
 
 -- From a gap on these are taken: what is delivered in it, what the next item takes, and what is taken behind it.
 pub step_takes : (side : Side) (c : Certificate) (items : List Item) (gap : ℕ) (item : Item)
@@ -328,81 +218,33 @@ sending_takes c number Item.Quiet (t ∷ more) sends is = cc
 
 -- ---- at what time
 
--- These fates are the last of all, from that number on.
-abbrev AreFrom : List Fate → ℕ → List Fate → Type 0
-AreFrom all n fates = (i : ℕ) → slice_get all (n + i) ≡ slice_get fates i
-
--- So are those behind the first of them;
-from_next : (all : List Fate) (n : ℕ) (fate : Fate) (fates : List Fate) → AreFrom all n (fate ∷ fates)
-    → AreFrom all (n + 1) fates
-from_next all n fate fates are i =
-    let same : (n + 1) + i ≡ n + suc i = omega arith in ap (slice_get all) same ∙ are (suc i)
-
--- the first has the time of that number;
-from_here : (all : List Fate) (n : ℕ) (fate : Fate) (fates : List Fate) → AreFrom all n (fate ∷ fates)
-    → time_at all n ≡ time_of fate
-from_here all n fate fates are =
-    let same : n ≡ n + 0 = omega arith in
-    let has : slice_get all n ≡ Some fate = ap (slice_get all) same ∙ are 0 in ap (λ o. then_so o time_of) has
-
--- and all are so from 0 on.
-from_first : (fates : List Fate) → AreFrom fates 0 fates
-from_first fates i = let same : 0 + i ≡ i = omega arith in ap (slice_get fates) same
+-- What holds of all that each event takes holds of all that is taken.
+all_taken : (side : Side) (Q : ℕ → Type 0) (events : List Event) → AllByRecursion (λ event. AllByRecursion Q (takes_from side event)) events
+    → AllByRecursion Q (numbers_taken side events)
+all_taken side Q [] all = tt
+all_taken side Q (event ∷ events) all =
+    all_both Q (takes_from side event) (numbers_taken side events) all.0 (all_taken side Q events all.1)
 
 -- A delivery takes at the time of its gap.
-deliveries_time : (side : Side) (all : List Fate) (gap n : ℕ) (fates : List Fate) (items : List Item)
-    → AreFrom all n fates
-    → AllByRecursion (λ m. time_at all m ≡ Some (2 * gap)) (numbers_taken side (deliveries gap n fates items))
-deliveries_time side all gap n [] items are = tt
-deliveries_time side all gap n (fate ∷ fates) [] are = tt
-deliveries_time side all gap n (Gap g ∷ fates) (Sent sender message ∷ items) are =
-    by (g == gap) refl (deliveries_time side all gap (n + 1) fates items (from_next all n (Gap g) fates are))
+deliveries_time : (side : Side) (fates : List Fate) (gap : ℕ) (items : List Item)
+    → AllByRecursion (λ m. time_at fates m ≡ Some (2 * gap)) (numbers_taken side (deliveries gap 0 fates items))
+deliveries_time side fates gap items =
+    all_taken side InTime (deliveries gap 0 fates items)
+    (all_delivered (λ event. AllByRecursion InTime (takes_from side event)) fates gap 0 fates items (from_start fates)
+    (λ sender n at. one n (is_side side (other (other sender))) (ap (λ (o : Option Fate). then_so o time_of) at)))
   where
-    others : List Event
-    others = deliveries gap (n + 1) fates items
-
     InTime : ℕ → Type 0
-    InTime m = time_at all m ≡ Some (2 * gap)
+    InTime m = time_at fates m ≡ Some (2 * gap)
 
-    one : (same : Bool) → time_at all n ≡ Some (2 * gap) → AllByRecursion InTime (cond same (n ∷ []) [])
-    one true at = (at, tt)
-    one false at = tt
-
-    by : (b : Bool) → (g == gap) ≡ b → AllByRecursion InTime (numbers_taken side others)
-        → AllByRecursion InTime (numbers_taken side (cond b (Receives (other sender) n ∷ others) others))
-    by true e rest =
-        let at : time_at all n ≡ Some (2 * gap) =
-        from_here all n (Gap g) fates are ∙ ap (λ k. Some (2 * k)) (eqb-true g gap e) in
-        all_both InTime (takes_from side (Receives (other sender) n)) (numbers_taken side others)
-        (one (is_side side (other (other sender))) at) rest
-    by false e rest = rest
-deliveries_time side all gap n (Gap g ∷ fates) (Item.Quiet ∷ items) are =
-    deliveries_time side all gap (n + 1) fates items (from_next all n (Gap g) fates are)
-deliveries_time side all gap n (Lost ∷ fates) (Sent sender message ∷ items) are =
-    deliveries_time side all gap (n + 1) fates items (from_next all n Lost fates are)
-deliveries_time side all gap n (Lost ∷ fates) (Item.Quiet ∷ items) are =
-    deliveries_time side all gap (n + 1) fates items (from_next all n Lost fates are)
-deliveries_time side all gap n (By k ∷ fates) (Sent sender message ∷ items) are =
-    deliveries_time side all gap (n + 1) fates items (from_next all n (By k) fates are)
-deliveries_time side all gap n (By k ∷ fates) (Item.Quiet ∷ items) are =
-    deliveries_time side all gap (n + 1) fates items (from_next all n (By k) fates are)
+    one : (n : ℕ) (b : Bool) → InTime n → AllByRecursion InTime (cond b (n ∷ []) [])
+    one n true at = (at, tt)
+    one n false at = tt
 
 -- A reply takes at its own.
-replies_time : (all : List Fate) (reply n : ℕ) (fates : List Fate) → AreFrom all n fates
-    → AllByRecursion (λ m. time_at all m ≡ Some (2 * reply + 1)) (taken_by reply n fates)
-replies_time all reply n [] are = tt
-replies_time all reply n (Gap g ∷ fates) are = replies_time all reply (n + 1) fates (from_next all n (Gap g) fates are)
-replies_time all reply n (Lost ∷ fates) are = replies_time all reply (n + 1) fates (from_next all n Lost fates are)
-replies_time all reply n (By k ∷ fates) are =
-    by (k == reply) refl (replies_time all reply (n + 1) fates (from_next all n (By k) fates are))
-  where
-    InTime : ℕ → Type 0
-    InTime m = time_at all m ≡ Some (2 * reply + 1)
-
-    by : (b : Bool) → (k == reply) ≡ b → AllByRecursion InTime (taken_by reply (n + 1) fates)
-        → AllByRecursion InTime (cond b (n ∷ taken_by reply (n + 1) fates) (taken_by reply (n + 1) fates))
-    by true e rest = (from_here all n (By k) fates are ∙ ap (λ r. Some (2 * r + 1)) (eqb-true k reply e), rest)
-    by false e rest = rest
+replies_time : (fates : List Fate) (reply : ℕ) → AllByRecursion (λ m. time_at fates m ≡ Some (2 * reply + 1)) (taken_by reply 0 fates)
+replies_time fates reply =
+    all_weaker (λ m. slice_get fates m ≡ Some (By reply)) (λ m. time_at fates m ≡ Some (2 * reply + 1)) (taken_by reply 0 fates)
+    (λ m at. ap (λ (o : Option Fate). then_so o time_of) at) (taken_are fates fates reply 0 (from_start fates))
 
 -- So does the event that sends an item.
 sends_time : (side : Side) (P : ℕ → Type 0) (taken : List ℕ) (sends : Event) → Takes taken sends
@@ -421,13 +263,12 @@ pub run_timed : (side : Side) (c : Certificate) (items : List Item) (gap : ℕ) 
 run_timed side c items gap [] events follows =
     rw (here_takes side c items gap events follows)
     (timed_all c.fates (2 * gap) (numbers_taken side (deliveries gap 0 c.fates items))
-    (deliveries_time side c.fates gap 0 c.fates items (from_first c.fates)))
+    (deliveries_time side c.fates gap items))
 run_timed side c items gap (item ∷ more) events (here, implied, rest, sends, here_is, all, sends_is, joined, on) =
-    let are = from_first c.fates in
-    let now = deliveries_time side c.fates gap 0 c.fates items are in
+    let now = deliveries_time side c.fates gap items in
     let taken = taken_by gap 0 c.fates in
     let next = sends_time side (λ m. time_at c.fates m ≡ Some (2 * gap + 1)) taken sends
-    (sending_takes c gap item taken sends sends_is) (replies_time c.fates gap 0 c.fates are) in
+    (sending_takes c gap item taken sends sends_is) (replies_time c.fates gap) in
     let behind = run_timed side c items (gap + 1) more rest on in
     let then = takes_from side sends ++ numbers_taken side rest in
     rw (joined, step_takes side c items gap item here implied rest sends here_is all)

@@ -1,6 +1,6 @@
 -- What was taken so far where both ends are judged: behind a gap, each message that is delivered in it; behind an entry, each
 -- that it takes.
-use Rattle.std.proofs.Common.{◌≡◌, ◌⊎◌, inl, inr, ℕ, zero, suc, ◌+◌, ◌<◌, ◌≤◌, ◌==◌, arith, Bool, true, false, cond, List, [], ◌∷◌, ◌++◌, map, filter, length, Option, Some, None, refl, sym, ap, subst, ◌∙◌, append-nil}
+use Rattle.std.proofs.Common.{◌≡◌, ◌⊎◌, inl, inr, ℕ, zero, suc, ◌+◌, ◌<◌, ◌≤◌, ◌==◌, arith, Bool, true, false, cond, List, [], ◌∷◌, ◌++◌, map, length, Option, Some, None, refl, sym, ap, subst, ◌∙◌, append-nil}
 use Rattle.std.specs.Prelude.{slice_get}
 use Rattle.std.proofs.lemmas.Bool.{cases_lt, eq-eqb}
 use Rattle.std.proofs.lemmas.Option.{slice_get_within}
@@ -13,20 +13,20 @@ use Rattle.tcap_end.specs.Table.{Table}
 use Rattle.tcap_record.specs.Ends.{other}
 use Rattle.tcap_model.specs.World.{Item, Sent}
 use Rattle.tcap_model.specs.Run.{Event, Receives, Replies, numbers_taken}
-use Rattle.tcap_certificate.specs.declared.certificate.Closing.{Closing}
-use Rattle.tcap_certificate.specs.declared.certificate.Expiry.{Expiry}
 use Rattle.tcap_certificate.specs.declared.certificate.Fate.{Fate}
 use Rattle.tcap_certificate.specs.declared.certificate.Fate.TheVariants.{Gap, Lost, By}
 use Rattle.tcap_certificate.specs.Certificate.{Certificate}
 use Rattle.tcap_model.specs.Entries.{IsItem}
-use Rattle.tcap_certificate.specs.Follows.{FatesFit, closing_event, deliveries, expiry_event, gap_events, sending_by, taken_by, without_losses}
+use Rattle.tcap_certificate.specs.Follows.{FatesFit, deliveries, gap_events, sending_by, taken_by, without_losses}
 use Rattle.tcap_certificate.specs.Replayed.{Replay, next_entry}
 use Rattle.tcap_check.proofs.ReplayGaps.{get_before}
 use Rattle.tcap_check.proofs.ReplaySteps.{Replays}
 use Rattle.tcap_check.proofs.ReplayLaws.{IsSentBy}
 use Rattle.tcap_check.proofs.FollowingLaws.{FollowsBehind, FollowsSo, IsUpTo, follows_gap, follows_more, plain_on}
-use Rattle.tcap_check.proofs.TakenLaws.{IsIn, in_all, in_events, in_right, in_some, in_taken, taken_behind, taken_sent, takes_received, takes_replied}
+use Rattle.tcap_check.proofs.TakenLaws.{in_all, in_events, in_some, in_taken, taken_sent, takes_received, takes_replied}
 use Rattle.tcap_check.proofs.PendingLaws.{AreTaken, IsAsSaid, IsOver, SendsSoFar, further_on, old_or_new, runs_on, stands_more, stands_on, taken_next, taken_on, taken_still}
+use Rattle.tcap_check.proofs.MemberLaws.{IsIn, in_right}
+use Rattle.tcap_check.proofs.NumberLaws.{taken_right}
 
 -- ---- fates
 
@@ -144,18 +144,16 @@ stands_behind table c front r next here old here_is on =
         let event = Receives (other side) n in
         let gap = next_entry r in
         let items = r.world.sent in
-        let closings = map (closing_event items) (filter (λ (x : Closing). x.gap == gap) c.close) in
-        let expiries = map (expiry_event items) (filter (λ (x : Expiry). x.gap == gap) c.expire) in
         let delivered = map Some (deliveries gap 0 c.fates items) in
         let number : 0 + n ≡ n = omega arith in
         let found = subst (λ (k : ℕ). IsIn (Receives (other side) k) (deliveries gap 0 c.fates items)) number
         (delivered_in gap 0 n c.fates items side message (has ∙ ap (λ (k : ℕ). Some (Gap k)) is_gap) was) in
         let listed : IsIn (Some event) (gap_events c items gap) =
-        in_right (Some event) (closings ++ expiries) delivered (in_some event (deliveries gap 0 c.fates items) found) in
+        in_right (Some event) _ delivered (in_some event (deliveries gap 0 c.fates items) found) in
         let in_here = in_events event here (subst (λ (x : List (Option Event)). IsIn (Some event) x) (sym here_is) listed) in
         let in_steps = in_all event on.steps (subst (λ (x : List Event). IsIn event x) (sym on.are) in_here) in
         subst (λ (x : List Event). IsIn n (numbers_taken side x)) (sym on.extends.events)
-        (taken_behind side n r.events on.steps (in_taken side n event on.steps (takes_received side n) in_steps))
+        (taken_right side n r.events on.steps (in_taken side n event on.steps (takes_received side n) in_steps))
 
     by : (n : ℕ) (side : Side) (message : Message) (fate : Fate) → slice_get next.world.sent n ≡ Some (Sent side message)
         → slice_get c.fates n ≡ Some fate → slice_get r.world.sent n ≡ Some (Sent side message)
@@ -224,7 +222,7 @@ stands_next table c count front entry item fate r next fit old is has mark sent 
         let last = in_right event sent.implied (sent.sends ∷ []) (inl (sym reply.1)) in
         let in_steps = in_all event on.steps (subst (λ (x : List Event). IsIn event x) (sym on.are) last) in
         let was = subst (λ (x : List Event). IsIn n (numbers_taken (other reply.0) x)) (sym on.extends.events)
-        (taken_behind (other reply.0) n r.events on.steps
+        (taken_right (other reply.0) n r.events on.steps
         (in_taken (other reply.0) n event on.steps (takes_replied reply.0 n) in_steps)) in
         let of_other = taken_sent table next.events next.world (other reply.0) n runs was in
         let same : other reply.0 ≡ side = same_sender (other reply.0) side of_other.0 message (sym of_other.1 ∙ at) in

@@ -21,7 +21,8 @@ use Rattle.tcap_model.proofs.RunLaws.{played_on}
 use Rattle.tcap_check.proofs.AloneCounts.{IsOwn}
 use Rattle.tcap_check.proofs.ReplaySteps.{Extends}
 use Rattle.tcap_check.proofs.FollowingLaws.{IsUpTo}
-use Rattle.tcap_check.proofs.TakenLaws.{IsIn, taken_before}
+use Rattle.tcap_check.proofs.MemberLaws.{IsIn}
+use Rattle.tcap_check.proofs.NumberLaws.{taken_left}
 
 -- ---- fates
 
@@ -92,7 +93,7 @@ runs_on table r next more runs on = rw on.events (played_on table r.events more 
 pub taken_on : (table : Table) (n : ℕ) (side : Side) (r next : Replay) (steps : List Event) → Extends table r steps next
     → IsIn n (numbers_taken side r.events) → IsIn n (numbers_taken side next.events)
 taken_on table n side r next steps on was =
-    subst (λ (x : List Event). IsIn n (numbers_taken side x)) (sym on.events) (taken_before side n r.events steps was)
+    subst (λ (x : List Event). IsIn n (numbers_taken side x)) (sym on.events) (taken_left side n r.events steps was)
 
 -- Steps that send nothing leave taken what was taken,
 pub taken_still : (judged : Option Side) (table : Table) (c : Certificate) (gaps : ℕ) (r next : Replay) (steps : List Event)

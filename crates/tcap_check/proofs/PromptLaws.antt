@@ -1,5 +1,5 @@
 -- A run that follows a prompt certificate has no loss, no provider's reply and no closing.
-use Rattle.std.proofs.Common.{◌≡◌, ℕ, ◌+◌, ◌==◌, Bool, true, false, cond, List, [], ◌∷◌, ◌++◌, map, Option, Some, None, refl, ◌∙◌}
+use Rattle.std.proofs.Common.{◌≡◌, ℕ, ◌+◌, ◌==◌, Bool, true, false, List, [], ◌∷◌, ◌++◌, map, Option, Some, None, refl, ◌∙◌}
 use Rattle.std.specs.Prelude.{slice_get}
 use Rattle.std.specs.List.{AllByRecursion}
 use Rattle.tcap_msg.specs.declared.message.AbortReason.TheVariants.{Cause, Dialogue as ByDialogue}
@@ -7,15 +7,16 @@ use Rattle.tcap_msg.specs.declared.message.Message.{Message}
 use Rattle.tcap_msg.specs.declared.message.Message.TheVariants.{Unidirectional, Begin, Continue, End as EndMessage, Abort}
 use Rattle.tcap_record.specs.declared.entry.End.{End as Side}
 use Rattle.tcap_record.specs.declared.entry.End.TheVariants as sides
-use Rattle.tcap_record.specs.Ends.{other}
 use Rattle.tcap_model.specs.World.{Item, Sent}
 use Rattle.tcap_model.specs.Run.{Event, Sends, Receives, Replies, Loses, Expires, Closes, Quiet, Tells, where_so}
 use Rattle.tcap_certificate.specs.declared.certificate.Fate.{Fate}
 use Rattle.tcap_certificate.specs.declared.certificate.Fate.TheVariants.{Gap, Lost, By}
 use Rattle.tcap_certificate.specs.Certificate.{Certificate, IsPrompt, prompt_from}
-use Rattle.tcap_certificate.specs.Follows.{Follows, FollowsFrom, IsImplied, IsPlain, deliveries, gap_events, losses_from, lost_from, sending, taken_by, without_losses}
+use Rattle.tcap_certificate.specs.Follows.{Follows, FollowsFrom, IsPlain, deliveries, gap_events, losses_from, lost_from, sending, taken_by, without_losses}
 use Rattle.tcap_model.proofs.ListLaws.{all_both}
 use Rattle.tcap_model.proofs.RunLaws.{same_events}
+use Rattle.tcap_check.proofs.FateLaws.{from_start, all_delivered}
+use Rattle.tcap_check.proofs.ListedLaws.{all_implied}
 
 -- events that are all sends, deliveries, expiries and quiet marks
 abbrev AllPlain : List Event → Type 0
@@ -41,48 +42,16 @@ none_lost side entry n (By k ∷ fates) items prompt = let bad = prompt.0 in cc
 
 -- ---- gaps
 
--- Deliveries are plain.
-deliveries_plain : (gap n : ℕ) (fates : List Fate) (items : List Item) → AllPlain (deliveries gap n fates items)
-deliveries_plain gap n [] items = tt
-deliveries_plain gap n (fate ∷ fates) [] = tt
-deliveries_plain gap n (Gap g ∷ fates) (Sent side message ∷ items) = by (g == gap) (deliveries_plain gap (n + 1) fates items)
-  where
-    by : (b : Bool) → AllPlain (deliveries gap (n + 1) fates items)
-        → AllPlain (cond b (Receives (other side) n ∷ deliveries gap (n + 1) fates items) (deliveries gap (n + 1) fates items))
-    by true rest = (tt, rest)
-    by false rest = rest
-deliveries_plain gap n (Gap g ∷ fates) (Item.Quiet ∷ items) = deliveries_plain gap (n + 1) fates items
-deliveries_plain gap n (Lost ∷ fates) (Sent side message ∷ items) = deliveries_plain gap (n + 1) fates items
-deliveries_plain gap n (Lost ∷ fates) (Item.Quiet ∷ items) = deliveries_plain gap (n + 1) fates items
-deliveries_plain gap n (By k ∷ fates) (Sent side message ∷ items) = deliveries_plain gap (n + 1) fates items
-deliveries_plain gap n (By k ∷ fates) (Item.Quiet ∷ items) = deliveries_plain gap (n + 1) fates items
-
 -- Where nothing unseen is listed, a gap has deliveries alone.
 gap_plain : (certificate : Certificate) (items : List Item) (gap : ℕ) (here : List Event) → IsPrompt certificate
     → map Some here ≡ gap_events certificate items gap → AllPlain here
 gap_plain certificate items gap here prompt is =
     let same = same_events here (deliveries gap 0 certificate.fates items) (rw (prompt.1, prompt.2) at is) in
-    rw same (deliveries_plain gap 0 certificate.fates items)
+    rw same (all_delivered IsPlain certificate.fates gap 0 certificate.fates items (from_start certificate.fates) (λ side number at. tt))
 
 -- ---- between gaps
 
--- So are expiries that an item implies.
-implied_plain : (item : Item) (events : List Event) → AllByRecursion (IsImplied item) events → AllPlain events
-implied_plain item [] all = tt
-implied_plain item (event ∷ events) all = (by item event all.0, implied_plain item events all.1)
-  where
-    by : (item : Item) (event : Event) → IsImplied item event → IsPlain event
-    by (Sent side message) (Expires other name id) is = tt
-    by (Sent side message) (Sends other m) is = absurd is
-    by (Sent side message) (Receives other number) is = absurd is
-    by (Sent side message) (Replies other number) is = absurd is
-    by (Sent side message) (Loses other number) is = absurd is
-    by (Sent side message) (Closes other name) is = absurd is
-    by (Sent side message) Quiet is = absurd is
-    by (Sent side message) (Tells other m) is = absurd is
-    by Item.Quiet event is = absurd is
-
--- So is a send.
+-- A send is plain.
 a_send : (side : Side) (m : Message) (event : Event) → Some (Sends side m) ≡ Some event → IsPlain event
 a_send side m event is = let same : Sends side m ≡ event = cc in rw (← same) tt
 
@@ -135,7 +104,7 @@ from_plain certificate items gap [] events prompt follows = gap_plain certificat
 from_plain certificate items gap (item ∷ more) events prompt (here, implied, rest, sends, gap_is, all, sends_is, events_are, on) =
     let none = none_taken 0 gap 0 certificate.fates prompt.0 in
     let first = sending_plain certificate gap item sends none sends_is in
-    let before = all_both IsPlain here implied (gap_plain certificate items gap here prompt gap_is) (implied_plain item implied all) in
+    let before = all_both IsPlain here implied (gap_plain certificate items gap here prompt gap_is) (all_implied IsPlain item implied (λ side name id. tt) all) in
     let behind = from_plain certificate items (gap + 1) more rest prompt on in
     rw events_are (all_both IsPlain (here ++ implied) (sends ∷ rest) before (first, behind))
 

@@ -5,7 +5,6 @@ use Rattle.std.proofs.lemmas.Bool.{and_cases, eqb-true, leb-false, ltb-false}
 use lib.Seq.{take-append_seam}
 use Rattle.tcap_record.specs.declared.entry.End.{End as Side}
 use Rattle.tcap_record.specs.declared.entry.Entry.{Entry}
-use Rattle.tcap_end.specs.declared.fault.EndFault.TheVariants as faults
 use Rattle.tcap_end.specs.Step.{needs, ◌>>=◌, ◌>>◌}
 use Rattle.tcap_end.specs.Table.{Table}
 use Rattle.tcap_certificate.specs.declared.fault.CheckFault.{CheckFault}
@@ -16,15 +15,18 @@ use Rattle.tcap_certificate.specs.declared.certificate.Expiry.{Expiry}
 use Rattle.tcap_certificate.specs.declared.certificate.Fate.{Fate}
 use Rattle.tcap_certificate.specs.declared.certificate.Fate.TheVariants.{Gap, Lost, By}
 use Rattle.tcap_record.specs.Ends.{other}
-use Rattle.tcap_model.specs.World.{Item, Sent, is_side}
+use Rattle.tcap_model.specs.World.{Item, Sent}
 use Rattle.tcap_model.specs.Run.{Event, Receives}
 use Rattle.tcap_certificate.specs.Certificate.{Certificate}
 use Rattle.tcap_model.specs.Entries.{AreItems, IsItem}
-use Rattle.tcap_certificate.specs.Follows.{closing_event, expiry_event}
 use Rattle.tcap_check.specs.Given.{IsAt, IsOutside, IsReason}
-use Rattle.tcap_certificate.specs.Replayed.{Replay, all_fit, certificate_fits, closings_judged, closings_replayed, deliveries_by, delivery_by, discarded, expiries_judged, expiries_replayed, fate_fits, fates_fit, fault_at, gap_by, happens, is_due, is_judged, lost_before, lost_from_front, next_entry, or_else, received, stepped}
-use Rattle.tcap_check.proofs.ReplayLaws.{closings_replay, expiries_replay}
-use Rattle.tcap_check.proofs.TakenLaws.{IsIn, contained}
+use Rattle.tcap_certificate.specs.Replayed.{Replay, all_fit, certificate_fits, deliveries_by, delivery_by, discarded, fate_fits, fates_fit, fault_at, gap_by, happens, is_due, is_judged, lost_before, lost_from_front, next_entry, or_else, received, stepped}
+use Rattle.tcap_check.specs.declared.listed.Listed.{Listed}
+use Rattle.tcap_check.specs.declared.listed.Listed.TheVariants as listings
+use Rattle.tcap_check.specs.Listed.{all_replayed, entry_of, event_listed, listed_for, listed_in, listed_replayed, side_of, why_refused}
+use Rattle.tcap_check.proofs.ListedLaws.{gap_is_listed}
+use Rattle.tcap_check.proofs.ReplayLaws.{one_replays}
+use Rattle.tcap_check.proofs.MemberLaws.{IsIn, contained, in_either}
 
 -- ---- answers that are reasons
 
@@ -96,44 +98,25 @@ fates_say judged table c entries n (fate ∷ fates) fault there is =
         (inl (fate, ap (slice_get c.fates) (sym here) ∙ there 0 fate refl, inl outside))
     by (inr (fits, rest)) on = on rest
 
--- a closing that does,
-closings_say : (judged : Option Side) (table : Table) (c : Certificate) (entries : List Entry) (listed : List Closing) (fault : CheckFault)
-    → ((x : Closing) → IsIn x listed → IsIn x c.close)
-    → all_fit (length c.fates) (map (λ x. (x.entry, x.gap)) listed) ≡ Err fault → Says judged table c entries fault
-closings_say judged table c entries [] fault there is = cc
-closings_say judged table c entries (x ∷ listed) fault there is =
-    by (needs_err (nat_lt x.entry x.gap && nat_le x.gap (length c.fates)) (fault_at reasons.FateRange x.entry)
-    (all_fit (length c.fates) (map (λ (y : Closing). (y.entry, y.gap)) listed)) fault is)
-    (closings_say judged table c entries listed fault (λ y found. there y (inr found)))
+-- and something listed that does.
+listed_say : {X : Type 0} (judged : Option Side) (table : Table) (c : Certificate) (entries : List Entry) (entry gap : X → ℕ) (listed : List X)
+    (fault : CheckFault)
+    → ((x : X) → IsIn x listed → IsOutside (length c.fates) (entry x) (gap x) → IsReason judged table c entries (entry x) reasons.FateRange)
+    → all_fit (length c.fates) (map (λ x. (entry x, gap x)) listed) ≡ Err fault → Says judged table c entries fault
+listed_say judged table c entries entry gap [] fault outsides is = cc
+listed_say judged table c entries entry gap (x ∷ listed) fault outsides is =
+    by (needs_err (nat_lt (entry x) (gap x) && nat_le (gap x) (length c.fates)) (fault_at reasons.FateRange (entry x))
+    (all_fit (length c.fates) (map (λ y. (entry y, gap y)) listed)) fault is)
+    (listed_say judged table c entries entry gap listed fault (λ y found. outsides y (inr found)))
   where
-    by : (((nat_lt x.entry x.gap && nat_le x.gap (length c.fates)) ≡ false) × (fault_at reasons.FateRange x.entry ≡ fault))
-        ⊎ (((nat_lt x.entry x.gap && nat_le x.gap (length c.fates)) ≡ true)
-        × (all_fit (length c.fates) (map (λ (y : Closing). (y.entry, y.gap)) listed) ≡ Err fault))
-        → (all_fit (length c.fates) (map (λ (y : Closing). (y.entry, y.gap)) listed) ≡ Err fault → Says judged table c entries fault)
+    by : (((nat_lt (entry x) (gap x) && nat_le (gap x) (length c.fates)) ≡ false) × (fault_at reasons.FateRange (entry x) ≡ fault))
+        ⊎ (((nat_lt (entry x) (gap x) && nat_le (gap x) (length c.fates)) ≡ true)
+        × (all_fit (length c.fates) (map (λ y. (entry y, gap y)) listed) ≡ Err fault))
+        → (all_fit (length c.fates) (map (λ y. (entry y, gap y)) listed) ≡ Err fault → Says judged table c entries fault)
         → Says judged table c entries fault
     by (inl (no_fit, same)) on =
-        says judged table c entries reasons.FateRange x.entry fault same
-        (inr (inl (x, contained x c.close (there x (inl refl)), refl, inl (outside (length c.fates) x.entry x.gap no_fit))))
-    by (inr (fits, rest)) on = on rest
-
--- and an expiry that does.
-expiries_say : (judged : Option Side) (table : Table) (c : Certificate) (entries : List Entry) (listed : List Expiry) (fault : CheckFault)
-    → ((x : Expiry) → IsIn x listed → IsIn x c.expire)
-    → all_fit (length c.fates) (map (λ x. (x.entry, x.gap)) listed) ≡ Err fault → Says judged table c entries fault
-expiries_say judged table c entries [] fault there is = cc
-expiries_say judged table c entries (x ∷ listed) fault there is =
-    by (needs_err (nat_lt x.entry x.gap && nat_le x.gap (length c.fates)) (fault_at reasons.FateRange x.entry)
-    (all_fit (length c.fates) (map (λ (y : Expiry). (y.entry, y.gap)) listed)) fault is)
-    (expiries_say judged table c entries listed fault (λ y found. there y (inr found)))
-  where
-    by : (((nat_lt x.entry x.gap && nat_le x.gap (length c.fates)) ≡ false) × (fault_at reasons.FateRange x.entry ≡ fault))
-        ⊎ (((nat_lt x.entry x.gap && nat_le x.gap (length c.fates)) ≡ true)
-        × (all_fit (length c.fates) (map (λ (y : Expiry). (y.entry, y.gap)) listed) ≡ Err fault))
-        → (all_fit (length c.fates) (map (λ (y : Expiry). (y.entry, y.gap)) listed) ≡ Err fault → Says judged table c entries fault)
-        → Says judged table c entries fault
-    by (inl (no_fit, same)) on =
-        says judged table c entries reasons.FateRange x.entry fault same
-        (inr (inr (x, contained x c.expire (there x (inl refl)), refl, inl (outside (length c.fates) x.entry x.gap no_fit))))
+        says judged table c entries reasons.FateRange (entry x) fault same
+        (outsides x (inl refl) (outside (length c.fates) (entry x) (gap x) no_fit))
     by (inr (fits, rest)) on = on rest
 
 -- What a certificate that does not fit says.
@@ -157,8 +140,12 @@ certificate_says judged table c entries fault is = by (both_err fates _ fault is
     zero_and i = omega arith
 
     listed : (closings ≡ Err fault) ⊎ ((closings ≡ Ok tt) × (expiries ≡ Err fault)) → Says judged table c entries fault
-    listed (inl refuses) = closings_say judged table c entries c.close fault (λ x h. h) refuses
-    listed (inr (ok, refuses)) = expiries_say judged table c entries c.expire fault (λ x h. h) refuses
+    listed (inl refuses) =
+        listed_say judged table c entries (λ (x : Closing). x.entry) (λ (x : Closing). x.gap) c.close fault
+        (λ x found out. inr (inl (x, contained x c.close found, refl, inl out))) refuses
+    listed (inr (ok, refuses)) =
+        listed_say judged table c entries (λ (x : Expiry). x.entry) (λ (x : Expiry). x.gap) c.expire fault
+        (λ x found out. inr (inr (x, contained x c.expire found, refl, inl out))) refuses
 
     by : (fates ≡ Err fault) ⊎ ((fates ≡ Ok tt) × ((closings >> expiries) ≡ Err fault)) → Says judged table c entries fault
     by (inl refuses) =
@@ -209,97 +196,88 @@ in_filter p x (y ∷ ys) is = by (p y) refl (in_filter p x ys) is
     by true passes on (inr more) = let found = on more in (inr found.0, found.1)
     by false passes on more = let found = on more in (inr found.0, found.1)
 
--- A closing of a gap that names none, for the items before it.
-closings_gap_say : (judged : Option Side) (table : Table) (c : Certificate) (front rest : List Entry) (items : List Item)
-    (listed : List Closing) (r : Replay) (fault : CheckFault) → AreItems front items
-    → ((x : Closing) → IsIn x listed → IsIn x c.close × (x.gap ≡ length front) × (is_judged judged x.side ≡ true))
-    → r.world.sent ≡ items → closings_replayed table c listed r ≡ Err fault → Says judged table c (front ++ rest) fault
-closings_gap_say judged table c front rest items [] r fault are there so is = cc
-closings_gap_say judged table c front rest items (x ∷ listed) r fault are there so is =
-    by (then_err (ok_or (closing_event r.world.sent x) (fault_at reasons.FateRange x.entry)) _ fault is)
-    (λ next. closings_gap_say judged table c front rest items listed next fault are (λ y found. there y (inr found)))
+-- What is made from some is made from one of them.
+in_made : {A B : Type 0} (f : A → B) (y : B) (xs : List A) → IsIn y (map f xs) → (x : A) × IsIn x xs × (y ≡ f x)
+in_made f y [] is = absurd is
+in_made f y (x ∷ xs) (inl same) = (x, inl refl, same)
+in_made f y (x ∷ xs) (inr more) = let found = in_made f y xs more in (found.0, inr found.1, found.2)
+
+-- Something listed for a gap that names nothing, for the items before it, of an end that is judged, lies outside.
+names_none : (judged : Option Side) (table : Table) (c : Certificate) (front rest : List Entry) (items : List Item) (x : Listed)
+    → AreItems front items → IsIn x (listed_for judged c (length front)) → event_listed items x ≡ None
+    → IsReason judged table c (front ++ rest) (entry_of x) reasons.FateRange
+names_none judged table c front rest items x are is none =
+    let found = in_filter (λ (y : Listed). is_judged judged (side_of y)) x (listed_in c (length front)) is in
+    by (in_either x (map listings.Closes closings) (map listings.Expires expiries) found.0) found.1
   where
-    reason : Reason
-    reason = reasons.HiddenRefused faults.CannotClose
+    closings : List Closing
+    closings = filter (λ (y : Closing). y.gap == length front) c.close
 
-    named : (event : Event) → ok_or (closing_event r.world.sent x) (fault_at reasons.FateRange x.entry) ≡ Ok event
-        → (happens table c event reason x.entry r ≡ Err fault)
-        ⊎ ((next : Replay) × (happens table c event reason x.entry r ≡ Ok next) × (closings_replayed table c listed next ≡ Err fault))
-        → ((next : Replay) → next.world.sent ≡ items → closings_replayed table c listed next ≡ Err fault
-        → Says judged table c (front ++ rest) fault)
-        → Says judged table c (front ++ rest) fault
-    named event event_is (inl refuses) on =
-        says judged table c (front ++ rest) reason x.entry fault
-        (none_err (stepped table event (lost_before c event r)) (fault_at reason x.entry) fault refuses).1 tt
-    named event event_is (inr (next, goes, refuses)) on =
-        let one : closings_replayed table c (x ∷ []) r ≡ Ok next = rw (event_is, goes) refl in
-        let replayed_one = closings_replay table c (x ∷ []) items r next so one in
-        on next (replayed_one.2.sent ∙ append-nil r.world.sent ∙ so) refuses
+    expiries : List Expiry
+    expiries = filter (λ (y : Expiry). y.gap == length front) c.expire
 
-    by : (ok_or (closing_event r.world.sent x) (fault_at reasons.FateRange x.entry) ≡ Err fault)
-        ⊎ ((event : Event) × (ok_or (closing_event r.world.sent x) (fault_at reasons.FateRange x.entry) ≡ Ok event)
-        × ((happens table c event reason x.entry r >>= closings_replayed table c listed) ≡ Err fault))
-        → ((next : Replay) → next.world.sent ≡ items → closings_replayed table c listed next ≡ Err fault
-        → Says judged table c (front ++ rest) fault)
-        → Says judged table c (front ++ rest) fault
-    by (inl refuses) on =
-        let none = none_err (closing_event r.world.sent x) (fault_at reasons.FateRange x.entry) fault refuses in
-        let found = there x (inl refl) in
-        let before = subst (λ (es : List Entry). AreItems es items) (sym (taken_front front rest x.gap found.1)) are in
-        says judged table c (front ++ rest) reasons.FateRange x.entry fault none.1
+    before : (gap : ℕ) → (gap == length front) ≡ true → AreItems (take gap (front ++ rest)) items
+    before gap at = subst (λ (es : List Entry). AreItems es items) (sym (taken_front front rest gap (eqb-true gap (length front) at))) are
+
+    by : IsIn x (map listings.Closes closings) ⊎ IsIn x (map listings.Expires expiries) → is_judged judged (side_of x) ≡ true
+        → IsReason judged table c (front ++ rest) (entry_of x) reasons.FateRange
+    by (inl closes) so =
+        let (y, found, same) = in_made listings.Closes x closings closes in
+        let there = in_filter (λ (z : Closing). z.gap == length front) y c.close found in
+        subst (λ (z : Listed). IsReason judged table c (front ++ rest) (entry_of z) reasons.FateRange) (sym same)
         (inr (inl (
-          x,
-          contained x c.close found.0,
+          y,
+          contained y c.close there.0,
           refl,
-          inr (items, before, found.2, ap (λ (s : List Item). closing_event s x) (sym so) ∙ none.0),
+          inr (items, before y.gap there.1, ap (λ (z : Listed). is_judged judged (side_of z)) (sym same) ∙ so,
+              ap (event_listed items) (sym same) ∙ none),
         )))
-    by (inr (event, event_is, refuses)) on = named event event_is (then_err (happens table c event reason x.entry r) _ fault refuses) on
-
--- An expiry that names none.
-expiries_gap_say : (judged : Option Side) (table : Table) (c : Certificate) (front rest : List Entry) (items : List Item)
-    (listed : List Expiry) (r : Replay) (fault : CheckFault) → AreItems front items
-    → ((x : Expiry) → IsIn x listed → IsIn x c.expire × (x.gap ≡ length front) × (is_judged judged x.side ≡ true))
-    → r.world.sent ≡ items → expiries_replayed table c listed r ≡ Err fault → Says judged table c (front ++ rest) fault
-expiries_gap_say judged table c front rest items [] r fault are there so is = cc
-expiries_gap_say judged table c front rest items (x ∷ listed) r fault are there so is =
-    by (then_err (ok_or (expiry_event r.world.sent x) (fault_at reasons.FateRange x.entry)) _ fault is)
-    (λ next. expiries_gap_say judged table c front rest items listed next fault are (λ y found. there y (inr found)))
-  where
-    reason : Reason
-    reason = reasons.HiddenRefused faults.CannotExpire
-
-    named : (event : Event) → ok_or (expiry_event r.world.sent x) (fault_at reasons.FateRange x.entry) ≡ Ok event
-        → (happens table c event reason x.entry r ≡ Err fault)
-        ⊎ ((next : Replay) × (happens table c event reason x.entry r ≡ Ok next) × (expiries_replayed table c listed next ≡ Err fault))
-        → ((next : Replay) → next.world.sent ≡ items → expiries_replayed table c listed next ≡ Err fault
-        → Says judged table c (front ++ rest) fault)
-        → Says judged table c (front ++ rest) fault
-    named event event_is (inl refuses) on =
-        says judged table c (front ++ rest) reason x.entry fault
-        (none_err (stepped table event (lost_before c event r)) (fault_at reason x.entry) fault refuses).1 tt
-    named event event_is (inr (next, goes, refuses)) on =
-        let one : expiries_replayed table c (x ∷ []) r ≡ Ok next = rw (event_is, goes) refl in
-        let replayed_one = expiries_replay table c (x ∷ []) items r next so one in
-        on next (replayed_one.2.sent ∙ append-nil r.world.sent ∙ so) refuses
-
-    by : (ok_or (expiry_event r.world.sent x) (fault_at reasons.FateRange x.entry) ≡ Err fault)
-        ⊎ ((event : Event) × (ok_or (expiry_event r.world.sent x) (fault_at reasons.FateRange x.entry) ≡ Ok event)
-        × ((happens table c event reason x.entry r >>= expiries_replayed table c listed) ≡ Err fault))
-        → ((next : Replay) → next.world.sent ≡ items → expiries_replayed table c listed next ≡ Err fault
-        → Says judged table c (front ++ rest) fault)
-        → Says judged table c (front ++ rest) fault
-    by (inl refuses) on =
-        let none = none_err (expiry_event r.world.sent x) (fault_at reasons.FateRange x.entry) fault refuses in
-        let found = there x (inl refl) in
-        let before = subst (λ (es : List Entry). AreItems es items) (sym (taken_front front rest x.gap found.1)) are in
-        says judged table c (front ++ rest) reasons.FateRange x.entry fault none.1
+    by (inr expires) so =
+        let (y, found, same) = in_made listings.Expires x expiries expires in
+        let there = in_filter (λ (z : Expiry). z.gap == length front) y c.expire found in
+        subst (λ (z : Listed). IsReason judged table c (front ++ rest) (entry_of z) reasons.FateRange) (sym same)
         (inr (inr (
-          x,
-          contained x c.expire found.0,
+          y,
+          contained y c.expire there.0,
           refl,
-          inr (items, before, found.2, ap (λ (s : List Item). expiry_event s x) (sym so) ∙ none.0),
+          inr (items, before y.gap there.1, ap (λ (z : Listed). is_judged judged (side_of z)) (sym same) ∙ so,
+              ap (event_listed items) (sym same) ∙ none),
         )))
-    by (inr (event, event_is, refuses)) on = named event event_is (then_err (happens table c event reason x.entry r) _ fault refuses) on
+
+-- Of what is refused nothing is said.
+refused_says : (judged : Option Side) (table : Table) (c : Certificate) (entries : List Entry) (number : ℕ) (x : Listed)
+    → IsReason judged table c entries number (why_refused x)
+refused_says judged table c entries number (listings.Closes x) = tt
+refused_says judged table c entries number (listings.Expires x) = tt
+
+-- What is listed for a gap says so.
+listed_gap_say : (judged : Option Side) (table : Table) (c : Certificate) (entries : List Entry) (items : List Item)
+    (listed : List Listed) (r : Replay) (fault : CheckFault)
+    → ((x : Listed) → IsIn x listed → event_listed items x ≡ None → IsReason judged table c entries (entry_of x) reasons.FateRange)
+    → r.world.sent ≡ items → all_replayed table c listed r ≡ Err fault → Says judged table c entries fault
+listed_gap_say judged table c entries items [] r fault nones so is = cc
+listed_gap_say judged table c entries items (x ∷ listed) r fault nones so is =
+    by (then_err (listed_replayed table c x r) (all_replayed table c listed) fault is)
+    (λ next. listed_gap_say judged table c entries items listed next fault (λ y found. nones y (inr found)))
+  where
+    one : (ok_or (event_listed r.world.sent x) (fault_at reasons.FateRange (entry_of x)) ≡ Err fault)
+        ⊎ ((event : Event) × (ok_or (event_listed r.world.sent x) (fault_at reasons.FateRange (entry_of x)) ≡ Ok event)
+        × (happens table c event (why_refused x) (entry_of x) r ≡ Err fault)) → Says judged table c entries fault
+    one (inl refuses) =
+        let none = none_err (event_listed r.world.sent x) (fault_at reasons.FateRange (entry_of x)) fault refuses in
+        says judged table c entries reasons.FateRange (entry_of x) fault none.1
+        (nones x (inl refl) (ap (λ (s : List Item). event_listed s x) (sym so) ∙ none.0))
+    one (inr (event, event_is, refuses)) =
+        says judged table c entries (why_refused x) (entry_of x) fault
+        (none_err (stepped table event (lost_before c event r)) (fault_at (why_refused x) (entry_of x)) fault refuses).1
+        (refused_says judged table c entries (entry_of x) x)
+
+    by : (listed_replayed table c x r ≡ Err fault)
+        ⊎ ((next : Replay) × (listed_replayed table c x r ≡ Ok next) × (all_replayed table c listed next ≡ Err fault))
+        → ((next : Replay) → next.world.sent ≡ items → all_replayed table c listed next ≡ Err fault → Says judged table c entries fault)
+        → Says judged table c entries fault
+    by (inl refuses) on = one (then_err (ok_or (event_listed r.world.sent x) (fault_at reasons.FateRange (entry_of x))) _ fault refuses)
+    by (inr (next, goes, refuses)) on = on next ((one_replays table c x r next goes).2.sent ∙ append-nil r.world.sent ∙ so) refuses
 
 -- A message that is not received, nor lost where one end may fail to receive it.
 received_refused : (judged : Option Side) (table : Table) (c : Certificate) (sender : Side) (number : ℕ) (r : Replay) (fault : CheckFault)
@@ -342,58 +320,30 @@ deliveries_refused judged table c gap number (fate ∷ fates) (item ∷ items) r
     by (inl refuses) on = (number, one fate item refuses)
     by (inr (mid, goes, refuses)) on = on mid refuses
 
--- What is looked at of what is listed is of an end that is judged.
-closing_judged : (judged : Option Side) (x : Closing) (listed : List Closing) → IsIn x (closings_judged judged listed)
-    → IsIn x listed × (is_judged judged x.side ≡ true)
-closing_judged None x listed is = (is, refl)
-closing_judged (Some side) x listed is = in_filter (λ (y : Closing). is_side side y.side) x listed is
-
-expiry_judged : (judged : Option Side) (x : Expiry) (listed : List Expiry) → IsIn x (expiries_judged judged listed)
-    → IsIn x listed × (is_judged judged x.side ≡ true)
-expiry_judged None x listed is = (is, refl)
-expiry_judged (Some side) x listed is = in_filter (λ (y : Expiry). is_side side y.side) x listed is
-
 -- What the gap before the next entry says.
 pub gap_says : (judged : Option Side) (table : Table) (c : Certificate) (front rest : List Entry) (r : Replay) (fault : CheckFault)
     → AreItems front r.world.sent → gap_by judged table c r ≡ Err fault → Says judged table c (front ++ rest) fault
-gap_says judged table c front rest r fault are is = by (then_err (closings_replayed table c closing r) _ fault is)
+gap_says judged table c front rest r fault are is =
+    by (then_err (all_replayed table c listed r) (deliveries_by judged table c (next_entry r) 0 c.fates items) fault
+    (sym (gap_is_listed judged table c r) ∙ is))
   where
     items : List Item
     items = r.world.sent
 
-    closing : List Closing
-    closing = closings_judged judged (filter (λ (x : Closing). x.gap == next_entry r) c.close)
+    listed : List Listed
+    listed = listed_for judged c (next_entry r)
 
-    expiring : List Expiry
-    expiring = expiries_judged judged (filter (λ (x : Expiry). x.gap == next_entry r) c.expire)
+    nones : (x : Listed) → IsIn x listed → event_listed items x ≡ None
+        → IsReason judged table c (front ++ rest) (entry_of x) reasons.FateRange
+    nones x found =
+        names_none judged table c front rest items x are
+        (subst (λ (n : ℕ). IsIn x (listed_for judged c n)) (sym (as_many front items are)) found)
 
-    closings_of : (x : Closing) → IsIn x closing → IsIn x c.close × (x.gap ≡ length front) × (is_judged judged x.side ≡ true)
-    closings_of x found =
-        let mine = closing_judged judged x (filter (λ (y : Closing). y.gap == next_entry r) c.close) found in
-        let there = in_filter (λ (y : Closing). y.gap == next_entry r) x c.close mine.0 in
-        (there.0, eqb-true x.gap (next_entry r) there.1 ∙ sym (as_many front items are), mine.1)
-
-    expiries_of : (x : Expiry) → IsIn x expiring → IsIn x c.expire × (x.gap ≡ length front) × (is_judged judged x.side ≡ true)
-    expiries_of x found =
-        let mine = expiry_judged judged x (filter (λ (y : Expiry). y.gap == next_entry r) c.expire) found in
-        let there = in_filter (λ (y : Expiry). y.gap == next_entry r) x c.expire mine.0 in
-        (there.0, eqb-true x.gap (next_entry r) there.1 ∙ sym (as_many front items are), mine.1)
-
-    behind : (closed : Replay) → closed.world.sent ≡ items
-        → (expiries_replayed table c expiring closed ≡ Err fault)
-        ⊎ ((expired : Replay) × (expiries_replayed table c expiring closed ≡ Ok expired)
-        × (deliveries_by judged table c (next_entry r) 0 c.fates items expired ≡ Err fault))
+    by : (all_replayed table c listed r ≡ Err fault)
+        ⊎ ((hidden : Replay) × (all_replayed table c listed r ≡ Ok hidden)
+        × (deliveries_by judged table c (next_entry r) 0 c.fates items hidden ≡ Err fault))
         → Says judged table c (front ++ rest) fault
-    behind closed so (inl refuses) = expiries_gap_say judged table c front rest items expiring closed fault are expiries_of so refuses
-    behind closed so (inr (expired, goes, refuses)) =
-        let found = deliveries_refused judged table c (next_entry r) 0 c.fates items expired fault refuses in
+    by (inl refuses) = listed_gap_say judged table c (front ++ rest) items listed r fault nones refl refuses
+    by (inr (hidden, goes, refuses)) =
+        let found = deliveries_refused judged table c (next_entry r) 0 c.fates items hidden fault refuses in
         says judged table c (front ++ rest) reasons.BadReply found.0 fault found.1 tt
-
-    by : (closings_replayed table c closing r ≡ Err fault)
-        ⊎ ((closed : Replay) × (closings_replayed table c closing r ≡ Ok closed)
-        × ((expiries_replayed table c expiring closed >>= deliveries_by judged table c (next_entry r) 0 c.fates items) ≡ Err fault))
-        → Says judged table c (front ++ rest) fault
-    by (inl refuses) = closings_gap_say judged table c front rest items closing r fault are closings_of refl refuses
-    by (inr (closed, goes, refuses)) =
-        let so = closings_replay table c closing items r closed refl goes in
-        behind closed (so.2.sent ∙ append-nil items) (then_err (expiries_replayed table c expiring closed) _ fault refuses)

@@ -30,7 +30,7 @@ use Rattle.tcap_check.proofs.WaitingLaws.{head_stays}
 use Rattle.tcap_check.proofs.ReplaySteps.{both_replay}
 use Rattle.tcap_check.proofs.PendingLaws.{IsOver, SendsSoFar, ahead, stands_still}
 use Rattle.tcap_model.proofs.RunLaws.{same_side}
-use Rattle.tcap_check.proofs.TakenLaws.{IsIn, taken_is_gone}
+use Rattle.tcap_check.proofs.TakenLaws.{taken_is_gone}
 use Rattle.tcap_check.proofs.ReasonGaps.{at_front, in_filter}
 use Rattle.tcap_end.specs.Hidden.{open_halves}
 use Rattle.tcap_end.proofs.AnsweringLaws.{ok_same}
@@ -41,6 +41,7 @@ use Rattle.tcap_check.proofs.KeptOwn.{IsHeard}
 use Rattle.tcap_check.proofs.KeptSteps.{before_stays}
 use Rattle.tcap_check.proofs.PendingBoth.{losses_said}
 use Rattle.tcap_model.proofs.WorldLaws.{itself, sent_with_channel}
+use Rattle.tcap_check.proofs.MemberLaws.{IsIn}
 
 -- ---- what a mark takes
 

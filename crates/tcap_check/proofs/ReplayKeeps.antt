@@ -1,5 +1,5 @@
 -- What holds of what was replayed so far, and is kept by each step, holds of the whole replay.
-use Rattle.std.proofs.Common.{◌≡◌, ℕ, ℤ, suc, ◌+◌, ◌==◌, arith, Bool, true, false, cond, List, [], ◌∷◌, filter, length, Option, Some, None, Result, Ok, Err, refl, ap, subst, ◌∙◌}
+use Rattle.std.proofs.Common.{◌≡◌, ℕ, ℤ, ◌+◌, ◌==◌, Bool, true, false, cond, List, [], ◌∷◌, length, Option, Some, None, Result, Ok, Err, refl, ap, subst, ◌∙◌}
 use Rattle.std.specs.Prelude.{filter_map, not, ok_or, slice_get}
 use Rattle.tcap_msg.specs.declared.message.Message.{Message}
 use Rattle.tcap_msg.specs.Parts.{components_in}
@@ -7,7 +7,6 @@ use Rattle.tcap_record.specs.declared.entry.End.{End as Side}
 use Rattle.tcap_record.specs.declared.entry.End.TheVariants as sides
 use Rattle.tcap_record.specs.Ends.{other}
 use Rattle.tcap_end.specs.declared.fault.EndFault.{EndFault}
-use Rattle.tcap_end.specs.declared.fault.EndFault.TheVariants as faults
 use Rattle.tcap_end.specs.declared.half.HalfName.{HalfName}
 use Rattle.tcap_end.specs.End.{End}
 use Rattle.tcap_end.specs.Hidden.{open_halves}
@@ -15,20 +14,21 @@ use Rattle.tcap_end.specs.Message.{send}
 use Rattle.tcap_end.specs.Table.{Table}
 use Rattle.tcap_end.proofs.AnsweringLaws.{needs_ok, ok_same, some_ok, then_ok}
 use Rattle.tcap_model.specs.declared.reason.Reason.{Reason}
-use Rattle.tcap_model.specs.declared.reason.Reason.TheVariants.{BadReply, FateCount, FateRange, HiddenRefused, NotQuiet, OutOfOrder}
+use Rattle.tcap_model.specs.declared.reason.Reason.TheVariants.{BadReply, FateCount, FateRange, NotQuiet, OutOfOrder}
 use Rattle.tcap_model.specs.World.{Item, Sent, end_at, is_side, with_end}
 use Rattle.tcap_model.specs.Run.{Event, Sends, Receives, Replies, Loses, Expires, Closes, Quiet, Tells, joined}
-use Rattle.tcap_certificate.specs.declared.certificate.Closing.{Closing}
-use Rattle.tcap_certificate.specs.declared.certificate.Expiry.{Expiry}
 use Rattle.tcap_certificate.specs.declared.certificate.Fate.{Fate}
 use Rattle.tcap_certificate.specs.declared.certificate.Fate.TheVariants.{Gap, Lost, By}
 use Rattle.tcap_certificate.specs.declared.fault.CheckFault.{CheckFault}
 use Rattle.tcap_certificate.specs.Certificate.{Certificate}
-use Rattle.tcap_certificate.specs.Follows.{closing_event, expiry_event, invoke_id, invoking_half, is_loss, sending_by}
+use Rattle.tcap_certificate.specs.Follows.{invoke_id, invoking_half, is_loss, sending_by}
 use Rattle.tcap_check.specs.Checking.{taken_from, taken_next}
-use Rattle.tcap_certificate.specs.Replayed.{Replay, all_lost_from, behind_sending, closed_at_mark, closed_before, closings_judged, closings_replayed, comes_in_order, deliveries_by, delivery_by, entries_by, entry_by, expiries_judged, expiries_replayed, fault_at, gap_by, happens, heard, implied, implied_over, is_abort, is_due, is_gap, is_nothing, is_overtaking, item_by, lost_before, lost_from_front, lost_last, mark_judged, message_by, next_entry, or_same, own_judged, received, sent_or_refused, stepped, tied, told_replayed, with_step}
-use Rattle.tcap_check.proofs.ReplayLaws.{closing_in_gap, expiry_in_gap}
+use Rattle.tcap_certificate.specs.Replayed.{Replay, all_lost_from, behind_sending, closed_at_mark, closed_before, comes_in_order, deliveries_by, delivery_by, entries_by, entry_by, fault_at, gap_by, happens, heard, implied, implied_over, is_abort, is_due, is_gap, is_nothing, is_overtaking, item_by, lost_before, lost_from_front, lost_last, mark_judged, message_by, next_entry, or_same, own_judged, received, sent_or_refused, stepped, tied, told_replayed, with_step}
 use Rattle.tcap_check.proofs.GivenRuns.{both_ok}
+use Rattle.tcap_check.specs.declared.listed.Listed.{Listed}
+use Rattle.tcap_check.specs.Listed.{all_replayed, entry_of, event_listed, listed_for, listed_replayed, why_refused}
+use Rattle.tcap_check.proofs.ListedLaws.{gap_parts, listed_so}
+use Rattle.tcap_check.proofs.FateLaws.{AreFrom, from_next, first_from, from_start}
 
 -- It is kept by a step that is no loss; by the losses at the front of a channel; and, where one end alone is judged, by the
 -- loss of all that it sent, and by what is delivered to it in a gap.
@@ -38,13 +38,6 @@ pub record IsKept (judged : Option Side) (table : Table) (c : Certificate) (Hold
   pub all : (side : Side) (r : Replay) → judged ≡ Some side → Holds r → Holds (all_lost_from side r)
   pub hears : (side : Side) (number gap : ℕ) (r next : Replay) → judged ≡ Some side → slice_get c.fates number ≡ Some (Gap gap)
       → heard table c side number r ≡ Ok next → Holds r → Holds next
-
--- These fates stand from that number on.
-abbrev FatesFrom : List Fate → ℕ → List Fate → Type 0
-FatesFrom all n fates = (i : ℕ) → slice_get all (i + n) ≡ slice_get fates i
-
-fates_next : (all : List Fate) (n : ℕ) (first : Fate) (fates : List Fate) → FatesFrom all n (first ∷ fates) → FatesFrom all (n + 1) fates
-fates_next all n first fates from i = let same : i + (n + 1) ≡ suc i + n = omega arith in ap (slice_get all) same ∙ from (suc i)
 
 module _ (judged : Option Side) (table : Table) (c : Certificate) (Holds : Replay → Type 0) (kept : IsKept judged table c Holds) where
   -- It holds behind the second of these, where it holds behind the first.
@@ -81,23 +74,18 @@ module _ (judged : Option Side) (table : Table) (c : Certificate) (Holds : Repla
 
   -- ---- a gap
 
-  pub closings_keep : (listed : List Closing) (r next : Replay) → closings_replayed table c listed r ≡ Ok next → Keeps r next
-  closings_keep [] r next is holds = same_keeps r next is holds
-  closings_keep (x ∷ more) r next is holds =
-      let event = then_ok (ok_or (closing_event r.world.sent x) (fault_at FateRange x.entry)) _ next is in
-      let plain = (closing_in_gap r.world.sent x event.0 (some_ok (closing_event r.world.sent x) (fault_at FateRange x.entry) event.0 event.1)).plain in
-      let then = then_ok (happens table c event.0 (HiddenRefused faults.CannotClose) x.entry r) _ next event.2 in
-      closings_keep more then.0 next then.2
-      (happens_keeps event.0 (HiddenRefused faults.CannotClose) x.entry r then.0 plain then.1 holds)
+  pub one_keeps : (x : Listed) (r next : Replay) → listed_replayed table c x r ≡ Ok next → Keeps r next
+  one_keeps x r next is holds =
+      let event = then_ok (ok_or (event_listed r.world.sent x) (fault_at FateRange (entry_of x))) _ next is in
+      let named = some_ok (event_listed r.world.sent x) (fault_at FateRange (entry_of x)) event.0 event.1 in
+      let plain = listed_so (λ e. is_loss e ≡ false) r.world.sent x (λ name. refl) (λ name id. refl) event.0 named in
+      happens_keeps event.0 (why_refused x) (entry_of x) r next plain event.2 holds
 
-  pub expiries_keep : (listed : List Expiry) (r next : Replay) → expiries_replayed table c listed r ≡ Ok next → Keeps r next
-  expiries_keep [] r next is holds = same_keeps r next is holds
-  expiries_keep (x ∷ more) r next is holds =
-      let event = then_ok (ok_or (expiry_event r.world.sent x) (fault_at FateRange x.entry)) _ next is in
-      let plain = (expiry_in_gap r.world.sent x event.0 (some_ok (expiry_event r.world.sent x) (fault_at FateRange x.entry) event.0 event.1)).plain in
-      let then = then_ok (happens table c event.0 (HiddenRefused faults.CannotExpire) x.entry r) _ next event.2 in
-      expiries_keep more then.0 next then.2
-      (happens_keeps event.0 (HiddenRefused faults.CannotExpire) x.entry r then.0 plain then.1 holds)
+  pub listed_keep : (listed : List Listed) (r next : Replay) → all_replayed table c listed r ≡ Ok next → Keeps r next
+  listed_keep [] r next is holds = same_keeps r next is holds
+  listed_keep (x ∷ more) r next is holds =
+      let then = then_ok (listed_replayed table c x r) _ next is in
+      listed_keep more then.0 next then.2 (one_keeps x r then.0 then.1 holds)
 
   -- A message that is delivered in a gap.
   received_keeps : (sender : Side) (number gap : ℕ) (r next : Replay) → slice_get c.fates number ≡ Some (Gap gap)
@@ -119,25 +107,20 @@ module _ (judged : Option Side) (table : Table) (c : Certificate) (Holds : Repla
   delivery_keeps gap n (By k) item r next at is holds = same_keeps r next is holds
   delivery_keeps gap n Lost item r next at is holds = same_keeps r next is holds
 
-  deliveries_keep : (gap n : ℕ) (fates : List Fate) (items : List Item) (r next : Replay) → FatesFrom c.fates n fates
+  deliveries_keep : (gap n : ℕ) (fates : List Fate) (items : List Item) (r next : Replay) → AreFrom c.fates n fates
       → deliveries_by judged table c gap n fates items r ≡ Ok next → Keeps r next
   deliveries_keep gap n [] items r next from is holds = same_keeps r next is holds
   deliveries_keep gap n (fate ∷ fates) [] r next from is holds = same_keeps r next is holds
   deliveries_keep gap n (fate ∷ fates) (item ∷ items) r next from is holds =
       let one = then_ok (delivery_by judged table c gap n fate item r) _ next is in
-      let first : n ≡ 0 + n = omega arith in
-      deliveries_keep gap (n + 1) fates items one.0 next (fates_next c.fates n fate fates from) one.2
-      (delivery_keeps gap n fate item r one.0 (ap (slice_get c.fates) first ∙ from 0) one.1 holds)
+      deliveries_keep gap (n + 1) fates items one.0 next (from_next c.fates fates n fate from) one.2
+      (delivery_keeps gap n fate item r one.0 (first_from c.fates fates n fate from) one.1 holds)
 
   pub gap_keeps : (r next : Replay) → gap_by judged table c r ≡ Ok next → Keeps r next
   gap_keeps r next is holds =
-      let closings : List Closing = closings_judged judged (filter (λ x. x.gap == next_entry r) c.close) in
-      let expiries : List Expiry = expiries_judged judged (filter (λ x. x.gap == next_entry r) c.expire) in
-      let a = then_ok (closings_replayed table c closings r) _ next is in
-      let b = then_ok (expiries_replayed table c expiries a.0) _ next a.2 in
-      let all : FatesFrom c.fates 0 c.fates = λ i. let same : i + 0 ≡ i = omega arith in ap (slice_get c.fates) same in
-      deliveries_keep (next_entry r) 0 c.fates r.world.sent b.0 next all b.2
-      (expiries_keep expiries a.0 b.0 b.1 (closings_keep closings r a.0 a.1 holds))
+      let parts = gap_parts judged table c r next is in
+      deliveries_keep (next_entry r) 0 c.fates r.world.sent parts.0 next (from_start c.fates) parts.2
+      (listed_keep (listed_for judged c (next_entry r)) r parts.0 parts.1 holds)
 
   -- ---- a message
 

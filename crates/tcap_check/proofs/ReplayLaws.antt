@@ -1,5 +1,5 @@
 -- What is replayed is a run, step by step.
-use Rattle.std.proofs.Common.{◌≡◌, ℕ, ℤ, ◌+◌, ◌==◌, Bool, true, false, cond, List, [], ◌∷◌, ◌++◌, map, filter, filter_map, length, arith, Option, Some, None, Result, Ok, Err, refl, sym, ap, ap₂, subst, ◌∙◌, append-nil}
+use Rattle.std.proofs.Common.{◌≡◌, ℕ, ℤ, ◌+◌, ◌==◌, Bool, true, false, cond, List, [], ◌∷◌, ◌++◌, map, filter_map, length, arith, Option, Some, None, Result, Ok, Err, refl, sym, ap, ap₂, subst, ◌∙◌, append-nil}
 use Rattle.std.specs.Prelude.{Contains, ok_or, slice_get}
 use Rattle.std.specs.Str.{bytes_eq}
 use Rattle.std.specs.List.{AllByRecursion}
@@ -12,32 +12,30 @@ use Rattle.tcap_msg.specs.declared.message.Message.TheVariants.{Unidirectional, 
 use Rattle.tcap_msg.specs.Parts.{components_in}
 use Rattle.tcap_record.specs.declared.entry.End.{End as Side}
 use Rattle.tcap_end.specs.declared.fault.EndFault.{EndFault}
-use Rattle.tcap_end.specs.declared.fault.EndFault.TheVariants as faults
 use Rattle.tcap_end.specs.End.{End}
 use Rattle.tcap_end.specs.Step.{◌>>=◌}
 use Rattle.tcap_end.specs.Reply.{aborts}
 use Rattle.tcap_end.specs.declared.half.HalfName.{HalfName}
-use Rattle.tcap_end.specs.declared.half.HalfName.TheVariants as names
 use Rattle.tcap_end.specs.Table.{Table}
 use Rattle.tcap_end.specs.Message.{send}
 use Rattle.tcap_end.proofs.AnsweringLaws.{needs_ok, ok_same, some_ok, then_ok}
 use Rattle.tcap_record.specs.Ends.{other}
-use Rattle.tcap_model.specs.World.{Item, Sent, World, end_at, is_side, with_end}
-use Rattle.tcap_model.specs.Run.{Event, Sends, Receives, Replies, Loses, Expires, Closes, Quiet, Tells, after, joined, then_so}
-use Rattle.tcap_certificate.specs.declared.certificate.Closing.{Closing}
-use Rattle.tcap_certificate.specs.declared.certificate.Expiry.{Expiry}
+use Rattle.tcap_model.specs.World.{Item, Sent, World, end_at, with_end}
+use Rattle.tcap_model.specs.Run.{Event, Sends, Receives, Replies, Loses, Expires, Closes, Quiet, Tells, after, joined}
 use Rattle.tcap_certificate.specs.declared.certificate.Fate.{Fate}
 use Rattle.tcap_certificate.specs.declared.certificate.Fate.TheVariants.{Gap, Lost, By}
 use Rattle.tcap_certificate.specs.Certificate.{Certificate}
-use Rattle.tcap_model.specs.Since.{originating}
-use Rattle.tcap_certificate.specs.Follows.{IsImplied, invoking_half, closing_by, closing_event, deliveries, expiry_by, expiry_event, gap_events, half_begun, invoke_id, is_loss, named_entry, sending, sending_by}
-use Rattle.tcap_model.proofs.RunLaws.{grows, map_some, where_some, then_some, some_is}
+use Rattle.tcap_certificate.specs.Follows.{IsImplied, invoking_half, deliveries, gap_events, invoke_id, is_loss, sending, sending_by}
+use Rattle.tcap_model.proofs.RunLaws.{grows, map_some, some_is}
 use Rattle.tcap_certificate.specs.declared.fault.CheckFault.{CheckFault}
 use Rattle.tcap_model.specs.declared.reason.Reason.{Reason}
-use Rattle.tcap_model.specs.declared.reason.Reason.TheVariants.{BadReply, FateRange, HiddenRefused}
+use Rattle.tcap_model.specs.declared.reason.Reason.TheVariants.{BadReply, FateRange}
 use Rattle.tcap_model.proofs.ChannelLaws.{get_new}
-use Rattle.tcap_certificate.specs.Replayed.{Replay, closings_replayed, deliveries_by, expiries_replayed, fault_at, gap_by, happens, implied, implied_over, is_abort, lost_before, lost_from_front, message_by, next_entry, or_same, own_message, reply_replayed, send_replayed, sent_or_refused, stepped, with_step}
+use Rattle.tcap_certificate.specs.Replayed.{Replay, deliveries_by, fault_at, gap_by, happens, implied, implied_over, is_abort, lost_before, lost_from_front, message_by, next_entry, or_same, own_message, reply_replayed, send_replayed, sent_or_refused, stepped, with_step}
 use Rattle.tcap_check.proofs.ReplaySteps.{Replays, before_replays, losing_replays, replays_nothing, replays_then, stepped_replays}
+use Rattle.tcap_check.specs.declared.listed.Listed.{Listed}
+use Rattle.tcap_check.specs.Listed.{all_replayed, entry_of, event_listed, listed_for, listed_replayed, side_of, why_refused}
+use Rattle.tcap_check.proofs.ListedLaws.{gap_events_are, gap_parts, judged_all, listed_so, map_both}
 
 -- ---- a gap
 
@@ -46,13 +44,13 @@ pub record IsGapEvent (event : Event) : Type 0 where
   pub plain : is_loss event ≡ false
   pub adds : (table : Table) (w next : World) → after table event w ≡ Some next → next.sent ≡ w.sent ++ []
 
-closes_in_gap : (side : Side) (name : HalfName) → IsGapEvent (Closes side name)
+pub closes_in_gap : (side : Side) (name : HalfName) → IsGapEvent (Closes side name)
 closes_in_gap side name = record {
   plain = refl;
   adds = λ table w next is. let g = grows table (Closes side name) w next is in g.2 ∙ ap (λ (x : List Item). w.sent ++ x) g.1;
 }
 
-expires_in_gap : (side : Side) (name : HalfName) (id : ℤ) → IsGapEvent (Expires side name id)
+pub expires_in_gap : (side : Side) (name : HalfName) (id : ℤ) → IsGapEvent (Expires side name id)
 expires_in_gap side name id = record {
   plain = refl;
   adds = λ table w next is. let g = grows table (Expires side name id) w next is in g.2 ∙ ap (λ (x : List Item). w.sent ++ x) g.1;
@@ -74,62 +72,28 @@ gap_event table c event reason entry r next in_gap is =
     let sent : next.world.sent ≡ before.world.sent ++ [] = ap (λ (x : Replay). x.world.sent) (sym found.2) ∙ in_gap.adds table before.world found.0 found.1 in
     replays_then table r before next [] (event ∷ []) [] [] (before_replays table c event r) (stepped_replays table event [] before next in_gap.plain step sent)
 
-pub closing_in_gap : (items : List Item) (x : Closing) (event : Event) → closing_event items x ≡ Some event → IsGapEvent event
-closing_in_gap items x event is = let found = then_some (named_entry items x.gap x.entry) (closing_by x) event is in by found.0 found.2
-  where
-    by : (item : Item) → closing_by x item ≡ Some event → IsGapEvent event
-    by (Sent sender (Begin otid dialogue components)) e = subst IsGapEvent (some_is e) (closes_in_gap x.side (half_begun x.side sender otid))
-    by (Sent sender (Unidirectional dialogue components)) e = cc
-    by (Sent sender (Continue otid dtid dialogue components)) e = cc
-    by (Sent sender (EndMessage dtid dialogue components)) e = cc
-    by (Sent sender (Abort dtid reason)) e = cc
-    by Item.Quiet e = cc
+-- One that is listed, for the items that were sent so far,
+pub one_replays : (table : Table) (c : Certificate) (x : Listed) (r next : Replay) → listed_replayed table c x r ≡ Ok next
+    → (event : Event) × (event_listed r.world.sent x ≡ Some event) × Replays table r (event ∷ []) [] next
+one_replays table c x r next is =
+    let found = then_ok (ok_or (event_listed r.world.sent x) (fault_at FateRange (entry_of x))) _ next is in
+    let named = some_ok (event_listed r.world.sent x) (fault_at FateRange (entry_of x)) found.0 found.1 in
+    let in_gap = listed_so IsGapEvent r.world.sent x (closes_in_gap (side_of x)) (expires_in_gap (side_of x)) found.0 named in
+    (found.0, named, gap_event table c found.0 (why_refused x) (entry_of x) r next in_gap found.2)
 
-pub expiry_in_gap : (items : List Item) (x : Expiry) (event : Event) → expiry_event items x ≡ Some event → IsGapEvent event
-expiry_in_gap items x event is = let found = then_some (named_entry items x.gap x.entry) (expiry_by x) event is in by found.0 found.2
-  where
-    by : (item : Item) → expiry_by x item ≡ Some event → IsGapEvent event
-    by (Sent sender message) e =
-        let so = where_some (is_side x.side sender) _ event e in
-        let named = then_some (originating message) _ event so.1 in
-        let id = then_some (then_so (slice_get (components_in message) x.component) invoke_id) _ event named.2 in
-        subst IsGapEvent (some_is id.2) (expires_in_gap x.side (names.Own named.0) id.0)
-    by Item.Quiet e = cc
-
--- Closings, as they are listed for the items that were sent so far.
-pub closings_replay : (table : Table) (c : Certificate) (listed : List Closing) (items : List Item) (r next : Replay) → r.world.sent ≡ items
-    → closings_replayed table c listed r ≡ Ok next
-    → (events : List Event) × (map Some events ≡ map (closing_event items) listed) × Replays table r events [] next
-closings_replay table c [] items r next so is = let same : r ≡ next = cc in ([], refl, subst (Replays table r [] []) same (replays_nothing table r))
-closings_replay table c (x ∷ more) items r next so is =
-    let found = then_ok (ok_or (closing_event r.world.sent x) (fault_at FateRange x.entry)) _ next is in
-    let event = found.0 in
-    let named = some_ok (closing_event r.world.sent x) (fault_at FateRange x.entry) event found.1 in
-    let then = then_ok (happens table c event (HiddenRefused faults.CannotClose) x.entry r) _ next found.2 in
-    let one = gap_event table c event (HiddenRefused faults.CannotClose) x.entry r then.0 (closing_in_gap r.world.sent x event named) then.1 in
-    let so_far : then.0.world.sent ≡ items = one.sent ∙ append-nil r.world.sent ∙ so in
-    let rest = closings_replay table c more items then.0 next so_far then.2 in (
-      event ∷ rest.0,
-      ap₂ (λ (e : Option Event) (es : List (Option Event)). e ∷ es) (sym named ∙ ap (λ (s : List Item). closing_event s x) so) rest.1,
-      replays_then table r then.0 next (event ∷ []) rest.0 [] [] one rest.2,
-    )
-
--- Expiries, as they are listed for them.
-pub expiries_replay : (table : Table) (c : Certificate) (listed : List Expiry) (items : List Item) (r next : Replay) → r.world.sent ≡ items
-    → expiries_replayed table c listed r ≡ Ok next
-    → (events : List Event) × (map Some events ≡ map (expiry_event items) listed) × Replays table r events [] next
-expiries_replay table c [] items r next so is = let same : r ≡ next = cc in ([], refl, subst (Replays table r [] []) same (replays_nothing table r))
-expiries_replay table c (x ∷ more) items r next so is =
-    let found = then_ok (ok_or (expiry_event r.world.sent x) (fault_at FateRange x.entry)) _ next is in
-    let event = found.0 in
-    let named = some_ok (expiry_event r.world.sent x) (fault_at FateRange x.entry) event found.1 in
-    let then = then_ok (happens table c event (HiddenRefused faults.CannotExpire) x.entry r) _ next found.2 in
-    let one = gap_event table c event (HiddenRefused faults.CannotExpire) x.entry r then.0 (expiry_in_gap r.world.sent x event named) then.1 in
-    let so_far : then.0.world.sent ≡ items = one.sent ∙ append-nil r.world.sent ∙ so in
-    let rest = expiries_replay table c more items then.0 next so_far then.2 in (
-      event ∷ rest.0,
-      ap₂ (λ (e : Option Event) (es : List (Option Event)). e ∷ es) (sym named ∙ ap (λ (s : List Item). expiry_event s x) so) rest.1,
-      replays_then table r then.0 next (event ∷ []) rest.0 [] [] one rest.2,
+-- and all that are.
+pub listed_replay : (table : Table) (c : Certificate) (listed : List Listed) (items : List Item) (r next : Replay) → r.world.sent ≡ items
+    → all_replayed table c listed r ≡ Ok next
+    → (events : List Event) × (map Some events ≡ map (event_listed items) listed) × Replays table r events [] next
+listed_replay table c [] items r next so is = let same : r ≡ next = cc in ([], refl, subst (Replays table r [] []) same (replays_nothing table r))
+listed_replay table c (x ∷ more) items r next so is =
+    let then = then_ok (listed_replayed table c x r) (all_replayed table c more) next is in
+    let one = one_replays table c x r then.0 then.1 in
+    let so_far : then.0.world.sent ≡ items = one.2.sent ∙ append-nil r.world.sent ∙ so in
+    let rest = listed_replay table c more items then.0 next so_far then.2 in (
+      one.0 ∷ rest.0,
+      ap₂ (λ (e : Option Event) (es : List (Option Event)). e ∷ es) (sym one.1 ∙ ap (λ (s : List Item). event_listed s x) so) rest.1,
+      replays_then table r then.0 next (one.0 ∷ []) rest.0 [] [] one.2 rest.2,
     )
 
 -- Deliveries, by number.
@@ -162,32 +126,20 @@ deliveries_replay table c gap number (By k ∷ fates) (Sent side message ∷ ite
 deliveries_replay table c gap number (By k ∷ fates) (Item.Quiet ∷ items) r next is =
     deliveries_replay table c gap (number + 1) fates items r next is
 
-map_both : {A B : Type 0} (f : A → B) (xs ys : List A) → map f (xs ++ ys) ≡ map f xs ++ map f ys
-map_both f [] ys = refl
-map_both f (x ∷ xs) ys = ap (λ zs. f x ∷ zs) (map_both f xs ys)
-
-three_parts : (xs ys zs : List Event) (firsts seconds : List (Option Event)) → map Some xs ≡ firsts → map Some ys ≡ seconds
-    → map Some (xs ++ ys ++ zs) ≡ firsts ++ seconds ++ map Some zs
-three_parts xs ys zs firsts seconds a b =
-    map_both Some (xs ++ ys) zs ∙ ap (λ (x : List (Option Event)). x ++ map Some zs) (map_both Some xs ys ∙ ap₂ (λ (x y : List (Option Event)). x ++ y) a b)
-
 -- The gap before the next entry.
 pub gap_replays : (table : Table) (c : Certificate) (r next : Replay) → gap_by None table c r ≡ Ok next
     → (events : List Event) × (map Some events ≡ gap_events c r.world.sent (next_entry r)) × Replays table r events [] next
 gap_replays table c r next is =
     let items = r.world.sent in
     let gap = next_entry r in
-    let closing = filter (λ (x : Closing). x.gap == gap) c.close in
-    let expiring = filter (λ (x : Expiry). x.gap == gap) c.expire in
-    let a = then_ok (closings_replayed table c closing r) _ next is in
-    let closed = closings_replay table c closing items r a.0 refl a.1 in
-    let b = then_ok (expiries_replayed table c expiring a.0) _ next a.2 in
-    let expired = expiries_replay table c expiring items a.0 b.0 (closed.2.sent ∙ append-nil items) b.1 in
-    let delivered = deliveries_replay table c gap 0 c.fates items b.0 next b.2 in
-    let events = deliveries gap 0 c.fates items in (
-      closed.0 ++ expired.0 ++ events,
-      three_parts closed.0 expired.0 events (map (closing_event items) closing) (map (expiry_event items) expiring) closed.1 expired.1,
-      replays_then table r b.0 next (closed.0 ++ expired.0) events [] [] (replays_then table r a.0 b.0 closed.0 expired.0 [] [] closed.2 expired.2) delivered,
+    let parts = gap_parts None table c r next is in
+    let listed = listed_replay table c (listed_for None c gap) items r parts.0 refl parts.1 in
+    let delivered = deliveries_replay table c gap 0 c.fates items parts.0 next parts.2 in
+    let events = deliveries gap 0 c.fates items in
+    let all = ap (map (event_listed items)) (judged_all c gap) in (
+      listed.0 ++ events,
+      map_both Some listed.0 events ∙ ap (λ (x : List (Option Event)). x ++ map Some events) (listed.1 ∙ all) ∙ sym (gap_events_are c items gap),
+      replays_then table r parts.0 next listed.0 events [] [] listed.2 delivered,
     )
 
 -- ---- an item

@@ -1,5 +1,5 @@
 -- What a checker took so far was sent by a run in which those who are judged keep the rules.
-use Rattle.std.proofs.Common.{◌≡◌, ◌+◌, arith, List, [], ◌∷◌, ◌++◌, map, length, Option, Some, None, Result, Ok, Err, refl, sym, ap, ap₂, subst, ◌∙◌, IsTrue, is_ok, false}
+use Rattle.std.proofs.Common.{◌≡◌, List, [], ◌∷◌, ◌++◌, map, length, Option, Some, None, Result, Ok, Err, refl, sym, ap, ap₂, subst, ◌∙◌, IsTrue, is_ok, false}
 use Rattle.std.specs.Prelude.{ok_or, slice_get}
 use Rattle.std.specs.List.{AllByRecursion}
 use Rattle.tcap_record.specs.declared.entry.End.{End as Side}
@@ -46,7 +46,7 @@ item_fated table c fate item r next has is so =
     let number = next_entry one.mid in
     let sends = one.sent.sends in
     let all = taken_by number 0 c.fates in
-    let taken = taken_fated c.fates number 0 c.fates (λ i. let e : i ≡ 0 + i = omega arith in ap (slice_get c.fates) e) in
+    let taken = taken_fated c.fates number in
     let sender = sender_fated c.fates all sends taken (sender_is c number item all sends one.sent.sends_is) in
     let behind = all_both fits one.sent.implied (sends ∷ []) (implied_fated c.fates item one.sent.implied one.sent.are_implied) (sender, tt) in
     let here = all_both fits one.here (one.sent.implied ++ sends ∷ [])

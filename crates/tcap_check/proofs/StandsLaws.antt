@@ -1,5 +1,5 @@
 -- A replay goes on as far as it goes where it is refused: by steps that send nothing.
-use Rattle.std.proofs.Common.{◌≡◌, ℕ, ◌+◌, ◌==◌, Bool, true, false, cond, List, [], ◌∷◌, ◌++◌, filter, length, Option, Some, None, Result, Ok, Err, refl, ap, subst, ◌∙◌, append-nil}
+use Rattle.std.proofs.Common.{◌≡◌, ℕ, ◌+◌, ◌==◌, Bool, true, false, cond, List, [], ◌∷◌, ◌++◌, length, Option, Some, None, Result, Ok, Err, refl, ap, subst, ◌∙◌, append-nil}
 use Rattle.std.specs.Prelude.{◌||◌, not, slice_get}
 use Rattle.tcap_msg.specs.declared.message.Message.{Message}
 use Rattle.tcap_record.specs.declared.entry.End.{End as Side}
@@ -8,28 +8,28 @@ use Rattle.tcap_record.specs.Ends.{other}
 use Rattle.tcap_end.specs.declared.half.HalfName.{HalfName}
 use Rattle.tcap_end.specs.Hidden.{open_halves}
 use Rattle.tcap_end.specs.Table.{Table}
-use Rattle.tcap_end.proofs.AnsweringLaws.{ok_same, some_ok}
+use Rattle.tcap_end.proofs.AnsweringLaws.{ok_same, some_ok, then_ok}
 use Rattle.tcap_model.specs.declared.reason.Reason.{Reason}
 use Rattle.tcap_model.specs.declared.reason.Reason.TheVariants.{BadReply}
 use Rattle.tcap_model.specs.World.{Item, Sent, end_at}
 use Rattle.tcap_model.specs.Run.{Adds, Event, Sends, Receives, Replies, Loses, Expires, Closes, Quiet, Tells}
-use Rattle.tcap_certificate.specs.declared.certificate.Closing.{Closing}
-use Rattle.tcap_certificate.specs.declared.certificate.Expiry.{Expiry}
 use Rattle.tcap_certificate.specs.declared.certificate.Fate.{Fate}
 use Rattle.tcap_certificate.specs.declared.certificate.Fate.TheVariants.{Gap, Lost, By}
 use Rattle.tcap_certificate.specs.declared.fault.CheckFault.{CheckFault}
 use Rattle.tcap_certificate.specs.Certificate.{Certificate}
 use Rattle.tcap_certificate.specs.Follows.{invoking_half, is_loss, sending_by}
-use Rattle.tcap_certificate.specs.Replayed.{Replay, closed_at_mark, closings_judged, closings_replayed, delivery_by, expiries_judged, expiries_replayed, fault_at, gap_by, implied_over, is_due, is_gap, is_judged, is_nothing, is_overtaking, lost_from_front, lost_last, next_entry, received, stepped, tied}
+use Rattle.tcap_certificate.specs.Replayed.{Replay, closed_at_mark, delivery_by, fault_at, gap_by, implied_over, is_due, is_gap, is_judged, is_nothing, is_overtaking, lost_from_front, lost_last, next_entry, received, stepped, tied}
 use Rattle.tcap_check.specs.Checking.{is_alone}
-use Rattle.tcap_check.specs.SoFar.{as_far, behind_or, closings_so_far, deliveries_so_far, expiries_so_far, fated_so_far, gap_so_far, halves_so_far, losses_before, mark_so_far, message_so_far, next_so_far, quiet_so_far, sending_so_far}
+use Rattle.tcap_check.specs.SoFar.{as_far, behind_or, deliveries_so_far, fated_so_far, gap_so_far, halves_so_far, losses_before, mark_so_far, message_so_far, next_so_far, quiet_so_far, sending_so_far, listed_so_far}
 use Rattle.tcap_check.specs.Stands.{TellsSo}
 use Rattle.tcap_check.proofs.AloneReplays.{closed_leads, gap_leads, heard_leads}
 use Rattle.tcap_check.proofs.AloneSteps.{stepped_adds}
 use Rattle.tcap_check.proofs.DiscardReasons.{tells_front, tells_heard, tells_kept, tells_step}
-use Rattle.tcap_check.proofs.ReplayKeeps.{closed_keeps, closings_keep, expiries_keep, gap_keeps, over_keeps}
-use Rattle.tcap_check.proofs.ReplayLaws.{closings_replay, expiries_replay, gap_replays, implied_by}
+use Rattle.tcap_check.proofs.ReplayKeeps.{closed_keeps, gap_keeps, over_keeps, one_keeps}
+use Rattle.tcap_check.proofs.ReplayLaws.{gap_replays, implied_by, one_replays}
 use Rattle.tcap_check.proofs.ReplaySteps.{Extends, extends_nothing, extends_then, losing_replays, stepped_extends}
+use Rattle.tcap_check.specs.declared.listed.Listed.{Listed}
+use Rattle.tcap_check.specs.Listed.{all_replayed, listed_for, listed_replayed}
 
 -- ---- replays that go on
 
@@ -81,23 +81,20 @@ module _ (judged : Option Side) (table : Table) (c : Certificate) where
 
   -- ---- a gap
 
-  closings_go : (xs : List Closing) (r next : Replay) → closings_replayed table c xs r ≡ Ok next → Goes r next
-  closings_go xs r next is =
-      let found = closings_replay table c xs r.world.sent r next refl is in (
+  one_goes : (x : Listed) (r next : Replay) → listed_replayed table c x r ≡ Ok next → Goes r next
+  one_goes x r next is =
+      let found = one_replays table c x r next is in (
         found.2.steps,
         found.2.extends,
         found.2.sent ∙ append-nil r.world.sent,
-        closings_keep judged table c (TellsSo judged table c) (tells_kept judged table c) xs r next is,
+        one_keeps judged table c (TellsSo judged table c) (tells_kept judged table c) x r next is,
       )
 
-  expiries_go : (xs : List Expiry) (r next : Replay) → expiries_replayed table c xs r ≡ Ok next → Goes r next
-  expiries_go xs r next is =
-      let found = expiries_replay table c xs r.world.sent r next refl is in (
-        found.2.steps,
-        found.2.extends,
-        found.2.sent ∙ append-nil r.world.sent,
-        expiries_keep judged table c (TellsSo judged table c) (tells_kept judged table c) xs r next is,
-      )
+  listed_go : (xs : List Listed) (r next : Replay) → all_replayed table c xs r ≡ Ok next → Goes r next
+  listed_go [] r next is = same_on r next is
+  listed_go (x ∷ more) r next is =
+      let then = then_ok (listed_replayed table c x r) (all_replayed table c more) next is in
+      goes_then r then.0 next (one_goes x r then.0 then.1) (listed_go more then.0 next then.2)
 
 received_goes : (table : Table) (c : Certificate) (judged : Option Side) (sender : Side) (number : ℕ) (r next : Replay)
     → received judged table c sender number r ≡ Ok next → GoesOn judged table c r next
@@ -150,17 +147,12 @@ deliveries_far table c judged gap n (fate ∷ fates) (item ∷ items) r =
 
 gap_far : (table : Table) (c : Certificate) (judged : Option Side) (r : Replay) → GoesOn judged table c r (gap_so_far judged table c r)
 gap_far table c judged r =
-    let closings : List Closing = closings_judged judged (filter (λ x. x.gap == next_entry r) c.close) in
-    let expiries : List Expiry = expiries_judged judged (filter (λ x. x.gap == next_entry r) c.expire) in
+    let listed : List Listed = listed_for judged c (next_entry r) in
     let last = deliveries_so_far judged table c (next_entry r) 0 c.fates r.world.sent in
-    let then = λ (closed : Replay). behind_or (expiries_replayed table c expiries closed) (expiries_so_far table c expiries closed) last in
-    or_goes judged table c r (closings_so_far table c closings r) (closings_replayed table c closings r) then
-    (as_far_goes judged table c (λ x. closings_replayed table c (x ∷ [])) (λ x. closings_go judged table c (x ∷ [])) closings r)
-    (λ closed is. goes_then judged table c r closed (then closed) (closings_go judged table c closings r closed is)
-    (or_goes judged table c closed (expiries_so_far table c expiries closed) (expiries_replayed table c expiries closed) last
-    (as_far_goes judged table c (λ x. expiries_replayed table c (x ∷ [])) (λ x. expiries_go judged table c (x ∷ [])) expiries closed)
-    (λ expired at. goes_then judged table c closed expired (last expired) (expiries_go judged table c expiries closed expired at)
-    (deliveries_far table c judged (next_entry r) 0 c.fates r.world.sent expired))))
+    or_goes judged table c r (listed_so_far table c listed r) (all_replayed table c listed r) last
+    (as_far_goes judged table c (listed_replayed table c) (one_goes judged table c) listed r)
+    (λ hidden is. goes_then judged table c r hidden (last hidden) (listed_go judged table c listed r hidden is)
+    (deliveries_far table c judged (next_entry r) 0 c.fates r.world.sent hidden))
 
 gap_goes : (table : Table) (c : Certificate) (judged : Option Side) (r next : Replay) → gap_by judged table c r ≡ Ok next
     → GoesOn judged table c r next

@@ -15,19 +15,20 @@ use Rattle.tcap_check.specs.declared.step.Step.{Step}
 use Rattle.tcap_check.specs.declared.step.Step.TheVariants as steps
 use Rattle.tcap_check.specs.Told.{discard_of, discards_of, event_of, events_of}
 use Rattle.tcap_check.proofs.DiscardReasons.{none_in}
-use Rattle.tcap_check.proofs.GivenLosses.{taken_sent}
-use Rattle.tcap_check.proofs.NumberLaws.{IsAmong, among_left, parts_apart, taken_both, taken_left, taken_right}
 use Rattle.tcap_model.proofs.WorldLaws.{itself}
+use Rattle.tcap_check.proofs.TakenLaws.{taken_sent}
+use Rattle.tcap_check.proofs.MemberLaws.{IsIn, in_left}
+use Rattle.tcap_check.proofs.NumberLaws.{parts_apart, taken_left, taken_right, taken_both}
 
 -- ---- each message is lost once
 
 -- What is lost is not taken behind that.
 abbrev LostOnce : List Event → Type 0
 LostOnce events = (before behind : List Event) (a b : Side) (n : ℕ) → events ≡ before ++ Loses a n ∷ behind
-    → IsAmong n (numbers_taken b behind) → ⊥
+    → IsIn n (numbers_taken b behind) → ⊥
 
 -- What a loss takes.
-takes_it : (side : Side) (n : ℕ) (more : List Event) → IsAmong n (numbers_taken side (Loses side n ∷ more))
+takes_it : (side : Side) (n : ℕ) (more : List Event) → IsIn n (numbers_taken side (Loses side n ∷ more))
 takes_it side n more = rw (itself side) (inl refl)
 
 lost_once : (table : Table) (events : List Event) (w : World) → Runs table events w → LostOnce events
@@ -39,25 +40,25 @@ lost_once table events w runs before behind a b n are there = by (is_side a b) r
     whole : events ≡ front ++ behind
     whole = are ∙ sym (append_assoc before (Loses a n ∷ []) behind)
 
-    first : IsAmong n (numbers_taken a front)
+    first : IsIn n (numbers_taken a front)
     first = taken_right a n before (Loses a n ∷ []) (takes_it a n [])
 
     by : (same : Bool) → is_side a b ≡ same → ⊥
     by true so =
         let one : b ≡ a = sym (same_side a b so) in
-        let later : IsAmong n (numbers_taken a behind) = subst (λ (x : Side). IsAmong n (numbers_taken x behind)) one there in
+        let later : IsIn n (numbers_taken a behind) = subst (λ (x : Side). IsIn n (numbers_taken x behind)) one there in
         let channel = numbers_of (channel_from a w) in
         let taken : numbers_taken a events ++ channel ≡ numbers_taken a front ++ (numbers_taken a behind ++ channel) =
         ap (λ (x : List Event). numbers_taken a x ++ channel) whole ∙ ap (λ (x : List ℕ). x ++ channel) (taken_both a front behind)
         ∙ append_assoc (numbers_taken a front) (numbers_taken a behind) channel in
         parts_apart n (numbers_taken a front) (numbers_taken a behind ++ channel)
         (subst (IsStrictlySortedBy nat_cmp) taken (in_order table events w runs a)) first
-        (among_left n (numbers_taken a behind) channel later)
+        (in_left n (numbers_taken a behind) channel later)
     by false so =
         let of_a = taken_sent table events w a n runs
-        (subst (λ (x : List Event). IsAmong n (numbers_taken a x)) (sym whole) (taken_left a n front behind first)) in
+        (subst (λ (x : List Event). IsIn n (numbers_taken a x)) (sym whole) (taken_left a n front behind first)) in
         let of_b = taken_sent table events w b n runs
-        (subst (λ (x : List Event). IsAmong n (numbers_taken b x)) (sym whole) (taken_right b n front behind there)) in
+        (subst (λ (x : List Event). IsIn n (numbers_taken b x)) (sym whole) (taken_right b n front behind there)) in
         let both : Some (Sent a of_a.0) ≡ Some (Sent b of_b.0) = sym of_a.1 ∙ of_b.1 in
         let one : a ≡ b = cc in
         let yes : is_side a b ≡ true = ap (is_side a) (sym one) ∙ itself a in
@@ -108,30 +109,30 @@ discards_first s ss None is = rw is refl
 discards_first s ss (Some d) is = rw is refl
 
 -- What is discarded is taken.
-discard_taken : (ss : List Step) (d : ℕ × EndFault) → Contains (discards_of ss) d → (b : Side) × IsAmong d.0 (numbers_taken b (events_of ss))
+discard_taken : (ss : List Step) (d : ℕ × EndFault) → Contains (discards_of ss) d → (b : Side) × IsIn d.0 (numbers_taken b (events_of ss))
 discard_taken [] d there = absurd (none_in d there)
 discard_taken (s ∷ ss) d there =
     by (discard_of s) refl (discard_taken ss d) (subst (λ (x : List (ℕ × EndFault)). Contains x d) (discards_first s ss (discard_of s) refl) there)
   where
-    later : (b : Side) × IsAmong d.0 (numbers_taken b (events_of ss)) → (b : Side) × IsAmong d.0 (numbers_taken b (events_of (s ∷ ss)))
+    later : (b : Side) × IsIn d.0 (numbers_taken b (events_of ss)) → (b : Side) × IsIn d.0 (numbers_taken b (events_of (s ∷ ss)))
     later (b, is) = (b, taken_right b d.0 (event_of s ∷ []) (events_of ss) is)
 
-    here : (e : ℕ × EndFault) → discard_of s ≡ Some e → e ≡ d → (b : Side) × IsAmong d.0 (numbers_taken b (events_of (s ∷ ss)))
+    here : (e : ℕ × EndFault) → discard_of s ≡ Some e → e ≡ d → (b : Side) × IsIn d.0 (numbers_taken b (events_of (s ∷ ss)))
     here e some same =
         let is = lost_is s e some in
         let number : e.0 ≡ d.0 = ap (λ (x : ℕ × EndFault). x.0) same in (
           is.0,
-          subst (λ (x : Event). IsAmong d.0 (numbers_taken is.0 (x ∷ events_of ss))) (sym (is.1 ∙ ap (Loses is.0) number))
+          subst (λ (x : Event). IsIn d.0 (numbers_taken is.0 (x ∷ events_of ss))) (sym (is.1 ∙ ap (Loses is.0) number))
               (takes_it is.0 d.0 (events_of ss)),
         )
 
     by : (o : Option (ℕ × EndFault)) → discard_of s ≡ o
-        → (Contains (discards_of ss) d → (b : Side) × IsAmong d.0 (numbers_taken b (events_of ss)))
-        → Contains (filter_map (λ x. x) (o ∷ []) ++ discards_of ss) d → (b : Side) × IsAmong d.0 (numbers_taken b (events_of (s ∷ ss)))
+        → (Contains (discards_of ss) d → (b : Side) × IsIn d.0 (numbers_taken b (events_of ss)))
+        → Contains (filter_map (λ x. x) (o ∷ []) ++ discards_of ss) d → (b : Side) × IsIn d.0 (numbers_taken b (events_of (s ∷ ss)))
     by None is rest at = later (rest at)
     by (Some e) is rest at = of (contains_first e (discards_of ss) d at)
       where
-        of : (e ≡ d) ⊎ Contains (discards_of ss) d → (b : Side) × IsAmong d.0 (numbers_taken b (events_of (s ∷ ss)))
+        of : (e ≡ d) ⊎ Contains (discards_of ss) d → (b : Side) × IsIn d.0 (numbers_taken b (events_of (s ∷ ss)))
         of (inl same) = here e is same
         of (inr more) = later (rest more)
 
@@ -142,7 +143,7 @@ apart_there s ss os d once some events discards =
     let is = lost_is s d some in
     let taken = discard_taken os d (subst (λ (x : List (ℕ × EndFault)). Contains x d) discards (first_in d (discards_of ss))) in
     once [] (events_of ss) is.0 taken.0 d.0 (ap (λ (x : Event). x ∷ events_of ss) is.1)
-    (subst (λ (x : List Event). IsAmong d.0 (numbers_taken taken.0 x)) (sym events) taken.1)
+    (subst (λ (x : List Event). IsIn d.0 (numbers_taken taken.0 x)) (sym events) taken.1)
   where
     first_in : {A : Type 0} (x : A) (xs : List A) → Contains (x ∷ xs) x
     first_in x xs = (0, omega arith, refl)

@@ -1,12 +1,8 @@
 -- What is in a list, and numbers that were taken.
-use Rattle.std.proofs.Common.{◌≡◌, ◌⊎◌, inl, inr, ℕ, suc, ◌+◌, arith, Bool, true, false, cond, List, [], ◌∷◌, ◌++◌, map, Some, refl, sym, ap, subst, ◌∙◌}
-use Rattle.std.specs.Prelude.{Contains, slice_get}
-use Rattle.std.specs.Cmp.{nat_cmp_is}
-use Rattle.std.specs.List.{AllByRecursion}
+use Rattle.std.proofs.Common.{◌≡◌, inl, inr, ℕ, suc, ◌+◌, arith, Bool, true, false, cond, List, [], ◌∷◌, ◌++◌, map, Some, refl, sym, ap, subst, ◌∙◌}
+use Rattle.std.specs.Prelude.{slice_get}
 use Rattle.std.specs.List.Sorted.{IsStrictlySortedBy}
 use Rattle.std.specs.Ordering.{nat_cmp}
-use Rattle.std.specs.declared.cmp.Ordering.TheVariants.{Less, Equal}
-use Rattle.std.proofs.lemmas.List.Elements.{Contains-append_right}
 use Rattle.tcap_msg.specs.declared.message.Message.{Message}
 use Rattle.tcap_record.specs.declared.entry.End.{End as Side}
 use Rattle.tcap_record.specs.declared.entry.End.TheVariants as sides
@@ -17,35 +13,10 @@ use Rattle.tcap_model.specs.Run.{Event, Receives, Replies, Runs, numbers_of, num
 use Rattle.tcap_certificate.specs.Follows.{is_loss, without_losses}
 use Rattle.tcap_model.proofs.ChannelLaws.{are_whole, in_order}
 use Rattle.tcap_model.proofs.RunLaws.{same_side}
+use Rattle.tcap_check.proofs.MemberLaws.{IsIn, in_left, in_right}
+use Rattle.tcap_check.proofs.NumberLaws.{parts_apart}
 
 -- ---- what is in a list
-
--- It is one of these.
-abbrev pub IsIn : {A : Type 0} → A → List A → Type 0
-IsIn x [] = ⊥
-IsIn x (y ∷ ys) = (x ≡ y) ⊎ IsIn x ys
-
--- Then the list contains it.
-pub contained : {A : Type 0} (x : A) (ys : List A) → IsIn x ys → Contains ys x
-contained x [] is = absurd is
-contained x (y ∷ ys) (inl same) = (0, omega arith, sym same)
-contained x (y ∷ ys) (inr more) = Contains-append_right (y ∷ []) ys x (contained x ys more)
-
--- It is in the first of two,
-in_left : {A : Type 0} (x : A) (ys zs : List A) → IsIn x ys → IsIn x (ys ++ zs)
-in_left x [] zs is = absurd is
-in_left x (y ∷ ys) zs (inl same) = inl same
-in_left x (y ∷ ys) zs (inr more) = inr (in_left x ys zs more)
-
--- or in the second.
-pub in_right : {A : Type 0} (x : A) (ys zs : List A) → IsIn x zs → IsIn x (ys ++ zs)
-in_right x [] zs is = is
-in_right x (y ∷ ys) zs is = inr (in_right x ys zs is)
-
--- What holds of each holds of it.
-of_one : {A : Type 0} (P : A → Type 0) (x : A) (ys zs : List A) → AllByRecursion P (ys ++ x ∷ zs) → P x
-of_one P x [] zs all = all.0
-of_one P x (y ∷ ys) zs all = of_one P x ys zs all.1
 
 -- An event is one of some where it is one of them as options,
 pub in_some : (x : Event) (ys : List Event) → IsIn x ys → IsIn (Some x) (map Some ys)
@@ -72,7 +43,7 @@ in_all x (event ∷ events) is = by (is_loss event) (in_all x events) is
 
 -- ---- numbers that were taken
 
--- A number is taken by an event that takes it,
+-- A number is taken by an event that takes it.
 pub in_taken : (side : Side) (n : ℕ) (event : Event) (events : List Event) → takes_from side event ≡ n ∷ [] → IsIn event events
     → IsIn n (numbers_taken side events)
 in_taken side n event [] takes is = absurd is
@@ -81,25 +52,6 @@ in_taken side n event (first ∷ events) takes (inl same) =
     (subst (λ (x : List ℕ). IsIn n x) (sym (ap (takes_from side) (sym same) ∙ takes)) (inl refl))
 in_taken side n event (first ∷ events) takes (inr more) =
     in_right n (takes_from side first) (numbers_taken side events) (in_taken side n event events takes more)
-
--- before others,
-pub taken_before : (side : Side) (n : ℕ) (events more : List Event) → IsIn n (numbers_taken side events)
-    → IsIn n (numbers_taken side (events ++ more))
-taken_before side n [] more is = absurd is
-taken_before side n (event ∷ events) more is = by (takes_from side event) (taken_before side n events more) is
-  where
-    by : (first : List ℕ) → (IsIn n (numbers_taken side events) → IsIn n (numbers_taken side (events ++ more)))
-        → IsIn n (first ++ numbers_taken side events) → IsIn n (first ++ numbers_taken side (events ++ more))
-    by [] on found = on found
-    by (k ∷ first) on (inl same) = inl same
-    by (k ∷ first) on (inr found) = inr (by first on found)
-
--- or behind them.
-pub taken_behind : (side : Side) (n : ℕ) (events more : List Event) → IsIn n (numbers_taken side more)
-    → IsIn n (numbers_taken side (events ++ more))
-taken_behind side n [] more is = is
-taken_behind side n (event ∷ events) more is =
-    in_right n (takes_from side event) (numbers_taken side (events ++ more)) (taken_behind side n events more is)
 
 -- The item of a number that an end sent is a message of this end.
 number_at : (side : Side) (n k : ℕ) (items : List Item) → IsIn n (numbers_sent side k items)
@@ -131,25 +83,13 @@ taken_sent table events w side n runs is =
     let same : n ≡ found.1 = omega (arith, found.2) in
     (found.0, ap (slice_get w.sent) same ∙ found.3)
 
--- No number is below itself,
-not_below_itself : (n : ℕ) → nat_cmp n n ≡ Less → ⊥
-not_below_itself n below = let same : Equal ≡ nat_cmp n n = nat_cmp_is n n Equal refl in cc
-
--- so none stands again in a list that rises,
-none_again : (n : ℕ) (xs ys : List ℕ) → IsStrictlySortedBy nat_cmp (xs ++ n ∷ ys) → IsIn n xs → ⊥
-unfolding IsStrictlySortedBy
-none_again n [] ys rises is = is
-none_again n (x ∷ xs) ys rises (inl same) =
-    not_below_itself n (subst (λ (k : ℕ). nat_cmp k n ≡ Less) (sym same) (of_one (λ (y : ℕ). nat_cmp x y ≡ Less) n xs ys rises.0))
-none_again n (x ∷ xs) ys rises (inr more) = none_again n xs ys rises.1 more
-
 -- and is not on it any more.
 pub taken_is_gone : (table : Table) (events : List Event) (w : World) (side : Side) (head : OnItsWay) (more : List OnItsWay)
     → Runs table events w → channel_from side w ≡ head ∷ more → IsIn head.number (numbers_taken side events) → ⊥
 taken_is_gone table events w side head more runs channel is =
-    none_again head.number (numbers_taken side events) (numbers_of more)
+    parts_apart head.number (numbers_taken side events) (numbers_of (head ∷ more))
     (subst (λ (x : List OnItsWay). IsStrictlySortedBy nat_cmp (numbers_taken side events ++ numbers_of x)) channel
-    (in_order table events w runs side)) is
+    (in_order table events w runs side)) is (inl refl)
 
 -- What is received is taken from the other end's channel,
 pub takes_received : (side : Side) (n : ℕ) → takes_from side (Receives (other side) n) ≡ n ∷ []

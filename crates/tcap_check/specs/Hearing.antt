@@ -23,8 +23,9 @@ use Rattle.tcap_model.specs.World.{is_side}
 use Rattle.tcap_model.specs.Run.{Closes, Receives, Tells, where_so}
 use Rattle.tcap_certificate.specs.Certificate.{Certificate}
 pub use Rattle.tcap_certificate.specs.Replayed.{is_heard, is_judged}
-use Rattle.tcap_certificate.specs.Replayed.{closings_judged, expiries_judged, fault_at, is_nothing, refused}
-use Rattle.tcap_check.specs.Progress.{closings_kept, discard_told, due_in, end_moved, expiries_kept, front_lost, last_lost, lost_counted, map_ok, message_kept, moved, quiet_kept, seat_at, sent_by, with_seat_end, with_told, with_waiting}
+use Rattle.tcap_certificate.specs.Replayed.{fault_at, is_nothing, refused}
+use Rattle.tcap_check.specs.Listed.{listed_for}
+use Rattle.tcap_check.specs.Progress.{all_kept, discard_told, due_in, end_moved, front_lost, last_lost, lost_counted, map_ok, message_kept, moved, quiet_kept, seat_at, sent_by, with_seat_end, with_told, with_waiting}
 
 -- ---- who is judged
 
@@ -93,8 +94,7 @@ deliveries_kept judged table entries (number ∷ numbers) p =
 -- the gap before the next entry: what is listed, then what is delivered
 abbrev pub gap_kept : Option Side → Table → Certificate → List Outline → ℕ → Progress → Result Progress CheckFault
 gap_kept judged table c entries since p =
-    closings_kept table entries since (closings_judged judged (filter (λ x. x.gap == length entries) c.close)) p
-    >>= expiries_kept table entries since (expiries_judged judged (filter (λ x. x.gap == length entries) c.expire))
+    all_kept table entries since (listed_for judged c (length entries)) p
     >>= deliveries_kept judged table entries (due_in (length entries) 0 c.fates)
 
 -- ---- a message

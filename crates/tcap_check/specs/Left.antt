@@ -1,5 +1,5 @@
 -- What a call that is refused leaves of what is kept: how far the replay goes (`SoFar`), over what is kept.
-use Rattle.std.specs.Prelude.{◌≡◌, ◌≢◌, ℕ, ◌+◌, List, [], ◌∷◌, filter, filter_map, length, not, slice_get, Option, Some, None, Result, Ok, Err, ◌==◌, ◌||◌, cond}
+use Rattle.std.specs.Prelude.{◌≡◌, ◌≢◌, ℕ, ◌+◌, List, [], ◌∷◌, filter_map, length, not, slice_get, Option, Some, None, Result, Ok, Err, ◌==◌, ◌||◌, cond}
 use Rattle.tcap_msg.specs.declared.message.AbortReason.TheVariants.{Cause}
 use Rattle.tcap_msg.specs.declared.message.Message.{Message}
 use Rattle.tcap_msg.specs.declared.message.Message.TheVariants.{Abort}
@@ -13,18 +13,18 @@ use Rattle.tcap_model.specs.declared.reason.Reason.{Reason}
 use Rattle.tcap_model.specs.declared.reason.Reason.TheVariants.{Memory, NotQuiet}
 use Rattle.tcap_model.specs.Run.{Closes}
 use Rattle.tcap_model.specs.World.{Item, Sent}
-use Rattle.tcap_certificate.specs.declared.certificate.Closing.{Closing}
-use Rattle.tcap_certificate.specs.declared.certificate.Expiry.{Expiry}
 use Rattle.tcap_certificate.specs.declared.certificate.Fate.{Fate}
 use Rattle.tcap_certificate.specs.declared.fault.CheckFault.{CheckFault}
 use Rattle.tcap_certificate.specs.Certificate.{Certificate}
 use Rattle.tcap_certificate.specs.Follows.{invoke_id, invoking_half}
-use Rattle.tcap_certificate.specs.Replayed.{closings_judged, expiries_judged, fault_at, is_gap, is_judged, is_nothing}
+use Rattle.tcap_certificate.specs.Replayed.{fault_at, is_gap, is_judged, is_nothing}
+use Rattle.tcap_check.specs.declared.listed.Listed.{Listed}
 use Rattle.tcap_check.specs.declared.outline.Outline.{Outline}
 use Rattle.tcap_check.specs.declared.progress.Progress.{Progress}
 use Rattle.tcap_check.specs.Checking.{Kept, gap_before, is_alone, tied_now}
 use Rattle.tcap_check.specs.Hearing.{delivery_kept, halves_shut, heard_from}
-use Rattle.tcap_check.specs.Progress.{closing_kept, closings_kept, due_in, end_moved, expiries_kept, expiry_kept, front_lost, ids_ended_over, last_lost, overtakes, seat_at}
+use Rattle.tcap_check.specs.Listed.{listed_for}
+use Rattle.tcap_check.specs.Progress.{all_kept, due_in, end_moved, front_lost, ids_ended_over, last_lost, listed_kept, overtakes, seat_at}
 use Rattle.tcap_check.specs.SoFar.{as_far, behind_or}
 
 -- A call that is refused, and not for want of memory, leaves this.
@@ -34,11 +34,8 @@ Leaves this (Err fault) left = fault ≢ fault_at Memory 0 → left ≡ this
 
 -- ---- a gap
 
-abbrev pub closings_left : Table → List Outline → ℕ → List Closing → Progress → Progress
-closings_left table entries since = as_far (closing_kept table entries since)
-
-abbrev pub expiries_left : Table → List Outline → ℕ → List Expiry → Progress → Progress
-expiries_left table entries since = as_far (expiry_kept table entries since)
+abbrev pub listed_left : Table → List Outline → ℕ → List Listed → Progress → Progress
+listed_left table entries since = as_far (listed_kept table entries since)
 
 abbrev pub delivery_left : Option Side → Option Side → Progress → Progress
 delivery_left judged None p = p
@@ -52,11 +49,9 @@ deliveries_left judged table entries (number ∷ numbers) p =
 
 abbrev pub gap_left : Option Side → Table → Certificate → List Outline → ℕ → Progress → Progress
 gap_left judged table c entries since p =
-    let closings : List Closing = closings_judged judged (filter (λ x. x.gap == length entries) c.close) in
-    let expiries : List Expiry = expiries_judged judged (filter (λ x. x.gap == length entries) c.expire) in
-    behind_or (closings_kept table entries since closings p) (closings_left table entries since closings p)
-    (λ closed. behind_or (expiries_kept table entries since expiries closed) (expiries_left table entries since expiries closed)
-    (deliveries_left judged table entries (due_in (length entries) 0 c.fates)))
+    let listed : List Listed = listed_for judged c (length entries) in
+    behind_or (all_kept table entries since listed p) (listed_left table entries since listed p)
+    (deliveries_left judged table entries (due_in (length entries) 0 c.fates))
 
 -- ---- an entry
 

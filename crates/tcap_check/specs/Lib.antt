@@ -10,6 +10,7 @@ pub mod Buckets
 pub mod Plan
 pub mod Ready
 pub mod SoFar
+pub mod Listed
 pub mod Left
 pub mod Stands
 pub mod WorkedSoFar

@@ -1,9 +1,10 @@
 -- What a certificate says, by gap and by entry.
-use Rattle.std.specs.Prelude.{◌≡◌, ◌≤◌, ℕ, Bool, false, filter, length, slice_get, Option, Some, None, ◌==◌}
+use Rattle.std.specs.Prelude.{◌≡◌, ◌≤◌, ℕ, Bool, false, length, slice_get, Option, Some, None}
 use Rattle.tcap_check.specs.declared.plan.Plan.{Plan}
 use Rattle.tcap_certificate.specs.Certificate.{Certificate}
 use Rattle.tcap_certificate.specs.Follows.{taken_by}
 use Rattle.tcap_check.specs.Buckets.{list_at}
+use Rattle.tcap_check.specs.Listed.{listed_in}
 use Rattle.tcap_check.specs.Outlines.{is_named}
 use Rattle.tcap_check.specs.Progress.{due_in}
 
@@ -13,8 +14,7 @@ flag_by (Some flag) = flag
 
 -- The lists of each gap and of each entry are those of the certificate, and it tells which entries are named.
 pub record IsPlan (c : Certificate) (plan : Plan) : Type 0 where
-  pub closings : (gap : ℕ) → gap ≤ length c.fates → list_at gap plan.closings ≡ filter (λ x. x.gap == gap) c.close
-  pub expiries : (gap : ℕ) → gap ≤ length c.fates → list_at gap plan.expiries ≡ filter (λ x. x.gap == gap) c.expire
+  pub listed : (gap : ℕ) → gap ≤ length c.fates → list_at gap plan.listed ≡ listed_in c gap
   pub due : (gap : ℕ) → gap ≤ length c.fates → list_at gap plan.due ≡ due_in gap 0 c.fates
   pub taken : (entry : ℕ) → entry ≤ length c.fates → list_at entry plan.taken ≡ taken_by entry 0 c.fates
   pub named : (entry : ℕ) → entry ≤ length c.fates → flag_by (slice_get plan.named.items entry) ≡ is_named c entry

@@ -20,6 +20,8 @@ use Rattle.tcap_certificate.specs.declared.certificate.Fate.{Fate}
 use Rattle.tcap_certificate.specs.declared.certificate.Fate.TheVariants.{Gap, Lost, By}
 use Rattle.tcap_certificate.specs.declared.fault.CheckFault.{CheckFault}
 use Rattle.tcap_model.specs.declared.reason.Reason.TheVariants.{FateRange, BadReply, SendRefused, HiddenRefused, NotQuiet, Memory}
+use Rattle.tcap_check.specs.declared.listed.Listed.{Listed}
+use Rattle.tcap_check.specs.declared.listed.Listed.TheVariants as listings
 use Rattle.tcap_check.specs.declared.outline.Outline.{Outline}
 use Rattle.tcap_check.specs.declared.progress.Progress.{Progress}
 use Rattle.tcap_check.specs.declared.progress.Seat.{Seat}
@@ -169,11 +171,6 @@ abbrev pub closing_kept : Table → List Outline → ℕ → Closing → Progres
 closing_kept table entries since x p =
     ok_or (half_closed entries since x) (fault_at FateRange x.entry) >>= λ name. half_closes table x name p
 
-abbrev pub closings_kept : Table → List Outline → ℕ → List Closing → Progress → Result Progress CheckFault
-closings_kept table entries since [] p = Ok p
-closings_kept table entries since (x ∷ more) p =
-    closing_kept table entries since x p >>= closings_kept table entries since more
-
 -- An invocation ends.
 abbrev pub invocation_ends : Table → Expiry → HalfName × ℤ → Progress → Result Progress CheckFault
 invocation_ends table x invocation p =
@@ -184,10 +181,15 @@ abbrev pub expiry_kept : Table → List Outline → ℕ → Expiry → Progress 
 expiry_kept table entries since x p =
     ok_or (invocation_ended entries since x) (fault_at FateRange x.entry) >>= λ invocation. invocation_ends table x invocation p
 
-abbrev pub expiries_kept : Table → List Outline → ℕ → List Expiry → Progress → Result Progress CheckFault
-expiries_kept table entries since [] p = Ok p
-expiries_kept table entries since (x ∷ more) p =
-    expiry_kept table entries since x p >>= expiries_kept table entries since more
+-- What is listed happens,
+abbrev pub listed_kept : Table → List Outline → ℕ → Listed → Progress → Result Progress CheckFault
+listed_kept table entries since (listings.Closes x) p = closing_kept table entries since x p
+listed_kept table entries since (listings.Expires x) p = expiry_kept table entries since x p
+
+-- one after the other.
+abbrev pub all_kept : Table → List Outline → ℕ → List Listed → Progress → Result Progress CheckFault
+all_kept table entries since [] p = Ok p
+all_kept table entries since (x ∷ more) p = listed_kept table entries since x p >>= all_kept table entries since more
 
 -- the numbers of the entries that have this gap; the first of these fates has number n
 abbrev pub due_in : ℕ → ℕ → List Fate → List ℕ

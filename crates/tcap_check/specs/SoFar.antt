@@ -1,6 +1,6 @@
 -- How far a replay goes that is refused: what happens in the gap before the next entry, and before this entry is sent, up to the first step that
 -- may not happen. The losses before a message is taken happen also if it can't be taken.
-use Rattle.std.specs.Prelude.{ℕ, ◌+◌, List, [], ◌∷◌, filter, length, not, slice_get, Option, Some, None, Result, Ok, Err, ◌==◌, ◌||◌, cond}
+use Rattle.std.specs.Prelude.{ℕ, ◌+◌, List, [], ◌∷◌, length, not, slice_get, Option, Some, None, Result, Ok, Err, ◌==◌, ◌||◌, cond}
 use Rattle.tcap_msg.specs.declared.message.Message.{Message}
 use Rattle.tcap_record.specs.declared.entry.End.{End as Side}
 use Rattle.tcap_record.specs.Ends.{other}
@@ -10,13 +10,13 @@ use Rattle.tcap_end.specs.Table.{Table}
 use Rattle.tcap_model.specs.declared.reason.Reason.{Reason}
 use Rattle.tcap_model.specs.Run.{Event, Sends, Replies}
 use Rattle.tcap_model.specs.World.{Item, Sent, end_at}
-use Rattle.tcap_certificate.specs.declared.certificate.Closing.{Closing}
-use Rattle.tcap_certificate.specs.declared.certificate.Expiry.{Expiry}
 use Rattle.tcap_certificate.specs.declared.certificate.Fate.{Fate}
 use Rattle.tcap_certificate.specs.declared.certificate.Fate.TheVariants.{Gap}
 use Rattle.tcap_certificate.specs.Certificate.{Certificate}
 use Rattle.tcap_certificate.specs.Follows.{invoking_half, sending_by}
-use Rattle.tcap_certificate.specs.Replayed.{Replay, closed_at_mark, closings_judged, closings_replayed, delivery_by, expiries_judged, expiries_replayed, gap_by, implied_over, is_due, is_gap, is_judged, is_nothing, is_overtaking, lost_from_front, lost_last, next_entry, tied}
+use Rattle.tcap_certificate.specs.Replayed.{Replay, closed_at_mark, delivery_by, gap_by, implied_over, is_due, is_gap, is_judged, is_nothing, is_overtaking, lost_from_front, lost_last, next_entry, tied}
+use Rattle.tcap_check.specs.declared.listed.Listed.{Listed}
+use Rattle.tcap_check.specs.Listed.{all_replayed, listed_for, listed_replayed}
 use Rattle.tcap_check.specs.Checking.{is_alone}
 
 -- what follows a step, or, if the step is refused, this
@@ -42,20 +42,15 @@ deliveries_so_far judged table c gap number (fate ∷ fates) (item ∷ items) r 
     (deliveries_so_far judged table c gap (number + 1) fates items)
 deliveries_so_far judged table c gap number _ _ r = r
 
-abbrev pub closings_so_far : Table → Certificate → List Closing → Replay → Replay
-closings_so_far table c = as_far (λ x. closings_replayed table c (x ∷ []))
-
-abbrev pub expiries_so_far : Table → Certificate → List Expiry → Replay → Replay
-expiries_so_far table c = as_far (λ x. expiries_replayed table c (x ∷ []))
+abbrev pub listed_so_far : Table → Certificate → List Listed → Replay → Replay
+listed_so_far table c = as_far (listed_replayed table c)
 
 -- the gap before the next entry: its closings, then its expiries, then its deliveries
 abbrev pub gap_so_far : Option Side → Table → Certificate → Replay → Replay
 gap_so_far judged table c r =
-    let closings : List Closing = closings_judged judged (filter (λ x. x.gap == next_entry r) c.close) in
-    let expiries : List Expiry = expiries_judged judged (filter (λ x. x.gap == next_entry r) c.expire) in
-    behind_or (closings_replayed table c closings r) (closings_so_far table c closings r)
-    (λ closed. behind_or (expiries_replayed table c expiries closed) (expiries_so_far table c expiries closed)
-    (deliveries_so_far judged table c (next_entry r) 0 c.fates r.world.sent))
+    let listed : List Listed = listed_for judged c (next_entry r) in
+    behind_or (all_replayed table c listed r) (listed_so_far table c listed r)
+    (deliveries_so_far judged table c (next_entry r) 0 c.fates r.world.sent)
 
 -- ---- an entry, after its gap
 

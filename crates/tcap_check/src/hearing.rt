@@ -189,8 +189,7 @@ impl<'r> Progress<'r> {
         ensures grows { OnOk result (GrewBy (2 ^ 66) 0 self.old self.new) }
     {
         let gap = entries.len();
-        self.close_all(table, judged, entries, since, plan.closings.get(gap))?;
-        self.expire_all(table, judged, entries, since, plan.expiries.get(gap))?;
+        self.hide_all(table, judged, entries, since, plan.listed.get(gap))?;
         self.deliver_all(table, judged, entries, plan.due.get(gap))
     }
 }

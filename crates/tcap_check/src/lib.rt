@@ -7,6 +7,7 @@ mod checker;
 pub mod given;
 mod hearing;
 mod held;
+mod listed;
 mod losing;
 mod marks;
 mod outline;
@@ -23,6 +24,7 @@ pub mod worked_so_far;
 
 pub use buckets::Buckets;
 pub use checker::{Checker, Report};
+pub use listed::Listed;
 pub use plan::Plan;
 pub use records::check;
 pub use runs::{Partial, run_of, run_until};

@@ -1,14 +1,17 @@
 //! What a certificate says, by gap and by entry, and whether its numbers are in their ranges.
 
-ghost use Rattle.std.specs.Prelude.{◌≡◌, ◌<◌, ◌≤◌, ◌+◌, ℕ, ◌==◌, ◌||◌, filter, length, slice_get, map, IfOk, OnOk};
+ghost use Rattle.std.specs.Prelude.{◌≡◌, [], ◌∷◌, ◌<◌, ◌≤◌, ◌+◌, ℕ, ◌==◌, ◌||◌, length, slice_get, map, IfOk, OnOk};
 ghost use Rattle.tcap_check.specs.Buckets.{count_lists, list_at};
+ghost use Rattle.tcap_check.specs.Listed.{listed_in};
 ghost use Rattle.tcap_check.specs.Outlines.{is_named};
 ghost use Rattle.tcap_check.specs.Plan.{IsPlan, flag_by};
 ghost use Rattle.tcap_check.specs.Progress.{due_in};
+ghost use Rattle.tcap_model.specs.declared.reason.Reason.TheVariants.{FateRange};
 ghost use Rattle.tcap_certificate.specs.Follows.{taken_by};
-ghost use Rattle.tcap_certificate.specs.Replayed.{all_fit, certificate_fits, fate_fits, fates_fit};
+ghost use Rattle.tcap_certificate.specs.Replayed.{all_fit, certificate_fits, fate_fits, fates_fit, fault_at};
 
 use crate::buckets::Buckets;
+use crate::listed::Listed;
 use std::alloc::{AllocError, Global};
 use tcap_certificate::{Certificate, CheckFault, Closing, Expiry, Fate};
 use tcap_model::Reason;
@@ -17,10 +20,8 @@ use tcap_model::Reason;
 /// are named.
 #[derive(Debug, Drop)]
 pub struct Plan {
-    /// The listed closings of each gap, in their order.
-    pub closings: Buckets<Closing>,
-    /// The listed expiries of each gap, in their order.
-    pub expiries: Buckets<Expiry>,
+    /// What is listed for each gap: its closings, then its expiries, each in their order.
+    pub listed: Buckets<Listed>,
     /// The numbers of the entries that are delivered in each gap, from the lowest on.
     pub due: Buckets<u32>,
     /// The numbers of the entries that each entry takes as a provider's reply, from the lowest on.
@@ -55,17 +56,32 @@ fn check_fates(fates: &[Fate]) -> Result<(), CheckFault>
     Ok(())
 }
 
+/// A number of the certificate that is out of its range, at that entry.
+pub(crate) fn out_of_range(entry: u32) -> CheckFault
+    ensures { result ≡ fault_at FateRange entry }
+{
+    CheckFault {
+        reason: Reason::FateRange,
+        entry: u64::from(entry),
+    }
+}
+
+/// Whether what is listed for a gap stands behind the entry that it names.
+fn check_gap(count: usize, entry: u32, gap: u32) -> Result<(), CheckFault>
+    ensures { result ≡ all_fit count ((entry, gap) ∷ []) }
+{
+    if gap <= entry || count < gap as usize {
+        return Err(out_of_range(entry));
+    }
+    Ok(())
+}
+
 /// Whether the closings stand behind the entries that they name; else the first that does not.
 fn check_closings(count: usize, close: &[Closing]) -> Result<(), CheckFault>
     ensures { result ≡ all_fit count (map (λ x. (x.entry, x.gap)) close.now) }
 {
     for x in close {
-        if x.gap <= x.entry || count < x.gap as usize {
-            return Err(CheckFault {
-                reason: Reason::FateRange,
-                entry: u64::from(x.entry),
-            });
-        }
+        check_gap(count, x.entry, x.gap)?;
     }
     Ok(())
 }
@@ -75,12 +91,7 @@ fn check_expiries(count: usize, expire: &[Expiry]) -> Result<(), CheckFault>
     ensures { result ≡ all_fit count (map (λ x. (x.entry, x.gap)) expire.now) }
 {
     for x in expire {
-        if x.gap <= x.entry || count < x.gap as usize {
-            return Err(CheckFault {
-                reason: Reason::FateRange,
-                entry: u64::from(x.entry),
-            });
-        }
+        check_gap(count, x.entry, x.gap)?;
     }
     Ok(())
 }
@@ -95,38 +106,24 @@ pub(crate) fn check_ranges(certificate: &Certificate) -> Result<(), CheckFault>
     check_expiries(count, certificate.expiries())
 }
 
-/// The closings of each gap.
-fn closings_by_gap(
+/// The closings of each gap, then its expiries.
+fn listed_by_gap(
     alloc: Global,
     count: usize,
-    close: &[Closing],
-) -> Result<Buckets<Closing>, AllocError>
-    ensures { IfOk result (λ made. (gap : ℕ) → gap < count → list_at gap made ≡ filter (λ x. x.gap == gap) close.now) }
+    certificate: &Certificate,
+) -> Result<Buckets<Listed>, AllocError>
+    ensures { IfOk result (λ made. (gap : ℕ) → gap < count → list_at gap made ≡ listed_in certificate.now gap) }
 {
-    if close.is_empty() {
+    let (close, expire) = (certificate.closings(), certificate.expiries());
+    if close.is_empty() && expire.is_empty() {
         return Buckets::new(alloc, 0);
     }
     let mut lists = Buckets::new(alloc, count)?;
     for x in close {
-        lists.push(x.gap as usize, *x)?;
+        lists.push(x.gap as usize, Listed::Closes(*x))?;
     }
-    Ok(lists)
-}
-
-/// The expiries of each gap.
-fn expiries_by_gap(
-    alloc: Global,
-    count: usize,
-    expire: &[Expiry],
-) -> Result<Buckets<Expiry>, AllocError>
-    ensures { IfOk result (λ made. (gap : ℕ) → gap < count → list_at gap made ≡ filter (λ x. x.gap == gap) expire.now) }
-{
-    if expire.is_empty() {
-        return Buckets::new(alloc, 0);
-    }
-    let mut lists = Buckets::new(alloc, count)?;
     for x in expire {
-        lists.push(x.gap as usize, *x)?;
+        lists.push(x.gap as usize, Listed::Expires(*x))?;
     }
     Ok(lists)
 }
@@ -199,8 +196,7 @@ impl Plan {
         let fates = certificate.fates();
         let count = fates.len() + 1;
         Ok(Plan {
-            closings: closings_by_gap(alloc, count, certificate.closings())?,
-            expiries: expiries_by_gap(alloc, count, certificate.expiries())?,
+            listed: listed_by_gap(alloc, count, certificate)?,
             due: due_by_gap(alloc, count, fates)?,
             taken: taken_by_entry(alloc, count, fates)?,
             named: named_entries(alloc, count, certificate)?,

@@ -5,15 +5,17 @@ ghost use Rattle.tcap_msg.specs.Parts.{otid_in};
 ghost use Rattle.tcap_end.specs.Step.{AnswersInMemory};
 ghost use Rattle.tcap_end.specs.Message.{receive};
 ghost use Rattle.tcap_check.specs.Hearing.{is_judged};
-ghost use Rattle.tcap_certificate.specs.Replayed.{closings_judged, expiries_judged};
-ghost use Rattle.tcap_check.specs.Progress.{IsMemory, YieldsInMemory, closing_kept, closings_kept, count_kept, discard_told, empty_seat};
-ghost use Rattle.tcap_check.specs.Progress.{expiries_kept, expiry_kept, half_closes, invocation_ends, nothing_kept, seat_at, with_told};
+ghost use Rattle.tcap_check.specs.Listed.{listed_judged};
+ghost use Rattle.tcap_check.specs.Progress.{IsMemory, YieldsInMemory, all_kept, count_kept, discard_told, empty_seat};
+ghost use Rattle.tcap_check.specs.Progress.{half_closes, invocation_ends, listed_kept, nothing_kept, seat_at, with_told};
 ghost use Rattle.tcap_record.specs.declared.entry.End.{End as Side};
-ghost use Rattle.tcap_check.specs.Left.{Leaves, closings_left, expiries_left};
+ghost use Rattle.tcap_check.specs.Left.{Leaves, listed_left};
 ghost use Rattle.tcap_check.specs.Told.{discard_of, event_of, told_if, told_of};
 
 use crate::held::Held;
+use crate::listed::Listed;
 use crate::outline::{Outline, half_closed, invocation_ended};
+use crate::plan::out_of_range;
 use crate::step::Step;
 use crate::steps::Steps;
 use std::alloc::Global;
@@ -225,93 +227,47 @@ impl<'r> Progress<'r> {
         self.tell(Step::Expires(x.side, name, id))
     }
 
-    /// Closes the half that a closing names unseen.
-    fn close_listed(
+    /// What is listed happens unseen: the half closes that a closing names, or the invocation ends that an expiry names.
+    fn hide(
         &mut self,
         table: &Table,
         entries: &[Outline],
         since: usize,
-        x: &Closing,
+        x: &Listed,
     ) -> Result<(), CheckFault>
         requires room { self.old.moves + 1 < 2 ^ 128 }
-        ensures closed { YieldsInMemory (closing_kept table.now entries.now since x.now self.old) result self.new }
+        ensures hidden { YieldsInMemory (listed_kept table.now entries.now since x.now self.old) result self.new }
         ensures left { Leaves self.old result self.new }
         ensures grows { OnOk result (self.new.moves ≡ self.old.moves + 1) }
     {
-        let Some(name) = half_closed(entries, since, x) else {
-            return Err(CheckFault {
-                reason: Reason::FateRange,
-                entry: u64::from(x.entry),
-            });
-        };
-        self.close(table, x, name)
-    }
-
-    /// Ends the invocation that an expiry names unseen.
-    fn expire_listed(
-        &mut self,
-        table: &Table,
-        entries: &[Outline],
-        since: usize,
-        x: &Expiry,
-    ) -> Result<(), CheckFault>
-        requires room { self.old.moves + 1 < 2 ^ 128 }
-        ensures ended { YieldsInMemory (expiry_kept table.now entries.now since x.now self.old) result self.new }
-        ensures left { Leaves self.old result self.new }
-        ensures grows { OnOk result (self.new.moves ≡ self.old.moves + 1) }
-    {
-        let Some((name, id)) = invocation_ended(entries, since, x) else {
-            return Err(CheckFault {
-                reason: Reason::FateRange,
-                entry: u64::from(x.entry),
-            });
-        };
-        self.expire(table, x, name, id)
-    }
-
-    /// Closes halves of the ends that are judged unseen, in the order in which they are listed. What is listed of a peer that is not is
-    /// passed over.
-    #[tactic(auto, using(crate::proofs::HearingLaws::closes_first, crate::proofs::HearingLaws::closes_none))]
-    pub(crate) fn close_all(
-        &mut self,
-        table: &Table,
-        judged: Option<End>,
-        entries: &[Outline],
-        since: usize,
-        closings: &[Closing],
-    ) -> Result<(), CheckFault>
-        requires room { self.old.moves + length closings.now < 2 ^ 128 }
-        ensures closed { YieldsInMemory (closings_kept table.now entries.now since (closings_judged judged closings.now) self.old) result
-            self.new }
-        ensures left { Leaves (closings_left table.now entries.now since (closings_judged judged closings.now) self.old) result self.new }
-    {
-        for x in closings {
-            if is_judged(judged, x.side) {
-                self.close_listed(table, entries, since, x)?;
-            }
+        match x {
+            Listed::Closes(x) => match half_closed(entries, since, x) {
+                Some(name) => self.close(table, x, name),
+                None => Err(out_of_range(x.entry)),
+            },
+            Listed::Expires(x) => match invocation_ended(entries, since, x) {
+                Some((name, id)) => self.expire(table, x, name, id),
+                None => Err(out_of_range(x.entry)),
+            },
         }
-        Ok(())
     }
 
-    /// Ends invocations of the ends that are judged unseen, in the order in which they are listed. What is listed of a peer that is not
-    /// is passed over.
-    #[tactic(auto, using(crate::proofs::HearingLaws::ends_first, crate::proofs::HearingLaws::ends_none))]
-    pub(crate) fn expire_all(
+    /// What is listed of the ends that are judged happens unseen, in that order. What is listed of a peer that is not is passed over.
+    pub(crate) fn hide_all(
         &mut self,
         table: &Table,
         judged: Option<End>,
         entries: &[Outline],
         since: usize,
-        expiries: &[Expiry],
+        listed: &[Listed],
     ) -> Result<(), CheckFault>
-        requires room { self.old.moves + length expiries.now < 2 ^ 128 }
-        ensures ended { YieldsInMemory (expiries_kept table.now entries.now since (expiries_judged judged expiries.now) self.old) result
-            self.new }
-        ensures left { Leaves (expiries_left table.now entries.now since (expiries_judged judged expiries.now) self.old) result self.new }
+        requires room { self.old.moves + length listed.now < 2 ^ 128 }
+        ensures hidden { YieldsInMemory (all_kept table.now entries.now since (listed_judged judged listed.now) self.old) result self.new }
+        ensures left { Leaves (listed_left table.now entries.now since (listed_judged judged listed.now) self.old) result self.new }
     {
-        for x in expiries {
-            if is_judged(judged, x.side) {
-                self.expire_listed(table, entries, since, x)?;
+        for x in listed {
+            if is_judged(judged, x.side()) {
+                self.hide(table, entries, since, x)?;
             }
         }
         Ok(())

@@ -273,7 +273,7 @@ impl<'r> Progress<'r> {
     }
 
     /// An end sends a message. As it is where it can: a message that can be sent so invokes no ID that is in use, and
-    /// nothing ends before it.
+    /// nothing ends before it. Else once each earlier invocation ended whose ID it invokes anew.
     #[tactic(auto, using(crate::proofs::AnewLaws::sends_as_is, crate::proofs::SendShows::memory_shows))]
     fn send<M: MessageParts>(
         &mut self,
@@ -294,31 +294,10 @@ impl<'r> Progress<'r> {
         ensures grows { OnOk result (GrewBy (2 ^ 65) 1 self.old self.new) }
     {
         match self.send_as_is(table, side, message) {
-            Ok(()) => self.join(alloc, Way::Sends, side, fate, number, message, lent),
-            Err(EndFault::Memory) => Err(OUT_OF_MEMORY),
-            Err(_) => self.send_anew(alloc, table, side, fate, number, message, lent),
+            Ok(()) => return self.join(alloc, Way::Sends, side, fate, number, message, lent),
+            Err(EndFault::Memory) => return Err(OUT_OF_MEMORY),
+            Err(_) => (),
         }
-    }
-
-    /// An end sends a message, once each earlier invocation ended whose ID it invokes anew.
-    fn send_anew<M: MessageParts>(
-        &mut self,
-        alloc: Global,
-        table: &Table,
-        side: End,
-        fate: Fate,
-        number: u64,
-        message: &M,
-        lent: Option<&'r Message>,
-    ) -> Result<(), CheckFault>
-        requires room { self.old.moves < 2 ^ 127 }
-        requires same { IfSome lent (λ lent. lent.now ≡ M.meaning message.now) }
-        ensures sent { YieldsInMemory (send_kept table.now side fate number (M.meaning message.now) self.old) result
-            self.new }
-        ensures left { Leaves (implied_left table.now side (M.meaning message.now) self.old) result self.new }
-        ensures shows { ShowsSend table.now side number (M.meaning message.now) result self.new }
-        ensures grows { OnOk result (GrewBy (2 ^ 65) 1 self.old self.new) }
-    {
         if message.count() > 0 {
             self.end_implied(table, side, message)?;
         }

@@ -3,7 +3,7 @@
 ghost use Rattle.std.specs.Prelude.{◌≡◌, ◌<◌, ◌^◌, IfSome, OnOk};
 ghost use Rattle.tcap_check.specs.Left.{Leaves, message_left, taken_left};
 ghost use Rattle.tcap_check.specs.Stands.{ShowsSend};
-ghost use Rattle.tcap_check.specs.Hearing.{message_taken, own_taken, told_taken};
+ghost use Rattle.tcap_check.specs.Hearing.{message_taken, told_taken};
 ghost use Rattle.tcap_check.specs.Progress.{GrewBy, YieldsInMemory, load, unheard_load};
 
 use crate::progress::{Progress, is_judged};
@@ -16,52 +16,6 @@ use tcap_msg::{Message, MessageParts};
 use tcap_record::End;
 
 impl<'r> Progress<'r> {
-    /// A message with that number and fate that an end sends which is judged, or by which its provider answers the message that it
-    /// takes. Where that end alone is judged it is lost at once, whatever its fate.
-    #[tactic(auto, using(crate::proofs::SendShows::memory_shows))]
-    fn take_own<M: MessageParts>(
-        &mut self,
-        alloc: Global,
-        table: &Table,
-        judged: Option<End>,
-        side: End,
-        fate: Fate,
-        number: u64,
-        message: &M,
-        lent: Option<&'r Message>,
-        takes: &[u32],
-    ) -> Result<(), CheckFault>
-        requires room { load self.old < 2 ^ 127 }
-        requires count { unheard_load self.old < 2 ^ 63 }
-        requires same { IfSome lent (λ lent. lent.now ≡ M.meaning message.now) }
-        ensures taken { YieldsInMemory (own_taken judged table.now side fate number (M.meaning message.now) takes.now self.old)
-            result self.new }
-        ensures left { Leaves (message_left judged table.now side (M.meaning message.now) takes.now self.old) result self.new }
-        ensures shows { ShowsSend table.now side number (M.meaning message.now) result self.new }
-        ensures grows { OnOk result (GrewBy (2 ^ 65) 1 self.old self.new) }
-    {
-        let Some(alone) = judged else {
-            return self.send_or_answer(
-                alloc, table, judged, side, fate, number, message, lent, takes,
-            );
-        };
-        let sent = self.send_or_answer(
-            alloc,
-            table,
-            judged,
-            side,
-            Fate::Lost,
-            number,
-            message,
-            None,
-            takes,
-        );
-        match sent {
-            Ok(()) => self.lose_front(judged, alone),
-            Err(fault) => Err(fault),
-        }
-    }
-
     /// A message with that number and fate that the peer of the judged end tells. It takes no message. It is lent, where it outlives
     /// the replay.
     fn take_told<M: MessageParts>(
@@ -89,9 +43,10 @@ impl<'r> Progress<'r> {
         self.join(alloc, Way::Tells, side, fate, number, message, lent)
     }
 
-    /// A message with that number and fate, which takes these: an end sends it, or the peer of the one that is judged tells it. It is
-    /// lent, where it outlives the replay.
-    #[tactic(auto, using(crate::proofs::SendShows::told_shows))]
+    /// A message with that number and fate, which takes these: an end sends it, or its provider answers by it the message that it
+    /// takes, or the peer of the one that is judged tells it. What that one sends is lost at once, whatever its fate. It is lent,
+    /// where it outlives the replay.
+    #[tactic(auto, using(crate::proofs::SendShows::told_shows, crate::proofs::SendShows::memory_shows))]
     pub(crate) fn take_message<M: MessageParts>(
         &mut self,
         alloc: Global,
@@ -113,12 +68,28 @@ impl<'r> Progress<'r> {
         ensures shows { ShowsSend table.now side number (M.meaning message.now) result self.new }
         ensures grows { OnOk result (GrewBy (2 ^ 65) 1 self.old self.new) }
     {
-        if is_judged(judged, side) {
-            self.take_own(
+        if !is_judged(judged, side) {
+            return self.take_told(alloc, side, fate, number, message, lent, takes);
+        }
+        let Some(alone) = judged else {
+            return self.send_or_answer(
                 alloc, table, judged, side, fate, number, message, lent, takes,
-            )
-        } else {
-            self.take_told(alloc, side, fate, number, message, lent, takes)
+            );
+        };
+        let sent = self.send_or_answer(
+            alloc,
+            table,
+            judged,
+            side,
+            Fate::Lost,
+            number,
+            message,
+            None,
+            takes,
+        );
+        match sent {
+            Ok(()) => self.lose_front(judged, alone),
+            Err(fault) => Err(fault),
         }
     }
 }

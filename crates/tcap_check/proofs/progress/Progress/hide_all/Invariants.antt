@@ -1,0 +1,14 @@
+-- what is left does to what is kept now as all does to what was kept first
+use Rattle.std.proofs.Common.{◌≡◌, drop}
+use Rattle.tcap_check.specs.Progress.{all_kept}
+use Rattle.tcap_check.specs.Listed.{listed_judged}
+use Rattle.tcap_check.specs.Left.{listed_left}
+use Rattle.tcap_check.proofs.HearingLaws.{Going}
+use Rattle.tcap_check.proofs.progress.Progress.hide_all.Given as goal
+
+abbrev pub invariant-loop-x : goal.invariant-loop-x
+invariant-loop-x l = record {
+  going : Going (λ listed. all_kept l.table l.entries l.since (listed_judged l.judged listed)) l.fn.self l.listed l.self l.x-index;
+  left : listed_left l.table l.entries l.since (listed_judged l.judged l.listed) l.fn.self
+      ≡ listed_left l.table l.entries l.since (listed_judged l.judged (drop l.x-index l.listed)) l.self;
+}
