@@ -120,7 +120,7 @@ impl Progress<'_> {
 
     /// A quiet mark where one end alone is judged and steps are listed: its open halves close one after the other, so that it is known
     /// which of them may not.
-    #[tactic(auto, using(crate::proofs::KeptGrowth::shut_grows))]
+    #[tactic(auto, using(crate::proofs::progress_laws::KeptGrowth::shut_grows))]
     fn mark_listed(
         &mut self,
         alloc: Global,

@@ -51,7 +51,7 @@ impl<'a> Checker<'a> {
 
 impl<'r> Replaying<'_, 'r> {
     /// Takes the next entry of a record that outlives the replay; its message is lent while it waits.
-    #[tactic(auto, using(crate::proofs::SendShows::mark_shows, crate::proofs::SendShows::refused_shows))]
+    #[tactic(auto, using(crate::proofs::refusal_laws::SendShows::mark_shows, crate::proofs::refusal_laws::SendShows::refused_shows))]
     fn take_entry(&mut self, entry: &'r Entry) -> Result<(), CheckFault>
         requires ready { IsReady self.old }
         ensures taken { YieldsInMemory (kept_next self.old.judged self.old.table.now self.old.certificate.now

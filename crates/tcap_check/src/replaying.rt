@@ -215,7 +215,7 @@ impl<'a, 'r> Replaying<'a, 'r> {
     }
 
     /// The next entry is a message that an end sent; it is lent, where it outlives the replay.
-    #[tactic(auto, using(crate::proofs::SendShows::gap_shows))]
+    #[tactic(auto, using(crate::proofs::refusal_laws::SendShows::gap_shows))]
     fn take_message<M: MessageParts>(
         &mut self,
         side: End,

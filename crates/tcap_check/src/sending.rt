@@ -274,7 +274,7 @@ impl<'r> Progress<'r> {
 
     /// An end sends a message. As it is where it can: a message that can be sent so invokes no ID that is in use, and
     /// nothing ends before it. Else once each earlier invocation ended whose ID it invokes anew.
-    #[tactic(auto, using(crate::proofs::AnewLaws::sends_as_is, crate::proofs::SendShows::memory_shows))]
+    #[tactic(auto, using(crate::proofs::checker_laws::SentAsItIsLaws::sends_as_is, crate::proofs::refusal_laws::SendShows::memory_shows))]
     fn send<M: MessageParts>(
         &mut self,
         alloc: Global,
@@ -326,7 +326,7 @@ impl<'r> Progress<'r> {
     }
 
     /// The provider of an end answers the first message on its way to it, which has to be that of the number.
-    #[tactic(auto, using(crate::proofs::SendingLaws::answered, crate::proofs::SendingLaws::not_answered))]
+    #[tactic(auto, using(crate::proofs::checker_laws::SendingLaws::answered, crate::proofs::checker_laws::SendingLaws::not_answered))]
     fn answer_first<A: MessageParts>(
         &mut self,
         alloc: Global,
@@ -379,7 +379,7 @@ impl<'r> Progress<'r> {
 
     /// A message with that number and fate, which takes these messages: the provider's answer to one, where it is an
     /// Abort with a cause; else one that the end sends, which takes none. It is lent, where it outlives the replay.
-    #[tactic(auto, using(crate::proofs::SendShows::reply_shows))]
+    #[tactic(auto, using(crate::proofs::refusal_laws::SendShows::reply_shows))]
     pub(crate) fn send_or_answer<M: MessageParts>(
         &mut self,
         alloc: Global,

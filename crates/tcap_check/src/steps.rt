@@ -35,7 +35,7 @@ impl Steps {
     }
 
     /// One step more, which is no discard.
-    #[tactic(auto, using(crate::proofs::ToldLaws::one_more))]
+    #[tactic(auto, using(crate::proofs::checker_laws::ToldStepLaws::one_more))]
     pub(crate) fn push(&mut self, step: Step) -> Result<(), AllocError>
         requires plain { discard_of step ≡ None }
         ensures { OnOk result (self.new ≡ more_told (event_of step ∷ []) self.old) }
@@ -45,7 +45,7 @@ impl Steps {
     }
 
     /// One step more: the message of that number, which an end sent, is discarded for that reason.
-    #[tactic(auto, using(crate::proofs::ToldLaws::one_discard_more))]
+    #[tactic(auto, using(crate::proofs::checker_laws::ToldStepLaws::one_discard_more))]
     pub(crate) fn push_discard(
         &mut self,
         sender: End,

@@ -46,7 +46,7 @@ impl<'r> Progress<'r> {
     /// A message with that number and fate, which takes these: an end sends it, or its provider answers by it the message that it
     /// takes, or the peer of the one that is judged tells it. What that one sends is lost at once, whatever its fate. It is lent,
     /// where it outlives the replay.
-    #[tactic(auto, using(crate::proofs::SendShows::told_shows, crate::proofs::SendShows::memory_shows))]
+    #[tactic(auto, using(crate::proofs::refusal_laws::SendShows::told_shows, crate::proofs::refusal_laws::SendShows::memory_shows))]
     pub(crate) fn take_message<M: MessageParts>(
         &mut self,
         alloc: Global,

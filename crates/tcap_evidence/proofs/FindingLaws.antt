@@ -18,7 +18,7 @@ use Rattle.tcap_model.specs.World.{Item, Sent}
 use Rattle.tcap_refute.specs.declared.kind.Kind.{Kind}
 use Rattle.tcap_refute.specs.declared.kind.Refutation.{Refutation}
 use Rattle.tcap_refute.specs.Before.{since_quiet}
-use Rattle.tcap_faults.specs.declared.subject.Subject.{Subject}
+use Rattle.tcap_faults.specs.declared.verdict.fault_subject.Subject.{Subject}
 use Rattle.tcap_faults.specs.Subject.{items_among, subject_by, subject_of}
 use Rattle.tcap_evidence.specs.declared.scene.Scene.{Scene as SceneKept}
 use Rattle.tcap_evidence.specs.declared.sent.Stretch.{Stretch}

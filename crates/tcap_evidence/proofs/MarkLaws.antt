@@ -17,9 +17,9 @@ use Rattle.tcap_model.specs.Run.{then_so, where_so}
 use Rattle.tcap_refute.specs.Before.{ends_to, is_a, sent_by}
 use Rattle.tcap_refute.specs.Kind.{or_else}
 use Rattle.tcap_faults.specs.Closed.{is_surely_open}
-use Rattle.tcap_faults.proofs.KeyLaws.{at_other}
-use Rattle.tcap_faults.proofs.MapLaws.{Puts}
-use Rattle.tcap_faults.proofs.TwoTests.{any_agree}
+use Rattle.tcap_faults.proofs.transaction_laws.KeyLaws.{at_other}
+use Rattle.tcap_faults.proofs.transaction_laws.IdMapLaws.{Puts}
+use Rattle.tcap_faults.proofs.list_laws.TwoTests.{any_agree}
 use Rattle.tcap_evidence.specs.declared.mark.Halves.{Halves}
 use Rattle.tcap_evidence.specs.declared.sent.Sent.{Sent as SentEntry}
 use Rattle.tcap_evidence.specs.Marked.{AreHalves, ended_to, first_to, messages_of}

@@ -17,12 +17,12 @@ use Rattle.tcap_refute.specs.declared.kind.Kind.{Kind}
 use Rattle.tcap_refute.specs.declared.kind.Kind.TheVariants as kinds
 use Rattle.tcap_refute.specs.declared.kind.Refutation.{Refutation}
 use Rattle.tcap_refute.specs.Before.{since_quiet}
-use Rattle.tcap_faults.specs.declared.how.How.{How}
-use Rattle.tcap_faults.specs.declared.how.How.TheVariants as hows
-use Rattle.tcap_faults.specs.declared.sort.Class.TheVariants.{Any, One, Two, Three}
-use Rattle.tcap_faults.specs.declared.sort.Sort.{Sort}
-use Rattle.tcap_faults.specs.declared.sort.Sort.TheVariants as sorts
-use Rattle.tcap_faults.specs.declared.subject.Subject.{Subject}
+use Rattle.tcap_faults.specs.declared.dialogue.half_origin.How.{How}
+use Rattle.tcap_faults.specs.declared.dialogue.half_origin.How.TheVariants as hows
+use Rattle.tcap_faults.specs.declared.component.component_sort.Class.TheVariants.{Any, One, Two, Three}
+use Rattle.tcap_faults.specs.declared.component.component_sort.Sort.{Sort}
+use Rattle.tcap_faults.specs.declared.component.component_sort.Sort.TheVariants as sorts
+use Rattle.tcap_faults.specs.declared.verdict.fault_subject.Subject.{Subject}
 use Rattle.tcap_faults.specs.Components.{is_of_link}
 use Rattle.tcap_faults.specs.Subject.{items_among, no_subject, subject_of}
 use Rattle.tcap_evidence.specs.declared.what.What.{What}

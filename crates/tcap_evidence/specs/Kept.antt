@@ -9,7 +9,7 @@ use Rattle.tcap_record.specs.Ends.{other}
 use Rattle.tcap_end.specs.Table.{Table}
 use Rattle.tcap_model.specs.World.{Item}
 use Rattle.tcap_refute.specs.Before.{sent_by}
-use Rattle.tcap_faults.specs.declared.subject.Subject.{Subject}
+use Rattle.tcap_faults.specs.declared.verdict.fault_subject.Subject.{Subject}
 use Rattle.tcap_evidence.specs.declared.scene.Scene.{Scene as SceneKept}
 use Rattle.tcap_evidence.specs.declared.sent.Stretch.{Stretch}
 use Rattle.tcap_evidence.specs.Numbered.{numbered_of}

@@ -22,9 +22,9 @@ use Rattle.tcap_refute.specs.Before.{is_a}
 use Rattle.tcap_refute.specs.Kind.{goes_elsewhere, is_begin_with_request, or_else}
 use Rattle.tcap_faults.specs.Told.{goes_on_to, is_cause}
 use Rattle.tcap_faults.specs.Closed.{is_surely_open}
-use Rattle.tcap_faults.specs.declared.how.How.{How}
-use Rattle.tcap_faults.specs.declared.how.How.TheVariants.{Accepted, Refused, Begun, Unanswered, Nowhere}
-use Rattle.tcap_faults.specs.declared.sort.Sort.{Sort}
+use Rattle.tcap_faults.specs.declared.dialogue.half_origin.How.{How}
+use Rattle.tcap_faults.specs.declared.dialogue.half_origin.How.TheVariants.{Accepted, Refused, Begun, Unanswered, Nowhere}
+use Rattle.tcap_faults.specs.declared.component.component_sort.Sort.{Sort}
 use Rattle.tcap_faults.specs.Tallied.{is_sort}
 use Rattle.tcap_evidence.specs.declared.what.What.{What}
 use Rattle.tcap_evidence.specs.declared.what.What.TheVariants as whats

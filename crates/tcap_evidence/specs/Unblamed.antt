@@ -11,11 +11,11 @@ use Rattle.tcap_end.specs.Table.{Table}
 use Rattle.tcap_model.specs.Entries.{item_of}
 use Rattle.tcap_refute.specs.declared.kind.Refutation.{Refutation}
 use Rattle.tcap_refute.specs.Kind.{refuted}
-use Rattle.tcap_faults.specs.declared.why.Tangle.{Tangle}
-use Rattle.tcap_faults.specs.declared.why.Tangle.TheVariants.{TwoIds, BegunTwice, BothBegan, Guessed}
-use Rattle.tcap_faults.specs.declared.why.TangledId.{TangledId}
-use Rattle.tcap_faults.specs.declared.why.Unblamed.{Unblamed}
-use Rattle.tcap_faults.specs.declared.why.Unblamed.TheVariants.{UsedAgain, Tangled}
+use Rattle.tcap_faults.specs.declared.verdict.unblamed_reason.Tangle.{Tangle}
+use Rattle.tcap_faults.specs.declared.verdict.unblamed_reason.Tangle.TheVariants.{TwoIds, BegunTwice, BothBegan, Guessed}
+use Rattle.tcap_faults.specs.declared.verdict.unblamed_reason.TangledId.{TangledId}
+use Rattle.tcap_faults.specs.declared.verdict.unblamed_reason.Unblamed.{Unblamed}
+use Rattle.tcap_faults.specs.declared.verdict.unblamed_reason.Unblamed.TheVariants.{UsedAgain, Tangled}
 use Rattle.tcap_faults.specs.Fault.{blamed}
 use Rattle.tcap_faults.specs.Unblamed.{unblamed_at}
 use Rattle.tcap_evidence.specs.declared.what.What.{What}

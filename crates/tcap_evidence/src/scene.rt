@@ -11,7 +11,7 @@ ghost use Rattle.tcap_evidence.specs.Marked.{is_of_mark};
 ghost use Rattle.tcap_evidence.specs.Numbered.{in_order, numbered_of};
 ghost use Rattle.tcap_evidence.specs.Operations.{invocations_in, invocations_of};
 ghost use Rattle.tcap_evidence.specs.Scene.{Scene as Known, heard_by, invoked_by, own_begin, own_id, shown, to_half, told_there, with_sort, with_sort_in};
-ghost use Rattle.tcap_faults.specs.declared.how.How.TheVariants as hows;
+ghost use Rattle.tcap_faults.specs.declared.dialogue.half_origin.How.TheVariants as hows;
 ghost use Rattle.tcap_evidence.specs.declared.what.What.TheVariants as whats;
 
 use crate::listing::{

@@ -2,7 +2,7 @@
 
 ghost use Rattle.std.specs.Prelude.{◌≡◌, ◌++◌, Some, OnOk};
 ghost use Rattle.std.specs.String.{string_bytes};
-ghost use Rattle.tcap_faults.specs.declared.why.Unblamed.TheVariants.{Tangled};
+ghost use Rattle.tcap_faults.specs.declared.verdict.unblamed_reason.Unblamed.TheVariants.{Tangled};
 ghost use Rattle.tcap_evidence.specs.Unblamed.{IsUnblamed, again_text, id_lines, spelling_words, tangle_words, tangled_line, tangled_text, unblamed_text, unblamed_words};
 
 use crate::finding::grounds_for;

@@ -8,13 +8,13 @@ use Rattle.tcap_parts.specs.declared.problem.Problem.TheVariants as problems
 use Rattle.tcap_end.specs.Component.{links}
 use Rattle.tcap_end.specs.Table.{Table}
 use Rattle.tcap_faults.specs.Components.{is_of_link, lists_nothing}
-use Rattle.tcap_faults.specs.declared.sort.Class.{Class}
-use Rattle.tcap_faults.specs.declared.sort.Class.TheVariants as classes
-use Rattle.tcap_faults.specs.declared.sort.Sort.{Sort}
-use Rattle.tcap_faults.specs.declared.sort.Sort.TheVariants as sorts
-use Rattle.tcap_faults.specs.declared.before.Before.{Before}
-use Rattle.tcap_faults.specs.declared.half.Half.{Half}
-use Rattle.tcap_faults.specs.declared.tally.Tally.{Tally}
+use Rattle.tcap_faults.specs.declared.component.component_sort.Class.{Class}
+use Rattle.tcap_faults.specs.declared.component.component_sort.Class.TheVariants as classes
+use Rattle.tcap_faults.specs.declared.component.component_sort.Sort.{Sort}
+use Rattle.tcap_faults.specs.declared.component.component_sort.Sort.TheVariants as sorts
+use Rattle.tcap_faults.specs.declared.component.preceding_components.Before.{Before}
+use Rattle.tcap_faults.specs.declared.dialogue.half.Half.{Half}
+use Rattle.tcap_faults.specs.declared.component.tally.Tally.{Tally}
 use Rattle.tcap_faults.specs.Tallied.{Tallied, both_tallied, sum}
 use Rattle.tcap_faults.specs.Tallies.{tallies_of, tally_of}
 use Rattle.tcap_faults.specs.Linking.{is_of_none}

@@ -6,7 +6,7 @@ use Rattle.tcap_record.specs.declared.entry.End.{End as Side}
 use Rattle.tcap_record.specs.Ends.{other}
 use Rattle.tcap_end.specs.Table.{Table}
 use Rattle.tcap_model.specs.World.{Item}
-use Rattle.tcap_faults.specs.declared.effects.Effects.{Effects}
+use Rattle.tcap_faults.specs.declared.transaction.message_effects.Effects.{Effects}
 use Rattle.tcap_faults.specs.Told.{began, has_ended, has_used}
 use Rattle.tcap_faults.specs.UsedAgain.{uses_again}
 

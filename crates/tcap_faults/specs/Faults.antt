@@ -9,7 +9,7 @@ use Rattle.tcap_refute.specs.declared.kind.Kind.{Kind}
 use Rattle.tcap_refute.specs.declared.kind.Kind.TheVariants as kinds
 use Rattle.tcap_refute.specs.Before.{invokes}
 use Rattle.tcap_faults.specs.Components.{is_linked}
-use Rattle.tcap_faults.specs.declared.components.ComponentFaults.{ComponentFaults}
+use Rattle.tcap_faults.specs.declared.component.component_faults.ComponentFaults.{ComponentFaults}
 use Rattle.tcap_faults.specs.ByTallies.{Counted, answers_again_by, invokes_busy_by, links_badly_by, rejects_wrongly_by}
 
 -- the component by which a message has that kind

@@ -6,9 +6,9 @@ use Rattle.tcap_record.specs.declared.entry.End.{End as Side}
 use Rattle.tcap_record.specs.Ends.{other}
 use Rattle.tcap_end.specs.Table.{Table}
 use Rattle.tcap_model.specs.World.{Item}
-use Rattle.tcap_faults.specs.declared.found.Found.{Found}
-use Rattle.tcap_faults.specs.declared.found.Own.{Own}
-use Rattle.tcap_faults.specs.declared.found.There.{There}
+use Rattle.tcap_faults.specs.declared.transaction.lookup.Found.{Found}
+use Rattle.tcap_faults.specs.declared.transaction.lookup.Own.{Own}
+use Rattle.tcap_faults.specs.declared.transaction.lookup.There.{There}
 use Rattle.tcap_faults.specs.Ids.{AreAmong}
 use Rattle.tcap_faults.specs.Kept.{IsFromAt, IsToAt, dtids_of, sent_from, sent_to}
 use Rattle.tcap_faults.specs.Told.{has_used}

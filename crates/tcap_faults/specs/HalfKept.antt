@@ -3,8 +3,8 @@ use Rattle.std.specs.Prelude.{◌≡◌, List, map}
 use Rattle.tcap_parts.specs.declared.component.Component.{Component}
 use Rattle.tcap_end.specs.Table.{Table}
 use Rattle.tcap_faults.specs.Told.{is_request_of}
-use Rattle.tcap_faults.specs.declared.half.Half.{Half}
-use Rattle.tcap_faults.specs.declared.tally.Tally.{Tally}
+use Rattle.tcap_faults.specs.declared.dialogue.half.Half.{Half}
+use Rattle.tcap_faults.specs.declared.component.tally.Tally.{Tally}
 use Rattle.tcap_faults.specs.HalfOf.{HalfOf}
 use Rattle.tcap_faults.specs.Tallied.{AreFew, tallied}
 use Rattle.tcap_faults.specs.Tallies.{tallies_of}

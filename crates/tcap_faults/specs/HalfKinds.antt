@@ -13,8 +13,8 @@ use Rattle.tcap_model.specs.World.{Item}
 use Rattle.tcap_refute.specs.Before.{has_a, is_a}
 use Rattle.tcap_faults.specs.Closed.{was_closed}
 use Rattle.tcap_faults.specs.Told.{began, is_request_of, told}
-use Rattle.tcap_faults.specs.declared.how.How.{How}
-use Rattle.tcap_faults.specs.declared.how.How.TheVariants.{Accepted, Begun, Nowhere, Refused, Unanswered}
+use Rattle.tcap_faults.specs.declared.dialogue.half_origin.How.{How}
+use Rattle.tcap_faults.specs.declared.dialogue.half_origin.How.TheVariants.{Accepted, Begun, Nowhere, Refused, Unanswered}
 use Rattle.tcap_faults.specs.HalfOf.{HalfOf}
 
 -- ---- F8: no half may send it

@@ -2,7 +2,7 @@
 use Rattle.std.specs.Prelude.{◌≡◌, ℕ, Bool, List, [], ◌∷◌, Contains, Option, Some, None, not}
 use Rattle.std.specs.List.{find}
 use Rattle.tcap_faults.specs.Counts.{is_nothing}
-use Rattle.tcap_faults.specs.declared.ids.Ids.{Ids}
+use Rattle.tcap_faults.specs.declared.transaction.id_list.Ids.{Ids}
 use Rattle.tcap_faults.specs.Tangled.{two_differ}
 
 abbrev pub ids_first : List (List ℕ) → Option (List ℕ)

@@ -10,8 +10,8 @@ use Rattle.tcap_record.specs.declared.entry.End.{End as Side}
 use Rattle.tcap_record.specs.Ends.{other}
 use Rattle.tcap_msg.specs.declared.message.Message.{Message}
 use Rattle.tcap_model.specs.World.{Item, Sent}
-use Rattle.tcap_faults.specs.declared.ids.Ids.{Ids}
-use Rattle.tcap_faults.specs.declared.facts.SideFacts.{SideFacts}
+use Rattle.tcap_faults.specs.declared.transaction.id_list.Ids.{Ids}
+use Rattle.tcap_faults.specs.declared.transaction.history.SideFacts.{SideFacts}
 use Rattle.tcap_faults.specs.Ids.{AreAmong}
 use Rattle.tcap_faults.specs.Kept.{dtids_of, sent_from}
 use Rattle.tcap_faults.specs.Tangled.{peers_of}

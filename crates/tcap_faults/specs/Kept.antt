@@ -22,12 +22,12 @@ use Rattle.tcap_refute.specs.Kind.{is_begin_with_request}
 use Rattle.tcap_faults.specs.Closed.{shows_closed}
 use Rattle.tcap_faults.specs.Counts.{count, is_nothing}
 use Rattle.tcap_faults.specs.Told.{goes_on_to, has_ended, has_used, is_cause, one_passes}
-use Rattle.tcap_faults.specs.declared.facts.Facts.{Facts}
-use Rattle.tcap_faults.specs.declared.facts.SideFacts.{SideFacts}
-use Rattle.tcap_faults.specs.declared.sent_from.Came.{Came}
-use Rattle.tcap_faults.specs.declared.sent_from.FirstBegin.{FirstBegin}
-use Rattle.tcap_faults.specs.declared.sent_from.SentFrom.{SentFrom}
-use Rattle.tcap_faults.specs.declared.sent_to.SentTo.{SentTo}
+use Rattle.tcap_faults.specs.declared.transaction.history.Facts.{Facts}
+use Rattle.tcap_faults.specs.declared.transaction.history.SideFacts.{SideFacts}
+use Rattle.tcap_faults.specs.declared.transaction.sent_from_id.Came.{Came}
+use Rattle.tcap_faults.specs.declared.transaction.sent_from_id.FirstBegin.{FirstBegin}
+use Rattle.tcap_faults.specs.declared.transaction.sent_from_id.SentFrom.{SentFrom}
+use Rattle.tcap_faults.specs.declared.transaction.sent_to_id.SentTo.{SentTo}
 use Rattle.tcap_faults.specs.HalfOf.{from_first, responds}
 use Rattle.tcap_faults.specs.Ids.{AreAmong, AreIds}
 use Rattle.tcap_faults.specs.Tallies.{IsTally}

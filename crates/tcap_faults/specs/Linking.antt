@@ -7,10 +7,10 @@ use Rattle.tcap_parts.specs.Meaning.{code_of}
 use Rattle.tcap_end.specs.Component.{links}
 use Rattle.tcap_end.specs.Table.{Table}
 use Rattle.tcap_faults.specs.Components.{lists_nothing}
-use Rattle.tcap_faults.specs.declared.link_problem.LinkProblem.{LinkProblem}
-use Rattle.tcap_faults.specs.declared.link_problem.LinkProblem.TheVariants as problems
-use Rattle.tcap_faults.specs.declared.linkable.Linkable.{Linkable}
-use Rattle.tcap_faults.specs.declared.linkable.Linkable.TheVariants as linkables
+use Rattle.tcap_faults.specs.declared.component.link_problem.LinkProblem.{LinkProblem}
+use Rattle.tcap_faults.specs.declared.component.link_problem.LinkProblem.TheVariants as problems
+use Rattle.tcap_faults.specs.declared.component.linkable_operation.Linkable.{Linkable}
+use Rattle.tcap_faults.specs.declared.component.linkable_operation.Linkable.TheVariants as linkables
 use Rattle.tcap_faults.specs.Tallied.{Tallied}
 
 -- whether others may be linked to an operation, but not that one

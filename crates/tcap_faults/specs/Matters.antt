@@ -10,7 +10,7 @@ use Rattle.tcap_end.specs.Table.{Table}
 use Rattle.tcap_model.specs.declared.reason.Reason.{Reason}
 use Rattle.tcap_model.specs.World.{Item, Sent, is_side}
 use Rattle.tcap_refute.specs.Before.{is_a}
-use Rattle.tcap_faults.specs.declared.facts.Facts.{Facts}
+use Rattle.tcap_faults.specs.declared.transaction.history.Facts.{Facts}
 use Rattle.tcap_faults.specs.Replay.{items_up_to}
 use Rattle.tcap_faults.specs.Searching.{AreCounted, IsKept}
 

@@ -11,11 +11,11 @@ use Rattle.tcap_end.specs.Table.{Table}
 use Rattle.tcap_refute.specs.Before.{is_invoke_id}
 use Rattle.tcap_faults.specs.Counts.{invokes_so, is_class, is_result_of}
 use Rattle.tcap_faults.specs.Components.{is_of_link, is_problem}
-use Rattle.tcap_faults.specs.declared.sort.Class.{Class}
-use Rattle.tcap_faults.specs.declared.sort.Class.TheVariants as classes
-use Rattle.tcap_faults.specs.declared.sort.Sort.{Sort}
-use Rattle.tcap_faults.specs.declared.sort.Sort.TheVariants as sorts
-use Rattle.tcap_faults.specs.declared.of_id.OfId.{OfId}
+use Rattle.tcap_faults.specs.declared.component.component_sort.Class.{Class}
+use Rattle.tcap_faults.specs.declared.component.component_sort.Class.TheVariants as classes
+use Rattle.tcap_faults.specs.declared.component.component_sort.Sort.{Sort}
+use Rattle.tcap_faults.specs.declared.component.component_sort.Sort.TheVariants as sorts
+use Rattle.tcap_faults.specs.declared.component.invoke_history.OfId.{OfId}
 use Rattle.tcap_faults.specs.Tallied.{Tallied, invokes_link, is_of_class, is_sort, more_if, not_expiring, results_so, sum}
 use Rattle.tcap_faults.specs.Tallies.{answers_in, count_in, count_of, count_of_class, invokes_in, links_in}
 

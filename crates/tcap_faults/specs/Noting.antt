@@ -6,9 +6,9 @@ use Rattle.tcap_msg.specs.declared.message.Message.{Message}
 use Rattle.tcap_end.specs.End.{is_id}
 use Rattle.tcap_end.specs.Table.{Table, octets_cmp}
 use Rattle.tcap_refute.specs.Before.{components_of}
-use Rattle.tcap_faults.specs.declared.sent_from.Came.{Came}
-use Rattle.tcap_faults.specs.declared.sent_from.SentFrom.{SentFrom}
-use Rattle.tcap_faults.specs.declared.sent_to.SentTo.{SentTo}
+use Rattle.tcap_faults.specs.declared.transaction.sent_from_id.Came.{Came}
+use Rattle.tcap_faults.specs.declared.transaction.sent_from_id.SentFrom.{SentFrom}
+use Rattle.tcap_faults.specs.declared.transaction.sent_to_id.SentTo.{SentTo}
 use Rattle.tcap_faults.specs.Ids.{AreIds}
 use Rattle.tcap_faults.specs.Kept.{IsAt, IsCame, IsFromWhole, IsTo, of_user, otids_of}
 use Rattle.tcap_faults.specs.Tallied.{more_if}

@@ -11,9 +11,9 @@ use Rattle.tcap_model.specs.Entries.{item_of}
 use Rattle.tcap_refute.specs.declared.kind.Kind.{Kind}
 use Rattle.tcap_refute.specs.declared.kind.Kind.TheVariants as kinds
 use Rattle.tcap_refute.specs.Before.{since_quiet}
-use Rattle.tcap_faults.specs.declared.facts.Facts.{Facts}
-use Rattle.tcap_faults.specs.declared.blaming.Looking.{Looking}
-use Rattle.tcap_faults.specs.declared.blaming.SearchState.{SearchState}
+use Rattle.tcap_faults.specs.declared.transaction.history.Facts.{Facts}
+use Rattle.tcap_faults.specs.declared.verdict.first_fault.Looking.{Looking}
+use Rattle.tcap_faults.specs.declared.verdict.first_fault.SearchState.{SearchState}
 use Rattle.tcap_faults.specs.Fault.{bad_entry_of, blamed, blamed_behind, fault_since}
 use Rattle.tcap_faults.specs.Kept.{AreFacts}
 

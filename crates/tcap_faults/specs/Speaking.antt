@@ -5,11 +5,11 @@ use Rattle.tcap_record.specs.Ends.{other}
 use Rattle.tcap_end.specs.Table.{Table}
 use Rattle.tcap_model.specs.World.{Item}
 use Rattle.tcap_faults.specs.Told.{begin_from, goes_on_to}
-use Rattle.tcap_faults.specs.declared.sent_from.Came.{Came}
-use Rattle.tcap_faults.specs.declared.sent_from.FirstBegin.{FirstBegin}
-use Rattle.tcap_faults.specs.declared.sent_from.SentFrom.{SentFrom}
-use Rattle.tcap_faults.specs.declared.sent_to.SentTo.{SentTo}
-use Rattle.tcap_faults.specs.declared.tally.Tally.{Tally}
+use Rattle.tcap_faults.specs.declared.transaction.sent_from_id.Came.{Came}
+use Rattle.tcap_faults.specs.declared.transaction.sent_from_id.FirstBegin.{FirstBegin}
+use Rattle.tcap_faults.specs.declared.transaction.sent_from_id.SentFrom.{SentFrom}
+use Rattle.tcap_faults.specs.declared.transaction.sent_to_id.SentTo.{SentTo}
+use Rattle.tcap_faults.specs.declared.component.tally.Tally.{Tally}
 use Rattle.tcap_faults.specs.HalfOf.{begun_from}
 use Rattle.tcap_faults.specs.Kept.{IsCameAt, IsFirstBegin, IsFrom, sent_from}
 

@@ -17,8 +17,8 @@ use Rattle.tcap_refute.specs.Before.{since_quiet}
 use Rattle.tcap_faults.specs.Components.{invokes_again, is_linked}
 use Rattle.tcap_refute.specs.FirstComponent.{first_component, first_so}
 use Rattle.tcap_refute.specs.Kind.{or_else}
-use Rattle.tcap_faults.specs.declared.how.How.TheVariants.{Nowhere}
-use Rattle.tcap_faults.specs.declared.subject.Subject.{Subject}
+use Rattle.tcap_faults.specs.declared.dialogue.half_origin.How.TheVariants.{Nowhere}
+use Rattle.tcap_faults.specs.declared.verdict.fault_subject.Subject.{Subject}
 use Rattle.tcap_faults.specs.ComponentKinds.{answers_again, invokes_busy, links_badly, rejects_wrongly}
 use Rattle.tcap_faults.specs.HalfOf.{HalfOf, half_of}
 

@@ -11,10 +11,10 @@ use Rattle.tcap_refute.specs.Before.{is_invoke_id}
 use Rattle.tcap_faults.specs.Counts.{any_problem, count, has_class, invokes_linked, invokes_so, is_error, is_last_result, is_not_last, is_result, is_result_of, rejects_error, rejects_invoke, rejects_result}
 use Rattle.tcap_faults.specs.Components.{is_of_link, is_problem}
 use Rattle.tcap_faults.specs.ComponentKinds.{rejects_generally}
-use Rattle.tcap_faults.specs.declared.sort.Class.{Class}
-use Rattle.tcap_faults.specs.declared.sort.Class.TheVariants as classes
-use Rattle.tcap_faults.specs.declared.sort.Sort.{Sort}
-use Rattle.tcap_faults.specs.declared.sort.Sort.TheVariants as sorts
+use Rattle.tcap_faults.specs.declared.component.component_sort.Class.{Class}
+use Rattle.tcap_faults.specs.declared.component.component_sort.Class.TheVariants as classes
+use Rattle.tcap_faults.specs.declared.component.component_sort.Sort.{Sort}
+use Rattle.tcap_faults.specs.declared.component.component_sort.Sort.TheVariants as sorts
 
 -- ---- counts
 

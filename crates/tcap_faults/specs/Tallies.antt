@@ -10,15 +10,15 @@ use Rattle.tcap_parts.specs.declared.code.Code.TheVariants.{Local}
 use Rattle.tcap_parts.specs.declared.component.Component.{Component}
 use Rattle.tcap_end.specs.Table.{Table}
 use Rattle.tcap_refute.specs.Kept.{holds, is_first}
-use Rattle.tcap_faults.specs.declared.sort.Class.{Class}
-use Rattle.tcap_faults.specs.declared.sort.Class.TheVariants as classes
-use Rattle.tcap_faults.specs.declared.sort.Sort.{Sort}
-use Rattle.tcap_faults.specs.declared.sort.Sort.TheVariants as sorts
-use Rattle.tcap_faults.specs.declared.code_counts.CodeCounts.{CodeCounts}
-use Rattle.tcap_faults.specs.declared.many_codes.ManyCodes.{ManyCodes}
-use Rattle.tcap_faults.specs.declared.by_class.ByClass.{ByClass}
-use Rattle.tcap_faults.specs.declared.of_id.OfId.{OfId}
-use Rattle.tcap_faults.specs.declared.tally.Tally.{Tally}
+use Rattle.tcap_faults.specs.declared.component.component_sort.Class.{Class}
+use Rattle.tcap_faults.specs.declared.component.component_sort.Class.TheVariants as classes
+use Rattle.tcap_faults.specs.declared.component.component_sort.Sort.{Sort}
+use Rattle.tcap_faults.specs.declared.component.component_sort.Sort.TheVariants as sorts
+use Rattle.tcap_faults.specs.declared.component.code_counts.CodeCounts.{CodeCounts}
+use Rattle.tcap_faults.specs.declared.component.code_count_maps.ManyCodes.{ManyCodes}
+use Rattle.tcap_faults.specs.declared.component.class_counts.ByClass.{ByClass}
+use Rattle.tcap_faults.specs.declared.component.invoke_history.OfId.{OfId}
+use Rattle.tcap_faults.specs.declared.component.tally.Tally.{Tally}
 use Rattle.tcap_faults.specs.Listed.{counted}
 use Rattle.tcap_faults.specs.Tallied.{AreFew, Tallied, both_tallied, nothing_tallied, tallied}
 

@@ -13,9 +13,9 @@ use Rattle.tcap_record.specs.Ends.{other}
 use Rattle.tcap_model.specs.World.{Item, Sent, is_side}
 use Rattle.tcap_refute.specs.Before.{asked, has_a, is_a, sent_by}
 use Rattle.tcap_refute.specs.Kind.{or_else}
-use Rattle.tcap_faults.specs.declared.why.Tangle.{Tangle}
-use Rattle.tcap_faults.specs.declared.why.Tangle.TheVariants.{TwoIds, BegunTwice, BothBegan, Guessed}
-use Rattle.tcap_faults.specs.declared.why.TangledId.{TangledId}
+use Rattle.tcap_faults.specs.declared.verdict.unblamed_reason.Tangle.{Tangle}
+use Rattle.tcap_faults.specs.declared.verdict.unblamed_reason.Tangle.TheVariants.{TwoIds, BegunTwice, BothBegan, Guessed}
+use Rattle.tcap_faults.specs.declared.verdict.unblamed_reason.TangledId.{TangledId}
 use Rattle.tcap_faults.specs.Counts.{count}
 use Rattle.tcap_faults.specs.Told.{began, goes_on_from, goes_on_to, has_used, one_passes}
 

@@ -9,9 +9,9 @@ use Rattle.tcap_model.specs.World.{Item, Sent, is_side}
 use Rattle.tcap_model.specs.Entries.{item_of}
 use Rattle.tcap_refute.specs.Before.{since_quiet}
 use Rattle.tcap_refute.specs.Kind.{or_else}
-use Rattle.tcap_faults.specs.declared.why.TangledId.{TangledId}
-use Rattle.tcap_faults.specs.declared.why.Unblamed.{Unblamed}
-use Rattle.tcap_faults.specs.declared.why.Unblamed.TheVariants.{UsedAgain, Tangled}
+use Rattle.tcap_faults.specs.declared.verdict.unblamed_reason.TangledId.{TangledId}
+use Rattle.tcap_faults.specs.declared.verdict.unblamed_reason.Unblamed.{Unblamed}
+use Rattle.tcap_faults.specs.declared.verdict.unblamed_reason.Unblamed.TheVariants.{UsedAgain, Tangled}
 use Rattle.tcap_faults.specs.Subject.{items_among}
 use Rattle.tcap_faults.specs.Tangled.{tangled_in}
 use Rattle.tcap_faults.specs.UsedAgain.{is_used_again}

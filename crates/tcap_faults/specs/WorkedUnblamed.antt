@@ -6,8 +6,8 @@ use Rattle.tcap_record.specs.declared.entry.End.TheVariants.{A, B}
 use Rattle.tcap_model.specs.World.{Item, Sent}
 use Rattle.tcap_model.specs.Entries.{entry_of}
 use Rattle.tcap_model.specs.WorkedItems.{id, table}
-use Rattle.tcap_faults.specs.declared.why.Unblamed.{Unblamed}
-use Rattle.tcap_faults.specs.declared.why.Unblamed.TheVariants.{UsedAgain}
+use Rattle.tcap_faults.specs.declared.verdict.unblamed_reason.Unblamed.{Unblamed}
+use Rattle.tcap_faults.specs.declared.verdict.unblamed_reason.Unblamed.TheVariants.{UsedAgain}
 use Rattle.tcap_faults.specs.Unblamed.{unblamed_at}
 
 abbrev begins : Side → ℕ → Item

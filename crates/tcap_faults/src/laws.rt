@@ -16,7 +16,7 @@ ghost use Rattle.tcap_refute.specs.Before.{since_quiet};
 ghost use Rattle.tcap_faults.specs.AtFault.{HasNoMessage, IsAtFaultOf, IsBadEntryOf};
 ghost use Rattle.tcap_faults.specs.Fault.{blamed, is_fault, is_open_at_mark};
 ghost use Rattle.tcap_faults.specs.Tangled.{IsOver, goes_over_tangled, own_of_continue, tangled_in};
-ghost use Rattle.tcap_faults.specs.declared.why.TangledId.{TangledId};
+ghost use Rattle.tcap_faults.specs.declared.verdict.unblamed_reason.TangledId.{TangledId};
 
 /// A message that has a kind, behind what was sent before it, is sent in no run in which its end keeps the rules, whatever
 /// the other end sends, and whatever follows.

@@ -17,10 +17,10 @@ use Rattle.tcap_faults.specs.ComponentKinds.{answers_again, is_operation_overspe
 use Rattle.tcap_faults.specs.Counts.{any_problem, count, count_class, invokes_so, is_error, is_last_result, is_result_of, rejects_invoke}
 use Rattle.tcap_faults.specs.HalfKinds.{is_wrong_half}
 use Rattle.tcap_faults.specs.HalfOf.{HalfOf, half_of}
-use Rattle.tcap_faults.specs.declared.sort.Class.TheVariants.{Any, One, Two, Three}
-use Rattle.tcap_faults.proofs.FewSums.{count_invokes}
-use Rattle.tcap_faults.proofs.LedLawsCounts.{count_last, one}
-use Rattle.tcap_faults.proofs.LedLawsLists.{id_itself}
+use Rattle.tcap_faults.specs.declared.component.component_sort.Class.TheVariants.{Any, One, Two, Three}
+use Rattle.tcap_faults.proofs.component_laws.FewSums.{count_invokes}
+use Rattle.tcap_faults.proofs.list_laws.CountLaws.{count_last, one}
+use Rattle.tcap_faults.proofs.story_laws.InvokeListLaws.{id_itself}
 use Rattle.tcap_grounds.specs.ComponentsShown.{MoreAnswered, MoreOfOperation, ShowsAnswered, before_so, heard_of_class, heard_so, operates}
 use Rattle.tcap_evidence.specs.Evidence.{invoke_id_of}
 use Rattle.tcap_evidence.specs.Scene.{Scene}
@@ -30,7 +30,7 @@ use Rattle.tcap_grounds.proofs.SoLaws.{IsCounted, are_counted, component_is, sce
 use Rattle.tcap_record.specs.Ends.{other}
 use Rattle.tcap_parts.specs.declared.problem.Problem.TheVariants as problems
 use Rattle.tcap_refute.specs.declared.kind.Kind.TheVariants as kinds
-use Rattle.tcap_faults.specs.declared.sort.Sort.TheVariants as sorts
+use Rattle.tcap_faults.specs.declared.component.component_sort.Sort.TheVariants as sorts
 use Rattle.tcap_evidence.specs.declared.what.What.TheVariants as whats
 
 -- An appended item that passes counts one.

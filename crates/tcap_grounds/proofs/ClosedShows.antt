@@ -18,9 +18,9 @@ use Rattle.tcap_refute.proofs.Members.{any_has, filter_has, filter_map_has, has_
 use Rattle.tcap_faults.specs.Closed.{all_go_on_to, shows_closed, was_closed}
 use Rattle.tcap_faults.specs.Told.{goes_on_to, has_used, is_abort_with, is_cause, one_passes}
 use Rattle.tcap_faults.specs.Tangled.{is_own_tangled, peers_of}
-use Rattle.tcap_faults.proofs.HalfLawsFinds.{any_is, filter_is}
-use Rattle.tcap_faults.proofs.TangledLaws.{all_same}
-use Rattle.tcap_faults.proofs.TwoTests.{passes_not}
+use Rattle.tcap_faults.proofs.list_laws.FindLaws.{any_is, filter_is}
+use Rattle.tcap_faults.proofs.transaction_laws.TangledLaws.{all_same}
+use Rattle.tcap_faults.proofs.list_laws.TwoTests.{passes_not}
 use Rattle.tcap_msg.specs.declared.kind.Kind.TheVariants as forms
 
 -- An item that passes has items before and after it.

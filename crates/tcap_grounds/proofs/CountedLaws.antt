@@ -16,15 +16,15 @@ use Rattle.tcap_refute.specs.Before.{asked, components_of, is_a, sent_by}
 use Rattle.tcap_faults.specs.Told.{is_abort_with, is_cause, told}
 use Rattle.tcap_faults.specs.Counts.{count}
 use Rattle.tcap_refute.specs.Kind.{is_begin_with_request}
-use Rattle.tcap_faults.proofs.LedLawsAnswered.{count_takes, count_takes_all}
-use Rattle.tcap_faults.proofs.LedLawsCounts.{count_both}
-use Rattle.tcap_faults.specs.declared.how.How.TheVariants.{Nowhere}
-use Rattle.tcap_faults.specs.declared.sort.Sort.{Sort}
-use Rattle.tcap_faults.specs.declared.subject.Subject.{Subject}
+use Rattle.tcap_faults.proofs.story_laws.AnsweredLaws.{count_takes, count_takes_all}
+use Rattle.tcap_faults.proofs.list_laws.CountLaws.{count_both}
+use Rattle.tcap_faults.specs.declared.dialogue.half_origin.How.TheVariants.{Nowhere}
+use Rattle.tcap_faults.specs.declared.component.component_sort.Sort.{Sort}
+use Rattle.tcap_faults.specs.declared.verdict.fault_subject.Subject.{Subject}
 use Rattle.tcap_faults.specs.HalfOf.{half_of}
 use Rattle.tcap_faults.specs.Subject.{subject}
 use Rattle.tcap_faults.specs.Tallied.{is_sort}
-use Rattle.tcap_faults.proofs.FewSums.{count_invokes}
+use Rattle.tcap_faults.proofs.component_laws.FewSums.{count_invokes}
 use Rattle.tcap_evidence.specs.Evidence.{scene_of}
 use Rattle.tcap_evidence.specs.Numbered.{Numbered, entries_where, in_order}
 use Rattle.tcap_evidence.specs.Scene.{Scene, heard_by, invoked_by, is_that, there, told_there, with_sort, with_sort_in}

@@ -14,14 +14,14 @@ use Rattle.tcap_end.specs.Table.{Table}
 use Rattle.tcap_model.specs.World.{Item}
 use Rattle.tcap_refute.specs.Before.{asked, has_a, is_a, sent_by}
 use Rattle.tcap_refute.specs.Kind.{is_begin_with_request, or_else}
-use Rattle.tcap_faults.specs.declared.how.How.{How}
-use Rattle.tcap_faults.specs.declared.how.How.TheVariants.{Accepted, Refused, Begun, Unanswered}
+use Rattle.tcap_faults.specs.declared.dialogue.half_origin.How.{How}
+use Rattle.tcap_faults.specs.declared.dialogue.half_origin.How.TheVariants.{Accepted, Refused, Begun, Unanswered}
 use Rattle.tcap_faults.specs.Counts.{count, is_nothing}
 use Rattle.tcap_faults.specs.HalfKinds.{goes_from_other, is_provider_abort, is_wrong_aborting, is_wrong_dialogue, is_wrong_going_on, is_wrong_half, may_not_speak}
 use Rattle.tcap_faults.specs.HalfOf.{HalfOf, begun_from, continued_to, half_by, half_of, heard_of}
 use Rattle.tcap_faults.specs.Told.{began, begin_from, is_request_of, told, was_refused}
-use Rattle.tcap_faults.proofs.LedLawsCounts.{count_more, count_weaker, one}
-use Rattle.tcap_faults.proofs.TangledLaws.{plain_to}
+use Rattle.tcap_faults.proofs.list_laws.CountLaws.{count_more, count_weaker, one}
+use Rattle.tcap_faults.proofs.transaction_laws.TangledLaws.{plain_to}
 use Rattle.tcap_grounds.specs.HalvesShown.{MisfitsAccepted, MisfitsBegun, ShowsWrongDialogue}
 use Rattle.tcap_evidence.specs.Scene.{Scene, is_that, own_id}
 use Rattle.tcap_grounds.specs.Shown.{HasKind, ListsNone, ListsOne, items_before, many, scene_at}

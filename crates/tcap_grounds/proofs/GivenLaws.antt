@@ -15,11 +15,11 @@ use Rattle.tcap_model.specs.Entries.{item_of}
 use Rattle.tcap_refute.specs.declared.kind.Kind.{Kind}
 use Rattle.tcap_refute.specs.declared.kind.Kind.TheVariants as kinds
 use Rattle.tcap_refute.specs.declared.kind.Refutation.{Refutation}
-use Rattle.tcap_faults.specs.declared.how.How.{How}
-use Rattle.tcap_faults.specs.declared.how.How.TheVariants.{Accepted, Refused, Begun, Unanswered, Nowhere}
-use Rattle.tcap_faults.specs.declared.sort.Class.TheVariants.{Any}
-use Rattle.tcap_faults.specs.declared.sort.Sort.TheVariants as sorts
-use Rattle.tcap_faults.specs.declared.subject.Subject.{Subject}
+use Rattle.tcap_faults.specs.declared.dialogue.half_origin.How.{How}
+use Rattle.tcap_faults.specs.declared.dialogue.half_origin.How.TheVariants.{Accepted, Refused, Begun, Unanswered, Nowhere}
+use Rattle.tcap_faults.specs.declared.component.component_sort.Class.TheVariants.{Any}
+use Rattle.tcap_faults.specs.declared.component.component_sort.Sort.TheVariants as sorts
+use Rattle.tcap_faults.specs.declared.verdict.fault_subject.Subject.{Subject}
 use Rattle.tcap_faults.specs.Components.{is_of_link}
 use Rattle.tcap_faults.specs.Subject.{subject, subject_by, subject_of}
 use Rattle.tcap_refute.proofs.Members.{has_first, has_later}

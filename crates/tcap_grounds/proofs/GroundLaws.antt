@@ -13,8 +13,8 @@ use Rattle.tcap_model.specs.Entries.{item_of}
 use Rattle.tcap_refute.specs.declared.kind.Kind.{Kind}
 use Rattle.tcap_refute.specs.declared.kind.Kind.TheVariants as kinds
 use Rattle.tcap_refute.specs.declared.kind.Refutation.{Refutation}
-use Rattle.tcap_faults.specs.declared.how.How.TheVariants.{Nowhere}
-use Rattle.tcap_faults.specs.declared.subject.Subject.{Subject}
+use Rattle.tcap_faults.specs.declared.dialogue.half_origin.How.TheVariants.{Nowhere}
+use Rattle.tcap_faults.specs.declared.verdict.fault_subject.Subject.{Subject}
 use Rattle.tcap_faults.specs.Fault.{is_fault, is_of_half_kind}
 use Rattle.tcap_faults.specs.HalfKinds.{is_wrong_half}
 use Rattle.tcap_faults.specs.HalfOf.{HalfOf, half_of}

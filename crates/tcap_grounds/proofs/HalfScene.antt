@@ -15,17 +15,17 @@ use Rattle.tcap_model.proofs.TurnLaws.{id_is}
 use Rattle.tcap_refute.specs.Before.{asked, has_a, is_a, sent_by}
 use Rattle.tcap_refute.specs.Kind.{is_begin_with_request, or_else}
 use Rattle.tcap_refute.proofs.Members.{any_has, filter_has, filter_map_has, has_not}
-use Rattle.tcap_faults.specs.declared.how.How.TheVariants.{Begun}
+use Rattle.tcap_faults.specs.declared.dialogue.half_origin.How.TheVariants.{Begun}
 use Rattle.tcap_faults.specs.Closed.{was_closed}
 use Rattle.tcap_faults.specs.Counts.{count, is_nothing}
 use Rattle.tcap_faults.specs.HalfOf.{answered_from, begun_from, continued_to, from_first, heard_of, responds}
 use Rattle.tcap_faults.specs.Tangled.{goes_to_begun, is_own_tangled, owns_of, peers_of}
 use Rattle.tcap_faults.specs.Told.{began, begin_from, begins_from, goes_on_from, goes_on_to, is_request_of, told}
-use Rattle.tcap_faults.proofs.HalfFacts.{not_nothing}
-use Rattle.tcap_faults.proofs.HalfLawsFinds.{filter_is, find_has, find_none}
-use Rattle.tcap_faults.proofs.OwnHalfLaws.{begun_there, only_first}
-use Rattle.tcap_faults.proofs.TangledLaws.{began_used, joins}
-use Rattle.tcap_faults.proofs.TwoTests.{any_found, none_passes}
+use Rattle.tcap_faults.proofs.kind_laws.HalfFacts.{not_nothing}
+use Rattle.tcap_faults.proofs.list_laws.FindLaws.{filter_is, find_has, find_none}
+use Rattle.tcap_faults.proofs.kind_laws.OwnHalfLaws.{begun_there, only_first}
+use Rattle.tcap_faults.proofs.transaction_laws.TangledLaws.{began_used, joins}
+use Rattle.tcap_faults.proofs.list_laws.TwoTests.{any_found, none_passes}
 use Rattle.tcap_grounds.specs.HalvesShown.{Begins}
 use Rattle.tcap_evidence.specs.Numbered.{entries_where}
 use Rattle.tcap_evidence.specs.Scene.{Scene, is_that, own_id, to_half}

@@ -15,16 +15,16 @@ use Rattle.tcap_model.specs.World.{Item}
 use Rattle.tcap_model.proofs.TurnLaws.{id_is}
 use Rattle.tcap_refute.specs.Before.{asked, has_a, is_a}
 use Rattle.tcap_refute.specs.Kind.{or_else}
-use Rattle.tcap_faults.specs.declared.how.How.{How}
-use Rattle.tcap_faults.specs.declared.how.How.TheVariants.{Accepted, Refused, Begun, Unanswered}
+use Rattle.tcap_faults.specs.declared.dialogue.half_origin.How.{How}
+use Rattle.tcap_faults.specs.declared.dialogue.half_origin.How.TheVariants.{Accepted, Refused, Begun, Unanswered}
 use Rattle.tcap_faults.specs.Closed.{was_closed}
 use Rattle.tcap_faults.specs.Counts.{is_nothing}
 use Rattle.tcap_faults.specs.HalfKinds.{goes_from_other, is_another, is_wrong_half, may_not_speak}
 use Rattle.tcap_faults.specs.HalfOf.{answered_from, begun_from, continued_to, half_by, half_of, heard_of}
 use Rattle.tcap_faults.specs.Tangled.{are_tangled, goes_over_tangled, goes_to_begun, is_own_tangled, near, own_of_continue, owns_of}
 use Rattle.tcap_faults.specs.Told.{began, begin_from, was_refused}
-use Rattle.tcap_faults.proofs.LedLawsCounts.{one}
-use Rattle.tcap_faults.proofs.TwoTests.{passes_not}
+use Rattle.tcap_faults.proofs.list_laws.CountLaws.{one}
+use Rattle.tcap_faults.proofs.list_laws.TwoTests.{passes_not}
 use Rattle.tcap_grounds.specs.HalvesShown.{ShowsWrongHalf}
 use Rattle.tcap_evidence.specs.Numbered.{entries_where}
 use Rattle.tcap_evidence.specs.Scene.{Scene, there}

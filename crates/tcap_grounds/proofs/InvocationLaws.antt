@@ -22,11 +22,11 @@ use Rattle.tcap_refute.specs.declared.kind.Refutation.{Refutation}
 use Rattle.tcap_refute.proofs.Members.{has_not}
 use Rattle.tcap_faults.specs.Subject.{subject, subject_by, subject_of}
 use Rattle.tcap_faults.specs.Tallied.{is_sort}
-use Rattle.tcap_faults.specs.declared.sort.Class.TheVariants.{Any}
-use Rattle.tcap_faults.specs.declared.sort.Sort.TheVariants as sorts
-use Rattle.tcap_faults.specs.declared.subject.Subject.{Subject}
-use Rattle.tcap_faults.proofs.LedLawsLists.{id_same}
-use Rattle.tcap_faults.proofs.TwoTests.{flat_map_is}
+use Rattle.tcap_faults.specs.declared.component.component_sort.Class.TheVariants.{Any}
+use Rattle.tcap_faults.specs.declared.component.component_sort.Sort.TheVariants as sorts
+use Rattle.tcap_faults.specs.declared.verdict.fault_subject.Subject.{Subject}
+use Rattle.tcap_faults.proofs.story_laws.InvokeListLaws.{id_same}
+use Rattle.tcap_faults.proofs.list_laws.TwoTests.{flat_map_is}
 use Rattle.tcap_evidence.specs.declared.operations.Invocation.{Invocation}
 use Rattle.tcap_evidence.specs.declared.what.What.{What}
 use Rattle.tcap_evidence.specs.declared.what.What.TheVariants as whats

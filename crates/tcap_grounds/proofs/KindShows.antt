@@ -16,9 +16,9 @@ use Rattle.tcap_refute.specs.declared.kind.Kind.TheVariants as kinds
 use Rattle.tcap_refute.specs.Before.{asked, has_a, is_a, sent_by}
 use Rattle.tcap_refute.specs.Kind.{goes_elsewhere, is_after_end, is_reused, is_unasked, is_unknown_transaction}
 use Rattle.tcap_faults.specs.Closed.{is_surely_open}
-use Rattle.tcap_faults.proofs.HalfLawsFinds.{any_is}
+use Rattle.tcap_faults.proofs.list_laws.FindLaws.{any_is}
 use Rattle.tcap_refute.proofs.Members.{any_has}
-use Rattle.tcap_faults.specs.declared.subject.Subject.{Subject}
+use Rattle.tcap_faults.specs.declared.verdict.fault_subject.Subject.{Subject}
 use Rattle.tcap_faults.specs.Fault.{is_left_open, is_open_at_mark}
 use Rattle.tcap_evidence.specs.declared.what.What.TheVariants as whats
 use Rattle.tcap_evidence.specs.Evidence.{mark_scene, scene_of}

@@ -16,7 +16,7 @@ use Rattle.tcap_refute.specs.Kind.{is_begin_with_request}
 use Rattle.tcap_faults.specs.Told.{is_cause}
 use Rattle.tcap_faults.specs.Closed.{is_surely_open}
 use Rattle.tcap_refute.proofs.Members.{filter_has}
-use Rattle.tcap_faults.specs.declared.sort.Sort.{Sort}
+use Rattle.tcap_faults.specs.declared.component.component_sort.Sort.{Sort}
 use Rattle.tcap_faults.specs.Tallied.{is_sort}
 use Rattle.tcap_evidence.specs.declared.what.What.{What}
 use Rattle.tcap_evidence.specs.declared.what.What.TheVariants as whats

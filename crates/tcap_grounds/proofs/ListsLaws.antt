@@ -10,7 +10,7 @@ use Rattle.tcap_model.specs.World.{Item}
 use Rattle.tcap_refute.specs.Before.{asked, sent_by}
 use Rattle.tcap_faults.specs.Counts.{is_nothing}
 use Rattle.tcap_faults.specs.Told.{is_abort_with, is_cause, told}
-use Rattle.tcap_faults.proofs.HalfLawsFinds.{any_is}
+use Rattle.tcap_faults.proofs.list_laws.FindLaws.{any_is}
 use Rattle.tcap_evidence.specs.Numbered.{Numbered, entries_where, sent_before}
 use Rattle.tcap_evidence.specs.Scene.{Scene, is_that, there, told_there}
 use Rattle.tcap_grounds.specs.Shown.{ListsOne, items_before}

@@ -11,11 +11,11 @@ use Rattle.tcap_model.proofs.ListLaws.{contains_first}
 use Rattle.tcap_refute.specs.Before.{components_of}
 use Rattle.tcap_faults.specs.Counts.{count}
 use Rattle.tcap_faults.specs.Told.{is_request_of}
-use Rattle.tcap_faults.proofs.HalfLawsFinds.{filter_is}
-use Rattle.tcap_faults.proofs.LedLawsCounts.{count_both}
+use Rattle.tcap_faults.proofs.list_laws.FindLaws.{filter_is}
+use Rattle.tcap_faults.proofs.list_laws.CountLaws.{count_both}
 use Rattle.tcap_refute.proofs.Members.{filter_has, flat_map_has, has_first, has_later, has_not}
 use Rattle.tcap_faults.specs.HalfOf.{from_first}
-use Rattle.tcap_faults.proofs.TwoTests.{flat_map_is}
+use Rattle.tcap_faults.proofs.list_laws.TwoTests.{flat_map_is}
 use Rattle.tcap_evidence.specs.Numbered.{Numbered, entries_where, entries_with}
 use Rattle.tcap_evidence.specs.Scene.{has_request, since_first}
 use Rattle.tcap_grounds.proofs.SentBefore.{messages}

@@ -23,8 +23,8 @@ use Rattle.tcap_refute.proofs.Members.{any_has}
 use Rattle.tcap_faults.specs.Counts.{count, has_class, is_class}
 use Rattle.tcap_faults.specs.Subject.{subject}
 use Rattle.tcap_faults.specs.Tallied.{is_sort, is_of_class}
-use Rattle.tcap_faults.specs.declared.sort.Class.TheVariants.{One, Two, Three}
-use Rattle.tcap_faults.proofs.HalfLawsFinds.{any_is}
+use Rattle.tcap_faults.specs.declared.component.component_sort.Class.TheVariants.{One, Two, Three}
+use Rattle.tcap_faults.proofs.list_laws.FindLaws.{any_is}
 use Rattle.tcap_grounds.specs.ComponentsShown.{NoneAllowsResult, ShowsWrongOperation, entries_so, operates}
 use Rattle.tcap_evidence.specs.Scene.{Scene, there, shown}
 use Rattle.tcap_grounds.specs.Shown.{HasKind, ListsNone, component_with, items_before, scene_at}
@@ -35,9 +35,9 @@ use Rattle.tcap_grounds.proofs.SceneLists.{IsTo, there_are}
 use Rattle.tcap_grounds.proofs.SoLaws.{first_is, first_wins, none_so, scene_of_it, so_counted}
 use Rattle.tcap_record.specs.Ends.{other}
 use Rattle.tcap_evidence.specs.Evidence.{invoke_id_of}
-use Rattle.tcap_faults.specs.declared.sort.Class.{Class}
+use Rattle.tcap_faults.specs.declared.component.component_sort.Class.{Class}
 use Rattle.tcap_refute.specs.declared.kind.Kind.TheVariants as kinds
-use Rattle.tcap_faults.specs.declared.sort.Sort.TheVariants as sorts
+use Rattle.tcap_faults.specs.declared.component.component_sort.Sort.TheVariants as sorts
 use Rattle.tcap_evidence.specs.declared.what.What.TheVariants as whats
 
 -- ---- lists of components

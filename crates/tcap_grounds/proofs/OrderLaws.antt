@@ -14,8 +14,8 @@ use Rattle.tcap_model.proofs.ListLaws.{contains_first}
 use Rattle.tcap_refute.specs.Before.{components_of}
 use Rattle.tcap_refute.proofs.Members.{has_first, has_later, has_not}
 use Rattle.tcap_faults.specs.Counts.{count}
-use Rattle.tcap_faults.proofs.HalfLawsFinds.{filter_is}
-use Rattle.tcap_faults.proofs.LedLawsCounts.{count_both}
+use Rattle.tcap_faults.proofs.list_laws.FindLaws.{filter_is}
+use Rattle.tcap_faults.proofs.list_laws.CountLaws.{count_both}
 use Rattle.tcap_evidence.specs.Numbered.{Numbered, entries_where, entries_with, in_order, inserted, sent_before, with_entries}
 use Rattle.tcap_evidence.specs.Scene.{since_first}
 use Rattle.tcap_grounds.specs.Given.{IsAscending}

@@ -14,15 +14,15 @@ use Rattle.tcap_end.specs.Table.{Table}
 use Rattle.tcap_model.specs.World.{Item}
 use Rattle.tcap_refute.specs.Before.{asked, has_a, is_a, sent_by}
 use Rattle.tcap_refute.specs.Kind.{is_begin_with_request, is_misplaced_aborting, is_misplaced_dialogue, is_misplaced_going_on}
-use Rattle.tcap_faults.specs.declared.how.How.TheVariants.{Accepted, Refused}
-use Rattle.tcap_faults.specs.declared.subject.Subject.{Subject}
+use Rattle.tcap_faults.specs.declared.dialogue.half_origin.How.TheVariants.{Accepted, Refused}
+use Rattle.tcap_faults.specs.declared.verdict.fault_subject.Subject.{Subject}
 use Rattle.tcap_faults.specs.Closed.{all_go_to_open, is_surely_open}
 use Rattle.tcap_faults.specs.Counts.{count, is_nothing}
 use Rattle.tcap_faults.specs.Fault.{count_received, is_wrong_reply}
 use Rattle.tcap_faults.specs.HalfKinds.{is_accepted}
 use Rattle.tcap_faults.specs.HalfOf.{HalfOf, begun_from, half_by, half_of}
 use Rattle.tcap_faults.specs.Told.{is_abort_with, told, was_refused}
-use Rattle.tcap_faults.proofs.TwoTests.{none_passes, passes_not}
+use Rattle.tcap_faults.proofs.list_laws.TwoTests.{none_passes, passes_not}
 use Rattle.tcap_evidence.specs.Evidence.{scene_of}
 use Rattle.tcap_grounds.specs.HalvesShown.{AcceptsNone, NoBeginLeft, NoContinueLeft, ShowsMisplaced, ShowsWrongReply, goes_to_open}
 use Rattle.tcap_evidence.specs.Numbered.{entries_where}

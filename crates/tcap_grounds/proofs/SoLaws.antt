@@ -24,9 +24,9 @@ use Rattle.tcap_faults.specs.Subject.{component_of, component_so, subject}
 use Rattle.tcap_faults.specs.HalfKinds.{is_wrong_half}
 use Rattle.tcap_faults.specs.HalfOf.{HalfOf, half_of}
 use Rattle.tcap_faults.specs.Tallied.{is_sort}
-use Rattle.tcap_faults.specs.declared.how.How.TheVariants.{Nowhere}
-use Rattle.tcap_faults.specs.declared.sort.Sort.{Sort}
-use Rattle.tcap_faults.proofs.LedLawsCounts.{any_counts, count_both, count_more, one}
+use Rattle.tcap_faults.specs.declared.dialogue.half_origin.How.TheVariants.{Nowhere}
+use Rattle.tcap_faults.specs.declared.component.component_sort.Sort.{Sort}
+use Rattle.tcap_faults.proofs.list_laws.CountLaws.{any_counts, count_both, count_more, one}
 use Rattle.tcap_grounds.specs.ComponentsShown.{before_so, entries_so, heard_so, invoked_components, itself_so}
 use Rattle.tcap_evidence.specs.Evidence.{component_at, components_before, invoke_id_in, invoke_id_of}
 use Rattle.tcap_evidence.specs.Numbered.{Numbered}

@@ -15,11 +15,11 @@ use Rattle.tcap_model.proofs.ListLaws.{contains_first}
 use Rattle.tcap_refute.specs.Before.{is_a}
 use Rattle.tcap_faults.specs.Told.{goes_on_to}
 use Rattle.tcap_faults.specs.Closed.{is_surely_open}
-use Rattle.tcap_faults.proofs.HalfLawsFinds.{filter_is, find_has}
+use Rattle.tcap_faults.proofs.list_laws.FindLaws.{filter_is, find_has}
 use Rattle.tcap_refute.proofs.Members.{has_later, has_not}
-use Rattle.tcap_faults.specs.declared.how.How.{How}
-use Rattle.tcap_faults.specs.declared.how.How.TheVariants.{Accepted, Begun, Nowhere, Refused, Unanswered}
-use Rattle.tcap_faults.specs.declared.sort.Sort.{Sort}
+use Rattle.tcap_faults.specs.declared.dialogue.half_origin.How.{How}
+use Rattle.tcap_faults.specs.declared.dialogue.half_origin.How.TheVariants.{Accepted, Begun, Nowhere, Refused, Unanswered}
+use Rattle.tcap_faults.specs.declared.component.component_sort.Sort.{Sort}
 use Rattle.tcap_faults.specs.Tallied.{is_sort}
 use Rattle.tcap_evidence.specs.Numbered.{Numbered}
 use Rattle.tcap_evidence.specs.Scene.{Scene, has_request, heard_by, invoked_by, is_open_continue, is_that, own_begin, since_first, there, to_half, told_there, went_elsewhere, with_sort, with_sort_in}

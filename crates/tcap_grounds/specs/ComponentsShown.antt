@@ -15,10 +15,10 @@ use Rattle.tcap_refute.specs.Before.{components_of}
 use Rattle.tcap_faults.specs.Counts.{count, invokes_so, is_result_of}
 use Rattle.tcap_faults.specs.Components.{is_linked_to, is_of_link, lists_nothing}
 use Rattle.tcap_faults.specs.Tallied.{results_so}
-use Rattle.tcap_faults.specs.declared.sort.Class.{Class}
-use Rattle.tcap_faults.specs.declared.sort.Class.TheVariants.{Any, One, Two, Three}
-use Rattle.tcap_faults.specs.declared.sort.Sort.{Sort}
-use Rattle.tcap_faults.specs.declared.sort.Sort.TheVariants as sorts
+use Rattle.tcap_faults.specs.declared.component.component_sort.Class.{Class}
+use Rattle.tcap_faults.specs.declared.component.component_sort.Class.TheVariants.{Any, One, Two, Three}
+use Rattle.tcap_faults.specs.declared.component.component_sort.Sort.{Sort}
+use Rattle.tcap_faults.specs.declared.component.component_sort.Sort.TheVariants as sorts
 use Rattle.tcap_evidence.specs.declared.what.What.TheVariants as whats
 use Rattle.tcap_evidence.specs.Numbered.{Numbered, entries_with}
 use Rattle.tcap_evidence.specs.Scene.{Scene, heard_by, invoked_by, shown, there, told_there}

@@ -11,10 +11,10 @@ use Rattle.tcap_record.specs.declared.entry.Entry.{Entry}
 use Rattle.tcap_refute.specs.declared.kind.Kind.{Kind}
 use Rattle.tcap_refute.specs.declared.kind.Kind.TheVariants as kinds
 use Rattle.tcap_faults.specs.Components.{is_of_link}
-use Rattle.tcap_faults.specs.declared.how.How.{How}
-use Rattle.tcap_faults.specs.declared.how.How.TheVariants.{Accepted, Begun}
-use Rattle.tcap_faults.specs.declared.sort.Class.TheVariants.{Any, One, Two, Three}
-use Rattle.tcap_faults.specs.declared.sort.Sort.TheVariants as sorts
+use Rattle.tcap_faults.specs.declared.dialogue.half_origin.How.{How}
+use Rattle.tcap_faults.specs.declared.dialogue.half_origin.How.TheVariants.{Accepted, Begun}
+use Rattle.tcap_faults.specs.declared.component.component_sort.Class.TheVariants.{Any, One, Two, Three}
+use Rattle.tcap_faults.specs.declared.component.component_sort.Sort.TheVariants as sorts
 use Rattle.tcap_evidence.specs.declared.operations.Invocation.{Invocation}
 use Rattle.tcap_evidence.specs.declared.what.What.{What}
 use Rattle.tcap_evidence.specs.declared.what.What.TheVariants as whats

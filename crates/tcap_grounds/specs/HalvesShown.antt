@@ -9,8 +9,8 @@ use Rattle.tcap_end.specs.Dialogue.{accepts_dialogue, is_response, is_user_abort
 use Rattle.tcap_refute.specs.Before.{is_a}
 use Rattle.tcap_faults.specs.Closed.{is_surely_open}
 use Rattle.tcap_faults.specs.Tangled.{goes_to_begun}
-use Rattle.tcap_faults.specs.declared.how.How.{How}
-use Rattle.tcap_faults.specs.declared.how.How.TheVariants.{Accepted, Refused, Begun, Unanswered, Nowhere}
+use Rattle.tcap_faults.specs.declared.dialogue.half_origin.How.{How}
+use Rattle.tcap_faults.specs.declared.dialogue.half_origin.How.TheVariants.{Accepted, Refused, Begun, Unanswered, Nowhere}
 use Rattle.tcap_faults.specs.HalfOf.{responds}
 use Rattle.tcap_evidence.specs.declared.what.What.TheVariants as whats
 use Rattle.tcap_evidence.specs.Numbered.{entries_where}

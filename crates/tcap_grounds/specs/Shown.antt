@@ -17,10 +17,10 @@ use Rattle.tcap_faults.specs.Told.{begins_from, is_abort_with, told}
 use Rattle.tcap_faults.specs.Counts.{count, count_class, count_lasting, has_class, takes}
 use Rattle.tcap_refute.specs.Kind.{is_begin_with_request, is_of_kind}
 use Rattle.tcap_faults.specs.Closed.{is_surely_open}
-use Rattle.tcap_faults.specs.declared.how.How.TheVariants.{Nowhere}
-use Rattle.tcap_faults.specs.declared.sort.Class.TheVariants.{Any, One, Two, Three}
-use Rattle.tcap_faults.specs.declared.sort.Sort.{Sort}
-use Rattle.tcap_faults.specs.declared.sort.Sort.TheVariants as sorts
+use Rattle.tcap_faults.specs.declared.dialogue.half_origin.How.TheVariants.{Nowhere}
+use Rattle.tcap_faults.specs.declared.component.component_sort.Class.TheVariants.{Any, One, Two, Three}
+use Rattle.tcap_faults.specs.declared.component.component_sort.Sort.{Sort}
+use Rattle.tcap_faults.specs.declared.component.component_sort.Sort.TheVariants as sorts
 use Rattle.tcap_faults.specs.Fault.{is_fault}
 use Rattle.tcap_faults.specs.HalfOf.{half_of}
 use Rattle.tcap_faults.specs.Subject.{items_among, subject}

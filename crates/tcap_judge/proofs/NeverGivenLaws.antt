@@ -10,12 +10,12 @@ use Rattle.tcap_model.specs.Run.{Event, KeepsRules, Runs}
 use Rattle.tcap_certificate.specs.Certificate.{Certificate}
 use Rattle.tcap_model.specs.Entries.{item_by, item_of}
 use Rattle.tcap_certificate.specs.Replayed.{replayed_by}
-use Rattle.tcap_check.proofs.AloneRuns.{gives_for}
+use Rattle.tcap_check.proofs.one_end_laws.AloneRuns.{gives_for}
 use Rattle.tcap_refute.specs.declared.kind.Refutation.{Refutation}
 use Rattle.tcap_refute.proofs.RefutedLaws.{are_oks, oks, split_oks}
 use Rattle.tcap_faults.specs.AtFault.{IsAtFaultOf}
 use Rattle.tcap_faults.specs.Fault.{blamed}
-use Rattle.tcap_faults.proofs.BlamedLaws.{blamed_at_fault}
+use Rattle.tcap_faults.proofs.kind_laws.BlamedLaws.{blamed_at_fault}
 
 -- An entry that is no message is no item.
 bad_is_none : (entry : Entry) (fault : Fault) → entry.body ≡ Bad fault → (item : Item) → item_of entry ≡ Ok item → ⊥

@@ -33,11 +33,11 @@ use Rattle.tcap_certificate.specs.Certificate.{Certificate, IsPrompt, prompt}
 use Rattle.tcap_certificate.specs.Follows.{IsPlain}
 use Rattle.tcap_check.specs.Given.{DeliversAtOnce, IsSeen}
 use Rattle.tcap_certificate.specs.Replayed.{replayed_by}
-use Rattle.tcap_check.proofs.AtOnceLaws.{at_once_follows, followed_at_once}
-use Rattle.tcap_check.proofs.DescribedRuns.{followed_is_given}
-use Rattle.tcap_check.proofs.GivenRuns.{gives}
-use Rattle.tcap_check.proofs.PromptLaws.{prompt_plain}
-use Rattle.tcap_check.proofs.ReasonGaps.{as_many}
+use Rattle.tcap_check.proofs.prompt_laws.AtOnceLaws.{at_once_follows, followed_at_once}
+use Rattle.tcap_check.proofs.described_run_laws.DescribedRuns.{followed_is_given}
+use Rattle.tcap_check.proofs.given_run_laws.GivenRuns.{gives}
+use Rattle.tcap_check.proofs.prompt_laws.PromptLaws.{prompt_plain}
+use Rattle.tcap_check.proofs.refusal_laws.ReasonGaps.{as_many}
 use Rattle.tcap_judge.specs.LawfulRecord.{SpellsRecord}
 use Rattle.tcap_judge.specs.OctetsRead.{IsOfOctets}
 use Rattle.tcap_judge.proofs.LawfulLaws.{spells_items}

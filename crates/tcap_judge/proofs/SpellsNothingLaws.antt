@@ -20,7 +20,7 @@ use Rattle.tcap_refute.specs.Before.{since_quiet}
 use Rattle.tcap_refute.proofs.RefutedLaws.{bad_by_kind}
 use Rattle.tcap_faults.specs.AtFault.{IsBadEntryOf}
 use Rattle.tcap_faults.specs.Fault.{is_fault, is_of_further_kind, is_of_kind_to}
-use Rattle.tcap_faults.proofs.BlamedLaws.{bad_has_none}
+use Rattle.tcap_faults.proofs.kind_laws.BlamedLaws.{bad_has_none}
 use Rattle.tcap_judge.specs.Verdict.{IsAtFaultBy, SpellsNothing}
 
 -- ---- both ends: its sender

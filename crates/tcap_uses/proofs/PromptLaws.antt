@@ -12,7 +12,7 @@ use Rattle.tcap_certificate.specs.Certificate.{Certificate, IsPrompt, prompt, pr
 use Rattle.tcap_certificate.specs.Replayed.{fault_at, map_ok, replayed_by}
 use Rattle.tcap_check.specs.declared.checker.Report.{Report}
 use Rattle.tcap_check.specs.Checking.{reported}
-use Rattle.tcap_check.proofs.AtOnceRuns.{fates_prompt}
+use Rattle.tcap_check.proofs.prompt_laws.AtOnceRuns.{fates_prompt}
 use Rattle.tcap_uses.proofs.Results.{told_all}
 
 -- The fates of the entries that are left, of which one more is made.

@@ -1,6 +1,6 @@
 use Rattle.std.proofs.Common.{map}
 use Rattle.tcap_model.specs.Entries.{item_of}
-use Rattle.tcap_check.proofs.DiscardReasons.{all_refused}
+use Rattle.tcap_check.proofs.replay_laws.DiscardReasons.{all_refused}
 use Rattle.tcap_check.proofs.alone_laws.discards_have_reasons.Goals as goal
 
 pub returns : goal.returns

@@ -1,6 +1,6 @@
-use Rattle.tcap_check.proofs.AtOnceLaws.{followed_at_once}
-use Rattle.tcap_check.proofs.GivenRuns.{gives}
-use Rattle.tcap_check.proofs.PromptLaws.{prompt_plain}
+use Rattle.tcap_check.proofs.prompt_laws.AtOnceLaws.{followed_at_once}
+use Rattle.tcap_check.proofs.given_run_laws.GivenRuns.{gives}
+use Rattle.tcap_check.proofs.prompt_laws.PromptLaws.{prompt_plain}
 use Rattle.tcap_check.proofs.given.prompt_certificates_deliver_at_once.Goals as goal
 
 pub returns : goal.returns

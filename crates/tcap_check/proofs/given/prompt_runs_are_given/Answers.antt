@@ -1,5 +1,5 @@
-use Rattle.tcap_check.proofs.AtOnceLaws.{at_once_follows}
-use Rattle.tcap_check.proofs.DescribedRuns.{followed_is_given}
+use Rattle.tcap_check.proofs.prompt_laws.AtOnceLaws.{at_once_follows}
+use Rattle.tcap_check.proofs.described_run_laws.DescribedRuns.{followed_is_given}
 use Rattle.tcap_certificate.specs.Certificate.{prompt}
 use Rattle.tcap_check.proofs.given.prompt_runs_are_given.Goals as goal
 

@@ -1,4 +1,4 @@
-use Rattle.tcap_check.proofs.RefusalLaws.{says_as_described, says_bounded, says_lawful, says_with_reason}
+use Rattle.tcap_check.proofs.checker_laws.RefusalLaws.{says_as_described, says_bounded, says_lawful, says_with_reason}
 use Rattle.tcap_check.proofs.records.check.Goals as goal
 
 pub returns-clause-lawful : goal.returns-clause-lawful

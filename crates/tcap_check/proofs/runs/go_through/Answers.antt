@@ -4,9 +4,9 @@ use Rattle.tcap_end.specs.Table.{Table}
 use Rattle.tcap_certificate.specs.declared.fault.CheckFault.{CheckFault}
 use Rattle.tcap_check.specs.Ready.{kept_in}
 use Rattle.tcap_check.specs.Stands.{ShowsAmong}
-use Rattle.tcap_check.proofs.AnsweredLaws.{ends_listed, refused_listed}
-use Rattle.tcap_check.proofs.SendShows.{end_shows}
-use Rattle.tcap_check.proofs.StandsTaken.{GoesAlike, among_ends}
+use Rattle.tcap_check.proofs.checker_laws.ListedStepsLaws.{ends_listed, refused_listed}
+use Rattle.tcap_check.proofs.refusal_laws.SendShows.{end_shows}
+use Rattle.tcap_check.proofs.refusal_laws.TakenEntriesLaws.{GoesAlike, among_ends}
 use Rattle.tcap_check.proofs.runs.go_through.Goals as goal
 
 pub returns-in_err-take_all-clause-answer : goal.returns-in_err-take_all-clause-answer

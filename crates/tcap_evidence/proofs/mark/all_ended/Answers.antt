@@ -3,7 +3,7 @@ use Rattle.std.specs.BTreeSet as set
 use Rattle.tcap_end.specs.End.{is_id}
 use Rattle.tcap_end.specs.Table.{octets_cmp}
 use Rattle.tcap_refute.proofs.TestLaws.{or_none}
-use Rattle.tcap_faults.proofs.KeyLaws.{set_more}
+use Rattle.tcap_faults.proofs.transaction_laws.KeyLaws.{set_more}
 use Rattle.tcap_evidence.proofs.MarkLaws.{ended_more}
 use Rattle.tcap_evidence.proofs.mark.all_ended.Goals.{in-Some+in_ok-insert, in_default}
 use Rattle.tcap_evidence.proofs.mark.all_ended.Goals as goal

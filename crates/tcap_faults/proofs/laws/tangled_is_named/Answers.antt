@@ -1,4 +1,4 @@
-use Rattle.tcap_faults.proofs.FirstTangled.{tangled_over, tangled_told}
+use Rattle.tcap_faults.proofs.transaction_laws.FirstTangled.{tangled_over, tangled_told}
 use Rattle.tcap_faults.proofs.laws.tangled_is_named.Goals as goal
 
 pub returns : goal.returns

@@ -1,5 +1,5 @@
 use Rattle.std.proofs.Common.{arith, length-append}
-use Rattle.tcap_check.proofs.PlanLaws.{one_more_empty}
+use Rattle.tcap_check.proofs.checker_laws.PlanLaws.{one_more_empty}
 use Rattle.tcap_check.proofs.buckets.Buckets.new.Goals as goal
 
 pub loop-preserved : goal.loop-preserved

@@ -4,7 +4,7 @@ use Rattle.tcap_check.specs.declared.progress.Seat.{Seat}
 use Rattle.tcap_check.specs.Checking.{Checking, count_waiting}
 use Rattle.tcap_check.specs.Progress.{count_kept, seat_at}
 use Rattle.tcap_check.specs.Ready.{kept_in}
-use Rattle.tcap_check.proofs.CheckerLaws.{waits_so}
+use Rattle.tcap_check.proofs.checker_laws.CheckerLaws.{waits_so}
 use Rattle.tcap_check.proofs.checker.Checker.pending.Goals as goal
 
 pub returns-in-None-clause-ahead : goal.returns-in-None-clause-ahead

@@ -3,7 +3,7 @@ use Rattle.tcap_record.specs.declared.entry.End.{End as Side}
 use Rattle.tcap_record.specs.Ends.{other}
 use Rattle.tcap_check.specs.declared.progress.Progress.{Progress}
 use Rattle.tcap_check.specs.Progress.{GrewBy, YieldsInMemory, first_answered, front_lost, reply_kept, seat_at}
-use Rattle.tcap_check.proofs.KeptGrowth.{reply_grows, yields_so}
+use Rattle.tcap_check.proofs.progress_laws.KeptGrowth.{reply_grows, yields_so}
 use Rattle.tcap_check.proofs.progress.Progress.answer.Goals as goal
 
 pub returns-clause-grows : goal.returns-clause-grows

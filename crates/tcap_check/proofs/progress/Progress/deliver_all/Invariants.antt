@@ -1,7 +1,7 @@
 -- what is left does to what is kept now what all do to what was kept first
 use Rattle.std.proofs.Common.{◌≡◌, drop}
 use Rattle.tcap_check.specs.Left.{deliveries_left}
-use Rattle.tcap_check.proofs.HearingLaws.{Listening}
+use Rattle.tcap_check.proofs.progress_laws.HearingLaws.{Listening}
 use Rattle.tcap_check.proofs.progress.Progress.deliver_all.Given as goal
 
 abbrev pub invariant-loop-number : goal.invariant-loop-number

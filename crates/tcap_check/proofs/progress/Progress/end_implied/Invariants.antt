@@ -2,7 +2,7 @@
 use Rattle.tcap_parts.specs.Meaning.{components_left}
 use Rattle.tcap_msg.specs.Parts.{components_in}
 use Rattle.tcap_certificate.specs.Follows.{invoking_half}
-use Rattle.tcap_check.proofs.SendingLaws.{Ends}
+use Rattle.tcap_check.proofs.checker_laws.SendingLaws.{Ends}
 use Rattle.tcap_check.proofs.progress.Progress.end_implied.Given as goal
 
 abbrev pub invariant-loop-component : goal.invariant-loop-component

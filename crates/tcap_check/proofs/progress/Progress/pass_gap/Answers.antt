@@ -1,6 +1,6 @@
 use Rattle.std.proofs.Common.{arith}
 use Rattle.tcap_check.specs.Listed.{listed_judged}
-use Rattle.tcap_check.proofs.KeptGrowth.{listed_grows, on_ok, some_listed}
+use Rattle.tcap_check.proofs.progress_laws.KeptGrowth.{listed_grows, on_ok, some_listed}
 use Rattle.tcap_check.proofs.progress.Progress.pass_gap.Goals as goal
 
 pub deliver_all-requires : goal.deliver_all-requires

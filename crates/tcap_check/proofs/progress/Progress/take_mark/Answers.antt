@@ -1,5 +1,5 @@
 use Rattle.std.proofs.Common.{sym, ◌∙◌}
-use Rattle.tcap_check.proofs.KeptMarks.{listed_is}
+use Rattle.tcap_check.proofs.progress_laws.KeptMarks.{listed_is}
 use Rattle.tcap_check.proofs.progress.Progress.take_mark.Goals as goal
 
 pub returns-in-Some-Some-clause-taken : goal.returns-in-Some-Some-clause-taken

@@ -1,5 +1,5 @@
 use Rattle.std.proofs.Common.{refl, sym, ◌∙◌}
-use Rattle.tcap_check.proofs.CheckerLaws.{took_nothing}
+use Rattle.tcap_check.proofs.checker_laws.CheckerLaws.{took_nothing}
 use Rattle.tcap_check.proofs.replaying.Replaying.new.Goals as goal
 
 pub returns-clause-took : goal.returns-clause-took

@@ -1,6 +1,6 @@
 use Rattle.std.proofs.Common.{length}
 use Rattle.tcap_check.specs.Ready.{kept_in}
-use Rattle.tcap_check.proofs.SendShows.{mark_shows}
+use Rattle.tcap_check.proofs.refusal_laws.SendShows.{mark_shows}
 use Rattle.tcap_check.proofs.replaying.Replaying.take_entry.Goals as goal
 
 pub returns-in-None-Quiet-clause-shows : goal.returns-in-None-Quiet-clause-shows

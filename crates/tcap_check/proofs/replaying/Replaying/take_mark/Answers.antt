@@ -11,8 +11,8 @@ use Rattle.tcap_check.specs.declared.outline.Outline.TheVariants.{Mark}
 use Rattle.tcap_check.specs.declared.replaying.Replaying.{Replaying}
 use Rattle.tcap_check.specs.Progress.{GrewBy, load, unheard_load}
 use Rattle.tcap_check.specs.Ready.{IsReady, IsSameBesideProgress}
-use Rattle.tcap_check.proofs.KeptGrowth.{on_ok}
-use Rattle.tcap_check.proofs.StandsTaken.{listed_behind, mark_after}
+use Rattle.tcap_check.proofs.progress_laws.KeptGrowth.{on_ok}
+use Rattle.tcap_check.proofs.refusal_laws.TakenEntriesLaws.{listed_behind, mark_after}
 use Rattle.tcap_check.proofs.replaying.Replaying.take_mark.Goals as goal
 
 pub returns-in_err-be_quiet-clause-left : goal.returns-in_err-be_quiet-clause-left

@@ -1,0 +1,10 @@
+-- The steps of a checker, from entry to entry, and its answers.
+pub mod SentAsItIsLaws
+pub mod ListedStepsLaws
+pub mod SendingLaws
+pub mod PlanLaws
+pub mod ToldStepLaws
+pub mod EntryLaws
+pub mod CheckerLaws
+pub mod RecordLaws
+pub mod RefusalLaws

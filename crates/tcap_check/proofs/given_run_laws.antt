@@ -1,0 +1,9 @@
+-- From a certificate to the run that it gives.
+pub mod StepsAreOne
+pub mod StepCounts
+pub mod GivenBound
+pub mod NumberLaws
+pub mod GivenLosses
+pub mod GivenEvents
+pub mod GivenRuns
+pub mod NothingLeftLaws

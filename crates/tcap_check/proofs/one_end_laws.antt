@@ -1,0 +1,14 @@
+-- One end alone: its replay is a run of this end, and a run of both ends gives one for each.
+pub mod AloneWeights
+pub mod AloneLoad
+pub mod AloneCounts
+pub mod AloneSteps
+pub mod AloneReplays
+pub mod AloneRuns
+pub mod AloneViews
+pub mod AloneMirrors
+pub mod AloneGaps
+pub mod AloneTies
+pub mod AloneBoth
+pub mod AloneTaken
+pub mod AloneLeft

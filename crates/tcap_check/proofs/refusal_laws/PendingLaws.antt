@@ -1,0 +1,188 @@
+-- What was taken so far, whoever is judged: behind a gap, each message whose fate is that gap or an earlier one; behind an entry,
+-- each that it takes.
+use Rattle.std.proofs.Common.{◌≡◌, ◌⊎◌, inl, inr, ℕ, zero, suc, ◌+◌, ◌<◌, ◌≤◌, arith, true, List, [], ◌∷◌, ◌++◌, length, Option, Some, None, refl, sym, ap, subst, ◌∙◌}
+use Rattle.std.specs.Prelude.{slice_get}
+use Rattle.std.specs.List.{AllByRecursion}
+use Rattle.std.proofs.lemmas.List.{length-append}
+use Rattle.std.proofs.lemmas.Option.{slice_get_within}
+use Rattle.tcap_msg.specs.declared.message.Message.{Message}
+use Rattle.tcap_record.specs.declared.entry.End.{End as Side}
+use Rattle.tcap_record.specs.declared.entry.Entry.{Entry}
+use Rattle.tcap_end.specs.Table.{Table}
+use Rattle.tcap_model.specs.World.{Item, Sent, empty}
+use Rattle.tcap_model.specs.Run.{Event, Runs, numbers_taken}
+use Rattle.tcap_certificate.specs.declared.certificate.Fate.{Fate}
+use Rattle.tcap_certificate.specs.declared.certificate.Fate.TheVariants.{Gap, Lost, By}
+use Rattle.tcap_certificate.specs.Certificate.{Certificate}
+use Rattle.tcap_model.specs.Entries.{AreItems, IsItem}
+use Rattle.tcap_certificate.specs.Follows.{FatesFit, without_losses}
+use Rattle.tcap_certificate.specs.Replayed.{Replay, is_heard, next_entry}
+use Rattle.tcap_model.proofs.RunLaws.{played_on}
+use Rattle.tcap_check.proofs.one_end_laws.AloneCounts.{IsOwn}
+use Rattle.tcap_check.proofs.replay_laws.ReplaySteps.{Extends}
+use Rattle.tcap_check.proofs.refusal_laws.FollowingLaws.{IsUpTo}
+use Rattle.tcap_check.proofs.replay_laws.MemberLaws.{IsIn}
+use Rattle.tcap_check.proofs.given_run_laws.NumberLaws.{taken_left}
+
+-- ---- fates
+
+-- A fate that fits is behind its entry.
+abbrev pub IsAhead : ℕ → Fate → Type 0
+IsAhead number (Gap gap) = number < gap
+IsAhead number (By reply) = number < reply
+IsAhead number Lost = Unit {0}
+
+-- The next number is that of the next item.
+pub further_on : (k i : ℕ) → (k + 1) + i ≡ k + suc i
+further_on k i = omega arith
+
+-- one number further
+further : (k i : ℕ) (fate : Fate) → IsAhead ((k + 1) + i) fate → IsAhead (k + suc i) fate
+further k i fate is = subst (λ (n : ℕ). IsAhead n fate) (further_on k i) is
+
+-- In fates that fit each is behind its entry.
+pub ahead : (count k i : ℕ) (fates : List Fate) (fate : Fate) → FatesFit count k fates → slice_get fates i ≡ Some fate → IsAhead (k + i) fate
+ahead count k i [] fate fit is = cc
+ahead count k zero (Gap g ∷ fates) fate fit is =
+    let same : Gap g ≡ fate = cc in subst (IsAhead (k + 0)) same (omega (arith, fit.0))
+ahead count k zero (By r ∷ fates) fate fit is =
+    let same : By r ≡ fate = cc in subst (IsAhead (k + 0)) same (omega (arith, fit.0))
+ahead count k zero (Lost ∷ fates) fate fit is = let same : Lost ≡ fate = cc in subst (IsAhead (k + 0)) same tt
+ahead count k (suc i) (Gap g ∷ fates) fate fit is = further k i fate (ahead count (k + 1) i fates fate fit.2 is)
+ahead count k (suc i) (By r ∷ fates) fate fit is = further k i fate (ahead count (k + 1) i fates fate fit.2 is)
+ahead count k (suc i) (Lost ∷ fates) fate fit is = further k i fate (ahead count (k + 1) i fates fate fit is)
+
+-- ---- what was taken so far
+
+-- It is over behind so many gaps and so many entries.
+abbrev pub IsOver : ℕ → ℕ → Fate → Type 0
+IsOver gaps replies (Gap gap) = gap < gaps
+IsOver gaps replies (By reply) = reply < replies
+IsOver gaps replies Lost = ⊥
+
+-- Each message to an end that is judged was taken whose fate is over.
+abbrev pub AreTaken : Option Side → Certificate → ℕ → ℕ → List Item → List Event → Type 0
+AreTaken judged c gaps replies items events = (n : ℕ) (side : Side) (message : Message) (fate : Fate) → is_heard judged side ≡ true
+    → slice_get items n ≡ Some (Sent side message) → slice_get c.fates n ≡ Some fate → IsOver gaps replies fate
+    → IsIn n (numbers_taken side events)
+
+-- Where both ends are judged, a mark's fate is the next gap, and the run is but for losses what the certificate says.
+pub record IsAsSaid (c : Certificate) (gaps : ℕ) (r : Replay) : Type 0 where
+  pub marks : (n : ℕ) → slice_get r.world.sent n ≡ Some Item.Quiet → slice_get c.fates n ≡ Some (Gap (n + 1))
+  pub follows : IsUpTo c gaps r.world.sent (without_losses r.events)
+
+-- Where one end is, only that end acts, and its peer tells.
+abbrev pub IsSo : Option Side → Certificate → ℕ → Replay → Type 0
+IsSo None c gaps r = IsAsSaid c gaps r
+IsSo (Some judged) c gaps r = AllByRecursion (IsOwn judged) r.events
+
+-- What was replayed so far, behind so many gaps: a run that sends the entries so far; there is a fate for each entry, and what is over was taken.
+pub record SendsSoFar (judged : Option Side) (table : Table) (c : Certificate) (front : List Entry) (gaps : ℕ) (r : Replay) : Type 0 where
+  pub runs : Runs table r.events r.world
+  pub are : AreItems front r.world.sent
+  pub counted : next_entry r ≤ length c.fates
+  pub taken : AreTaken judged c gaps (next_entry r) r.world.sent r.events
+  pub so : IsSo judged c gaps r
+
+-- Steps that go on from a run make a run.
+pub runs_on : (table : Table) (r next : Replay) (more : List Event) → Runs table r.events r.world → Extends table r more next
+    → Runs table next.events next.world
+runs_on table r next more runs on = rw on.events (played_on table r.events more empty r.world runs ∙ on.plays)
+
+-- What was taken stays so.
+pub taken_on : (table : Table) (n : ℕ) (side : Side) (r next : Replay) (steps : List Event) → Extends table r steps next
+    → IsIn n (numbers_taken side r.events) → IsIn n (numbers_taken side next.events)
+taken_on table n side r next steps on was =
+    subst (λ (x : List Event). IsIn n (numbers_taken side x)) (sym on.events) (taken_left side n r.events steps was)
+
+-- Steps that send nothing leave taken what was taken,
+pub taken_still : (judged : Option Side) (table : Table) (c : Certificate) (gaps : ℕ) (r next : Replay) (steps : List Event)
+    → AreTaken judged c gaps (next_entry r) r.world.sent r.events → Extends table r steps next → next.world.sent ≡ r.world.sent
+    → AreTaken judged c gaps (next_entry next) next.world.sent next.events
+taken_still judged table c gaps r next steps old on same n side message fate heard is has over =
+    taken_on table n side r next steps on
+    (old n side message fate heard (ap (λ (x : List Item). slice_get x n) (sym same) ∙ is) has
+    (subst (λ (k : ℕ). IsOver gaps k fate) (ap length same) over))
+
+-- and keep the rest.
+pub stands_on : (judged : Option Side) (table : Table) (c : Certificate) (front : List Entry) (gaps more : ℕ) (r next : Replay)
+    (steps : List Event) → SendsSoFar judged table c front gaps r → Extends table r steps next → next.world.sent ≡ r.world.sent
+    → AreTaken judged c more (next_entry next) next.world.sent next.events → IsSo judged c more next
+    → SendsSoFar judged table c front more next
+stands_on judged table c front gaps more r next steps old on same taken so =
+    let number : next_entry next ≡ next_entry r = ap length same in
+    record {
+      runs = runs_on table r next steps old.runs on;
+      are = subst (AreItems front) (sym same) old.are;
+      counted = omega (arith, old.counted, number);
+      taken = taken;
+      so = so;
+    }
+
+pub stands_still : (judged : Option Side) (table : Table) (c : Certificate) (front : List Entry) (gaps : ℕ) (r next : Replay)
+    (steps : List Event) → SendsSoFar judged table c front gaps r → Extends table r steps next → next.world.sent ≡ r.world.sent
+    → IsSo judged c gaps next → SendsSoFar judged table c front gaps next
+stands_still judged table c front gaps r next steps old on same so =
+    stands_on judged table c front gaps gaps r next steps old on same (taken_still judged table c gaps r next steps old.taken on same) so
+
+-- ---- an entry
+
+-- One entry more is one item more.
+one_more : (front : List Entry) (items : List Item) (entry : Entry) (item : Item) → AreItems front items → IsItem entry item
+    → AreItems (front ++ entry ∷ []) (items ++ item ∷ [])
+one_more [] [] entry item are is = (is, tt)
+one_more [] (i ∷ items) entry item are is = absurd are
+one_more (e ∷ front) [] entry item are is = absurd are
+one_more (e ∷ front) (i ∷ items) entry item are is = (are.0, one_more front items entry item are.1 is)
+
+-- What is found among one item more was there, or is that item.
+pub old_or_new : (items : List Item) (item found : Item) (n : ℕ) → slice_get (items ++ item ∷ []) n ≡ Some found
+    → (slice_get items n ≡ Some found) ⊎ ((n ≡ length items) × (item ≡ found))
+old_or_new [] item found zero is = inr (refl, cc)
+old_or_new [] item found (suc n) is = cc
+old_or_new (i ∷ items) item found zero is = inl is
+old_or_new (i ∷ items) item found (suc n) is = by (old_or_new items item found n is)
+  where
+    by : (slice_get items n ≡ Some found) ⊎ ((n ≡ length items) × (item ≡ found))
+        → (slice_get items n ≡ Some found) ⊎ ((suc n ≡ length (i ∷ items)) × (item ≡ found))
+    by (inl was) = inl was
+    by (inr new) = inr (ap suc new.0, new.1)
+
+-- The fate of the newest message is not over.
+not_yet : (number n : ℕ) (fate : Fate) → IsAhead (0 + n) fate → n ≡ number → IsOver (number + 1) (number + 1) fate → ⊥
+not_yet number n (Gap g) ahead same over = omega (arith, ahead, same, over)
+not_yet number n (By k) ahead same over = omega (arith, ahead, same, over)
+not_yet number n Lost ahead same over = over
+
+-- Behind the next item, what was sent before and is over was taken: then all is.
+pub taken_next : (judged : Option Side) (c : Certificate) (count : ℕ) (item : Item) (r next : Replay) → FatesFit count 0 c.fates
+    → next.world.sent ≡ r.world.sent ++ item ∷ []
+    → ((n : ℕ) (side : Side) (message : Message) (fate : Fate) → is_heard judged side ≡ true
+    → slice_get r.world.sent n ≡ Some (Sent side message) → slice_get c.fates n ≡ Some fate
+    → IsOver (next_entry r + 1) (next_entry r + 1) fate → IsIn n (numbers_taken side next.events))
+    → AreTaken judged c (next_entry next) (next_entry next) next.world.sent next.events
+taken_next judged c count item r next fit grown before n side message fate heard is has over =
+    by (old_or_new r.world.sent item (Sent side message) n (ap (λ (x : List Item). slice_get x n) (sym grown) ∙ is))
+    (subst (λ (k : ℕ). IsOver k k fate) (ap length grown ∙ length-append r.world.sent (item ∷ [])) over)
+  where
+    by : (slice_get r.world.sent n ≡ Some (Sent side message)) ⊎ ((n ≡ length r.world.sent) × (item ≡ Sent side message))
+        → IsOver (next_entry r + 1) (next_entry r + 1) fate → IsIn n (numbers_taken side next.events)
+    by (inl was) over = before n side message fate heard was has over
+    by (inr new) over = absurd (not_yet (next_entry r) n fate (ahead count 0 n c.fates fate fit has) new.0 over)
+
+-- One entry more.
+pub stands_more : (judged : Option Side) (table : Table) (c : Certificate) (front : List Entry) (gaps : ℕ) (entry : Entry) (item : Item)
+    (fate : Fate) (r next : Replay) (steps : List Event) → SendsSoFar judged table c front gaps r → IsItem entry item
+    → slice_get c.fates (next_entry r) ≡ Some fate → Extends table r steps next → next.world.sent ≡ r.world.sent ++ item ∷ []
+    → AreTaken judged c (next_entry next) (next_entry next) next.world.sent next.events → IsSo judged c (next_entry next) next
+    → SendsSoFar judged table c (front ++ entry ∷ []) (next_entry next) next
+stands_more judged table c front gaps entry item fate r next steps old is has on grown taken so =
+    let more : next_entry next ≡ next_entry r + 1 = ap length grown ∙ length-append r.world.sent (item ∷ []) in
+    let within : next_entry r < length c.fates = slice_get_within c.fates (next_entry r) fate has in
+    record {
+      runs = runs_on table r next steps old.runs on;
+      are = subst (AreItems (front ++ entry ∷ [])) (sym grown) (one_more front r.world.sent entry item old.are is);
+      counted = omega (arith, more, within);
+      taken = taken;
+      so = so;
+    }

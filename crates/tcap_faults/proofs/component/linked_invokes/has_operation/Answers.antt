@@ -1,0 +1,14 @@
+use Rattle.std.proofs.Common.{map, to_z-of_z, refl, sym, ◌∙◌}
+use Rattle.tcap_faults.specs.Linking.{links_as}
+use Rattle.tcap_faults.specs.Tallies.{tallies_of, tally_of}
+use Rattle.tcap_faults.proofs.component_laws.SeveralTalliesLaws.{found_next}
+use Rattle.tcap_faults.proofs.component.linked_invokes.has_operation.Goals as goal
+
+pub returns-then-has_operation : goal.returns-then-has_operation
+returns-then-has_operation c =
+    found_next
+    (λ ts. (tallies_of (map (λ b. b.now) ts)).has_operation c.args.id (links_as c.args.table.now c.args.linkable))
+    (λ t. (tally_of t).has_operation c.args.id (links_as c.args.table.now c.args.linkable))
+    c.loop-tally.tally-index c.args.tallies.now c.tally-item.result (λ t more. refl) c.loop-tally-test.true
+    c.tally-item.is (rw (to_z-of_z c.ranges.id) at (sym c.has_operation.ensures ∙ c.if-has_operation.true))
+    (rw (to_z-of_z c.ranges.id) at c.loop-tally.invariant)

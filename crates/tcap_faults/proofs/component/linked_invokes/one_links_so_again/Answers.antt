@@ -1,0 +1,15 @@
+use Rattle.std.proofs.Common.{map, to_z-of_z, refl}
+use Rattle.tcap_faults.specs.Linking.{names_so}
+use Rattle.tcap_faults.specs.Tallies.{tallies_of, tally_of}
+use Rattle.tcap_faults.proofs.component_laws.SeveralTalliesLaws.{found_one}
+use Rattle.tcap_faults.proofs.component.linked_invokes.one_links_so_again.Goals as goal
+
+pub returns-then-links_so_again : goal.returns-then-links_so_again
+returns-then-links_so_again c =
+    λ so. found_one
+    (λ ts. (tallies_of (map (λ b. b.now) ts)).has_link c.args.id
+    (names_so c.args.table.now (tallies_of (map (λ b. b.now) c.args.invoked.now)) c.args.problem))
+    (λ t. (tally_of t).has_link c.args.id
+    (names_so c.args.table.now (tallies_of (map (λ b. b.now) c.args.invoked.now)) c.args.problem))
+    c.loop-tally.tally-index c.args.heard.now c.tally-item.result (λ t more. refl) c.loop-tally-test.true
+    c.tally-item.is (rw (to_z-of_z c.ranges.id) at (c.links_so_again.ensures c.if-links_so_again.true))

@@ -1,0 +1,13 @@
+-- The sum so far, with that of what is left, is that of all.
+use Rattle.std.proofs.Common.{◌≡◌, ◌^◌, ◌<◌, drop, map}
+use Rattle.tcap_parts.specs.Meaning.{code_of}
+use Rattle.tcap_faults.specs.Tallied.{sum}
+use Rattle.tcap_faults.specs.Tallies.{tallies_of}
+use Rattle.tcap_faults.proofs.component.several_tallies.invokes_of.Given as goal
+
+abbrev pub invariant-loop-tally : goal.invariant-loop-tally
+invariant-loop-tally l = record {
+  sum_is : sum l.all ((tallies_of (map (λ b. b.now) (drop l.tally-index l.tallies))).invokes_of l.id (code_of l.code))
+      ≡ (tallies_of (map (λ b. b.now) l.tallies)).invokes_of l.id (code_of l.code);
+  fits : l.all < 2 ^ 128;
+}

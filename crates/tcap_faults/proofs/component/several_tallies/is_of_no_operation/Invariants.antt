@@ -1,0 +1,12 @@
+-- What is left decides.
+use Rattle.std.proofs.Common.{◌≡◌, drop, map}
+use Rattle.tcap_faults.specs.Linking.{is_of_none}
+use Rattle.tcap_faults.specs.Tallies.{tallies_of}
+use Rattle.tcap_faults.proofs.component.several_tallies.is_of_no_operation.Given as goal
+
+abbrev pub invariant-loop-tally : goal.invariant-loop-tally
+invariant-loop-tally l =
+    (tallies_of (map (λ b. b.now) (drop l.tally-index l.heard))).has_result l.id
+    (is_of_none (tallies_of (map (λ b. b.now) l.invoked)) l.id)
+    ≡ (tallies_of (map (λ b. b.now) l.heard)).has_result l.id
+    (is_of_none (tallies_of (map (λ b. b.now) l.invoked)) l.id)

@@ -1,0 +1,14 @@
+use Rattle.std.proofs.Common.{to_z-of_z, ap, ◌∙◌}
+use Rattle.tcap_faults.specs.Tallies.{count_in, of_kept}
+use Rattle.tcap_faults.proofs.component.tally.Tally.count.Goals as goal
+
+pub returns-in-Some : goal.returns-in-Some
+returns-in-Some c =
+    c.count.ensures
+    ∙ ap (of_kept 0 (count_in c.args.sort))
+    (rw (to_z-of_z c.ranges.id) at c.in-Some.ensures)
+
+pub returns-in-None : goal.returns-in-None
+returns-in-None c =
+    ap (of_kept 0 (count_in c.args.sort))
+    (rw (to_z-of_z c.ranges.id) at c.in-None.ensures)

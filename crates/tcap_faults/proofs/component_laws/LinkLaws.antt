@@ -1,0 +1,149 @@
+-- Linked Invokes by their linked IDs: what a test finds behind one more.
+use Rattle.std.proofs.Common.{◌≡◌, ℤ, Bool, true, false, cond, ◌||◌, List, [], ◌∷◌, Some, None, Ordering, Less, Equal, Greater, int_cmp, refl, sym, ap, ◌∙◌}
+use Rattle.std.specs.BTreeMap.{BTreeMap, WritesThrough, insert_entry, is_at}
+use Rattle.std.specs.List.{list_any}
+use Rattle.std.specs.Map.{lookup, set_value}
+use Rattle.std.specs.Ordering.{match_ordering}
+use Rattle.std.proofs.lemmas.Bool.{or_left, or_right}
+use Rattle.std.proofs.lemmas.Map.Lookups.{exact_signed}
+use Rattle.std.proofs.lemmas.Map.Views.{tells_apart}
+use Rattle.tcap_parts.specs.declared.code.Code.{Code}
+use Rattle.tcap_parts.specs.declared.code.CodeView.{CodeView}
+use Rattle.tcap_parts.specs.Meaning.{code_of}
+use Rattle.tcap_end.specs.Table.{Table}
+use Rattle.tcap_refute.proofs.TestLaws.{or_none}
+use Rattle.tcap_faults.specs.declared.component.code_counts.CodeCounts.{CodeCounts}
+use Rattle.tcap_faults.specs.declared.component.link_problem.LinkProblem.{LinkProblem}
+use Rattle.tcap_faults.specs.declared.component.link_problem.LinkProblem.TheVariants as problems
+use Rattle.tcap_faults.specs.Linking.{linkable_by, links_as, names_so}
+use Rattle.tcap_faults.specs.Tallied.{Tallied}
+use Rattle.tcap_faults.specs.Tallies.{codes_any, links_at}
+
+first : (a b p : Bool) → ((a || p) || b) ≡ ((a || b) || p)
+first true b p = refl
+first false true true = refl
+first false true false = refl
+first false false p = sym (or_none p)
+
+later : (a b p : Bool) → (a || (b || p)) ≡ ((a || b) || p)
+later true b p = refl
+later false b p = refl
+
+before : (a p : Bool) → (p || a) ≡ (a || p)
+before true true = refl
+before true false = refl
+before false p = sym (or_none p)
+
+module _ {K X : Type 0} (finds : K × X → Bool) where
+  -- Where a value takes the place of one, and what the test finds there is more by that,
+  pub any_set : (test : K → Bool) (was now : X) (p : Bool)
+      → ((k : K) → test k ≡ true → finds (k, now) ≡ (finds (k, was) || p)) → (es : List (K × X))
+      → Some was ≡ lookup test es → list_any finds (set_value test es now) ≡ (list_any finds es || p)
+  any_set test was now p gains [] there = cc
+  any_set test was now p gains ((k, x) ∷ es) there = by (test k) refl (any_set test was now p gains es)
+    where
+      by : (b : Bool) → test k ≡ b
+          → (Some was ≡ lookup test es → list_any finds (set_value test es now) ≡ (list_any finds es || p))
+          → list_any finds (cond b ((k, now) ∷ es) ((k, x) ∷ set_value test es now))
+          ≡ ((finds (k, x) || list_any finds es) || p)
+      by true is rest =
+          let same : Some was ≡ Some x = rw is at there in
+          let one : was ≡ x = cc in
+          ap (λ b. b || list_any finds es) (gains k is ∙ ap (λ y. finds (k, y) || p) one)
+          ∙ first (finds (k, x)) (list_any finds es) p
+      by false is rest =
+          let left : Some was ≡ lookup test es = rw is at there in
+          ap (λ b. finds (k, x) || b) (rest left)
+          ∙ later (finds (k, x)) (list_any finds es) p
+
+  -- and where one is new.
+  pub any_inserted : (cmp : K → K → Ordering) (k : K) (x : X) (es : List (K × X)) → None ≡ lookup (is_at (cmp k)) es
+      → list_any finds (insert_entry cmp es k x) ≡ (list_any finds es || finds (k, x))
+  any_inserted cmp k x [] none = sym (or_none _)
+  any_inserted cmp k x (e ∷ es) none = by (cmp k e.0) refl (any_inserted cmp k x es)
+    where
+      by : (r : Ordering) → cmp k e.0 ≡ r
+          → (None ≡ lookup (is_at (cmp k)) es
+          → list_any finds (insert_entry cmp es k x) ≡ (list_any finds es || finds (k, x)))
+          → list_any finds (match_ordering r ((k, x) ∷ e ∷ es) ((e.0, x) ∷ es) (e ∷ insert_entry cmp es k x))
+          ≡ ((finds e || list_any finds es) || finds (k, x))
+      by Less is rest = before (finds e || list_any finds es) (finds (k, x))
+      by Equal is rest =
+          let here : None ≡ Some e.1 = rw is at none in cc
+      by Greater is rest =
+          let left : None ≡ lookup (is_at (cmp k)) es = rw is at none in
+          ap (λ b. finds e || b) (rest left) ∙ later (finds e) (list_any finds es) (finds (k, x))
+
+module _ (linked : ℤ) (code : Code) (old new : BTreeMap ℤ CodeCounts) (s : CodeCounts) where
+  -- Something was kept of the linked ID.
+  pub link_written : (was : CodeCounts) → Some was ≡ lookup (is_at (int_cmp linked)) old.entries
+      → WritesThrough int_cmp (int_cmp linked) old s new
+      → ((passes : Code → Bool) → codes_any passes s ≡ (codes_any passes was || passes code))
+      → (passes : ℤ → Code → Bool)
+      → list_any (links_at passes) new.entries ≡ (list_any (links_at passes) old.entries || passes linked code)
+  link_written was there writes gains passes =
+      ap (list_any (links_at passes)) writes.0
+      ∙ any_set (links_at passes) (is_at (int_cmp linked)) was s (passes linked code)
+      (λ k same. gains (passes k)
+      ∙ ap (λ q. codes_any (passes k) was || passes q code) (sym (tells_apart exact_signed linked k same)))
+      old.entries there
+
+  -- Nothing was.
+  pub link_made : (fresh : CodeCounts) → None ≡ lookup (is_at (int_cmp linked)) old.entries
+      → new.entries ≡ insert_entry int_cmp old.entries linked s
+      → ((passes : Code → Bool) → codes_any passes fresh ≡ false)
+      → ((passes : Code → Bool) → codes_any passes s ≡ (codes_any passes fresh || passes code))
+      → (passes : ℤ → Code → Bool)
+      → list_any (links_at passes) new.entries ≡ (list_any (links_at passes) old.entries || passes linked code)
+  link_made fresh none puts nothing gains passes =
+      ap (list_any (links_at passes)) puts
+      ∙ any_inserted (links_at passes) int_cmp linked s old.entries none
+      ∙ ap (λ b. list_any (links_at passes) old.entries || b)
+      (gains (passes linked) ∙ ap (λ b. b || passes linked code) (nothing (passes linked)))
+
+-- ---- a loop over them
+
+module _ (passes : ℤ → Code → Bool) (linked : ℤ) (counts : CodeCounts) (left more all : List (ℤ × CodeCounts))
+    (steps : left ≡ (linked, counts) ∷ more)
+    (so_far : list_any (links_at passes) left ≡ list_any (links_at passes) all) where
+  here : (codes_any (passes linked) counts || list_any (links_at passes) more) ≡ list_any (links_at passes) all
+  here = sym (ap (list_any (links_at passes)) steps) ∙ so_far
+
+  -- Where the next one passes, one of all does,
+  pub link_found : codes_any (passes linked) counts ≡ true → true ≡ list_any (links_at passes) all
+  link_found so = sym (ap (λ b. b || list_any (links_at passes) more) so) ∙ here
+
+  -- and where it does not, what is left decides.
+  pub link_passed : codes_any (passes linked) counts ≡ false
+      → list_any (links_at passes) more ≡ list_any (links_at passes) all
+  link_passed none = sym (ap (λ b. b || list_any (links_at passes) more) none) ∙ here
+
+-- ---- one of them
+
+-- Where what is kept of a linked ID passes, one does.
+pub link_there : (passes : ℤ → Code → Bool) (linked : ℤ) (counts : CodeCounts) (es : List (ℤ × CodeCounts))
+    → Some counts ≡ lookup (is_at (int_cmp linked)) es → codes_any (passes linked) counts ≡ true
+    → list_any (links_at passes) es ≡ true
+link_there passes linked counts [] there so = cc
+link_there passes linked counts ((k, x) ∷ es) there so =
+    by (is_at (int_cmp linked) k) refl (link_there passes linked counts es)
+  where
+    by : (b : Bool) → is_at (int_cmp linked) k ≡ b
+        → (Some counts ≡ lookup (is_at (int_cmp linked)) es → codes_any (passes linked) counts ≡ true
+        → list_any (links_at passes) es ≡ true)
+        → (codes_any (passes k) x || list_any (links_at passes) es) ≡ true
+    by true is rest =
+        let same : Some counts ≡ Some x = rw is at there in
+        let one : counts ≡ x = cc in
+        or_left (codes_any (passes k) x) (list_any (links_at passes) es)
+        (rw (tells_apart exact_signed linked k is, one) at so)
+    by false is rest =
+        let left : Some counts ≡ lookup (is_at (int_cmp linked)) es = rw is at there in
+        or_right (codes_any (passes k) x) (list_any (links_at passes) es) (rest left so)
+
+-- What may be linked to an operation, where a linked Invoke has a problem, says that it has it.
+pub names_as : (table : Table) (invoked : Tallied) (problem : LinkProblem) (linked : ℤ) (code : CodeView)
+    → invoked.has_operation linked (links_as table (linkable_by problem code)) ≡ true
+    → names_so table invoked problem linked (code_of code) ≡ true
+names_as table invoked problems.Response linked code so = so
+names_as table invoked problems.Operation linked code so = so

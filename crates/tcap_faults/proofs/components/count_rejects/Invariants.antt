@@ -1,8 +1,0 @@
--- Those so far are counted.
-use Rattle.tcap_parts.specs.Meaning.{components_left}
-use Rattle.tcap_faults.proofs.ComponentFinds.{AreRejects}
-use Rattle.tcap_faults.proofs.components.count_rejects.Given as goal
-
-abbrev pub invariant-loop-component : goal.invariant-loop-component
-invariant-loop-component l =
-    AreRejects l.table (components_left l.fn.components) (components_left l.component-iterator) l.rejects

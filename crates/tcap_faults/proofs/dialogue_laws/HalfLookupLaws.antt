@@ -1,0 +1,260 @@
+-- The half with an ID of the peer is the one that is read off what is kept.
+use Rattle.std.proofs.Common.{◌≡◌, Bor, ℕ, Bool, true, false, cond, not, ◌&&◌, ◌||◌, List, [], ◌∷◌, ◌++◌, Option, Some, None, is_some, map, option_copied, refl, sym, ap, subst, ◌∙◌}
+use Rattle.std.specs.Prelude.{is_none}
+use Rattle.std.specs.Map.{lookup}
+use Rattle.std.specs.BTreeMap.{is_at}
+use Rattle.std.specs.List.{find, list_any}
+use Rattle.std.specs.Option.{option_to_list}
+use Rattle.std.proofs.lemmas.Grind.{flat_map-append}
+use Rattle.tcap_parts.specs.declared.component.Component.{Component}
+use Rattle.tcap_msg.specs.declared.kind.Kind.TheVariants as forms
+use Rattle.tcap_msg.specs.declared.message.Message.{Message}
+use Rattle.tcap_msg.specs.declared.message.Message.TheVariants.{Continue, Abort}
+use Rattle.tcap_msg.specs.Parts.{cause_in, components_in, dialogue_in, dtid_in, kind_in, otid_in, reason_cause}
+use Rattle.tcap_record.specs.declared.entry.End.{End as Side}
+use Rattle.tcap_record.specs.Ends.{other}
+use Rattle.tcap_end.specs.End.{is_id}
+use Rattle.tcap_end.specs.Table.{Table, octets_cmp}
+use Rattle.tcap_model.specs.World.{Item}
+use Rattle.tcap_model.specs.Run.{then_so}
+use Rattle.tcap_refute.specs.Before.{asked, components_of, has_a, is_a, sent_by}
+use Rattle.tcap_faults.specs.Counts.{is_nothing}
+use Rattle.tcap_faults.specs.Told.{begin_from, is_cause, is_request_of, told, was_refused}
+use Rattle.tcap_faults.specs.declared.dialogue.half.Half.{Half}
+use Rattle.tcap_faults.specs.declared.dialogue.half_origin.How.TheVariants.{Accepted, Begun, Refused, Unanswered}
+use Rattle.tcap_faults.specs.declared.transaction.sent_from_id.Came.{Came}
+use Rattle.tcap_faults.specs.declared.transaction.sent_from_id.FirstBegin.{FirstBegin}
+use Rattle.tcap_faults.specs.declared.transaction.sent_from_id.SentFrom.{SentFrom}
+use Rattle.tcap_faults.specs.declared.transaction.sent_to_id.SentTo.{SentTo}
+use Rattle.tcap_faults.specs.declared.component.tally.Tally.{Tally}
+use Rattle.tcap_faults.specs.HalfKept.{AreTallies, IsHalf}
+use Rattle.tcap_faults.specs.HalfOf.{HalfOf, accepted_half, answered_from, begun_half, continued_to, from_first, heard_of, responds}
+use Rattle.tcap_faults.specs.Ids.{ids_first}
+use Rattle.tcap_faults.specs.Kept.{IsCame, IsCameAt, IsFirstBegin, IsFrom, IsTo, IsToAt, before_response, of_user, otids_of, sent_from, sent_to}
+use Rattle.tcap_faults.specs.Speaking.{IsBegunBy, IsCameBack, came_counted, heard_counted, told_counted}
+use Rattle.tcap_faults.specs.HalfKinds.{is_first_answer, is_wrong_aborting, is_wrong_dialogue, is_wrong_going_on}
+use Rattle.tcap_faults.proofs.component_laws.TallySumLaws.{are_more, are_none, are_one}
+use Rattle.tcap_faults.proofs.list_laws.TwoTests.{any_both}
+use Rattle.tcap_faults.proofs.transaction_laws.HistoryLookupLaws.{told_is}
+
+-- ---- two tests
+
+-- ---- what was told
+
+-- What was told is what was sent there, without the Aborts of the provider;
+-- and by one of these a Begin was refused.
+pub refused_is : (side : Side) (id : List ℕ) (items : List Item)
+    → list_any (λ m. is_cause 4 (cause_in m)) (sent_to side items id) ≡ was_refused side id items
+refused_is side id items =
+    any_both (λ m. is_id id (dtid_in m)) (λ m. is_cause 4 (cause_in m)) (sent_by side items)
+
+-- The first originating ID is that of the first Continue.
+first_told : (ms : List Message) → ids_first (otids_of ms) ≡ then_so (find (is_a forms.Continue) (of_user ms)) otid_in
+first_told [] = refl
+first_told (Continue otid dtid dialogue components ∷ ms) = refl
+first_told (Abort dtid reason ∷ ms) = by (is_none (reason_cause reason)) (first_told ms)
+  where
+    by : (b : Bool) → ids_first (otids_of ms) ≡ then_so (find (is_a forms.Continue) (of_user ms)) otid_in
+        → ids_first (otids_of ms)
+        ≡ then_so (find (is_a forms.Continue) (cond b (Abort dtid reason ∷ of_user ms) (of_user ms))) otid_in
+    by true rest = rest
+    by false rest = rest
+first_told (m ∷ ms) = first_told ms
+
+pub first_answer : (side : Side) (id : List ℕ) (items : List Item)
+    → ids_first (otids_of (sent_to side items id)) ≡ answered_from side items id
+first_answer side id items =
+    first_told (sent_to side items id)
+    ∙ ap (λ ms. then_so (find (is_a forms.Continue) ms) otid_in) (told_is side items id)
+
+-- It is there where there is a Continue.
+first_there : (ms : List Message)
+    → is_none (then_so (find (is_a forms.Continue) ms) otid_in) ≡ not (has_a forms.Continue ms)
+first_there [] = refl
+first_there (Continue otid dtid dialogue components ∷ ms) = refl
+first_there (m ∷ ms) = first_there ms
+
+pub went_on : (side : Side) (id : List ℕ) (items : List Item)
+    → is_none (ids_first (otids_of (sent_to side items id))) ≡ not (has_a forms.Continue (told side id items))
+went_on side id items = ap is_none (first_answer side id items) ∙ first_there (told side id items)
+
+-- ---- what is kept of what was told
+
+module _ (table : Table) (ms : List Message) (o : Option (Bor SentTo)) (at : IsToAt table ms (option_copied o)) where
+  pub told_there : (to : Bor SentTo) → o ≡ Some to → IsTo table ms to.now
+  told_there to is = (rw is at at).1
+
+  pub told_nowhere : o ≡ None → ms ≡ []
+  told_nowhere is = rw is at at
+
+-- ---- Continues, apart by the first that answers
+
+apart : (ms : List Message) → before_response ms ++ from_first responds ms ≡ ms
+apart [] = refl
+apart (m ∷ ms) = by (responds m) (apart ms)
+  where
+    by : (b : Bool) → before_response ms ++ from_first responds ms ≡ ms
+        → cond b [] (m ∷ before_response ms) ++ cond b (m ∷ ms) (from_first responds ms) ≡ m ∷ ms
+    by true rest = refl
+    by false rest = ap (λ ns. m ∷ ns) rest
+
+none_from : (ms : List Message) → is_nothing (from_first responds ms) ≡ not (list_any responds ms)
+none_from [] = refl
+none_from (m ∷ ms) = by (responds m) (none_from ms)
+  where
+    by : (b : Bool) → is_nothing (from_first responds ms) ≡ not (list_any responds ms)
+        → is_nothing (cond b (m ∷ ms) (from_first responds ms)) ≡ not (b || list_any responds ms)
+    by true rest = refl
+    by false rest = rest
+
+-- ---- components that are counted
+
+-- of the Continues to an own ID, if that is known
+abbrev pub later_of : SentFrom → Option (List ℕ) → List Tally
+later_of asks None = []
+later_of asks (Some own) = came_counted (lookup (is_at (octets_cmp own)) asks.came.entries)
+
+module _ (table : Table) where
+  both_are : (ms : List Message) (came : Came) → IsCame table ms came
+      → AreTallies table (components_of ms) (came.sooner ∷ came.since ∷ [])
+  both_are ms came is =
+      subst (λ (cs : List Component). AreTallies table cs (came.sooner ∷ came.since ∷ [])) all
+      (are_more table _ _ came.sooner (came.since ∷ []) is.sooner (are_one table _ came.since is.since))
+    where
+      all : components_of (before_response ms) ++ components_of (from_first responds ms) ≡ components_of ms
+      all =
+          sym (flat_map-append components_in (before_response ms) (from_first responds ms))
+          ∙ ap components_of (apart ms)
+
+  came_are : (ms : List Message) (came : Option Came) → IsCameAt table ms came
+      → AreTallies table (components_of ms) (came_counted came)
+  came_are ms None none = rw none (are_none table)
+  came_are ms (Some came) (some, is) = both_are ms came is
+
+  -- the Continues to the half's own ID, if that is known
+  later_are : (side : Side) (items : List Item) (id : List ℕ) (asks : SentFrom)
+      → IsFrom table (sent_from (other side) items id) asks → (own : Option (List ℕ))
+      → AreTallies table (components_of (continued_to side items id own)) (later_of asks own)
+  later_are side items id asks is None = are_none table
+  later_are side items id asks is (Some own) = came_are _ _ (is.came own)
+
+  told_are : (side : Side) (id : List ℕ) (items : List Item) (kept : Option SentTo)
+      → IsToAt table (sent_to side items id) kept
+      → AreTallies table (components_of (told side id items)) (told_counted kept)
+  told_are side id items None none =
+      subst (λ (ms : List Message). AreTallies table (components_of ms) [])
+      (ap of_user (sym none) ∙ told_is side items id) (are_none table)
+  told_are side id items (Some kept) (some, is) =
+      subst (λ (ms : List Message). AreTallies table (components_of ms) (kept.components ∷ []))
+      (told_is side items id) (are_one table _ kept.components is.components)
+
+  behind : (begin : Option Message) (kept : FirstBegin) (ms : List Message) (tallies : List Tally)
+      → IsFirstBegin table begin (Some kept) → AreTallies table (components_of ms) tallies
+      → AreTallies table (components_of (option_to_list begin ++ ms)) (kept.components ∷ tallies)
+  behind None kept ms tallies begins are = absurd begins
+  behind (Some begin) kept ms tallies (asks, components) are =
+      are_more table (components_in begin) (components_of ms) kept.components tallies components are
+
+  asks_so : (begin : Option Message) (kept : FirstBegin) → IsFirstBegin table begin (Some kept)
+      → kept.requests ≡ is_request_of begin
+  asks_so None kept begins = absurd begins
+  asks_so (Some begin) kept (asks, components) = asks
+
+  pub there_so : (begin : Option Message) (kept : FirstBegin) → IsFirstBegin table begin (Some kept)
+      → is_some begin ≡ true
+  there_so None kept begins = absurd begins
+  there_so (Some begin) kept begins = refl
+
+  pub none_so : (begin : Option Message) → IsFirstBegin table begin None → begin ≡ None
+  none_so None none = refl
+  none_so (Some begin) none = absurd none
+
+-- ---- a half that began by the peer's Begin
+
+module _ (table : Table) (side : Side) (id : List ℕ) (items : List Item) (kept : Half) where
+  abbrev heard : List Tally
+  heard = map (λ b. b.now) kept.heard.items
+
+  abbrev tells : List Tally
+  tells = map (λ b. b.now) kept.told.items
+
+  abbrev invokes : List Tally
+  invokes = map (λ b. b.now) kept.invoked.items
+
+  read : (cs : List Component) (these those : List Tally) → these ≡ those → AreTallies table cs those
+      → AreTallies table cs these
+  read cs these those same are = rw same are
+
+  pub is_accepted : (asks : SentFrom) (begin : FirstBegin) (to : Option SentTo)
+      → IsFrom table (sent_from (other side) items id) asks → asks.begin ≡ Some begin
+      → IsToAt table (sent_to side items id) to
+      → kept.how ≡ cond (was_refused side id items) Refused Accepted → kept.own ≡ answered_from side items id
+      → kept.requests ≡ begin.requests → heard ≡ begin.components ∷ later_of asks kept.own → tells ≡ told_counted to
+      → invokes ≡ told_counted to
+      → IsHalf table (accepted_half side items id) kept
+  is_accepted asks begin to is begun at how own requests hears told_so invoked_so = record {
+    how = how;
+    own = own;
+    requests = requests ∙ asks_so table _ begin begins;
+    heard =
+        read _ _ _ (hears ∙ ap (λ o. begin.components ∷ later_of asks o) own)
+        (behind table _ begin _ (later_of asks (answered_from side items id)) begins
+        (later_are table side items id asks is (answered_from side items id)));
+    told = read _ _ _ told_so (told_are table side id items to at);
+    invoked = read _ _ _ invoked_so (told_are table side id items to at);
+  }
+    where
+      begins : IsFirstBegin table (find (is_a forms.Begin) (asked side id items)) (Some begin)
+      begins =
+          subst (λ (o : Option FirstBegin). IsFirstBegin table (find (is_a forms.Begin) (asked side id items)) o)
+          begun is.begin
+
+  -- ---- a half that began by its own Begin
+
+  pub is_begun : (own : List ℕ) (begin : FirstBegin) (came : Came) (to : Option SentTo)
+      → IsBegunBy table side items own begin → IsCameBack table side items id own came
+      → IsToAt table (sent_to side items id) to
+      → kept.how ≡ cond (begin.requests && not came.answered) Unanswered Begun → kept.own ≡ Some own
+      → kept.requests ≡ begin.requests → heard ≡ heard_counted begin came → tells ≡ told_counted to
+      → invokes ≡ begin.components ∷ told_counted to
+      → IsHalf table (begun_half side items id own) kept
+  is_begun own begin came to begins (some, is) at how its requests hears told_so invoked_so = record {
+    how = how ∙ ap (λ b. cond b Unanswered Begun) (hears_none begin.requests asks);
+    own = its;
+    requests = requests ∙ asks;
+    heard = read _ _ _ hears (hears_it begin.requests asks);
+    told = read _ _ _ told_so (told_are table side id items to at);
+    invoked = read _ _ _ invoked_so (behind table _ begin _ (told_counted to) begins (told_are table side id items to at));
+  }
+    where
+      asks : begin.requests ≡ is_request_of (begin_from side own items)
+      asks = asks_so table (begin_from side own items) begin begins
+
+      hears_none : (b : Bool) → b ≡ is_request_of (begin_from side own items)
+          → (b && not came.answered)
+          ≡ is_nothing (heard_of (begin_from side own items) (continued_to side items id (Some own)))
+      hears_none true so = rw (← so) (ap not is.answered ∙ sym (none_from (continued_to side items id (Some own))))
+      hears_none false so = rw (← so) (sym some)
+
+      hears_it : (b : Bool) → b ≡ is_request_of (begin_from side own items)
+          → AreTallies table
+          (components_of (heard_of (begin_from side own items) (continued_to side items id (Some own))))
+          (cond b [] (came.sooner ∷ []) ++ came.since ∷ [])
+      hears_it true so = rw (← so) (are_one table _ came.since is.since)
+      hears_it false so = rw (← so) (both_are table _ came is)
+
+-- ---- the dialogue
+
+pub aborting_so : (side : Side) (items : List Item) (id : List ℕ) (m : Message) (h : HalfOf)
+    → kind_in m ≡ forms.Abort
+    → is_wrong_aborting (is_first_answer side items id h) (is_request_of h.begin) (dialogue_in m)
+    ≡ is_wrong_dialogue side items id m h
+aborting_so side items id (Abort dtid reason) h so = refl
+aborting_so side items id m h so = cc
+
+pub going_on_else : (side : Side) (items : List Item) (id : List ℕ) (m : Message) (h : HalfOf)
+    → (kind_in m ≡ forms.Abort → ⊥)
+    → is_wrong_going_on (is_first_answer side items id h) (is_request_of h.begin) (dialogue_in m)
+    ≡ is_wrong_dialogue side items id m h
+going_on_else side items id (Abort dtid reason) h not_so = absurd (not_so refl)
+going_on_else side items id m h not_so = refl

@@ -1,4 +1,0 @@
-use Rattle.tcap_faults.proofs.facts.SideFacts.began.Goals as goal
-
-pub returns : goal.returns
-returns c = λ table side items is. c.begins.ensures table side items c.args.id.now (rw c.get.ensures.value (is.from c.args.id.now))

@@ -1,4 +1,0 @@
-use Rattle.tcap_faults.proofs.facts.SideFacts.has_ended.Goals as goal
-
-pub returns : goal.returns
-returns c = λ table side items is. c.is_ended.ensures table side items c.args.id.now (rw c.get.ensures.value (is.to c.args.id.now))

@@ -1,6 +1,0 @@
-use Rattle.std.proofs.Common.{◌∙◌}
-use Rattle.tcap_faults.proofs.SideLaws.{used_is}
-use Rattle.tcap_faults.proofs.facts.SideFacts.has_used.Goals as goal
-
-pub returns : goal.returns
-returns c = λ table side items is. c.contains_key.ensures ∙ used_is is c.args.id.now

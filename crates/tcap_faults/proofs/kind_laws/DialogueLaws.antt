@@ -1,0 +1,275 @@
+-- The dialogue portion of a message that is sent fits how the dialogue of its half stands (Q.774 3.2).
+use Rattle.std.proofs.Common.{◌≡◌, ◌⊎◌, inl, inr, ℕ, Bool, true, false, List, [], Option, Some, None, not, is_none, is_some, refl, sym, ap, subst, ◌∙◌}
+use Rattle.std.specs.Prelude.{Contains, ◌&&◌, ◌||◌}
+use Rattle.std.specs.List.{find}
+use Rattle.std.specs.Option.{option_to_list}
+use Rattle.std.proofs.lemmas.Bool.{and_from, and_parts, both_ways, not-true, or_cases}
+use Rattle.tcap_parts.specs.declared.dialogue.Dialogue.{Dialogue}
+use Rattle.tcap_parts.specs.declared.dialogue.Dialogue.TheVariants as dialogues
+use Rattle.tcap_msg.specs.declared.kind.Kind.TheVariants as forms
+use Rattle.tcap_msg.specs.declared.message.Message.{Message}
+use Rattle.tcap_msg.specs.declared.message.Message.TheVariants.{Unidirectional, Begin, Continue, End as EndMessage, Abort}
+use Rattle.tcap_msg.specs.Parts.{dialogue_in, reason_dialogue}
+use Rattle.tcap_record.specs.declared.entry.End.{End as Side}
+use Rattle.tcap_end.specs.declared.half.Phase.{Phase}
+use Rattle.tcap_end.specs.declared.half.Phase.TheVariants as phases
+use Rattle.tcap_end.specs.declared.half.Slot.TheVariants as slots
+use Rattle.tcap_end.specs.declared.half.Standing.{Standing}
+use Rattle.tcap_end.specs.declared.half.Standing.TheVariants as standings
+use Rattle.tcap_end.specs.Table.{Table}
+use Rattle.tcap_end.specs.Dialogue.{accepts_dialogue, first_standing, is_request, is_response, is_user_abort, may_abort, may_go_on, refuses_dialogue}
+use Rattle.tcap_end.specs.End.{End, KeptHalf}
+use Rattle.tcap_end.specs.Half.{is_closed}
+use Rattle.tcap_end.specs.Sound.{FitsPhase, IsEnd}
+use Rattle.tcap_model.specs.World.{Item}
+use Rattle.tcap_model.proofs.ListLaws.{contains_first}
+use Rattle.tcap_refute.specs.Before.{asked, has_a, is_a, sent_by}
+use Rattle.tcap_refute.proofs.Members.{any_has, filter_has, has_not}
+use Rattle.tcap_refute.proofs.DialogueKinds.{IsAsked, aborts, goes_on}
+use Rattle.tcap_refute.proofs.OverLaws.{IsOver, may_carry}
+use Rattle.tcap_faults.specs.Told.{begins_from, is_request_of, told}
+use Rattle.tcap_faults.specs.HalfKinds.{is_accepted, is_first_answer, is_wrong_aborting, is_wrong_dialogue, is_wrong_going_on}
+use Rattle.tcap_faults.specs.HalfOf.{HalfOf, half_of}
+use Rattle.tcap_faults.proofs.list_laws.FindLaws.{any_is, find_has, request_is}
+use Rattle.tcap_faults.proofs.view_laws.AcceptedHalfLaws.{all_asked, all_told}
+use Rattle.tcap_faults.proofs.view_laws.BegunHalfLaws.{all_begun, standing_of}
+use Rattle.tcap_faults.proofs.view_laws.ViewLaws.{View, view_sound}
+use Rattle.tcap_faults.proofs.kind_laws.HalfFacts.{either_slot, goes_from, kept_own, keyed, told_own, waits_so}
+use Rattle.tcap_faults.proofs.kind_laws.OwnHalfLaws.{how_accepted, how_begun_half, is_accepted_half, is_begun_half, only_first}
+use Rattle.tcap_faults.proofs.transaction_laws.TangledLaws.{IsPlain}
+
+-- ---- tests
+
+-- What stands alone is the first.
+alone_is : (o : Option Message) (m : Message) → Contains (option_to_list o) m → o ≡ Some m
+alone_is None m has = has_not m has
+alone_is (Some n) m has = by (contains_first n [] m has)
+  where
+    by : (n ≡ m) ⊎ Contains [] m → Some n ≡ Some m
+    by (inl same) = ap Some same
+    by (inr none) = has_not m none
+
+-- An AARE that takes a dialogue is a response.
+accepts_responds : (d : Option Dialogue) → accepts_dialogue d ≡ true → is_response d ≡ true
+accepts_responds (Some (dialogues.Response context result diagnostic info)) is = refl
+accepts_responds o is = cc
+
+-- A response is none of these.
+no_response : (d : Option Dialogue) → (is_none d || is_user_abort d) ≡ true → is_response d ≡ true → ⊥
+no_response None so is = cc
+no_response (Some (dialogues.Request context info)) so is = cc
+no_response (Some (dialogues.Response context result diagnostic info)) so is = cc
+no_response (Some (dialogues.Abort source info)) so is = cc
+no_response (Some (dialogues.Uni context info)) so is = cc
+
+-- What is there is something.
+not_both : {A : Type 0} (o : Option A) → is_none o ≡ true → is_some o ≡ true → ⊥
+not_both None none some = cc
+not_both (Some x) none some = cc
+
+-- An ABRT of the user wants a dialogue.
+user_wants : (phase : Phase) (standing : Standing) (d : Option Dialogue) → may_abort phase standing d ≡ true
+    → is_user_abort d ≡ true → standing ≡ standings.Without → ⊥
+user_wants phases.Sent standings.Without (Some d) may user without = cc
+user_wants phases.Received standings.Without (Some d) may user without = cc
+user_wants phases.Active standings.Without (Some d) may user without = cc
+user_wants phases.Closed standings.Without (Some d) may user without = cc
+user_wants phase standing o may user without = cc
+
+-- There is none where none was asked for.
+never_asked : (phase : Phase) (d : Option Dialogue) → is_request d ≡ false → standing_of phase d ≡ standings.Without
+never_asked phases.Closed d none = refl
+never_asked phase d none = rw none refl
+
+-- Where a portion asks for a dialogue, it stands so first.
+asked_first : (d : Option Dialogue) → is_request d ≡ true → first_standing d ≡ standings.Asked
+asked_first d is = rw is refl
+
+-- A half that waits to answer a request carries an AARE that takes it.
+takes_request : (p : Phase) (s : Standing) (d : Option Dialogue) → p ≡ phases.Received → s ≡ standings.Asked
+    → may_go_on p s d ≡ true → accepts_dialogue d ≡ true
+takes_request p s d at asked may = rw (at, asked) at may
+
+-- A message that is sent over a half, whose peer's ID is plain.
+module _ {table : Table} {side : Side} {e : End} {coming : List Message} {items : List Item}
+    (view : View table side e coming items) (m : Message) (id : List ℕ) (half : IsOver table e m id)
+    (plain : IsPlain side items id) where
+  abbrev f : KeptHalf
+  f = half.kept
+
+  abbrev h : HalfOf
+  h = half_of side items id
+
+  is_end : IsEnd e
+  is_end = view_sound view
+
+  abbrev first : Bool
+  first = is_first_answer side items id h
+
+  -- A half that waits to answer told no Continue,
+  not_gone_on : f.half.phase ≡ phases.Received → has_a forms.Continue (told side id items) ≡ true → ⊥
+  not_gone_on received gone =
+      let (n, has, goes) = any_is (is_a forms.Continue) (told side id items) gone in
+      let (o, from) = goes_from n goes in
+      let his = told_own view id f half.had half.peer n o has goes from in
+      let bad = sym (waits_so e f is_end half.had received) ∙ his in cc
+
+  -- One that began by receiving, and told no Continue, waits to answer.
+  waits : f.slot ≡ slots.Accepted → has_a forms.Continue (told side id items) ≡ false → f.half.phase ≡ phases.Received
+  waits slot none = by f.half.phase refl half.is_open
+    where
+      by : (p : Phase) → f.half.phase ≡ p → is_closed p ≡ false → f.half.phase ≡ phases.Received
+      by phases.Sent at still =
+          let unknown = (subst (λ (p : Phase). FitsPhase p f.half) at (is_end.halves f half.had).phase).1 in
+          let bad = sym unknown ∙ half.peer in cc
+      by phases.Received at still = at
+      by phases.Active at still =
+          let it = all_told view f half.had slot at in
+          let there : Contains (told side id items) it.message =
+          subst (λ (i : List ℕ). Contains (told side i items) it.message) (keyed view id f half.had half.peer slot)
+          it.was_told in
+          absurd (both_ways (has_a forms.Continue (told side id items)) none
+          (any_has (is_a forms.Continue) (told side id items) it.message there it.goes_on))
+      by phases.Closed at still = cc
+
+  -- An ABRT of the user wants a dialogue that the half's Begin asked for.
+  wants_request : (d : Option Dialogue) → may_abort f.half.phase f.half.standing d ≡ true → is_user_abort d ≡ true
+      → (wanted : Option Dialogue) → f.half.standing ≡ standing_of f.half.phase wanted → is_request wanted ≡ true
+  wants_request d may user wanted stands = by (is_request wanted) refl
+    where
+      by : (b : Bool) → is_request wanted ≡ b → is_request wanted ≡ true
+      by true request = request
+      by false none =
+          absurd (user_wants f.half.phase f.half.standing d may user (stands ∙ never_asked f.half.phase wanted none))
+
+  -- It has its Begin, by which its dialogue stands.
+  stands_by : (begin : Message) × (h.begin ≡ Some begin) × (is_a forms.Begin begin ≡ true)
+      × (f.half.standing ≡ standing_of f.half.phase (dialogue_in begin))
+  stands_by = by (either_slot f.slot)
+    where
+      by : (f.slot ≡ slots.Begun) ⊎ (f.slot ≡ slots.Accepted)
+          → (begin : Message) × (h.begin ≡ Some begin) × (is_a forms.Begin begin ≡ true)
+          × (f.half.standing ≡ standing_of f.half.phase (dialogue_in begin))
+      by (inl slot) =
+          let it = all_begun view f half.had slot in
+          let (has, passes) = find_has (begins_from f.key) (sent_by side items) it.begin it.is_begun in (
+            it.begin,
+            ap (λ (x : HalfOf). x.begin) (is_begun_half view m id half plain slot) ∙ it.is_begun,
+            (and_parts (is_a forms.Begin it.begin) _ passes).0,
+            it.stands,
+          )
+      by (inr slot) =
+          let it = all_asked view f half.had slot in
+          let there : Contains (asked side id items) it.begin =
+          subst (λ (i : List ℕ). Contains (asked side i items) it.begin) (keyed view id f half.had half.peer slot)
+          it.was_asked in
+          let first_is : find (is_a forms.Begin) (asked side id items) ≡ Some it.begin =
+          alone_is (find (is_a forms.Begin) (asked side id items)) it.begin
+          (subst (λ (ms : List Message). Contains ms it.begin)
+          (only_first (is_a forms.Begin) (asked side id items) plain.few)
+          (filter_has (is_a forms.Begin) (asked side id items) it.begin there it.begins)) in (
+            it.begin,
+            ap (λ (x : HalfOf). x.begin) (is_accepted_half view m id half plain slot) ∙ first_is,
+            it.begins,
+            it.stands,
+          )
+
+  abbrev begin : Message
+  begin = stands_by.0
+
+  asks_so : is_request_of h.begin ≡ is_request (dialogue_in begin)
+  asks_so = ap is_request_of stands_by.1 ∙ request_is begin stands_by.2
+
+  -- One that waits to answer answers first.
+  answers_first : f.half.phase ≡ phases.Received → first ≡ true
+  answers_first received = by (either_slot f.slot)
+    where
+      by : (f.slot ≡ slots.Begun) ⊎ (f.slot ≡ slots.Accepted) → first ≡ true
+      by (inl slot) =
+          let bad = sym (waits_so e f is_end half.had received) ∙ kept_own e f is_end half.had slot in cc
+      by (inr slot) =
+          and_from (is_accepted h.how) _ (ap is_accepted (how_accepted view m id half plain slot))
+          (none (has_a forms.Continue (told side id items)) refl)
+        where
+          none : (b : Bool) → has_a forms.Continue (told side id items) ≡ b → not b ≡ true
+          none true gone = absurd (not_gone_on received gone)
+          none false never = refl
+
+  -- What answers first waits to answer.
+  waits_first : first ≡ true → f.half.phase ≡ phases.Received
+  waits_first is =
+      let (accepted, never) = and_parts (is_accepted h.how) _ is in
+      by accepted (not-true _ never) (either_slot f.slot)
+    where
+      by : is_accepted h.how ≡ true → has_a forms.Continue (told side id items) ≡ false
+          → (f.slot ≡ slots.Begun) ⊎ (f.slot ≡ slots.Accepted) → f.half.phase ≡ phases.Received
+      by accepted none (inl slot) =
+          let bad : false ≡ true = sym (ap is_accepted (how_begun_half view m id half plain slot)) ∙ accepted in cc
+      by accepted none (inr slot) = waits slot none
+
+  -- ---- a Continue, or an End
+
+  going_on : (d : Option Dialogue) → may_go_on f.half.phase f.half.standing d ≡ true
+      → is_wrong_going_on first (is_request_of h.begin) d ≡ true → ⊥
+  going_on d may is = by (or_cases (not first && is_some d) _ is)
+    where
+      some_wrong : not first ≡ true → is_some d ≡ true
+          → (is_none d ≡ true) ⊎ (IsAsked f.half.phase f.half.standing × (accepts_dialogue d ≡ true)) → ⊥
+      some_wrong later some (inl none) = not_both d none some
+      some_wrong later some (inr (at, accepts)) = both_ways first (not-true _ later) (answers_first at.0)
+
+      none_wrong : (first && is_request_of h.begin && not (is_response d)) ≡ true → ⊥
+      none_wrong all =
+          let (two, none) = and_parts (first && is_request_of h.begin) _ all in
+          let (now, asks) = and_parts first (is_request_of h.begin) two in
+          let received = waits_first now in
+          let standing : f.half.standing ≡ standings.Asked =
+          stands_by.3 ∙ ap (λ (p : Phase). standing_of p (dialogue_in begin)) received
+          ∙ asked_first (dialogue_in begin) (sym asks_so ∙ asks) in
+          both_ways (is_response d) (not-true _ none)
+          (accepts_responds d (takes_request f.half.phase f.half.standing d received standing may))
+
+      by : ((not first && is_some d) ≡ true) ⊎ ((first && is_request_of h.begin && not (is_response d)) ≡ true) → ⊥
+      by (inl wrong) =
+          let (later, some) = and_parts (not first) (is_some d) wrong in
+          some_wrong later some (goes_on f.half.phase f.half.standing d may)
+      by (inr wrong) = none_wrong wrong
+
+  -- ---- an Abort
+
+  aborting : (d : Option Dialogue) → may_abort f.half.phase f.half.standing d ≡ true
+      → is_wrong_aborting first (is_request_of h.begin) d ≡ true → ⊥
+  aborting d may is = by (or_cases (not first && is_response d) _ is)
+    where
+      response_wrong : not first ≡ true → is_response d ≡ true
+          → ((is_none d || is_user_abort d) ≡ true)
+          ⊎ (IsAsked f.half.phase f.half.standing × (refuses_dialogue d ≡ true)) → ⊥
+      response_wrong later response (inl other) = no_response d other response
+      response_wrong later response (inr (at, refuses)) = both_ways first (not-true _ later) (answers_first at.0)
+
+      user_wrong : is_user_abort d ≡ true → not (is_request_of h.begin) ≡ true → ⊥
+      user_wrong user never =
+          both_ways (is_request_of h.begin) (not-true _ never)
+          (asks_so ∙ wants_request d may user (dialogue_in begin) stands_by.3)
+
+      by : ((not first && is_response d) ≡ true) ⊎ ((is_user_abort d && not (is_request_of h.begin)) ≡ true) → ⊥
+      by (inl wrong) =
+          let (later, response) = and_parts (not first) (is_response d) wrong in
+          response_wrong later response (aborts f.half.phase f.half.standing d may)
+      by (inr wrong) = let (user, never) = and_parts (is_user_abort d) _ wrong in user_wrong user never
+
+  -- The portion of a message with a destination ID fits.
+  pub right_dialogue : is_wrong_dialogue side items id m h ≡ true → ⊥
+  right_dialogue = by m half.carries going_on aborting
+    where
+      by : (n : Message) → may_carry n f.half.phase f.half.standing ≡ true
+          → ((d : Option Dialogue) → may_go_on f.half.phase f.half.standing d ≡ true
+          → is_wrong_going_on first (is_request_of h.begin) d ≡ true → ⊥)
+          → ((d : Option Dialogue) → may_abort f.half.phase f.half.standing d ≡ true
+          → is_wrong_aborting first (is_request_of h.begin) d ≡ true → ⊥)
+          → is_wrong_dialogue side items id n h ≡ true → ⊥
+      by (Unidirectional dialogue components) may on off = on dialogue may
+      by (Begin otid dialogue components) may on off = on dialogue may
+      by (Continue otid dtid dialogue components) may on off = on dialogue may
+      by (EndMessage dtid dialogue components) may on off = on dialogue may
+      by (Abort dtid reason) may on off = off (reason_dialogue reason) may

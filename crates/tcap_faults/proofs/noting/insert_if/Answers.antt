@@ -1,7 +1,0 @@
-use Rattle.tcap_faults.proofs.JoinedLaws.{has_if}
-use Rattle.tcap_faults.proofs.noting.insert_if.Goals as goal
-
-pub returns-in_ok-insert : goal.returns-in_ok-insert
-returns-in_ok-insert c =
-    has_if c.args.id.octets.now c.args.so c.if-so.true c.args.set.now c.insert.new.self
-    (rw c.to_transaction_id.ensures at c.in_ok-insert.ensures.updates.0)

@@ -1,0 +1,273 @@
+-- The story of a half goes on: where its end sends over it, or receives, or an own invocation ends, and where others do
+-- what is no matter of it.
+use Rattle.std.proofs.Common.{◌≡◌, ◌≤◌, ◌+◌, ◌⊎◌, inl, inr, arith, ℕ, ℤ, Bool, true, List, [], ◌∷◌, ◌++◌, Option, Some, None, Ok, refl, sym, ap, ◌∙◌}
+use Rattle.std.specs.List.{list_any}
+use Rattle.std.proofs.lemmas.List.Folds.{list_any-append}
+use Rattle.tcap_parts.specs.declared.component.Component.{Component}
+use Rattle.tcap_msg.specs.declared.message.Message.{Message}
+use Rattle.tcap_msg.specs.Parts.{components_in, otid_in}
+use Rattle.tcap_record.specs.declared.entry.End.{End as Side}
+use Rattle.tcap_end.specs.declared.half.Phase.{Phase}
+use Rattle.tcap_end.specs.declared.half.Phase.TheVariants as phases
+use Rattle.tcap_end.specs.declared.half.Slot.{Slot}
+use Rattle.tcap_end.specs.declared.half.Slot.TheVariants.{Begun, Accepted}
+use Rattle.tcap_end.specs.declared.half.Standing.{Standing}
+use Rattle.tcap_end.specs.declared.half.Standing.TheVariants as standings
+use Rattle.tcap_end.specs.Table.{Table}
+use Rattle.tcap_end.specs.Half.{Half}
+use Rattle.tcap_end.specs.Component.{own_invocation, receive_component, send_component}
+use Rattle.tcap_end.specs.End.{is_id}
+use Rattle.tcap_end.specs.Hidden.{may_expire, without_invocation}
+use Rattle.tcap_end.specs.Message.{receive_components, send_components}
+use Rattle.tcap_end.proofs.AnsweringLaws.{then_ok}
+use Rattle.tcap_model.specs.World.{Item}
+use Rattle.tcap_refute.specs.Kind.{is_begin_with_request}
+use Rattle.tcap_faults.specs.Counts.{count}
+use Rattle.tcap_faults.specs.HalfOf.{responds}
+use Rattle.tcap_faults.specs.Told.{begin_from, goes_on_to, told}
+use Rattle.tcap_faults.proofs.run_laws.MayHearLaws.{HaveNoMore, KeepsBegins, count_in, count_in_append, count_in_one, filters_append, heard_chosen, heard_grows, heard_later, no_more_self}
+use Rattle.tcap_faults.proofs.story_laws.Stories.{Happening, Sends, Gets, Ends, IsLed, SameLists, continues_to, got_in, may_have_heard, sent_in, told_to}
+use Rattle.tcap_faults.proofs.list_laws.CountLaws.{count_both}
+
+-- ---- happenings
+
+-- Two halves with the same invocations and answers have the same story.
+pub led_same : (table : Table) (past : List Happening) (g h : Half) → SameLists g h → IsLed table past g
+    → IsLed table past h
+led_same table [] g h same is = (same.0 ∙ is.0, same.1 ∙ is.1, same.2 ∙ is.2)
+led_same table (Sends c ∷ past) g h same (f, k, led, sends, lists) =
+    (f, k, led, sends, (same.0 ∙ lists.0, same.1 ∙ lists.1, same.2 ∙ lists.2))
+led_same table (Gets c ∷ past) g h same (f, led, lists) =
+    (f, led, (same.0 ∙ lists.0, same.1 ∙ lists.1, same.2 ∙ lists.2))
+led_same table (Ends id ∷ past) g h same (f, led, may, lists) =
+    (f, led, may, (same.0 ∙ lists.0, same.1 ∙ lists.1, same.2 ∙ lists.2))
+
+-- Components were sent, and nothing else happened;
+pub record SentOn (table : Table) (past : List Happening) (components : List Component) (k : Half) : Type 0 where
+  pub now : List Happening
+  pub is_led : IsLed table now k
+  pub sent : (p : Component → Bool) → count p (sent_in now) ≡ count p (sent_in past) + count p components
+  pub got : got_in now ≡ got_in past
+
+pub sends_on : (table : Table) (components : List Component) (past : List Happening) (g k : Half) → IsLed table past g
+    → send_components table g components ≡ Ok k → SentOn table past components k
+sends_on table [] past g k led is =
+    let same : g ≡ k = cc in
+    record { now = past; is_led = rw (← same) led; sent = λ p. omega arith; got = refl }
+sends_on table (c ∷ more) past g k led is =
+    let (next, one, rest) = then_ok (send_component table g c) (λ next. send_components table next more) k is in
+    let on = sends_on table more (Sends c ∷ past) next k (g, next, led, one, (refl, refl, refl)) rest in
+    record { now = on.now; is_led = on.is_led; sent = counts on.now on.sent; got = on.got }
+  where
+    counts : (now : List Happening)
+        → ((p : Component → Bool) → count p (sent_in now) ≡ count p (c ∷ sent_in past) + count p more)
+        → (p : Component → Bool) → count p (sent_in now) ≡ count p (sent_in past) + count p (c ∷ more)
+    counts now sent p =
+        let all = sent p in
+        let front = count_both p (c ∷ []) (sent_in past) in
+        let behind = count_both p (c ∷ []) more in omega arith
+
+-- or received.
+pub record GotOn (table : Table) (past : List Happening) (components : List Component) (k : Half) : Type 0 where
+  pub now : List Happening
+  pub is_led : IsLed table now k
+  pub got : (p : Component → Bool) → count p (got_in now) ≡ count p (got_in past) + count p components
+  pub sent : sent_in now ≡ sent_in past
+
+pub gets_on : (table : Table) (components : List Component) (past : List Happening) (g : Half) → IsLed table past g
+    → GotOn table past components (receive_components table g components)
+gets_on table [] past g led = record { now = past; is_led = led; got = λ p. omega arith; sent = refl }
+gets_on table (c ∷ more) past g led =
+    let on = gets_on table more (Gets c ∷ past) (receive_component table g c) (g, led, (refl, refl, refl)) in
+    record { now = on.now; is_led = on.is_led; got = counts on.now on.got; sent = on.sent }
+  where
+    counts : (now : List Happening)
+        → ((p : Component → Bool) → count p (got_in now) ≡ count p (c ∷ got_in past) + count p more)
+        → (p : Component → Bool) → count p (got_in now) ≡ count p (got_in past) + count p (c ∷ more)
+    counts now got p =
+        let all = got p in
+        let front = count_both p (c ∷ []) (got_in past) in
+        let behind = count_both p (c ∷ []) more in omega arith
+
+-- ---- the story of an open half
+
+-- What was told over it.
+abbrev pub ToldOver : Side → List Item → Slot → List ℕ → Option (List ℕ) → List Message → Type 0
+ToldOver side items Accepted key peer messages = messages ≡ told_to side items peer
+ToldOver side items Begun key peer messages =
+    (begin : Message) × (begin_from side key items ≡ Some begin) × (messages ≡ begin ∷ told_to side items peer)
+
+-- Where its Begin asked for a dialogue: it waits for an answer, or a Continue that was taken from the channel gave it.
+abbrev pub IsAnswered : List ℕ → List Message → Standing → Option (List ℕ) → Phase → Type 0
+IsAnswered own gone standing peer phases.Sent = standing ≡ standings.Asked
+IsAnswered own gone standing peer phases.Active =
+    (id : List ℕ) → peer ≡ Some id → list_any responds (continues_to id gone (Some own)) ≡ true
+IsAnswered own gone standing peer _ = Unit {0}
+
+abbrev pub HasBegun : Side → List Item → List Message → Slot → List ℕ → Half → Type 0
+HasBegun side items gone Accepted key h = Unit {0}
+HasBegun side items gone Begun key h =
+    (begin : Message) × (begin_from side key items ≡ Some begin)
+    × (is_begin_with_request begin ≡ true → IsAnswered key gone h.standing h.peer h.phase)
+
+-- Of these items its end sent its own; these messages of the peer are no longer on their way.
+pub record Story (table : Table) (side : Side) (items : List Item) (gone : List Message) (slot : Slot) (key : List ℕ)
+    (h : Half) : Type 0 where
+  pub past : List Happening
+  pub is_led : IsLed table past h
+  pub told_over : List Message
+  pub is_told : ToldOver side items slot key h.peer told_over
+  pub sent : (p : Component → Bool) → count p (sent_in past) ≡ count_in p told_over
+  pub got : (p : Component → Bool)
+      → count p (got_in past) ≤ count_in p (may_have_heard side items gone slot h.own h.peer)
+  pub begun : HasBegun side items gone slot key h
+
+-- ---- what others do
+
+-- An answer stays one.
+answered_still : (own : List ℕ) (gone more : List Message) (standing : Standing) (peer : Option (List ℕ))
+    (phase : Phase)
+    → IsAnswered own gone standing peer phase → IsAnswered own (gone ++ more) standing peer phase
+answered_still own gone more standing peer phases.Sent is = is
+answered_still own gone more standing peer phases.Active is = λ id same.
+    ap (list_any responds) (filters_append (λ m. is_id id (otid_in m)) (goes_on_to own) gone more)
+    ∙ list_any-append responds (continues_to id gone (Some own)) (continues_to id more (Some own))
+    ∙ rw (is id same) refl
+answered_still own gone more standing peer phase is = tt
+
+pub begun_still : (side : Side) (items : List Item) (gone more : List Message) (slot : Slot) (key : List ℕ) (h : Half)
+    → HasBegun side items gone slot key h → HasBegun side items (gone ++ more) slot key h
+begun_still side items gone more Accepted key h is = tt
+begun_still side items gone more Begun key h (begin, found, answered) =
+    (begin, found, λ asks. answered_still key gone more h.standing h.peer h.phase (answered asks))
+
+-- What began stays begun where the half keeps its phase, its peer and its dialogue.
+pub begun_kept : (side : Side) (items later : List Item) (gone : List Message) (slot : Slot) (key : List ℕ) (h k : Half)
+    → KeepsBegins side items later → k.phase ≡ h.phase → k.peer ≡ h.peer → k.standing ≡ h.standing
+    → HasBegun side items gone slot key h → HasBegun side later gone slot key k
+begun_kept side items later gone Accepted key h k keeps phase peer standing is = tt
+begun_kept side items later gone Begun key h k keeps phase peer standing (begin, found, answered) =
+    (begin, keeps key begin found, λ asks. rw (phase, peer, standing) (answered asks))
+
+told_kept : (side : Side) (items later : List Item) (slot : Slot) (key : List ℕ) (peer : Option (List ℕ))
+    (messages : List Message) → KeepsBegins side items later → told_to side later peer ≡ told_to side items peer
+    → ToldOver side items slot key peer messages → ToldOver side later slot key peer messages
+told_kept side items later Accepted key peer messages keeps same is = is ∙ sym same
+told_kept side items later Begun key peer messages keeps same (begin, found, is) =
+    (begin, keeps key begin found, is ∙ ap (λ more. begin ∷ more) (sym same))
+
+-- Messages are taken from the channel,
+pub story_still : (table : Table) (side : Side) (items : List Item) (gone more : List Message) (slot : Slot)
+    (key : List ℕ)
+    (h : Half) → Story table side items gone slot key h → Story table side items (gone ++ more) slot key h
+story_still table side items gone more slot key h it = record {
+  past = it.past;
+  is_led = it.is_led;
+  told_over = it.told_over;
+  is_told = it.is_told;
+  sent = it.sent;
+  got = heard;
+  begun = begun_still side items gone more slot key h it.begun;
+}
+  where
+    heard : (p : Component → Bool)
+        → count p (got_in it.past) ≤ count_in p (may_have_heard side items (gone ++ more) slot h.own h.peer)
+    heard p =
+        let was = it.got p in
+        let grows = heard_grows side items gone more slot h.own h.peer p in omega arith
+
+-- or its end sends what is not told over it.
+pub story_later : (table : Table) (side : Side) (items later : List Item) (gone : List Message) (slot : Slot)
+    (key : List ℕ)
+    (h : Half) → KeepsBegins side items later → told_to side later h.peer ≡ told_to side items h.peer
+    → Story table side items gone slot key h → Story table side later gone slot key h
+story_later table side items later gone slot key h keeps same it = record {
+  past = it.past;
+  is_led = it.is_led;
+  told_over = it.told_over;
+  is_told = told_kept side items later slot key h.peer it.told_over keeps same it.is_told;
+  sent = it.sent;
+  got = heard;
+  begun = begun_kept side items later gone slot key h h keeps refl refl refl it.begun;
+}
+  where
+    heard : (p : Component → Bool)
+        → count p (got_in it.past) ≤ count_in p (may_have_heard side later gone slot h.own h.peer)
+    heard p =
+        let was = it.got p in
+        let grows = heard_later side items later gone slot h.own h.peer keeps p in omega arith
+
+-- ---- what happens to it
+
+-- An own invocation of it ends.
+pub story_ends : (table : Table) (side : Side) (items : List Item) (gone : List Message) (slot : Slot) (key : List ℕ)
+    (h : Half) (id : ℤ) → may_expire table (own_invocation h id) ≡ true → Story table side items gone slot key h
+    → Story table side items gone slot key (without_invocation id h)
+story_ends table side items gone slot key h id may it = record {
+  past = Ends id ∷ it.past;
+  is_led = (h, it.is_led, may, (refl, refl, refl));
+  told_over = it.told_over;
+  is_told = it.is_told;
+  sent = it.sent;
+  got = it.got;
+  begun =
+      begun_kept side items items gone slot key h (without_invocation id h) (λ own begin found. found) refl refl refl
+      it.begun;
+}
+
+-- It keeps its own ID, or chooses one, where it began by receiving.
+abbrev pub KeepsOwn : Slot → Half → Half → Type 0
+KeepsOwn slot h k = (k.own ≡ h.own) ⊎ ((slot ≡ Accepted) × (h.own ≡ None) × ((own : List ℕ) × (k.own ≡ Some own)))
+
+heard_by_own : (side : Side) (items : List Item) (gone : List Message) (slot : Slot) (h k : Half) → KeepsOwn slot h k
+    → HaveNoMore (may_have_heard side items gone slot h.own h.peer) (may_have_heard side items gone slot k.own h.peer)
+heard_by_own side items gone slot h k (inl same) =
+    rw same (no_more_self (may_have_heard side items gone slot h.own h.peer))
+heard_by_own side items gone slot h k (inr (slots, none, (own, chosen))) =
+    rw (slots, none, chosen) (heard_chosen side items gone own h.peer)
+
+-- A message is sent over it.
+module _ (table : Table) (side : Side) (items later : List Item) (gone : List Message) (slot : Slot) (key : List ℕ)
+    (h start k : Half) (m : Message) (id : List ℕ) where
+  told_too : told side id later ≡ told side id items ++ m ∷ [] → KeepsBegins side items later
+      → (messages : List Message)
+      → ToldOver side items slot key (Some id) messages → ToldOver side later slot key (Some id) (messages ++ m ∷ [])
+  told_too is keeps messages = by slot
+    where
+      by : (slot : Slot) → ToldOver side items slot key (Some id) messages
+          → ToldOver side later slot key (Some id) (messages ++ m ∷ [])
+      by Accepted was = ap (λ all. all ++ m ∷ []) was ∙ sym is
+      by Begun (begin, found, was) =
+          (begin, keeps key begin found, ap (λ all. all ++ m ∷ []) was ∙ ap (λ more. begin ∷ more) (sym is))
+
+  pub story_sends : SameLists h start → send_components table start (components_in m) ≡ Ok k → h.peer ≡ Some id
+      → k.peer ≡ h.peer → KeepsOwn slot h k → told side id later ≡ told side id items ++ m ∷ []
+      → KeepsBegins side items later → HasBegun side later gone slot key k → Story table side items gone slot key h
+      → Story table side later gone slot key k
+  story_sends same sends peer still own is keeps begun it = record {
+    past = on.now;
+    is_led = on.is_led;
+    told_over = it.told_over ++ m ∷ [];
+    is_told = rw (still, peer) (told_too is keeps it.told_over (rw peer at it.is_told));
+    sent = sent;
+    got = heard;
+    begun = begun;
+  }
+    where
+      on : SentOn table it.past (components_in m) k
+      on = sends_on table (components_in m) it.past start k (led_same table it.past h start same it.is_led) sends
+
+      sent : (p : Component → Bool) → count p (sent_in on.now) ≡ count_in p (it.told_over ++ m ∷ [])
+      sent p =
+          let was = it.sent p in
+          let new = on.sent p in
+          let all = count_in_append p it.told_over (m ∷ []) in
+          let one = count_in_one p m in omega arith
+
+      heard : (p : Component → Bool)
+          → count p (got_in on.now) ≤ count_in p (may_have_heard side later gone slot k.own k.peer)
+      heard p =
+          let was = it.got p in
+          let grows = heard_later side items later gone slot h.own h.peer keeps p in
+          let chosen = heard_by_own side later gone slot h k own p in
+          rw (on.got, still) (omega arith)

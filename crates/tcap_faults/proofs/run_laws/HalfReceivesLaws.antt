@@ -1,0 +1,271 @@
+-- The story of a half begins, or goes on where a message is received over it.
+use Rattle.std.proofs.Common.{◌≡◌, ◌≤◌, ◌+◌, arith, ℕ, Bool, true, false, cond, List, [], ◌∷◌, ◌++◌, Option, Some, None, Ok, refl, sym, ap, subst, ◌∙◌}
+use Rattle.std.specs.Prelude.{◌||◌}
+use Rattle.std.specs.List.{list_any}
+use Rattle.std.proofs.lemmas.List.Folds.{list_any-append}
+use Rattle.tcap_parts.specs.declared.component.Component.{Component}
+use Rattle.tcap_parts.specs.declared.dialogue.Dialogue.{Dialogue}
+use Rattle.tcap_msg.specs.declared.message.Message.{Message}
+use Rattle.tcap_msg.specs.declared.message.Message.TheVariants.{Begin, Continue}
+use Rattle.tcap_msg.specs.Parts.{items_of}
+use Rattle.tcap_record.specs.declared.entry.End.{End as Side}
+use Rattle.tcap_end.specs.declared.half.Phase.TheVariants as phases
+use Rattle.tcap_end.specs.declared.half.Slot.{Slot}
+use Rattle.tcap_end.specs.declared.half.Slot.TheVariants.{Begun, Accepted}
+use Rattle.tcap_end.specs.declared.half.Standing.{Standing}
+use Rattle.tcap_end.specs.declared.half.Standing.TheVariants as standings
+use Rattle.tcap_end.specs.Table.{Table}
+use Rattle.tcap_end.specs.Half.{Half, fresh}
+use Rattle.tcap_end.specs.Dialogue.{answers_request, first_standing, is_request, is_response}
+use Rattle.tcap_end.specs.Message.{active_half, receive_components, send_components}
+use Rattle.tcap_end.specs.Sound.{IsKept}
+use Rattle.tcap_end.proofs.ComponentLaws.{Receives, all_receives, all_sends}
+use Rattle.tcap_end.proofs.HalfLaws.{Follows}
+use Rattle.tcap_model.specs.World.{Item, Sent}
+use Rattle.tcap_refute.specs.Kind.{is_begin_with_request}
+use Rattle.tcap_faults.specs.Counts.{count}
+use Rattle.tcap_faults.specs.HalfOf.{responds}
+use Rattle.tcap_faults.specs.Told.{begin_from, told}
+use Rattle.tcap_faults.proofs.run_laws.MayHearLaws.{count_in, count_in_one}
+use Rattle.tcap_faults.proofs.run_laws.HalfGoesOnLaws.{GotOn, HasBegun, IsAnswered, SentOn, Story, ToldOver, begun_kept, begun_still, gets_on, led_same, sends_on}
+use Rattle.tcap_faults.proofs.run_laws.TakenMessageLaws.{HaveThatToo, before, heard_back_too, heard_begin_too, heard_goes_too, itself, more_before}
+use Rattle.tcap_faults.proofs.run_laws.ItemLaws.{begins_now}
+use Rattle.tcap_faults.proofs.story_laws.Stories.{Happening, SameLists, got_in, may_have_heard, sent_in, told_to}
+
+-- ---- a half begins
+
+-- Its end sends a Begin.
+pub story_begins : (table : Table) (side : Side) (items : List Item) (gone : List Message) (otid : List ℕ)
+    (dialogue : Option Dialogue) (components : Option (List Component)) (k : Half) → begin_from side otid items ≡ None
+    → send_components table (fresh phases.Sent (Some otid) None (first_standing dialogue)) (items_of components) ≡ Ok k
+    → Story table side (items ++ Sent side (Begin otid dialogue components) ∷ []) gone Begun otid k
+story_begins table side items gone otid dialogue components k none sends = record {
+  past = on.now;
+  is_led = on.is_led;
+  told_over = m ∷ [];
+  is_told = (m, found, rw (follows.peer) refl);
+  sent = sent;
+  got = λ p. rw (on.got) (omega arith);
+  begun = (m, found, λ asks. rw (follows.phase, follows.standing) (asked (is_request dialogue) asks));
+}
+  where
+    m : Message
+    m = Begin otid dialogue components
+
+    start : Half
+    start = fresh phases.Sent (Some otid) None (first_standing dialogue)
+
+    found : begin_from side otid (items ++ Sent side (Begin otid dialogue components) ∷ [])
+        ≡ Some (Begin otid dialogue components)
+    found = begins_now side items (Begin otid dialogue components) otid none refl (itself otid)
+
+    follows : Follows start k
+    follows = (all_sends table (items_of components) start k sends).follows
+
+    on : SentOn table [] (items_of components) k
+    on = sends_on table (items_of components) [] start k (refl, refl, refl) sends
+
+    sent : (p : Component → Bool) → count p (sent_in on.now) ≡ count_in p (Begin otid dialogue components ∷ [])
+    sent p =
+        let new = on.sent p in
+        let one = count_in_one p (Begin otid dialogue components) in omega arith
+
+    asked : (b : Bool) → b ≡ true → cond b standings.Asked standings.Without ≡ standings.Asked
+    asked b is = rw is refl
+
+-- It receives one: nothing was told to that ID before.
+pub story_received : (table : Table) (side : Side) (items : List Item) (gone : List Message) (otid : List ℕ)
+    (dialogue : Option Dialogue) (components : Option (List Component)) → told side otid items ≡ []
+    → Story table side items (gone ++ Begin otid dialogue components ∷ []) Accepted otid
+    (receive_components table (fresh phases.Received None (Some otid) (first_standing dialogue)) (items_of components))
+story_received table side items gone otid dialogue components none = record {
+  past = on.now;
+  is_led = on.is_led;
+  told_over = [];
+  is_told = rw (comes.follows.peer) (sym none);
+  sent = λ p. rw (on.sent) refl;
+  got = heard;
+  begun = tt;
+}
+  where
+    start : Half
+    start = fresh phases.Received None (Some otid) (first_standing dialogue)
+
+    comes : Receives start (receive_components table start (items_of components))
+    comes = all_receives table (items_of components) start
+
+    on : GotOn table [] (items_of components) (receive_components table start (items_of components))
+    on = gets_on table (items_of components) [] start (refl, refl, refl)
+
+    heard : (p : Component → Bool) → count p (got_in on.now)
+        ≤ count_in p (may_have_heard side items (gone ++ Begin otid dialogue components ∷ []) Accepted
+        (receive_components table start (items_of components)).own
+        (receive_components table start (items_of components)).peer)
+    heard p =
+        let new = on.got p in
+        let too = heard_begin_too side items gone otid dialogue components None p in
+        rw (comes.follows.own, comes.follows.peer) (omega arith)
+
+-- ---- a Continue is received
+
+module _ (table : Table) (side : Side) (items : List Item) (gone : List Message) (otid own : List ℕ)
+    (dialogue : Option Dialogue) (components : Option (List Component)) where
+  abbrev m : Message
+  m = Continue otid own dialogue components
+
+  -- a half that received it
+  abbrev behind : Half → Half
+  behind start = receive_components table start (items_of components)
+
+  -- What it had got, and what comes now, it may have heard.
+  got_too : (slot : Slot) (past : List Happening) (now : List Happening) (h : Half)
+      → HaveThatToo m (may_have_heard side items gone slot h.own h.peer)
+      (may_have_heard side items (gone ++ m ∷ []) slot (Some own) (Some otid))
+      → ((p : Component → Bool) → count p (got_in past) ≤ count_in p (may_have_heard side items gone slot h.own h.peer))
+      → ((p : Component → Bool) → count p (got_in now) ≡ count p (got_in past) + count p (items_of components))
+      → (p : Component → Bool)
+      → count p (got_in now) ≤ count_in p (may_have_heard side items (gone ++ m ∷ []) slot (Some own) (Some otid))
+  got_too slot past now h too was new p =
+      let had = was p in
+      let more = new p in
+      let all = too p in omega arith
+
+  -- It may have been heard by a half with these IDs.
+  heard_with : (slot : Slot) (of_own of_peer : Option (List ℕ)) (n : ℕ) (p : Component → Bool) → of_own ≡ Some own
+      → of_peer ≡ Some otid
+      → n ≤ count_in p (may_have_heard side items (gone ++ m ∷ []) slot (Some own) (Some otid))
+      → n ≤ count_in p (may_have_heard side items (gone ++ m ∷ []) slot of_own of_peer)
+  heard_with slot of_own of_peer n p is_own is_peer is = rw (is_own, is_peer) is
+
+  -- The half keeps the story of what was told over it.
+  story_gets : (slot : Slot) (key : List ℕ) (h start : Half) → SameLists h start → start.own ≡ Some own
+      → start.peer ≡ Some otid → (it : Story table side items gone slot key h)
+      → ToldOver side items slot key (Some otid) it.told_over
+      → HaveThatToo m (may_have_heard side items gone slot h.own h.peer)
+      (may_have_heard side items (gone ++ m ∷ []) slot (Some own) (Some otid))
+      → HasBegun side items (gone ++ m ∷ []) slot key (behind start)
+      → Story table side items (gone ++ m ∷ []) slot key (behind start)
+  story_gets slot key h start lists of_own of_peer it was_told too begun =
+      record {
+        past = on.now;
+        is_led = on.is_led;
+        told_over = it.told_over;
+        is_told = subst (λ o. ToldOver side items slot key o it.told_over) (sym (comes.follows.peer ∙ of_peer))
+            was_told;
+        sent = λ p. rw (on.sent) (it.sent p);
+        got = λ p.
+            heard_with slot (behind start).own (behind start).peer (count p (got_in on.now)) p
+            (comes.follows.own ∙ of_own)
+            (comes.follows.peer ∙ of_peer) (got_too slot it.past on.now h too it.got on.got p);
+        begun = begun;
+      }
+    where
+      on : GotOn table it.past (items_of components) (behind start)
+      on = gets_on table (items_of components) it.past start (led_same table it.past h start lists it.is_led)
+
+      comes : Receives start (behind start)
+      comes = all_receives table (items_of components) start
+
+  -- ---- it answers a Begin
+
+  -- one that asked for a dialogue
+  answered_now : (standing : Standing) → standing ≡ standings.Asked → answers_request standing dialogue ≡ true
+      → list_any responds (before side items gone otid own dialogue components ++ m ∷ []) ≡ true
+  answered_now standing asked answers =
+      let is : is_response dialogue ≡ true = rw asked at answers in
+      list_any-append responds (before side items gone otid own dialogue components) (m ∷ [])
+      ∙ by (list_any responds (before side items gone otid own dialogue components)) (last is)
+    where
+      last : is_response dialogue ≡ true → list_any responds (m ∷ []) ≡ true
+      last is = rw is refl
+
+      by : (b : Bool) → list_any responds (m ∷ []) ≡ true → (b || list_any responds (m ∷ [])) ≡ true
+      by true is = refl
+      by false is = is
+
+  -- the ID is the peer's
+  same_id : (id : List ℕ) (o : Option (List ℕ)) → o ≡ Some otid → o ≡ Some id → otid ≡ id
+  same_id id o first second = cc
+
+  -- It was sent, and waits: nothing was told to the ID from which it is answered.
+  pub story_answered : (h : Half) → h.phase ≡ phases.Sent → h.own ≡ Some own → h.peer ≡ None
+      → answers_request h.standing dialogue ≡ true → told side otid items ≡ []
+      → Story table side items gone Begun own h
+      → Story table side items (gone ++ m ∷ []) Begun own (behind (active_half Begun otid h))
+  story_answered h phase is_own no_peer answers none it =
+      story_gets Begun own h start (refl, refl, refl) is_own refl it (by_told it.is_told) (by_begun it.begun).0
+      (by_begun it.begun).1
+    where
+      start : Half
+      start = active_half Begun otid h
+
+      comes : Receives start (behind start)
+      comes = all_receives table (items_of components) start
+
+      by_told : ToldOver side items Begun own h.peer it.told_over
+          → ToldOver side items Begun own (Some otid) it.told_over
+      by_told (begin, found, is) =
+          (begin, found, is ∙ ap (λ o. begin ∷ told_to side items o) no_peer ∙ ap (λ more. begin ∷ more) (sym none))
+
+      nothing : HaveThatToo m (may_have_heard side items gone Begun (Some own) (Some otid))
+          (may_have_heard side items (gone ++ m ∷ []) Begun (Some own) (Some otid))
+          → HaveThatToo m (may_have_heard side items gone Begun h.own h.peer)
+          (may_have_heard side items (gone ++ m ∷ []) Begun (Some own) (Some otid))
+      nothing too p =
+          let all = too p in
+          let none_yet : count_in p (may_have_heard side items gone Begun h.own h.peer) ≡ 0 =
+          rw (is_own, no_peer) refl in
+          omega arith
+
+      by_begun : HasBegun side items gone Begun own h
+          → HaveThatToo m (may_have_heard side items gone Begun h.own h.peer)
+          (may_have_heard side items (gone ++ m ∷ []) Begun (Some own) (Some otid))
+          × HasBegun side items (gone ++ m ∷ []) Begun own (behind start)
+      by_begun (begin, found, answered) =
+          (nothing (heard_back_too side items gone otid own dialogue components begin found now), (begin, found, later))
+        where
+          now : is_begin_with_request begin ≡ true
+              → list_any responds (before side items gone otid own dialogue components ++ m ∷ []) ≡ true
+          now asks = answered_now h.standing (rw phase at (answered asks)) answers
+
+          later : is_begin_with_request begin ≡ true
+              → IsAnswered own (gone ++ m ∷ []) (behind start).standing (behind start).peer (behind start).phase
+          later asks =
+              rw (comes.follows.phase) (λ id of_peer.
+              let is : otid ≡ id = same_id id (behind start).peer comes.follows.peer of_peer in
+              rw (← is)
+              (ap (list_any responds) (more_before side items gone otid own dialogue components) ∙ now asks))
+
+  -- ---- it goes on
+
+  abbrev continues : List Message
+  continues = before side items gone otid own dialogue components
+
+  -- What was answered before is so with one message more.
+  still_answered : list_any responds continues ≡ true → list_any responds (continues ++ m ∷ []) ≡ true
+  still_answered is = list_any-append responds continues (m ∷ []) ∙ rw is refl
+
+  -- An active half receives it from its peer.
+  pub story_goes_on : (slot : Slot) (key : List ℕ) (h : Half) → h.phase ≡ phases.Active → h.own ≡ Some own
+      → h.peer ≡ Some otid → IsKept slot key h → Story table side items gone slot key h
+      → Story table side items (gone ++ m ∷ []) slot key (behind h)
+  story_goes_on slot key h phase is_own is_peer kept it =
+      story_gets slot key h h (refl, refl, refl) is_own is_peer it
+      (subst (λ o. ToldOver side items slot key o it.told_over) is_peer it.is_told)
+      (rw (is_own, is_peer) (too slot kept it.begun))
+      (begun_kept side items items (gone ++ m ∷ []) slot key h (behind h) (λ id begin found. found) comes.follows.phase
+      comes.follows.peer comes.follows.standing (begun_still side items gone (m ∷ []) slot key h it.begun))
+    where
+      comes : Receives h (behind h)
+      comes = all_receives table (items_of components) h
+
+      too : (slot : Slot) → IsKept slot key h → HasBegun side items gone slot key h
+          → HaveThatToo m (may_have_heard side items gone slot (Some own) (Some otid))
+          (may_have_heard side items (gone ++ m ∷ []) slot (Some own) (Some otid))
+      too Accepted kept begun = heard_goes_too side items gone otid own dialogue components
+      too Begun kept (begin, found, answered) =
+          let same : key ≡ own = cc in
+          heard_back_too side items gone otid own dialogue components begin (rw same at found)
+          (λ asks. still_answered
+          (let is : IsAnswered key gone h.standing h.peer phases.Active = rw phase at (answered asks) in
+          rw same at (is otid is_peer)))

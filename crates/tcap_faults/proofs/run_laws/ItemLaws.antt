@@ -1,0 +1,82 @@
+-- One item more: what an end sent of it, told of it, and began by it.
+use Rattle.std.proofs.Common.{◌≡◌, ℕ, true, false, List, [], ◌∷◌, ◌++◌, Option, Some, None, refl, ap, ◌∙◌}
+use Rattle.std.specs.Prelude.{filter, ◌&&◌, is_none}
+use Rattle.std.specs.List.{find}
+use Rattle.std.proofs.lemmas.List.{append-nil}
+use Rattle.std.proofs.lemmas.List.Elements.{filter-append, filter_map-append}
+use Rattle.std.proofs.lemmas.List.Folds.{find-append}
+use Rattle.tcap_msg.specs.declared.kind.Kind.TheVariants as forms
+use Rattle.tcap_msg.specs.declared.message.Message.{Message}
+use Rattle.tcap_msg.specs.Parts.{cause_in, dtid_in, otid_in}
+use Rattle.tcap_record.specs.declared.entry.End.{End as Side}
+use Rattle.tcap_end.specs.End.{is_id}
+use Rattle.tcap_model.specs.World.{Item, Sent, is_side}
+use Rattle.tcap_refute.specs.Before.{is_a, sent_by}
+use Rattle.tcap_model.proofs.WorldLaws.{itself}
+use Rattle.tcap_faults.specs.Told.{begin_from, begins_from, tells_to, told}
+use Rattle.tcap_faults.proofs.run_laws.MayHearLaws.{KeepsBegins}
+use Rattle.tcap_faults.proofs.story_laws.Stories.{told_to}
+
+-- ---- what an end sent
+
+-- An end's message is the newest that it sent,
+pub sent_own : (side : Side) (m : Message) (items : List Item)
+    → sent_by side (items ++ Sent side m ∷ []) ≡ sent_by side items ++ m ∷ []
+sent_own side m items = filter_map-append _ items (Sent side m ∷ []) ∙ ap (λ more. sent_by side items ++ more) one
+  where
+    one : sent_by side (Sent side m ∷ []) ≡ m ∷ []
+    one = rw (itself side) refl
+
+-- and not one of the other's.
+pub sent_other : (side sender : Side) (m : Message) (items : List Item) → is_side side sender ≡ false
+    → sent_by side (items ++ Sent sender m ∷ []) ≡ sent_by side items
+sent_other side sender m items apart =
+    filter_map-append _ items (Sent sender m ∷ []) ∙ ap (λ more. sent_by side items ++ more) none
+    ∙ append-nil (sent_by side items)
+  where
+    none : sent_by side (Sent sender m ∷ []) ≡ []
+    none = rw apart refl
+
+-- ---- what it began, and told
+
+-- It began what it began, where it sent more.
+pub begins_kept : (side : Side) (items later : List Item) (more : List Message)
+    → sent_by side later ≡ sent_by side items ++ more → KeepsBegins side items later
+begins_kept side items later more is own begin found =
+    ap (find (begins_from own)) is ∙ find-append (begins_from own) (sent_by side items) more ∙ rw found refl
+
+-- The Begin from an ID that it had not begun is the newest.
+pub begins_now : (side : Side) (items : List Item) (m : Message) (own : List ℕ) → begin_from side own items ≡ None
+    → is_a forms.Begin m ≡ true → is_id own (otid_in m) ≡ true
+    → begin_from side own (items ++ Sent side m ∷ []) ≡ Some m
+begins_now side items m own none begins from =
+    ap (find (begins_from own)) (sent_own side m items) ∙ find-append (begins_from own) (sent_by side items) (m ∷ [])
+    ∙ rw (none, begins, from) refl
+
+-- What it tells an ID it told it last,
+pub told_now : (side : Side) (items : List Item) (m : Message) (id : List ℕ) → is_id id (dtid_in m) ≡ true
+    → cause_in m ≡ None → told side id (items ++ Sent side m ∷ []) ≡ told side id items ++ m ∷ []
+told_now side items m id to no_cause =
+    ap (filter (tells_to id)) (sent_own side m items) ∙ filter-append (tells_to id) (sent_by side items) (m ∷ [])
+    ∙ ap (λ more. told side id items ++ more) one
+  where
+    one : filter (tells_to id) (m ∷ []) ≡ m ∷ []
+    one = rw (to, no_cause) refl
+
+-- and no other ID.
+pub told_not : (side : Side) (items : List Item) (m : Message) (id : List ℕ)
+    → (is_id id (dtid_in m) && is_none (cause_in m)) ≡ false
+    → told side id (items ++ Sent side m ∷ []) ≡ told side id items
+told_not side items m id apart =
+    ap (filter (tells_to id)) (sent_own side m items) ∙ filter-append (tells_to id) (sent_by side items) (m ∷ [])
+    ∙ ap (λ more. told side id items ++ more) none ∙ append-nil (told side id items)
+  where
+    none : filter (tells_to id) (m ∷ []) ≡ []
+    none = rw apart refl
+
+-- Where it sent nothing more it told nothing more.
+pub told_same : (side : Side) (items later : List Item) (peer : Option (List ℕ))
+    → sent_by side later ≡ sent_by side items
+    → told_to side later peer ≡ told_to side items peer
+told_same side items later None is = refl
+told_same side items later (Some id) is = ap (filter (tells_to id)) is

@@ -1,0 +1,137 @@
+-- What a message that is taken from the channel adds to what a half may have heard.
+use Rattle.std.proofs.Common.{◌≡◌, ◌≤◌, ◌+◌, arith, ℕ, Bool, true, false, cond, List, [], ◌∷◌, ◌++◌, Option, Some, refl, sym, ap, subst, ◌∙◌}
+use Rattle.std.specs.Prelude.{filter, ◌||◌}
+use Rattle.std.specs.List.{list_any}
+use Rattle.std.proofs.lemmas.List.{append-nil}
+use Rattle.std.proofs.lemmas.List.Elements.{filter-append}
+use Rattle.tcap_parts.specs.declared.component.Component.{Component}
+use Rattle.tcap_parts.specs.declared.dialogue.Dialogue.{Dialogue}
+use Rattle.tcap_msg.specs.declared.kind.Kind.TheVariants as forms
+use Rattle.tcap_msg.specs.declared.message.Message.{Message}
+use Rattle.tcap_msg.specs.declared.message.Message.TheVariants.{Begin, Continue}
+use Rattle.tcap_msg.specs.Parts.{components_in, otid_in}
+use Rattle.tcap_record.specs.declared.entry.End.{End as Side}
+use Rattle.tcap_end.specs.declared.half.Slot.TheVariants.{Begun, Accepted}
+use Rattle.tcap_end.specs.End.{is_id}
+use Rattle.tcap_model.specs.World.{Item}
+use Rattle.tcap_refute.specs.Before.{is_a}
+use Rattle.tcap_refute.specs.Kind.{is_begin_with_request}
+use Rattle.tcap_refute.proofs.BeforeLaws.{is_that_id}
+use Rattle.tcap_faults.specs.Counts.{count}
+use Rattle.tcap_faults.specs.HalfOf.{from_first, responds}
+use Rattle.tcap_faults.specs.Told.{begin_from, goes_on_to}
+use Rattle.tcap_faults.proofs.story_laws.Stories.{continues_to, from, heard_behind, may_have_heard}
+use Rattle.tcap_faults.proofs.run_laws.MayHearLaws.{count_in, count_in_append, count_in_one}
+
+-- ---- a message more
+
+-- The second messages have the components of that message too.
+abbrev pub HaveThatToo : Message → List Message → List Message → Type 0
+HaveThatToo m xs ys = (p : Component → Bool) → count_in p xs + count p (components_in m) ≤ count_in p ys
+
+too_behind : (m : Message) (xs : List Message) → HaveThatToo m xs (xs ++ m ∷ [])
+too_behind m xs p =
+    let all = count_in_append p xs (m ∷ []) in
+    let one = count_in_one p m in omega arith
+
+too_among : (m : Message) (front xs ys : List Message) → HaveThatToo m xs ys → HaveThatToo m (front ++ xs) (front ++ ys)
+too_among m front xs ys has p =
+    let here = has p in
+    let left = count_in_append p front xs in
+    let right = count_in_append p front ys in omega arith
+
+-- What passes two tests of one message more.
+both_more : (p q : Message → Bool) (xs : List Message) (m : Message) → p m ≡ true → q m ≡ true
+    → filter q (filter p (xs ++ m ∷ [])) ≡ filter q (filter p xs) ++ m ∷ []
+both_more p q xs m first second =
+    ap (filter q) (filter-append p xs (m ∷ []) ∙ ap (λ more. filter p xs ++ more) (one p first))
+    ∙ filter-append q (filter p xs) (m ∷ [])
+    ∙ ap (λ more. filter q (filter p xs) ++ more) (one q second)
+  where
+    one : (t : Message → Bool) → t m ≡ true → filter t (m ∷ []) ≡ m ∷ []
+    one t passes = rw passes refl
+
+none_more : (p q : Message → Bool) (xs : List Message) (m : Message) → (p m ≡ true → q m ≡ false)
+    → filter q (filter p (xs ++ m ∷ [])) ≡ filter q (filter p xs)
+none_more p q xs m fails =
+    ap (filter q) (filter-append p xs (m ∷ [])) ∙ filter-append q (filter p xs) (filter p (m ∷ []))
+    ∙ ap (λ more. filter q (filter p xs) ++ more) (none (p m) refl)
+    ∙ append-nil (filter q (filter p xs))
+  where
+    none : (b : Bool) → p m ≡ b → filter q (cond b (m ∷ []) []) ≡ []
+    none true is = rw (fails is) refl
+    none false is = refl
+
+-- From the first that passes on it is one more, where one passes.
+first_more : (p : Message → Bool) (xs : List Message) (m : Message) → list_any p (xs ++ m ∷ []) ≡ true
+    → from_first p (xs ++ m ∷ []) ≡ from_first p xs ++ m ∷ []
+first_more p [] m is = by (p m) is
+  where
+    by : (b : Bool) → (b || false) ≡ true → cond b (m ∷ []) [] ≡ m ∷ []
+    by true is = refl
+    by false is = cc
+first_more p (x ∷ xs) m is = by (p x) is (first_more p xs m)
+  where
+    by : (b : Bool) → (b || list_any p (xs ++ m ∷ [])) ≡ true
+        → (list_any p (xs ++ m ∷ []) ≡ true → from_first p (xs ++ m ∷ []) ≡ from_first p xs ++ m ∷ [])
+        → cond b (x ∷ xs ++ m ∷ []) (from_first p (xs ++ m ∷ [])) ≡ cond b (x ∷ xs) (from_first p xs) ++ m ∷ []
+    by true is rest = refl
+    by false is rest = rest is
+
+pub itself : (id : List ℕ) → is_id id (Some id) ≡ true
+itself id = is_that_id id (Some id) refl
+
+module _ (side : Side) (items : List Item) (gone : List Message) where
+  -- A Begin that is taken may have been heard by a half with its peer.
+  pub heard_begin_too : (otid : List ℕ) (dialogue : Option Dialogue) (components : Option (List Component))
+      (own : Option (List ℕ)) (p : Component → Bool)
+      → count p (components_in (Begin otid dialogue components))
+      ≤ count_in p (may_have_heard side items (gone ++ Begin otid dialogue components ∷ []) Accepted own (Some otid))
+  heard_begin_too otid dialogue components own p =
+      let begins = both_more (λ n. is_id otid (otid_in n)) (is_a forms.Begin) gone m (itself otid) refl in
+      let front = filter (is_a forms.Begin) (from otid gone) in
+      let all = count_in_append p (filter (is_a forms.Begin) (from otid (gone ++ m ∷ [])))
+      (continues_to otid (gone ++ m ∷ []) own) in
+      let same = ap (count_in p) begins in
+      let here = too_behind m front p in omega arith
+    where
+      m : Message
+      m = Begin otid dialogue components
+
+  module _ (otid own : List ℕ) (dialogue : Option Dialogue) (components : Option (List Component)) where
+    abbrev pub goes : Message
+    goes = Continue otid own dialogue components
+
+    -- A Continue that is taken may have been, by one that began by receiving,
+    pub heard_goes_too : HaveThatToo goes (may_have_heard side items gone Accepted (Some own) (Some otid))
+        (may_have_heard side items (gone ++ goes ∷ []) Accepted (Some own) (Some otid))
+    heard_goes_too =
+        rw (
+          none_more (λ n. is_id otid (otid_in n)) (is_a forms.Begin) gone goes (λ is. refl),
+          both_more (λ n. is_id otid (otid_in n)) (goes_on_to own) gone goes (itself otid) (itself own),
+        )
+        (too_among goes (filter (is_a forms.Begin) (from otid gone)) (continues_to otid gone (Some own)) _
+        (too_behind goes (continues_to otid gone (Some own))))
+
+    -- the Continues before it
+    abbrev pub before : List Message
+    before = continues_to otid gone (Some own)
+
+    pub more_before : continues_to otid (gone ++ goes ∷ []) (Some own) ≡ before ++ goes ∷ []
+    more_before = both_more (λ n. is_id otid (otid_in n)) (goes_on_to own) gone goes (itself otid) (itself own)
+
+    -- or by one that began by sending, where what it asked for was answered.
+    pub heard_back_too : (begin : Message) → begin_from side own items ≡ Some begin
+        → (is_begin_with_request begin ≡ true → list_any responds (before ++ goes ∷ []) ≡ true)
+        → HaveThatToo goes (may_have_heard side items gone Begun (Some own) (Some otid))
+        (may_have_heard side items (gone ++ goes ∷ []) Begun (Some own) (Some otid))
+    heard_back_too begin found answered =
+        rw found
+        (subst (λ (ms : List Message). HaveThatToo goes (heard_behind (Some begin) before) (heard_behind (Some begin) ms))
+        (sym more_before) (by (is_begin_with_request begin) answered))
+      where
+        by : (b : Bool) → (b ≡ true → list_any responds (before ++ goes ∷ []) ≡ true)
+            → HaveThatToo goes (cond b (from_first responds before) before)
+            (cond b (from_first responds (before ++ goes ∷ [])) (before ++ goes ∷ []))
+        by true is = rw (first_more responds before goes (is refl)) (too_behind goes (from_first responds before))
+        by false is = too_behind goes before

@@ -1,9 +1,0 @@
-use Rattle.tcap_faults.proofs.SideLaws.{spoken_nowhere, spoken_there}
-use Rattle.tcap_faults.proofs.sent_to.tells.Goals as goal
-
-pub returns-in-Some : goal.returns-in-Some
-returns-in-Some c = λ table side items id is.
-    spoken_there table side items id c.in-Some.kept.now (rw c.in-Some.is at is).1
-
-pub returns-in-None : goal.returns-in-None
-returns-in-None c = λ table side items id is. spoken_nowhere table side items id (rw c.in-None.is at is)

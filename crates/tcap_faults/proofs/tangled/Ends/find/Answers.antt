@@ -1,7 +1,0 @@
-use Rattle.tcap_faults.proofs.tangled.Ends.find.Goals as goal
-
-pub returns : goal.returns
-returns c = λ table side items m own_is peer_is otid dtid. record {
-  own = rw otid at (c.own_with.ensures table side items own_is peer_is);
-  there = rw dtid at (c.there_with.ensures table side items own_is peer_is);
-}

@@ -1,0 +1,13 @@
+-- The IDs so far are there.
+use Rattle.std.proofs.Common.{bytes_eq, take}
+use Rattle.std.specs.Prelude.{option_copied}
+use Rattle.std.specs.List.{list_any}
+use Rattle.tcap_model.specs.Run.{then_so}
+use Rattle.tcap_faults.specs.Ids.{ids_kept}
+use Rattle.tcap_faults.specs.Joining.{HasMore}
+use Rattle.tcap_faults.proofs.transaction.history_update.insert_all.Given as goal
+
+abbrev pub invariant-loop-id : goal.invariant-loop-id
+invariant-loop-id l =
+    HasMore (λ id. list_any (bytes_eq id)
+    (ids_kept (then_so (option_copied l.ids) (λ kept. kept.first)) (take l.id-index l.id-items))) l.fn.set l.set

@@ -1,0 +1,51 @@
+use denote.Enum.Bare.{sameb}
+use Rattle.std.specs.Prelude.{is_none}
+use Rattle.tcap_msg.specs.declared.kind.Kind.TheVariants as forms
+use Rattle.tcap_msg.specs.declared.transaction_id.TransactionIdView.{TransactionIdView}
+use Rattle.tcap_msg.specs.Meaning.{id_of}
+use Rattle.tcap_record.specs.declared.entry.End.{End as Side}
+use Rattle.tcap_model.specs.World.{Item}
+use Rattle.std.proofs.Common.{◌≡◌, ℕ, Bool, List, Option, None, Some, ◌&&◌, is_some, false, true, not, refl, sym, ap, ◌∙◌}
+use Rattle.tcap_refute.specs.Before.{has_a}
+use Rattle.tcap_faults.specs.Told.{told}
+use Rattle.tcap_faults.specs.HalfOf.{HalfOf}
+use Rattle.tcap_faults.specs.Ids.{ids_first}
+use Rattle.tcap_faults.specs.contracts.dialogue.half_origin.How.{the_type}
+use Rattle.tcap_faults.specs.declared.dialogue.half_origin.How.{How}
+use Rattle.tcap_faults.specs.declared.dialogue.half_origin.How.TheVariants as hows
+use Rattle.tcap_faults.specs.HalfKinds.{is_accepted, is_first_answer}
+use Rattle.tcap_faults.specs.Kept.{otids_of, sent_to}
+use Rattle.tcap_faults.proofs.dialogue_laws.HalfLookupLaws.{went_on}
+use Rattle.tcap_faults.proofs.transaction.lookup.There.is_first_answer.Goals as goal
+
+is_so : (how : How) → false ≡ not (sameb the_type how hows.Accepted) → is_accepted how ≡ true
+is_so hows.Accepted same = refl
+is_so how same = cc
+
+-- What is kept of the first own ID tells whether a Continue was told.
+is_first : (side : Side) (items : List Item) (id : List ℕ) (h : HalfOf) (first : Option (List ℕ))
+    → is_accepted h.how ≡ true → first ≡ ids_first (otids_of (sent_to side items id))
+    → is_none first ≡ is_first_answer side items id h
+is_first side items id h first so is =
+    ap is_none is ∙ went_on side id items
+    ∙ ap (λ b. b && not (has_a forms.Continue (told side id items))) (sym so)
+
+none_so : (o : Option TransactionIdView) (b : Bool) → is_some o ≡ not b → b ≡ is_none (id_of o)
+none_so None true is = refl
+none_so None false is = cc
+none_so (Some view) true is = cc
+none_so (Some view) false is = refl
+
+pub returns-in-Some : goal.returns-in-Some
+returns-in-Some c = λ table side items h is half.
+    let to = (rw c.in-Some.is at is.to).1 in
+    let so = ap is_accepted (sym half.how) ∙ is_so c.args.half.now.how c.if-ne.ensures in
+    none_so c.first.result c.is_none.result c.is_none.ensures
+    ∙ is_first side items c.args.self.id.now h (id_of c.first.result) so
+    (c.first.ensures (otids_of (sent_to side items c.args.self.id.now)) to.from)
+
+pub returns-in-None : goal.returns-in-None
+returns-in-None c = λ table side items h is half.
+    let so = ap is_accepted (sym half.how) ∙ is_so c.args.half.now.how c.if-ne.ensures in
+    let none = rw c.in-None.is at is.to in
+    is_first side items c.args.self.id.now h None so (ap (λ ms. ids_first (otids_of ms)) (sym none))

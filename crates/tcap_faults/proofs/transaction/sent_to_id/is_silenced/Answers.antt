@@ -1,0 +1,9 @@
+use Rattle.tcap_faults.proofs.transaction_laws.HistoryLookupLaws.{silenced_nowhere, silenced_there}
+use Rattle.tcap_faults.proofs.transaction.sent_to_id.is_silenced.Goals as goal
+
+pub returns-in-Some : goal.returns-in-Some
+returns-in-Some c = λ table side items id is.
+    silenced_there table side items id c.in-Some.kept.now (rw c.in-Some.is at is).1
+
+pub returns-in-None : goal.returns-in-None
+returns-in-None c = λ table side items id is. silenced_nowhere table side items id (rw c.in-None.is at is)

@@ -1,0 +1,291 @@
+-- What is kept of what was sent from an ID, with a message more.
+use Rattle.std.proofs.Common.{◌≡◌, ◌⊎◌, inl, inr, ◌+◌, ℕ, Bool, true, false, cond, ◌||◌, List, [], ◌∷◌, ◌++◌, length, Option, Some, None, refl, sym, ap, ◌∙◌, arith}
+use Rattle.std.specs.Prelude.{filter, is_some, nat_le}
+use Rattle.std.specs.List.{find, list_any}
+use Rattle.std.specs.Map.{lookup}
+use Rattle.std.specs.BTreeMap.{BTreeMap, is_at}
+use Rattle.std.specs.Option.{option_or}
+use Rattle.std.proofs.lemmas.Bool.Decides.{nat_tests}
+use Rattle.std.proofs.lemmas.List.{append-nil}
+use Rattle.std.proofs.lemmas.List.Folds.{find-append, list_any-append}
+use Rattle.tcap_msg.specs.declared.kind.Kind.{Kind as Form}
+use Rattle.tcap_msg.specs.declared.kind.Kind.TheVariants as forms
+use Rattle.tcap_msg.specs.declared.message.Message.{Message}
+use Rattle.tcap_msg.specs.declared.message.Message.TheVariants.{Begin, Continue}
+use Rattle.tcap_msg.specs.Parts.{components_in, dialogue_in, dtid_in, kind_in}
+use Rattle.tcap_end.specs.Dialogue.{is_request}
+use Rattle.tcap_end.specs.Table.{Table, octets_cmp}
+use Rattle.tcap_refute.specs.Before.{components_of, is_a}
+use Rattle.tcap_refute.specs.Facts.{FromFact, shows_from}
+use Rattle.tcap_refute.specs.Kept.{tells_from}
+use Rattle.tcap_refute.specs.Kind.{is_begin_with_request, or_else}
+use Rattle.tcap_refute.specs.declared.from_id.FromId.{FromId}
+use Rattle.tcap_refute.proofs.TestLaws.{or_none}
+use Rattle.tcap_faults.specs.Counts.{count}
+use Rattle.tcap_faults.specs.Told.{goes_on_to}
+use Rattle.tcap_faults.specs.declared.transaction.id_list.Ids.{Ids}
+use Rattle.tcap_faults.specs.declared.transaction.sent_from_id.Came.{Came}
+use Rattle.tcap_faults.specs.declared.transaction.sent_from_id.FirstBegin.{FirstBegin}
+use Rattle.tcap_faults.specs.declared.transaction.sent_from_id.SentFrom.{SentFrom}
+use Rattle.tcap_faults.specs.HalfOf.{from_first, responds}
+use Rattle.tcap_faults.specs.Ids.{AreIds}
+use Rattle.tcap_faults.specs.Kept.{IsCame, IsCameAt, IsFirstBegin, IsFrom, before_response, dtids_of}
+use Rattle.tcap_faults.specs.Noting.{AreCame, with_more}
+use Rattle.tcap_faults.specs.Tallied.{more_if, sum}
+use Rattle.tcap_faults.specs.Tallies.{IsTally}
+use Rattle.tcap_faults.proofs.list_laws.OneMoreLaws.{any_more, components_more, count_kept, filter_more, ids_more, ids_same}
+use Rattle.tcap_faults.proofs.transaction_laws.HistoryLookupLaws.{begin_there}
+use Rattle.tcap_faults.proofs.list_laws.CountLaws.{count_last}
+
+-- ---- a Continue more to an ID
+
+-- whether one of these answers, or that one
+abbrev answered : List Message → Message → Bool
+answered ms m = list_any responds ms || responds m
+
+before_more : (ms : List Message) (m : Message)
+    → before_response (ms ++ m ∷ []) ≡ before_response ms ++ cond (answered ms m) [] (m ∷ [])
+before_more [] m = refl
+before_more (x ∷ ms) m = by (responds x) (before_more ms m)
+  where
+    by : (b : Bool) → before_response (ms ++ m ∷ []) ≡ before_response ms ++ cond (answered ms m) [] (m ∷ [])
+        → cond b [] (x ∷ before_response (ms ++ m ∷ []))
+        ≡ cond b [] (x ∷ before_response ms) ++ cond ((b || list_any responds ms) || responds m) [] (m ∷ [])
+    by true rest = refl
+    by false rest = ap (λ more. x ∷ more) rest
+
+first_more : (ms : List Message) (m : Message)
+    → from_first responds (ms ++ m ∷ []) ≡ from_first responds ms ++ cond (answered ms m) (m ∷ []) []
+first_more [] m = refl
+first_more (x ∷ ms) m = by (responds x) (first_more ms m)
+  where
+    by : (b : Bool) → from_first responds (ms ++ m ∷ []) ≡ from_first responds ms ++ cond (answered ms m) (m ∷ []) []
+        → cond b (x ∷ ms ++ m ∷ []) (from_first responds (ms ++ m ∷ []))
+        ≡ cond b (x ∷ ms) (from_first responds ms) ++ cond ((b || list_any responds ms) || responds m) (m ∷ []) []
+    by true rest = refl
+    by false rest = rest
+
+module _ (table : Table) (ms : List Message) (m : Message) (old new : Came) (was : IsCame table ms old)
+    (is : new.answered ≡ (old.answered || responds m)) where
+  answers : answered ms m ≡ new.answered
+  answers = rw (is, was.answered) refl
+
+  -- The request was answered, now or sooner;
+  pub came_since : new.answered ≡ true → new.sooner ≡ old.sooner
+      → IsTally table (components_of (from_first responds ms) ++ components_in m) new.since
+      → IsCame table (ms ++ m ∷ []) new
+  came_since so same since =
+      let now : answered ms m ≡ true = answers ∙ so in
+      record {
+        answered = sym answers ∙ sym (any_more responds ms m);
+        sooner = rw (before_more ms m, now, append-nil (before_response ms), same) was.sooner;
+        since = rw (first_more ms m, now, components_more (from_first responds ms) m) since;
+      }
+
+  -- or it was not.
+  pub came_sooner : new.answered ≡ false → new.since ≡ old.since
+      → IsTally table (components_of (before_response ms) ++ components_in m) new.sooner
+      → IsCame table (ms ++ m ∷ []) new
+  came_sooner so same sooner =
+      let now : answered ms m ≡ false = answers ∙ so in
+      record {
+        answered = sym answers ∙ sym (any_more responds ms m);
+        sooner = rw (before_more ms m, now, components_more (before_response ms) m) sooner;
+        since = rw (first_more ms m, now, append-nil (from_first responds ms), same) was.since;
+      }
+
+-- ---- kinds of messages
+
+pub begin_only : (m : Message) → is_a forms.Begin m ≡ true
+    → (is_a forms.Continue m ≡ false) × (is_begin_with_request m ≡ is_request (dialogue_in m))
+begin_only (Begin otid dialogue components) is = (refl, refl)
+begin_only m is = cc
+
+pub continue_only : (m : Message) → is_a forms.Continue m ≡ true → is_a forms.Begin m ≡ false
+continue_only (Continue otid dtid dialogue components) is = refl
+continue_only m is = cc
+
+-- neither a Begin nor a Continue
+abbrev pub IsNeither : Message → Type 0
+IsNeither m = (is_a forms.Begin m ≡ false) × (is_a forms.Continue m ≡ false)
+
+-- What is of neither kind is neither.
+pub neither : (kind : Form) (m : Message) → kind ≡ kind_in m → (kind ≡ forms.Begin → ⊥) → (kind ≡ forms.Continue → ⊥)
+    → IsNeither m
+neither kind (Begin otid dialogue components) is no_begin no_continue = absurd (no_begin is)
+neither kind (Continue otid dtid dialogue components) is no_begin no_continue = absurd (no_continue is)
+neither kind m is no_begin no_continue = (refl, refl)
+
+-- ---- Begins
+
+module _ {A : Type 0} (p : A → Bool) where
+  find_more : (xs : List A) (x : A) → find p (xs ++ x ∷ []) ≡ or_else (find p xs) (cond (p x) (Some x) None)
+  find_more xs x = find-append p xs (x ∷ []) ∙ by (find p xs)
+    where
+      by : (o : Option A) → option_or o (cond (p x) (Some x) None) ≡ or_else o (cond (p x) (Some x) None)
+      by None = refl
+      by (Some y) = refl
+
+  -- With one more there are two where there is one,
+  two_with_one : (xs : List A) → nat_le 2 (count p xs + 1) ≡ is_some (find p xs)
+  two_with_one [] = refl
+  two_with_one (x ∷ xs) = by (p x) (two_with_one xs)
+    where
+      by : (b : Bool) → nat_le 2 (count p xs + 1) ≡ is_some (find p xs)
+          → nat_le 2 (length (cond b (x ∷ filter p xs) (filter p xs)) + 1) ≡ is_some (cond b (Some x) (find p xs))
+      by true rest = grind (arith, nat_tests)
+      by false rest = rest
+
+  -- and where there is none, there are no two.
+  no_two : (xs : List A) → is_some (find p xs) ≡ false → nat_le 2 (count p xs) ≡ false
+  no_two [] none = refl
+  no_two (x ∷ xs) none = by (p x) none (no_two xs)
+    where
+      by : (b : Bool) → is_some (cond b (Some x) (find p xs)) ≡ false
+          → (is_some (find p xs) ≡ false → nat_le 2 (count p xs) ≡ false)
+          → nat_le 2 (length (cond b (x ∷ filter p xs) (filter p xs))) ≡ false
+      by true bad rest = cc
+      by false none rest = rest none
+
+-- ---- what F2 to F7 ask
+
+-- The rest says nothing of it.
+pub from_same : (table : Table) (ms : List Message) (old : SentFrom) → IsFrom table ms old → (first : FromId)
+    → IsFrom table ms (record old { first = first })
+from_same table ms old was first =
+    record { begin = was.begin; twice = was.twice; continues = was.continues; to = was.to; came = was.came }
+
+pub first_noted : (table : Table) (ms : List Message) (m : Message) (old new : FromId)
+    → ((fact : FromFact) → tells_from fact old ≡ list_any (shows_from table fact) ms)
+    → ((fact : FromFact) → tells_from fact new ≡ (tells_from fact old || shows_from table fact m))
+    → (fact : FromFact) → tells_from fact new ≡ list_any (shows_from table fact) (ms ++ m ∷ [])
+first_noted table ms m old new was told fact =
+    told fact
+    ∙ ap (λ b. b || shows_from table fact m) (was fact)
+    ∙ ap (λ b. list_any (shows_from table fact) ms || b) (or_none (shows_from table fact m))
+    ∙ sym (list_any-append (shows_from table fact) ms (m ∷ []))
+
+-- ---- a message more
+
+module _ (table : Table) (ms : List Message) (m : Message) (old : SentFrom) (was : IsFrom table ms old) where
+  is_begun : is_some (find (is_a forms.Begin) ms) ≡ is_some old.begin
+  is_begun = sym (begin_there table (find (is_a forms.Begin) ms) old.begin was.begin)
+
+  -- What is no Begin, or comes behind one, changes nothing of the first.
+  begin_stays : (is_a forms.Begin m ≡ false) ⊎ (is_some old.begin ≡ true)
+      → IsFirstBegin table (find (is_a forms.Begin) (ms ++ m ∷ [])) old.begin
+  begin_stays why =
+      rw (find_more (is_a forms.Begin) ms m) (by (find (is_a forms.Begin) ms) old.begin was.begin why)
+    where
+      by : (found : Option Message) (kept : Option FirstBegin) → IsFirstBegin table found kept
+          → (is_a forms.Begin m ≡ false) ⊎ (is_some kept ≡ true)
+          → IsFirstBegin table (or_else found (cond (is_a forms.Begin m) (Some m) None)) kept
+      by None None is (inl none) = rw none tt
+      by None None is (inr some) = cc
+      by (Some begin) (Some kept) is _ = is
+      by None (Some kept) is _ = absurd is
+      by (Some begin) None is _ = absurd is
+
+  -- The first Begin is kept.
+  begin_first : (kept : FirstBegin) → is_a forms.Begin m ≡ true → is_some old.begin ≡ false
+      → IsFirstBegin table (Some m) (Some kept) → IsFirstBegin table (find (is_a forms.Begin) (ms ++ m ∷ [])) (Some kept)
+  begin_first kept it none is =
+      rw (find_more (is_a forms.Begin) ms m, it) (by (find (is_a forms.Begin) ms) (is_begun ∙ none))
+    where
+      by : (found : Option Message) → is_some found ≡ false → IsFirstBegin table (or_else found (Some m)) (Some kept)
+      by None first = is
+      by (Some begin) bad = cc
+
+  -- ---- a Begin
+
+  module _ (it : is_a forms.Begin m ≡ true) where
+    no_continue : is_a forms.Continue m ≡ false
+    no_continue = (begin_only m it).0
+
+    -- It says nothing of the Continues.
+    from_begin_as : (new : SentFrom) → IsFirstBegin table (find (is_a forms.Begin) (ms ++ m ∷ [])) new.begin
+        → new.begun_twice ≡ is_some old.begin → new.continues ≡ old.continues → new.to ≡ old.to → new.came ≡ old.came
+        → IsFrom table (ms ++ m ∷ []) new
+    from_begin_as new begin twice continues to came = record {
+      begin = begin;
+      twice = rw (twice, count_last (is_a forms.Begin) ms m, it)
+          (sym is_begun ∙ sym (two_with_one (is_a forms.Begin) ms));
+      continues = count_kept (is_a forms.Continue) ms m old.continues new.continues was.continues
+          (rw no_continue continues);
+      to = rw (to, ids_same (is_a forms.Continue) dtid_in ms m (inl no_continue)) was.to;
+      came = λ own. rw (came, filter_more (goes_on_to own) ms m, no_continue, append-nil (filter (goes_on_to own) ms))
+          (was.came own);
+    }
+
+    -- One behind another,
+    pub from_begun : is_some old.begin ≡ true → IsFrom table (ms ++ m ∷ []) (record old { begun_twice = true })
+    from_begun some = from_begin_as _ (begin_stays (inr some)) (sym some) refl refl refl
+
+    -- and the first.
+    pub from_begin : is_some old.begin ≡ false → (kept : FirstBegin) → IsFirstBegin table (Some m) (Some kept)
+        → IsFrom table (ms ++ m ∷ []) (record old { begin = Some kept })
+    from_begin none kept is =
+        from_begin_as _ (begin_first kept it none is)
+        (was.twice ∙ no_two (is_a forms.Begin) ms (is_begun ∙ none) ∙ sym none) refl refl refl
+
+  -- ---- what is no Begin
+
+  from_other : (new : SentFrom) → is_a forms.Begin m ≡ false → new.begin ≡ old.begin
+      → new.begun_twice ≡ old.begun_twice
+      → new.continues ≡ more_if (is_a forms.Continue m) old.continues
+      → AreIds (dtids_of (ms ++ m ∷ [])) new.to
+      → ((own : List ℕ) → IsCameAt table (filter (goes_on_to own) (ms ++ m ∷ []))
+      (lookup (is_at (octets_cmp own)) new.came.entries)) → IsFrom table (ms ++ m ∷ []) new
+  from_other new it begin twice continues to came = record {
+    begin = rw begin (begin_stays (inl it));
+    twice = rw (twice, count_last (is_a forms.Begin) ms m, it) (was.twice ∙ ap (nat_le 2) (omega arith));
+    continues = count_kept (is_a forms.Continue) ms m old.continues new.continues was.continues continues;
+    to = to;
+    came = came;
+  }
+
+  -- Other messages are not kept.
+  pub from_neither : IsNeither m → IsFrom table (ms ++ m ∷ []) old
+  from_neither (no_begin, no_continue) =
+      from_other old no_begin refl refl (rw no_continue refl)
+      (rw (ids_same (is_a forms.Continue) dtid_in ms m (inl no_continue)) was.to)
+      (λ own. rw (filter_more (goes_on_to own) ms m, no_continue, append-nil (filter (goes_on_to own) ms)) (was.came own))
+
+  -- ---- a Continue
+
+  module _ (it : is_a forms.Continue m ≡ true) where
+    -- It is counted, and its destination ID noted, if it has one;
+    pub record IsContinued (new : SentFrom) : Type 0 where
+      pub begin : new.begin ≡ old.begin
+      pub twice : new.begun_twice ≡ old.begun_twice
+      pub continues : new.continues ≡ sum old.continues 1
+      pub to : AreIds (dtids_of (ms ++ m ∷ [])) new.to
+      pub came : new.came ≡ old.came
+
+    pub continued_to : (n : ℕ) (id : List ℕ) (to : Ids) → n ≡ sum old.continues 1 → dtid_in m ≡ Some id
+        → AreIds (dtids_of ms ++ id ∷ []) to → IsContinued (record old { continues = n; to = to })
+    continued_to n id to counted goes are = record {
+      begin = refl;
+      twice = refl;
+      continues = counted;
+      to = rw (ids_more (is_a forms.Continue) dtid_in ms m id it goes) are;
+      came = refl;
+    }
+
+    pub continued_nowhere : (n : ℕ) → n ≡ sum old.continues 1 → dtid_in m ≡ None
+        → IsContinued (record old { continues = n })
+    continued_nowhere n counted goes = record {
+      begin = refl;
+      twice = refl;
+      continues = counted;
+      to = rw (ids_same (is_a forms.Continue) dtid_in ms m (inr goes)) was.to;
+      came = refl;
+    }
+
+    -- and it goes there.
+    pub from_continue : (new : SentFrom) (came : BTreeMap (List ℕ) Came) → IsContinued new
+        → AreCame table (with_more dtid_in m (λ own. filter (goes_on_to own) ms)) came
+        → IsFrom table (ms ++ m ∷ []) (record new { came = came })
+    from_continue new came is are =
+        from_other (record new { came = came }) (continue_only m it) is.begin is.twice (rw it is.continues) is.to
+        (λ own. rw (filter_more (goes_on_to own) ms m, it) (are own))

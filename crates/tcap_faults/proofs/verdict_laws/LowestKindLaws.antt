@@ -1,0 +1,200 @@
+-- The lowest of all kinds of a message, by the first ones and the further ones; and the lowest further kind over a half.
+use Rattle.std.proofs.Common.{◌≡◌, ℕ, Bool, true, false, cond, not, ◌&&◌, ◌||◌, List, [], ◌∷◌, ◌++◌, Option, Some, None, is_some, refl, sym, ap, ap₂, ◌∙◌}
+use Rattle.std.specs.List.{find, list_any}
+use Rattle.std.proofs.Math.Bool.{or-false}
+use Rattle.std.proofs.lemmas.Bool.{or_parts}
+use Rattle.tcap_parts.specs.declared.component.Component.{Component}
+use Rattle.tcap_msg.specs.declared.message.Message.{Message}
+use Rattle.tcap_msg.specs.Parts.{cause_in, components_in, dtid_in}
+use Rattle.tcap_record.specs.declared.entry.End.{End as Side}
+use Rattle.tcap_end.specs.Table.{Table}
+use Rattle.tcap_model.specs.World.{Item}
+use Rattle.tcap_refute.specs.declared.kind.Kind.{Kind}
+use Rattle.tcap_refute.specs.declared.kind.Kind.TheVariants as kinds
+use Rattle.tcap_faults.specs.Components.{has_component, invokes_again, is_linked}
+use Rattle.tcap_refute.specs.FirstKinds.{first_kinds, is_of_first_kind}
+use Rattle.tcap_refute.specs.Kind.{or_else}
+use Rattle.tcap_refute.proofs.TestLaws.{some_first}
+use Rattle.tcap_faults.specs.declared.component.component_faults.ComponentFaults.{ComponentFaults}
+use Rattle.tcap_faults.specs.ComponentKinds.{answers_again, invokes_busy, links_badly, rejects_wrongly}
+use Rattle.tcap_faults.specs.Faults.{component_at}
+use Rattle.tcap_faults.specs.Fault.{further_kinds, is_fault, is_of_further_kind, is_of_half_kind, is_of_kind_to}
+use Rattle.tcap_faults.specs.HalfKinds.{is_wrong_dialogue, is_wrong_half}
+use Rattle.tcap_faults.specs.HalfOf.{HalfOf, half_of}
+use Rattle.tcap_faults.specs.Searching.{kind_of_components}
+use Rattle.tcap_faults.specs.Subject.{alone_component, half_component}
+use Rattle.tcap_faults.specs.Tangled.{are_tangled, goes_over_tangled, is_own_tangled, is_peer_tangled, near, own_of_continue}
+use Rattle.tcap_faults.proofs.component_laws.ComponentFaultLaws.{some_component}
+
+-- ---- the further kinds
+
+-- A message that goes over a half.
+pub half_found : (table : Table) (side : Side) (items : List Item) (m : Message) (id : List ℕ)
+    → dtid_in m ≡ Some id → cause_in m ≡ None
+    → find (is_of_further_kind table side items m (dtid_in m)) further_kinds
+    ≡ find (is_of_half_kind table side id items m (half_of side items id)) further_kinds
+half_found table side items m id there is =
+    ap (λ o. find (is_of_further_kind table side items m o) further_kinds) there
+    ∙ ap (λ o. find (is_of_kind_to table side id items m o) further_kinds) is
+
+-- ---- over a half
+
+-- the lowest kind over a half, by what is wrong
+abbrev by_half : Bool → Bool → Bool → Bool → Bool → Bool → Option Kind
+by_half half dialogue busy linked answered rejected =
+    cond half (Some kinds.WrongHalf)
+    (cond (not half && dialogue) (Some kinds.WrongDialogue)
+    (kind_of_components (not half && busy) (not half && linked) (not half && answered) (not half && rejected)))
+
+-- the same of a message over a half, by whether the half and the dialogue portion are wrong
+abbrev kind_by : Table → HalfOf → Message → Bool → Bool → Option Kind
+kind_by table h m half dialogue =
+    by_half half dialogue (has_component (invokes_busy table h (h.told ++ components_in m)) [] h.told (components_in m))
+    (has_component (links_badly table h) [] h.told (components_in m))
+    (has_component (answers_again table h) [] h.told (components_in m))
+    (has_component (rejects_wrongly table h) [] h.told (components_in m))
+
+found_over : (table : Table) (side : Side) (id : List ℕ) (items : List Item) (m : Message) (h : HalfOf)
+    → find (is_of_half_kind table side id items m h) further_kinds
+    ≡ kind_by table h m (is_wrong_half side items m h) (is_wrong_dialogue side items id m h)
+found_over table side id items m h = refl
+
+-- Where the half fits, and the dialogue portion does not.
+pub kind_of_dialogue : (table : Table) (side : Side) (id : List ℕ) (items : List Item) (m : Message) (h : HalfOf)
+    → false ≡ is_wrong_half side items m h → true ≡ is_wrong_dialogue side items id m h
+    → Some kinds.WrongDialogue ≡ find (is_of_half_kind table side id items m h) further_kinds
+kind_of_dialogue table side id items m h half dialogue =
+    ap₂ (λ a b. kind_by table h m a b) half dialogue ∙ sym (found_over table side id items m h)
+
+-- Where both fit.
+pub kind_last : (table : Table) (side : Side) (id : List ℕ) (items : List Item) (m : Message) (h : HalfOf) (k : Option Kind)
+    → false ≡ is_wrong_half side items m h → false ≡ is_wrong_dialogue side items id m h
+    → k ≡ kind_of_components
+    (has_component (invokes_busy table h (h.told ++ components_in m)) [] h.told (components_in m))
+    (has_component (links_badly table h) [] h.told (components_in m))
+    (has_component (answers_again table h) [] h.told (components_in m))
+    (has_component (rejects_wrongly table h) [] h.told (components_in m))
+    → k ≡ find (is_of_half_kind table side id items m h) further_kinds
+kind_last table side id items m h k half dialogue is =
+    is ∙ ap₂ (λ a b. kind_by table h m a b) half dialogue ∙ sym (found_over table side id items m h)
+
+-- ---- the components
+
+-- A message over a half has a kind where one of its components was found to be so;
+pub kinds_found : (table : Table) (h : HalfOf) (cs : List Component) (found : ComponentFaults)
+    → ((kind : Kind) → component_at kind found ≡ half_component table h cs kind)
+    → kind_of_components (is_some found.busy) (is_some found.badly_linked) (is_some found.answered_already)
+    (is_some found.wrongly_rejected)
+    ≡ kind_of_components
+    (has_component (invokes_busy table h (h.told ++ cs)) [] h.told cs)
+    (has_component (links_badly table h) [] h.told cs)
+    (has_component (answers_again table h) [] h.told cs)
+    (has_component (rejects_wrongly table h) [] h.told cs)
+kinds_found table h cs found are = λ i. kind_of_components (busy i) (linked i) (answered i) (rejected i)
+  where
+    busy : is_some found.busy ≡ has_component (invokes_busy table h (h.told ++ cs)) [] h.told cs
+    busy = ap is_some (are kinds.InvokeIdBusy) ∙ some_component (invokes_busy table h (h.told ++ cs)) 0 [] h.told cs
+
+    linked : is_some found.badly_linked ≡ has_component (links_badly table h) [] h.told cs
+    linked = ap is_some (are kinds.BadLink) ∙ some_component (links_badly table h) 0 [] h.told cs
+
+    answered : is_some found.answered_already ≡ has_component (answers_again table h) [] h.told cs
+    answered = ap is_some (are kinds.AnsweredAlready) ∙ some_component (answers_again table h) 0 [] h.told cs
+
+    rejected : is_some found.wrongly_rejected ≡ has_component (rejects_wrongly table h) [] h.told cs
+    rejected = ap is_some (are kinds.RejectNotAllowed) ∙ some_component (rejects_wrongly table h) 0 [] h.told cs
+
+-- and one without destination ID.
+pub alone_found : (table : Table) (side : Side) (items : List Item) (m : Message) (found : ComponentFaults)
+    → None ≡ dtid_in m → ((kind : Kind) → component_at kind found ≡ alone_component (components_in m) kind)
+    → kind_of_components (is_some found.busy) (is_some found.badly_linked) (is_some found.answered_already)
+    (is_some found.wrongly_rejected)
+    ≡ find (is_of_further_kind table side items m (dtid_in m)) further_kinds
+alone_found table side items m found none are =
+    (λ i. kind_of_components (busy i) (linked i) (answered i) (rejected i))
+    ∙ ap (λ o. find (is_of_further_kind table side items m o) further_kinds) none
+  where
+    busy : is_some found.busy ≡ has_component invokes_again [] [] (components_in m)
+    busy = ap is_some (are kinds.InvokeIdBusy) ∙ some_component invokes_again 0 [] [] (components_in m)
+
+    linked : is_some found.badly_linked ≡ list_any is_linked (components_in m)
+    linked = ap is_some (are kinds.BadLink) ∙ some_first is_linked 0 (components_in m)
+
+    answered : is_some found.answered_already ≡ false
+    answered = ap is_some (are kinds.AnsweredAlready)
+
+    rejected : is_some found.wrongly_rejected ≡ false
+    rejected = ap is_some (are kinds.RejectNotAllowed)
+
+-- ---- all kinds
+
+same_find : (p q : Kind → Bool) (xs : List Kind) → ((k : Kind) → p k ≡ q k) → find p xs ≡ find q xs
+same_find p q [] same = refl
+same_find p q (x ∷ xs) same =
+    ap (λ b. cond b (Some x) (find p xs)) (same x) ∙ ap (λ o. cond (q x) (Some x) o) (same_find p q xs same)
+
+find_two : (p : Kind → Bool) (xs ys : List Kind) → find p (xs ++ ys) ≡ or_else (find p xs) (find p ys)
+find_two p [] ys = refl
+find_two p (x ∷ xs) ys = by (p x) (find_two p xs ys)
+  where
+    by : (b : Bool) → find p (xs ++ ys) ≡ or_else (find p xs) (find p ys)
+        → cond b (Some x) (find p (xs ++ ys)) ≡ or_else (cond b (Some x) (find p xs)) (find p ys)
+    by true rest = refl
+    by false rest = rest
+
+-- the kinds of a message that goes over no tangled IDs
+abbrev either_kind : Table → Side → List Item → Message → Option (List ℕ) → Kind → Bool
+either_kind table side items m id kind =
+    is_of_first_kind table side items m kind || is_of_further_kind table side items m id kind
+
+-- None of the first kinds is a further one.
+no_further : (table : Table) (side : Side) (items : List Item) (m : Message) (id : Option (List ℕ)) (cause : Option ℕ)
+    → cause_in m ≡ cause
+    → find (either_kind table side items m id) first_kinds
+    ≡ find (λ kind. is_of_first_kind table side items m kind || false) first_kinds
+no_further table side items m None cause is = refl
+no_further table side items m (Some id) cause is =
+    ap (λ o. find (λ kind. is_of_first_kind table side items m kind || is_of_kind_to table side id items m o kind) first_kinds) is
+    ∙ by cause
+  where
+    by : (cause : Option ℕ)
+        → find (λ kind. is_of_first_kind table side items m kind || is_of_kind_to table side id items m cause kind) first_kinds
+        ≡ find (λ kind. is_of_first_kind table side items m kind || false) first_kinds
+    by None = refl
+    by (Some n) = refl
+
+first_alone : (table : Table) (side : Side) (items : List Item) (m : Message)
+    → find (either_kind table side items m (dtid_in m)) first_kinds ≡ find (is_of_first_kind table side items m) first_kinds
+first_alone table side items m =
+    no_further table side items m (dtid_in m) (cause_in m) refl
+    ∙ same_find _ _ first_kinds (λ kind. or-false (is_of_first_kind table side items m kind))
+
+-- None of the further kinds is a first one.
+further_alone : (table : Table) (side : Side) (items : List Item) (m : Message) (id : Option (List ℕ))
+    → find (either_kind table side items m id) further_kinds ≡ find (is_of_further_kind table side items m id) further_kinds
+further_alone table side items m id = refl
+
+-- Over no tangled IDs the lowest of all kinds is the lowest of the first ones, or else the lowest further one.
+pub fault_found : (table : Table) (side : Side) (items : List Item) (m : Message) → goes_over_tangled side items m ≡ false
+    → find (is_fault table side items m) (first_kinds ++ further_kinds)
+    ≡ or_else (find (is_of_first_kind table side items m) first_kinds)
+    (find (is_of_further_kind table side items m (dtid_in m)) further_kinds)
+fault_found table side items m plain =
+    ap (λ b. find (λ kind. not b && either_kind table side items m (dtid_in m) kind) (first_kinds ++ further_kinds)) plain
+    ∙ find_two (either_kind table side items m (dtid_in m)) first_kinds further_kinds
+    ∙ ap₂ or_else (first_alone table side items m) (further_alone table side items m (dtid_in m))
+
+-- Over tangled ones there is none.
+pub none_found : (table : Table) (side : Side) (items : List Item) (m : Message) → goes_over_tangled side items m ≡ true
+    → find (is_fault table side items m) (first_kinds ++ further_kinds) ≡ None
+none_found table side items m over =
+    ap (λ b. find (λ kind. not b && either_kind table side items m (dtid_in m) kind) (first_kinds ++ further_kinds)) over
+
+-- ---- the destination ID
+
+pub not_tangled : (side : Side) (items : List Item) (m : Message) (id : List ℕ) → dtid_in m ≡ Some id
+    → goes_over_tangled side items m ≡ false → is_peer_tangled side items id ≡ false
+not_tangled side items m id to over =
+    let so : are_tangled side items (own_of_continue m) id ≡ false = rw to at over in
+    let (own, peers) = or_parts (list_any (is_own_tangled side items) (near side items (own_of_continue m) id)) _ so in
+    (or_parts (is_peer_tangled side items id) _ peers).0

@@ -1,0 +1,322 @@
+-- A search over the entries, one entry more.
+use Rattle.std.proofs.Common.{◌≡◌, ℕ, suc, ◌+◌, ◌≤◌, ◌<◌, ◌^◌, Bool, true, false, cond, not, ◌||◌, List, [], ◌∷◌, ◌++◌, length, map, drop, Option, Some, None, Result, Ok, Err, refl, sym, ap, subst, ◌∙◌}
+use Rattle.std.specs.Prelude.{get_or}
+use Rattle.std.proofs.Math.Numerals.{suc-eq-add-one}
+use Rattle.std.proofs.Math.Seq.{drop-cons}
+use Rattle.std.proofs.lemmas.List.{drop_all}
+use Rattle.tcap_msg.specs.declared.message.Message.{Message}
+use Rattle.tcap_record.specs.declared.entry.End.{End as Side}
+use Rattle.tcap_record.specs.declared.entry.End.TheVariants as sides
+use Rattle.tcap_record.specs.declared.entry.Entry.{Entry}
+use Rattle.tcap_end.specs.Table.{Table}
+use Rattle.tcap_model.specs.World.{Item, Sent, is_side}
+use Rattle.tcap_model.specs.Entries.{item_of}
+use Rattle.tcap_model.specs.declared.reason.Reason.{Reason}
+use Rattle.tcap_refute.specs.declared.kind.Kind.{Kind}
+use Rattle.tcap_refute.specs.declared.kind.Refutation.{Refutation}
+use Rattle.tcap_refute.specs.Before.{since_quiet}
+use Rattle.tcap_refute.specs.Kind.{or_else, refutation_at}
+use Rattle.tcap_faults.specs.declared.verdict.first_fault.Looking.{Looking}
+use Rattle.tcap_faults.specs.declared.verdict.first_fault.SearchState.{SearchState}
+use Rattle.tcap_faults.specs.declared.transaction.history.Facts.{Facts}
+use Rattle.tcap_faults.specs.Fault.{bad_entry_of, blamed, blamed_behind, fault_since}
+use Rattle.tcap_faults.specs.Searching.{AreCounted, AreRoomy, IsFound, IsKept, IsTaken, Takes, components_in_all, looking_at, looking_bad, looking_behind, looking_first, looking_on, looking_put, looking_with}
+use Rattle.tcap_faults.proofs.component_laws.FewComponentsLaws.{counted_roomy, more_counted, none_counted}
+use Rattle.tcap_faults.proofs.verdict_laws.NextEntryLaws.{peer_alone}
+
+abbrev look : Bool → Option Refutation → Looking
+look is_over found = record { is_over = is_over; found = found }
+
+-- ---- an item is looked at
+
+-- Where an item is no fault of an end, nothing becomes another.
+still : (number : ℕ) (kind : Option Kind) (is_over : Bool) (found : Option Refutation) → kind ≡ None
+    → looking_on number kind (look is_over found) ≡ look is_over found
+still number kind true found none = refl
+still number kind false found none = ap (λ k. looking_with number k (look false found)) none
+
+-- Where its search is over, nothing becomes another.
+over_still : (table : Table) (items : List Item) (number : ℕ) (item : Item) (side : Side) (looking : Looking)
+    → looking.is_over ≡ true → looking_behind table items number item side looking ≡ looking
+over_still table items number item side looking over =
+    ap (λ b. cond b looking (looking_with number (fault_since table side (since_quiet items) item) looking)) over
+
+-- Else what was found is in the item.
+looked_on : (table : Table) (items : List Item) (number : ℕ) (item : Item) (side : Side) (looking : Looking)
+    (kind : Option Kind) → looking.is_over ≡ false → kind ≡ fault_since table side (since_quiet items) item
+    → looking_behind table items number item side looking ≡ looking_with number kind looking
+looked_on table items number item side looking kind over is =
+    ap (λ b. cond b looking (looking_with number (fault_since table side (since_quiet items) item) looking)) over
+    ∙ ap (λ k. looking_with number k looking) (sym is)
+
+peer_still : (table : Table) (items : List Item) (number : ℕ) (sender : Side) (m : Message) (side : Side) (looking : Looking)
+    → is_side side sender ≡ false → looking_behind table items number (Sent sender m) side looking ≡ looking
+peer_still table items number sender m side looking is =
+    still number _ looking.is_over looking.found (peer_alone table side sender (since_quiet items) m is)
+
+-- ---- a message of an end
+
+-- What was found of its sender is as it should be, and what was found of the other is as it was.
+pub record IsLookedAt (table : Table) (items : List Item) (number : ℕ) (sender : Side) (m : Message) (old new : SearchState) : Type 0 where
+  pub kept : new.kept ≡ old.kept
+  pub own : looking_at sender new ≡ looking_behind table items number (Sent sender m) sender (looking_at sender old)
+  pub peer : (side : Side) → is_side side sender ≡ false → looking_at side new ≡ looking_at side old
+
+put_kept : (side : Side) (looking : Looking) (old : SearchState) → (looking_put side looking old).kept ≡ old.kept
+put_kept sides.A looking old = refl
+put_kept sides.B looking old = refl
+
+put_own : (side : Side) (looking : Looking) (old : SearchState) → looking_at side (looking_put side looking old) ≡ looking
+put_own sides.A looking old = refl
+put_own sides.B looking old = refl
+
+put_peer : (side sender : Side) (looking : Looking) (old : SearchState) → is_side side sender ≡ false
+    → looking_at side (looking_put sender looking old) ≡ looking_at side old
+put_peer sides.A sides.A looking old is = cc
+put_peer sides.A sides.B looking old is = refl
+put_peer sides.B sides.A looking old is = refl
+put_peer sides.B sides.B looking old is = cc
+
+-- Where the search for the sender is not over.
+pub looked_put : (table : Table) (items : List Item) (number : ℕ) (sender : Side) (m : Message) (old : SearchState)
+    (looking with_it : Looking) (kind : Option Kind) → looking ≡ looking_at sender old → looking.is_over ≡ false
+    → kind ≡ fault_since table sender (since_quiet items) (Sent sender m) → with_it ≡ looking_with number kind looking
+    → IsLookedAt table items number sender m old (looking_put sender with_it old)
+looked_put table items number sender m old looking with_it kind same over is put = record {
+  kept = put_kept sender with_it old;
+  own =
+      put_own sender with_it old
+      ∙ put
+      ∙ sym (looked_on table items number (Sent sender m) sender looking kind over is)
+      ∙ ap (looking_behind table items number (Sent sender m) sender) same;
+  peer = λ side apart. put_peer side sender with_it old apart;
+}
+
+-- Where it is.
+pub looked_over : (table : Table) (items : List Item) (number : ℕ) (sender : Side) (m : Message) (old : SearchState)
+    (looking : Looking) → looking ≡ looking_at sender old → looking.is_over ≡ true
+    → IsLookedAt table items number sender m old old
+looked_over table items number sender m old looking same over = record {
+  kept = refl;
+  own =
+      sym (over_still table items number (Sent sender m) sender (looking_at sender old) (sym (ap (λ l. l.is_over) same) ∙ over));
+  peer = λ side apart. refl;
+}
+
+pub message_taken : (table : Table) (items : List Item) (number : ℕ) (sender : Side) (m : Message) (old new : SearchState)
+    (kept : Facts) → IsLookedAt table items number sender m old new → IsKept table (items ++ Sent sender m ∷ []) kept
+    → IsTaken table items number (Sent sender m) old (record { kept = kept; a = new.a; b = new.b })
+message_taken table items number sides.A m old new kept looked are = record {
+  are = are;
+  looking = by;
+}
+  where
+    by : (side : Side) → looking_at side (record { kept = kept; a = new.a; b = new.b })
+        ≡ looking_behind table items number (Sent sides.A m) side (looking_at side old)
+    by sides.A = looked.own
+    by sides.B = looked.peer sides.B refl ∙ sym (peer_still table items number sides.A m sides.B old.b refl)
+message_taken table items number sides.B m old new kept looked are = record {
+  are = are;
+  looking = by;
+}
+  where
+    by : (side : Side) → looking_at side (record { kept = kept; a = new.a; b = new.b })
+        ≡ looking_behind table items number (Sent sides.B m) side (looking_at side old)
+    by sides.A = looked.peer sides.A refl ∙ sym (peer_still table items number sides.B m sides.A old.a refl)
+    by sides.B = looked.own
+
+pub mark_taken : (table : Table) (items : List Item) (number : ℕ) (old : SearchState) (kept : Facts) (a b : Looking)
+    → IsKept table (items ++ Item.Quiet ∷ []) kept → a ≡ looking_behind table items number Item.Quiet sides.A old.a
+    → b ≡ looking_behind table items number Item.Quiet sides.B old.b
+    → IsTaken table items number Item.Quiet old (record { kept = kept; a = a; b = b })
+mark_taken table items number old kept a b are is_a is_b = record {
+  are = are;
+  looking = by;
+}
+  where
+    by : (side : Side) → looking_at side (record { kept = kept; a = a; b = b })
+        ≡ looking_behind table items number Item.Quiet side (looking_at side old)
+    by sides.A = is_a
+    by sides.B = is_b
+
+-- ---- the entries
+
+-- the entries, each with its end
+abbrev told : List Entry → List (Option Side × Result Item Reason)
+told entries = map (λ e. (e.side, item_of e)) entries
+
+-- what the next entry is, and what is left behind it
+abbrev told_at : List Entry → ℕ → Entry → List (Option Side × Result Item Reason)
+told_at entries number entry = (entry.side, item_of entry) ∷ told (drop (number + 1) entries)
+
+next_told : (entries : List Entry) (number : ℕ) (entry : Entry) → number < length entries
+    → entry ≡ get_or entries number entry → told (drop number entries) ≡ told_at entries number entry
+next_told entries number entry there is =
+    let e : drop number entries ≡ get_or entries number entry ∷ drop (suc number) entries = drop-cons entries number entry there in
+    let f : drop (suc number) entries ≡ drop (number + 1) entries = ap (λ k. drop k entries) (suc-eq-add-one number) in
+    ap told (e ∙ ap (λ xs. get_or entries number entry ∷ xs) f ∙ ap (λ x. x ∷ drop (number + 1) entries) (sym is))
+
+-- ---- what is known of an end
+
+first_found : (table : Table) (side : Side) (entries : List Entry) (asked : Bool) → asked ≡ true
+    → IsFound table side entries [] 0 (looking_first asked)
+first_found table side entries true is = (refl, refl)
+first_found table side entries false is = cc
+
+module _ (table : Table) (side : Side) (entries : List Entry) (items : List Item) (number : ℕ) where
+  over_found : (is_over : Bool) (found : Option Refutation) → IsFound table side entries items number (look is_over found)
+      → is_over ≡ true → found ≡ blamed table side entries
+  over_found true found known is = known
+  over_found false found known is = cc
+
+  end_found : (is_over : Bool) (found : Option Refutation) → IsFound table side entries items number (look is_over found)
+      → drop number entries ≡ [] → found ≡ blamed table side entries
+  end_found true found known nothing = known
+  end_found false found (none, left) nothing =
+      none ∙ sym (ap (λ xs. blamed_behind table side items number (told xs)) nothing) ∙ left
+
+  -- The next entry decides where nothing was found before.
+  module _ (entry : Entry) (there : number < length entries) (is : entry ≡ get_or entries number entry) where
+    next_left : blamed_behind table side items number (told (drop number entries)) ≡ blamed table side entries
+        → blamed_behind table side items number (told_at entries number entry) ≡ blamed table side entries
+    next_left left = sym (ap (blamed_behind table side items number) (next_told entries number entry there is)) ∙ left
+
+    -- It is no item.
+    bad_found : (reason : Reason) → item_of entry ≡ Err reason → (is_over : Bool) (found : Option Refutation) (new : Looking)
+        → IsFound table side entries items number (look is_over found)
+        → new ≡ looking_bad number entry.side reason side (look is_over found) → new.found ≡ blamed table side entries
+    bad_found reason bad true found new known so = ap (λ l. l.found) so ∙ known
+    bad_found reason bad false found new (none, left) so =
+        ap (λ l. l.found) so
+        ∙ by (bad_entry_of side entry.side reason)
+        ∙ sym (ap (λ r. blamed_behind table side items number ((entry.side, r) ∷ told (drop (number + 1) entries))) bad)
+        ∙ next_left left
+      where
+        by : (kind : Option Kind) → (looking_with number kind (look false found)).found ≡ refutation_at number kind
+        by None = none
+        by (Some kind) = refl
+
+    -- It is an item.
+    next_found : (item : Item) → item_of entry ≡ Ok item → (is_over : Bool) (found : Option Refutation) (new : Looking)
+        → IsFound table side entries items number (look is_over found)
+        → new ≡ looking_behind table items number item side (look is_over found)
+        → IsFound table side entries (items ++ item ∷ []) (number + 1) new
+    next_found item good true found new known so =
+        subst (λ (l : Looking). IsFound table side entries (items ++ item ∷ []) (number + 1) l) (sym so) known
+    next_found item good false found new (none, left) so =
+        subst (λ (l : Looking). IsFound table side entries (items ++ item ∷ []) (number + 1) l) (sym so)
+        (by (fault_since table side (since_quiet items) item)
+        (sym (ap (λ r. blamed_behind table side items number ((entry.side, r) ∷ told (drop (number + 1) entries))) good)
+        ∙ next_left left))
+      where
+        rest : Option Refutation
+        rest = blamed_behind table side (items ++ item ∷ []) (number + 1) (told (drop (number + 1) entries))
+
+        by : (kind : Option Kind) → or_else (refutation_at number kind) rest ≡ blamed table side entries
+            → IsFound table side entries (items ++ item ∷ []) (number + 1) (looking_with number kind (look false found))
+        by None is = (none, is)
+        by (Some kind) is = is
+
+-- ---- the search
+
+-- What is known of the ends that are asked about, behind so many entries.
+pub record IsSearched (table : Table) (entries : List Entry) (a b : Bool) (number : ℕ) (state : SearchState) : Type 0 where
+  pub items : List Item
+  pub are : IsKept table items state.kept
+  pub counted : AreCounted items number
+  pub of_a : a ≡ true → IsFound table sides.A entries items number state.a
+  pub of_b : b ≡ true → IsFound table sides.B entries items number state.b
+
+pub started : (table : Table) (entries : List Entry) (asked_a asked_b : Bool) (kept : Facts) (a b : Looking)
+    → IsKept table [] kept → a ≡ looking_first asked_a → b ≡ looking_first asked_b
+    → IsSearched table entries asked_a asked_b 0 (record { kept = kept; a = a; b = b })
+started table entries asked_a asked_b kept a b are is_a is_b = record {
+  items = [];
+  are = are;
+  counted = none_counted;
+  of_a = λ asked. subst (λ (l : Looking). IsFound table sides.A entries [] 0 l) (sym is_a)
+      (first_found table sides.A entries asked_a asked);
+  of_b = λ asked. subst (λ (l : Looking). IsFound table sides.B entries [] 0 l) (sym is_b)
+      (first_found table sides.B entries asked_b asked);
+}
+
+module _ (table : Table) (entries : List Entry) (a b : Bool) (number : ℕ) (state : SearchState)
+    (so_far : IsSearched table entries a b number state) where
+  -- what is said of the next entry
+  pub roomy_next : number < 2 ^ 63 → (count : ℕ) → count < 2 ^ 63 → (entry : Entry)
+      → ((item : Item) → item_of entry ≡ Ok item → components_in_all (item ∷ []) ≤ count)
+      → (item : Item) → item_of entry ≡ Ok item → AreRoomy (so_far.items ++ item ∷ [])
+  roomy_next few count small entry counted item is =
+      counted_roomy so_far.items number so_far.counted item count (counted item is) small few
+
+  -- There is none.
+  pub all_searched : length entries ≤ number
+      → (a ≡ true → state.a.found ≡ blamed table sides.A entries) × (b ≡ true → state.b.found ≡ blamed table sides.B entries)
+  all_searched up = (
+    λ is. end_found table sides.A entries so_far.items number state.a.is_over state.a.found (so_far.of_a is)
+        (drop_all number entries up),
+    λ is. end_found table sides.B entries so_far.items number state.b.is_over state.b.found (so_far.of_b is)
+        (drop_all number entries up),
+  )
+
+  module _ (entry : Entry) (there : number < length entries) (is : entry ≡ get_or entries number entry) (new : SearchState)
+      (count : ℕ) (counted : (item : Item) → item_of entry ≡ Ok item → components_in_all (item ∷ []) ≤ count)
+      (small : count < 2 ^ 63) where
+    -- It is an item.
+    item_taken : (item : Item) → item_of entry ≡ Ok item → IsTaken table so_far.items number item state new
+        → IsSearched table entries a b (number + 1) new
+    item_taken item good taken = record {
+      items = so_far.items ++ item ∷ [];
+      are = taken.are;
+      counted = more_counted so_far.items number so_far.counted item count (counted item good) small;
+      of_a = λ asked. next_found table sides.A entries so_far.items number entry there is item good state.a.is_over
+          state.a.found new.a (so_far.of_a asked) (taken.looking sides.A);
+      of_b = λ asked. next_found table sides.B entries so_far.items number entry there is item good state.b.is_over
+          state.b.found new.b (so_far.of_b asked) (taken.looking sides.B);
+    }
+
+    -- One behind it is looked at.
+    pub searched_on : Takes table so_far.items number entry true state new → IsSearched table entries a b (number + 1) new
+    searched_on takes = by (item_of entry) refl
+      where
+        by : (r : Result Item Reason) → item_of entry ≡ r → IsSearched table entries a b (number + 1) new
+        by (Ok item) good =
+            let so : IsTaken table so_far.items number item state new × (true ≡ (not new.a.is_over || not new.b.is_over))
+            = rw good at takes in
+            item_taken item good so.0
+        by (Err reason) bad =
+            let so : (true ≡ false) × ((side : Side)
+            → looking_at side new ≡ looking_bad number entry.side reason side (looking_at side state)) = rw bad at takes in
+            let (never, looking) = so in cc
+
+    -- None behind it is.
+    pub searched_up : Takes table so_far.items number entry false state new
+        → (a ≡ true → new.a.found ≡ blamed table sides.A entries) × (b ≡ true → new.b.found ≡ blamed table sides.B entries)
+    searched_up takes = by (item_of entry) refl
+      where
+        both_over : (a_over b_over : Bool) → false ≡ (not a_over || not b_over) → (a_over ≡ true) × (b_over ≡ true)
+        both_over true true over = (refl, refl)
+        both_over true false over = cc
+        both_over false b_over over = cc
+
+        by : (r : Result Item Reason) → item_of entry ≡ r
+            → (a ≡ true → new.a.found ≡ blamed table sides.A entries)
+            × (b ≡ true → new.b.found ≡ blamed table sides.B entries)
+        by (Ok item) good =
+            let so : IsTaken table so_far.items number item state new × (false ≡ (not new.a.is_over || not new.b.is_over))
+            = rw good at takes in
+            let next = item_taken item good so.0 in
+            let (a_over, b_over) = both_over new.a.is_over new.b.is_over so.1 in (
+              λ asked. over_found table sides.A entries next.items (number + 1) new.a.is_over new.a.found
+                  (next.of_a asked) a_over,
+              λ asked. over_found table sides.B entries next.items (number + 1) new.b.is_over new.b.found
+                  (next.of_b asked) b_over,
+            )
+        by (Err reason) bad =
+            let so : (false ≡ false) × ((side : Side)
+            → looking_at side new ≡ looking_bad number entry.side reason side (looking_at side state)) = rw bad at takes in (
+              λ asked. bad_found table sides.A entries so_far.items number entry there is reason bad state.a.is_over
+                  state.a.found new.a (so_far.of_a asked) (so.1 sides.A),
+              λ asked. bad_found table sides.B entries so_far.items number entry there is reason bad state.b.is_over
+                  state.b.found new.b (so_far.of_b asked) (so.1 sides.B),
+            )

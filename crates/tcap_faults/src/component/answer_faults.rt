@@ -1,0 +1,81 @@
+//! Answers to invocations that were answered already (Q.774 3.2; Q.771, operation classes).
+
+ghost use Rattle.std.specs.Prelude.{◌≡◌, Some, option_map};
+ghost use Rattle.tcap_parts.specs.Meaning.{body_of, component_of, problem_of};
+ghost use Rattle.tcap_parts.specs.declared.component.Component.TheVariants.{Reject};
+ghost use Rattle.tcap_faults.specs.ByTallies.{answers_again_by, counted, is_operation_overspent_by, is_overspent_by, more_answered_by};
+
+use crate::component::component_sort::{Class, Sort};
+use crate::component::preceding_components::Before;
+use crate::component::saturating_sum::more;
+use crate::component::several_tallies::{invokes_of, results_of};
+use tcap_parts::{ComponentView, ProblemView, ResultBodyView};
+
+impl Before<'_> {
+    /// Whether so many Return Results, Return Errors and Rejects are more than the invocations of that ID allow.
+    fn is_more_answered(&self, id: i8, results: u128, errors: u128, rejects: u128) -> bool
+        ensures { result ≡ more_answered_by (counted self.now).heard id results errors rejects }
+    {
+        let of_1 = self.heard(id, Sort::Invokes(Class::One));
+        let of_2 = self.heard(id, Sort::Invokes(Class::Two));
+        let of_3 = self.heard(id, Sort::Invokes(Class::Three));
+        let answers = more(results, errors);
+        more(of_1, of_3) < results
+            || more(of_1, of_2) < errors
+            || more(more(of_1, of_2), of_3) < answers
+            || self.heard(id, Sort::Invokes(Class::Any)) < more(answers, rejects)
+    }
+
+    /// Whether those that were told are, with so many more.
+    fn is_overspent(&self, id: i8, results: u128, errors: u128, rejects: u128) -> bool
+        ensures { result ≡ is_overspent_by (counted self.now) id results errors rejects }
+    {
+        self.is_more_answered(
+            id,
+            more(self.told(id, Sort::LastResults), results),
+            more(self.told(id, Sort::Errors), errors),
+            more(self.told(id, Sort::InvokeRejects), rejects),
+        )
+    }
+
+    /// Whether a Return Result names an operation, and as many last ones of it were told as invocations of it heard.
+    fn is_operation_overspent(&self, id: i8, body: Option<ResultBodyView>) -> bool
+        ensures { result ≡ is_operation_overspent_by (counted self.now) id (option_map body_of body.entry) }
+    {
+        match body {
+            Some(body) => {
+                let told = results_of(&self.half.told, id, body.code);
+                let own = self.own.results_of(id, body.code);
+                invokes_of(&self.half.heard, id, body.code) <= more(told, own)
+            }
+            None => false,
+        }
+    }
+
+    /// Whether a Reject of that ID, with that problem, rejects an invocation that was answered already.
+    fn rejects_again(&self, id: i8, problem: ProblemView) -> bool
+        ensures { result ≡ answers_again_by (counted self.now) (Reject (Some id) (problem_of problem)) }
+    {
+        match problem {
+            ProblemView::Invoke(_) => self.is_overspent(id, 0, 0, 1),
+            _ => false,
+        }
+    }
+
+    /// Whether a component answers an invocation that was answered already.
+    pub(crate) fn answers_again(&self, component: ComponentView) -> bool
+        ensures { result ≡ answers_again_by (counted self.now) (component_of component.entry) }
+    {
+        match component {
+            ComponentView::ReturnResult { id, body, .. } => {
+                self.is_overspent(id, 1, 0, 0) || self.is_operation_overspent(id, body)
+            }
+            ComponentView::ReturnError { id, .. } => self.is_overspent(id, 0, 1, 0),
+            ComponentView::Reject {
+                id: Some(id),
+                problem,
+            } => self.rejects_again(id, problem),
+            _ => false,
+        }
+    }
+}

@@ -1,0 +1,112 @@
+//! Invokes that a half does not allow: of an ID that is in use, or linked to what is not there (Q.774 3.2; Q.771 3.1).
+
+ghost use Rattle.std.specs.Prelude.{◌≡◌};
+ghost use Rattle.tcap_parts.specs.Meaning.{code_of, component_of};
+ghost use Rattle.tcap_faults.specs.ByTallies.{counted, ends_by, invokes_busy_by, is_badly_linked_by, is_busy_by, links_badly_by, more_last_by, taken_by};
+
+use crate::component::component_sort::{Class, Sort};
+use crate::component::preceding_components::Before;
+use crate::component::saturating_sum::more;
+use crate::component::several_tallies::lists;
+use tcap_end::Table;
+use tcap_parts::{CodeView, ComponentView};
+
+/// Components by which own invocations of an ID can have ended.
+#[derive(Clone, Copy)]
+struct Ended {
+    /// Those that were heard: last Return Results, Return Errors, and Rejects with an invoke or a general problem.
+    heard: u128,
+    /// Those that were told: Rejects with a return result problem,
+    result_rejects: u128,
+    /// or a general one.
+    general_rejects: u128,
+    /// Return Results that are not the last, which may be rejected.
+    not_lasts: u128,
+}
+
+impl Ended {
+    /// Whether they are fewer than the invocations that last, of class 1 and 3, or of all classes.
+    fn is_less(&self, all: u128, of_1: u128, of_3: u128) -> bool
+        ensures { result ≡ more_last_by all of_1 of_3 self.now.heard self.now.result_rejects self.now.general_rejects
+            self.now.not_lasts }
+    {
+        more(more(self.heard, self.result_rejects), self.general_rejects) < more(of_1, of_3)
+            || more(self.heard, self.not_lasts) < all
+    }
+}
+
+impl Before<'_> {
+    /// How many components that were heard can have ended an own invocation of that ID.
+    fn ends(&self, id: i8) -> u128
+        ensures { result ≡ ends_by (counted self.now).heard id }
+    {
+        let results = self.heard(id, Sort::LastResults);
+        let errors = self.heard(id, Sort::Errors);
+        let rejects = self.heard(id, Sort::InvokeRejects);
+        let generals = self.heard(id, Sort::GeneralRejects);
+        more(more(more(results, errors), rejects), generals)
+    }
+
+    /// Whether an own invocation of that ID lasts.
+    fn is_busy(&self, id: i8) -> bool
+        ensures { result ≡ is_busy_by (counted self.now) id }
+    {
+        let all = self.invoked(id, Sort::Lasting(Class::Any));
+        if all == 0 {
+            return false;
+        }
+        let ended = Ended {
+            heard: self.ends(id),
+            result_rejects: self.all_told(id, Sort::ResultRejects),
+            general_rejects: self.all_told(id, Sort::GeneralRejects),
+            not_lasts: self.heard(id, Sort::NotLasts),
+        };
+        let of_1 = self.invoked(id, Sort::Lasting(Class::One));
+        let of_3 = self.invoked(id, Sort::Lasting(Class::Three));
+        ended.is_less(all, of_1, of_3)
+    }
+
+    /// Whether a component is an Invoke of an ID that is in use.
+    pub(crate) fn invokes_busy(&self, component: ComponentView) -> bool
+        ensures { result ≡ invokes_busy_by (counted self.now) (component_of component.entry) }
+    {
+        match component {
+            ComponentView::Invoke { id, .. } => {
+                0 < self.own.count(id, Sort::Invokes(Class::Any)) || self.is_busy(id)
+            }
+            _ => false,
+        }
+    }
+
+    /// How many invocations of that ID were taken away.
+    fn taken(&self, id: i8) -> u128
+        ensures { result ≡ taken_by (counted self.now).told id }
+    {
+        let results = self.told(id, Sort::LastResults);
+        let errors = self.told(id, Sort::Errors);
+        let rejects = self.told(id, Sort::InvokeRejects);
+        more(more(results, errors), rejects)
+    }
+
+    /// Whether all invocations of that ID are taken, or none of them lists the operation.
+    fn is_badly_linked(&self, table: &Table, id: i8, code: CodeView) -> bool
+        ensures { result ≡ is_badly_linked_by table.now (counted self.now) id (code_of code.entry) }
+    {
+        self.heard(id, Sort::Invokes(Class::Any)) <= self.taken(id)
+            || !lists(&self.half.heard, table, id, code)
+    }
+
+    /// Whether a component is an Invoke whose linked ID is that of no invocation that is there.
+    pub(crate) fn links_badly(&self, table: &Table, component: ComponentView) -> bool
+        ensures { result ≡ links_badly_by table.now (counted self.now) (component_of component.entry) }
+    {
+        match component {
+            ComponentView::Invoke {
+                linked: Some(linked),
+                code,
+                ..
+            } => self.is_badly_linked(table, linked, code),
+            _ => false,
+        }
+    }
+}

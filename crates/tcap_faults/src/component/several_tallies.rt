@@ -1,0 +1,134 @@
+//! Several tallies, taken together.
+
+ghost use Rattle.std.specs.Prelude.{◌≡◌, ◌==◌, true, map};
+ghost use Rattle.std.specs.List.{list_any};
+ghost use Rattle.tcap_parts.specs.Meaning.{code_of};
+ghost use Rattle.tcap_end.specs.Component.{links};
+ghost use Rattle.tcap_faults.specs.Linking.{is_of_none};
+ghost use Rattle.tcap_faults.specs.Tallies.{codes_any, tallies_of, tally_of};
+
+use crate::component::code_counts::CodeCounts;
+use crate::component::component_sort::Sort;
+use crate::component::saturating_sum::more;
+use crate::component::tally::Tally;
+use tcap_end::Table;
+use tcap_parts::{Code, CodeView};
+
+/// How many of that invoke ID are of a sort.
+pub(crate) fn count(tallies: &[&Tally], id: i8, sort: Sort) -> u128
+    ensures { result ≡ (tallies_of (map (λ b. b.now) tallies.now)).count id sort }
+{
+    let mut all = 0;
+    for tally in tallies {
+        all = more(all, tally.count(id, sort));
+    }
+    all
+}
+
+/// How many Invokes of that ID are of an operation.
+pub(crate) fn invokes_of(tallies: &[&Tally], id: i8, code: CodeView) -> u128
+    ensures { result ≡ (tallies_of (map (λ b. b.now) tallies.now)).invokes_of id (code_of code.entry) }
+{
+    let mut all = 0;
+    for tally in tallies {
+        all = more(all, tally.invokes_of(id, code));
+    }
+    all
+}
+
+/// How many last Return Results of that ID name an operation.
+pub(crate) fn results_of(tallies: &[&Tally], id: i8, code: CodeView) -> u128
+    ensures { result ≡ (tallies_of (map (λ b. b.now) tallies.now)).results_of id (code_of code.entry) }
+{
+    let mut all = 0;
+    for tally in tallies {
+        all = more(all, tally.results_of(id, code));
+    }
+    all
+}
+
+/// Whether an Invoke of that ID is of an operation to which that one may be linked (Q.771 3.1): all are looked at.
+fn one_lists(tallies: &[&Tally], table: &Table, id: i8, code: CodeView) -> bool
+    ensures { result ≡ (tallies_of (map (λ b. b.now) tallies.now)).has_operation id
+        (λ to. links table.now to (code_of code.entry)) }
+{
+    for tally in tallies {
+        if tally.lists(table, id, code) {
+            return true;
+        }
+    }
+    false
+}
+
+/// Whether one of those that were found last is: in each tally one is looked at.
+fn one_lists_again(tallies: &[&Tally], table: &Table, id: i8, code: CodeView) -> bool
+    ensures { result ≡ true → (tallies_of (map (λ b. b.now) tallies.now)).has_operation id
+        (λ to. links table.now to (code_of code.entry)) ≡ true }
+{
+    for tally in tallies {
+        if tally.lists_again(table, id, code) {
+            return true;
+        }
+    }
+    false
+}
+
+/// Whether an Invoke of that ID is of an operation to which that one may be linked (Q.771 3.1).
+pub(crate) fn lists(tallies: &[&Tally], table: &Table, id: i8, code: CodeView) -> bool
+    ensures { result ≡ (tallies_of (map (λ b. b.now) tallies.now)).has_operation id
+        (λ to. links table.now to (code_of code.entry)) }
+{
+    one_lists_again(tallies, table, id, code) || one_lists(tallies, table, id, code)
+}
+
+/// Whether one of these operations is that of no invocation of that ID.
+fn any_is_of_none(codes: &[Code], invoked: &[&Tally], id: i8) -> bool
+    ensures { result ≡ list_any (is_of_none (tallies_of (map (λ b. b.now) invoked.now)) id) codes.now }
+{
+    for code in codes {
+        if invokes_of(invoked, id, code.view()) == 0 {
+            return true;
+        }
+    }
+    false
+}
+
+/// Whether one of the operations that were counted is that of no invocation of that ID.
+fn one_is_of_none(counts: &CodeCounts, invoked: &[&Tally], id: i8) -> bool
+    ensures { result ≡ codes_any (is_of_none (tallies_of (map (λ b. b.now) invoked.now)) id) counts.now }
+{
+    if let Some(first) = counts.first {
+        if invokes_of(invoked, id, CodeView::Local(first)) == 0 {
+            return true;
+        }
+    }
+    match &counts.others {
+        Some(others) => any_is_of_none(&others.codes, invoked, id),
+        None => false,
+    }
+}
+
+/// Whether a Return Result of that ID names an operation of which no invocation of the ID is.
+fn answers_none(heard: &Tally, invoked: &[&Tally], id: i8) -> bool
+    ensures { result ≡ (tally_of heard.now).has_result id
+        (is_of_none (tallies_of (map (λ b. b.now) invoked.now)) id) }
+{
+    match heard.of_id(id) {
+        Some(kept) => one_is_of_none(&kept.answered, invoked, id),
+        None => false,
+    }
+}
+
+/// Whether a Return Result of that ID, among those heard, names an operation of which no invocation of the ID, among those
+/// invoked, is.
+pub(crate) fn is_of_no_operation(heard: &[&Tally], invoked: &[&Tally], id: i8) -> bool
+    ensures { result ≡ (tallies_of (map (λ b. b.now) heard.now)).has_result id
+        (λ code. (tallies_of (map (λ b. b.now) invoked.now)).invokes_of id code == 0) }
+{
+    for tally in heard {
+        if answers_none(tally, invoked, id) {
+            return true;
+        }
+    }
+    false
+}

@@ -1,0 +1,307 @@
+//! The half of an end with an ID of its peer, read off what is kept, and messages that do not fit it (Q.774 3.2, 3.3).
+
+ghost use Rattle.std.specs.Prelude.{◌≡◌, ◌&&◌, ℕ, Bool, List, [], ◌∷◌, ◌++◌, Option, Some, None, false, map, IfOk, OnOk, option_copied, option_map};
+ghost use Rattle.std.specs.List.{find};
+ghost use Rattle.std.specs.Option.{option_to_list};
+ghost use Rattle.tcap_parts.specs.DialogueMeaning.{dialogue_of};
+ghost use Rattle.tcap_msg.specs.declared.kind.Kind.TheVariants as forms;
+ghost use Rattle.tcap_msg.specs.declared.message.Message.{Message};
+ghost use Rattle.tcap_msg.specs.Parts.{dialogue_in};
+ghost use Rattle.tcap_record.specs.declared.entry.End.{End as Side};
+ghost use Rattle.tcap_record.specs.Ends.{other};
+ghost use Rattle.tcap_end.specs.Table.{Table};
+ghost use Rattle.tcap_model.specs.World.{Item};
+ghost use Rattle.tcap_faults.specs.HalfKinds.{goes_from_other, is_provider_abort, is_wrong_half, may_not_speak};
+ghost use Rattle.tcap_refute.specs.Before.{is_a};
+ghost use Rattle.tcap_faults.specs.Closed.{was_closed};
+ghost use Rattle.tcap_faults.specs.Told.{began};
+ghost use Rattle.tcap_faults.specs.Found.{IsThere};
+ghost use Rattle.tcap_faults.specs.HalfKept.{IsHalf};
+ghost use Rattle.tcap_faults.specs.HalfOf.{HalfOf, accepted_half, begun_half, half_of, no_half};
+ghost use Rattle.tcap_faults.specs.Kept.{IsSide};
+ghost use Rattle.tcap_faults.specs.Ids.{AreIds};
+ghost use Rattle.tcap_faults.specs.Speaking.{IsBegunBy, IsBegunOwn, IsCameBack, IsKeptFrom, begin_counted, came_counted, heard_counted, told_counted};
+
+use crate::component::tally::Tally;
+use crate::dialogue::half::Half;
+use crate::dialogue::half_origin::How;
+use crate::transaction::id_list::Ids;
+use crate::transaction::lookup::There;
+use crate::transaction::sent_from_id::{Came, FirstBegin, SentFrom};
+use crate::transaction::sent_to_id::SentTo;
+use crate::transaction::tangled_ids::Ends;
+use std::alloc::{AllocError, Global};
+use tcap_msg::{Kind as Form, MessageParts, TransactionId};
+use tcap_parts::DialogueView;
+
+/// Whether it is an ABRT whose source is the provider.
+fn is_provider_abort(dialogue: Option<DialogueView>) -> bool
+    ensures { result ≡ is_provider_abort (option_map dialogue_of dialogue.entry) }
+{
+    matches!(dialogue, Some(DialogueView::Abort { source, .. }) if source.number == 1)
+}
+
+/// Whether a message is an Abort with such an ABRT.
+fn is_abort_of_provider<M: MessageParts>(message: &M) -> bool
+    ensures { result ≡ (is_a forms.Abort (M.meaning message.now) && is_provider_abort (dialogue_in (M.meaning message.now))) }
+{
+    matches!(message.kind(), Form::Abort) && is_provider_abort(message.dialogue())
+}
+
+/// The components of all Continues.
+fn push_came<'a>(tallies: &mut Vec<&'a Tally>, came: Option<&'a Came>) -> Result<(), AllocError>
+    ensures { OnOk result (map (λ b. b.now) tallies.new.items
+        ≡ map (λ b. b.now) tallies.old.items ++ came_counted (option_copied came.entry)) }
+{
+    if let Some(came) = came {
+        tallies.push(&came.sooner)?;
+        tallies.push(&came.since)?;
+    }
+    Ok(())
+}
+
+/// What was told, behind that.
+fn told_behind<'a>(
+    alloc: Global,
+    first: Option<&'a FirstBegin>,
+    told: Option<&'a SentTo>,
+) -> Result<Vec<&'a Tally>, AllocError>
+    ensures { IfOk result (λ v. map (λ b. b.now) v.items
+        ≡ begin_counted (option_copied first.entry) ++ told_counted (option_copied told.entry)) }
+{
+    let mut tallies = Vec::new(alloc);
+    if let Some(first) = first {
+        tallies.push(&first.components)?;
+    }
+    if let Some(told) = told {
+        tallies.push(&told.components)?;
+    }
+    Ok(tallies)
+}
+
+/// No half.
+fn no_half<'a>(alloc: Global) -> Half<'a>
+    ensures { (table : Table) → IsHalf table no_half result }
+{
+    Half {
+        how: How::Nowhere,
+        own: None,
+        requests: false,
+        heard: Vec::new(alloc),
+        told: Vec::new(alloc),
+        invoked: Vec::new(alloc),
+    }
+}
+
+/// What a half heard that began by sending a Begin: all Continues, or those from the first on that answers its request.
+fn heard_back<'a>(
+    alloc: Global,
+    begin: &FirstBegin,
+    came: &'a Came,
+) -> Result<Vec<&'a Tally>, AllocError>
+    ensures { IfOk result (λ v. map (λ b. b.now) v.items ≡ heard_counted begin.now came.now) }
+{
+    let mut heard = Vec::new(alloc);
+    if !begin.requests {
+        heard.push(&came.sooner)?;
+    }
+    heard.push(&came.since)?;
+    Ok(heard)
+}
+
+impl<'a> There<'a> {
+    /// The half that accepted a Begin from that ID, or whose provider refused it.
+    fn accepted_half(
+        self,
+        alloc: Global,
+        asked: &'a SentFrom,
+        begin: &'a FirstBegin,
+    ) -> Result<Half<'a>, AllocError>
+        ensures { (table : Table) (side : Side) (items : List Item)
+            → IsThere table side items self.entry.id.now self.entry
+            → IsKeptFrom table (other side) items self.entry.id.now asked.now → asked.now.begin ≡ Some begin.now
+            → IfOk result (IsHalf table (accepted_half side items self.entry.id.now)) }
+    {
+        let told = self.to;
+        let own = match told {
+            Some(told) => told.from.first(),
+            None => None,
+        };
+        let own = match own {
+            Some(own) => Some(own.to_transaction_id()),
+            None => None,
+        };
+        let mut heard = Vec::new(alloc);
+        heard.push(&begin.components)?;
+        if let Some(own) = &own {
+            push_came(&mut heard, asked.came.get(own))?;
+        }
+        let how = match told {
+            Some(told) if told.refused => How::Refused,
+            _ => How::Accepted,
+        };
+        Ok(Half {
+            how,
+            own,
+            requests: begin.requests,
+            heard,
+            told: told_behind(alloc, None, told)?,
+            invoked: told_behind(alloc, None, told)?,
+        })
+    }
+
+    /// The half that began an own ID, to which Continues came from there.
+    fn begun_half(
+        self,
+        alloc: Global,
+        own: TransactionId,
+        begin: &'a FirstBegin,
+        came: &'a Came,
+    ) -> Result<Half<'a>, AllocError>
+        ensures { (table : Table) (side : Side) (items : List Item)
+            → IsThere table side items self.entry.id.now self.entry
+            → IsBegunBy table side items own begin.now → IsCameBack table side items self.entry.id.now own came.now
+            → IfOk result (IsHalf table (begun_half side items self.entry.id.now own)) }
+    {
+        let how = if begin.requests && !came.answered {
+            How::Unanswered
+        } else {
+            How::Begun
+        };
+        Ok(Half {
+            how,
+            own: Some(own),
+            requests: begin.requests,
+            heard: heard_back(alloc, begin, came)?,
+            told: told_behind(alloc, None, self.to)?,
+            invoked: told_behind(alloc, Some(begin), self.to)?,
+        })
+    }
+}
+
+impl<'a> Ends<'a> {
+    /// Of these IDs the first that the end began.
+    fn first_begun(self, ids: &Ids) -> Option<TransactionId>
+        ensures { (table : Table) (side : Side) (items : List Item) (those : List (List ℕ))
+            → IsSide table side items self.entry.own.now → AreIds those ids.now
+            → result ≡ find (λ own. began side own items) those }
+    {
+        let Some(first) = &ids.first else {
+            return None;
+        };
+        if self.own.began(first) {
+            return Some(first.view().to_transaction_id());
+        }
+        for id in &ids.more {
+            if self.own.began(id) {
+                return Some(id.view().to_transaction_id());
+            }
+        }
+        None
+    }
+
+    /// The own ID of the half with an ID of the peer that did not begin it, if there is such a half. Only where several own IDs are
+    /// joined with it are the destination IDs of its Continues looked through.
+    fn begun_own(self, there: There, asked: &SentFrom) -> Option<TransactionId>
+        ensures { (table : Table) (side : Side) (items : List Item) → IsSide table side items self.entry.own.now
+            → IsThere table side items there.entry.id.now there.entry
+            → IsKeptFrom table (other side) items there.entry.id.now asked.now
+            → IsBegunOwn side items there.entry.id.now result }
+    {
+        if there.owns_differ() {
+            self.first_begun(&asked.to)
+        } else {
+            there.joined_own()
+        }
+    }
+
+    /// The half with an ID of the peer that did not begin it.
+    fn other_half(
+        self,
+        alloc: Global,
+        there: There<'a>,
+        asked: &'a SentFrom,
+    ) -> Result<Half<'a>, AllocError>
+        ensures { (table : Table) (side : Side) (items : List Item) → IsSide table side items self.entry.own.now
+            → IsThere table side items there.entry.id.now there.entry
+            → IsKeptFrom table (other side) items there.entry.id.now asked.now → asked.now.begin ≡ None
+            → IfOk result (IsHalf table (half_of side items there.entry.id.now)) }
+    {
+        let Some(own) = self.begun_own(there, asked) else {
+            return Ok(no_half(alloc));
+        };
+        let Some(came) = asked.came.get(&own) else {
+            return Ok(no_half(alloc));
+        };
+        let begin = match self.own.from.get(&own) {
+            Some(kept) => kept.begin.as_ref(),
+            None => None,
+        };
+        match begin {
+            Some(begin) => there.begun_half(alloc, own, begin, came),
+            None => Ok(no_half(alloc)),
+        }
+    }
+
+    /// The half with an ID of the peer.
+    pub(crate) fn half(self, alloc: Global, there: There<'a>) -> Result<Half<'a>, AllocError>
+        ensures { (table : Table) (side : Side) (items : List Item) → IsSide table side items self.entry.own.now
+            → IsThere table side items there.entry.id.now there.entry
+            → IfOk result (IsHalf table (half_of side items there.entry.id.now)) }
+    {
+        let Some(asked) = there.from else {
+            return Ok(no_half(alloc));
+        };
+        match &asked.begin {
+            Some(begin) => there.accepted_half(alloc, asked, begin),
+            None => self.other_half(alloc, there, asked),
+        }
+    }
+
+    // ---- F8
+
+    /// Whether a message goes from an ID that its half does not have.
+    fn goes_from_other<M: MessageParts>(self, message: &M, half: &Half) -> bool
+        ensures { (table : Table) (side : Side) (items : List Item) (h : HalfOf)
+            → IsSide table side items self.entry.own.now → IsHalf table h half.now
+            → result ≡ goes_from_other side items h.how h.own (M.meaning message.now) }
+    {
+        let (Form::Continue, Some(otid)) = (message.kind(), message.otid()) else {
+            return false;
+        };
+        let is_another = match &half.own {
+            Some(own) => own.octets() != otid.octets,
+            None => false,
+        };
+        match half.how {
+            How::Accepted => is_another || self.own.began(&otid.to_transaction_id()),
+            How::Begun => is_another,
+            _ => false,
+        }
+    }
+
+    /// Whether the half was answered as closed.
+    fn was_closed(self, own: Option<&TransactionId>) -> bool
+        ensures { (table : Table) (side : Side) (items : List Item) → IsSide table side items self.entry.own.now
+            → result ≡ was_closed side items (option_copied own.entry) }
+    {
+        match own {
+            Some(own) => self.own.closed.contains(own),
+            None => false,
+        }
+    }
+
+    /// Whether no half may send the message, or another half.
+    pub(crate) fn is_wrong_half<M: MessageParts>(self, message: &M, half: &Half) -> bool
+        ensures { (table : Table) (side : Side) (items : List Item) (h : HalfOf)
+            → IsSide table side items self.entry.own.now → IsHalf table h half.now
+            → result ≡ is_wrong_half side items (M.meaning message.now) h }
+    {
+        let may_not_speak = match half.how {
+            How::Accepted | How::Begun => false,
+            How::Unanswered => !is_abort_of_provider(message),
+            How::Refused | How::Nowhere => true,
+        };
+        may_not_speak || self.goes_from_other(message, half) || self.was_closed(half.own.as_ref())
+    }
+}

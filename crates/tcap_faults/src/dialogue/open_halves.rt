@@ -1,0 +1,171 @@
+//! Aborts of the provider that answer nothing that is left, and halves that are open at a quiet mark (Q.774 3.3).
+
+ghost use Rattle.std.specs.Prelude.{◌≡◌, ◌≤◌, ◌+◌, ◌^◌, ◌||◌, ℕ, List, Some, length, nat_lt, not};
+ghost use Rattle.std.specs.List.{list_any};
+ghost use Rattle.tcap_msg.specs.declared.kind.Kind.TheVariants as forms;
+ghost use Rattle.tcap_record.specs.declared.entry.End.{End as Side};
+ghost use Rattle.tcap_record.specs.Ends.{other};
+ghost use Rattle.tcap_end.specs.Table.{Table};
+ghost use Rattle.tcap_model.specs.World.{Item};
+ghost use Rattle.tcap_refute.specs.Before.{asked, is_a, sent_by};
+ghost use Rattle.tcap_faults.specs.Closed.{all_go_to_open, is_surely_open};
+ghost use Rattle.tcap_faults.specs.Told.{is_abort_with};
+ghost use Rattle.tcap_faults.specs.Counts.{count};
+ghost use Rattle.tcap_faults.specs.Fault.{count_received, is_left_open, is_open_at_mark, is_wrong_reply};
+ghost use Rattle.tcap_faults.specs.HalfKinds.{is_accepted};
+ghost use Rattle.tcap_faults.specs.HalfOf.{half_of};
+ghost use Rattle.tcap_faults.specs.Ids.{AreAmong};
+ghost use Rattle.tcap_faults.specs.Kept.{IsSide, sent_from};
+ghost use Rattle.tcap_faults.specs.Speaking.{IsKeptFrom};
+
+use crate::transaction::id_list::Ids;
+use crate::transaction::sent_from_id::SentFrom;
+use crate::transaction::tangled_ids::Ends;
+use tcap_ber::SmallView;
+use tcap_end::Table;
+use tcap_msg::TransactionId;
+use tcap_record::End;
+
+impl Ends<'_> {
+    /// Whether the half with that own ID is surely open, of which that is kept.
+    fn is_open(self, table: &Table, own: &TransactionId, kept: &SentFrom) -> bool
+        ensures { (side : Side) (items : List Item) → IsSide table.now side items self.entry.own.now
+            → IsSide table.now (other side) items self.entry.peer.now → IsKeptFrom table.now side items own.now kept.now
+            → result ≡ is_surely_open table.now side items own.now }
+    {
+        match &kept.to.first {
+            Some(to) => {
+                !table.prearranged() && !self.own.has_ended(to) && !self.peer.has_silenced(own)
+            }
+            None => false,
+        }
+    }
+
+    /// Whether the half with that own ID is.
+    fn is_surely_open(self, table: &Table, own: &TransactionId) -> bool
+        ensures { (side : Side) (items : List Item) → IsSide table.now side items self.entry.own.now
+            → IsSide table.now (other side) items self.entry.peer.now
+            → result ≡ is_surely_open table.now side items own.now }
+    {
+        match self.own.from.get(own) {
+            Some(kept) => self.is_open(table, own, kept),
+            None => false,
+        }
+    }
+
+    /// Whether one of these own IDs is that of a half that is not surely open.
+    fn goes_to_shut(self, table: &Table, ids: &Ids) -> bool
+        ensures { (side : Side) (items : List Item) (those : List (List ℕ)) → IsSide table.now side items self.entry.own.now
+            → IsSide table.now (other side) items self.entry.peer.now → AreAmong those (Some ids.now)
+            → result ≡ list_any (λ own. not (is_surely_open table.now side items own)) those }
+    {
+        let Some(first) = &ids.first else {
+            return false;
+        };
+        if !self.is_surely_open(table, first) {
+            return true;
+        }
+        for id in &ids.more {
+            if !self.is_surely_open(table, id) {
+                return true;
+            }
+        }
+        false
+    }
+
+    /// Whether a Continue was sent from an ID of the peer, and all go to halves that are surely open.
+    fn all_go_to_open(self, table: &Table, id: &TransactionId) -> bool
+        ensures { (side : Side) (items : List Item) → IsSide table.now side items self.entry.own.now
+            → IsSide table.now (other side) items self.entry.peer.now
+            → result ≡ all_go_to_open table.now side items (asked side id.now items) }
+    {
+        match self.peer.goes_to(id) {
+            Some(ids) => ids.first().is_some() && !self.goes_to_shut(table, ids),
+            None => false,
+        }
+    }
+
+    /// Whether the end accepted a Begin from an ID of the peer.
+    fn has_accepted(self, id: &TransactionId) -> bool
+        ensures { (table : Table) (side : Side) (items : List Item) → IsSide table side items self.entry.own.now
+            → IsSide table (other side) items self.entry.peer.now
+            → result ≡ is_accepted (half_of side items id.now).how }
+    {
+        if !self.peer.began(id) {
+            return false;
+        }
+        match self.own.to.get(id) {
+            Some(told) => !told.refused,
+            None => true,
+        }
+    }
+
+    /// Whether more Continues would be answered or received than were sent from there.
+    fn answers_too_many(self, id: &TransactionId) -> bool
+        ensures { (table : Table) (side : Side) (items : List Item) → IsSide table side items self.entry.own.now
+            → IsSide table (other side) items self.entry.peer.now → length items ≤ 2 ^ 63
+            → result ≡ nat_lt (count (is_a forms.Continue) (asked side id.now items))
+            (count (is_abort_with 1 id.now) (sent_by side items) + 1
+            + count_received side id.now items (half_of side items id.now)) }
+    {
+        let continues = match self.peer.from.get(id) {
+            Some(asked) => asked.continues,
+            None => 0,
+        };
+        let (unknown, spoke) = match self.own.to.get(id) {
+            Some(told) => (told.unknown, told.spoke),
+            None => (0, false),
+        };
+        let received = if spoke && !self.has_accepted(id) {
+            1
+        } else {
+            0
+        };
+        continues.saturating_sub(received) <= unknown
+    }
+
+    /// Whether an Abort of the provider to that ID, with that cause, answers nothing that is left.
+    pub(crate) fn is_wrong_reply(self, table: &Table, id: &TransactionId, cause: SmallView) -> bool
+        ensures { (side : Side) (items : List Item) → IsSide table.now side items self.entry.own.now
+            → IsSide table.now (other side) items self.entry.peer.now → length items ≤ 2 ^ 63
+            → result ≡ is_wrong_reply table.now side id.now items (half_of side items id.now) cause.number }
+    {
+        match cause.number {
+            1 => self.answers_too_many(id) || self.all_go_to_open(table, id),
+            4 => !self.has_accepted(id) || self.own.has_spoken_to(id),
+            _ => false,
+        }
+    }
+
+    /// Whether the half with that own ID, of which that is kept, is left open over no tangled IDs.
+    fn is_left_open(self, table: &Table, end: End, own: &TransactionId, kept: &SentFrom) -> bool
+        ensures { (items : List Item) → IsSide table.now end items self.entry.own.now
+            → IsSide table.now (other end) items self.entry.peer.now → IsKeptFrom table.now end items own.now kept.now
+            → result ≡ list_any (is_left_open table.now end items) (sent_from end items own.now) }
+    {
+        if kept.to.differ() || !self.is_open(table, own, kept) {
+            return false;
+        }
+        match &kept.to.first {
+            Some(to) => {
+                let tangled = self.tangled_id(end, self.there(to), Some(self.own_at(own)));
+                tangled.is_none()
+            }
+            None => false,
+        }
+    }
+
+    /// Whether a half is, where a quiet mark stands behind.
+    pub(crate) fn is_open_at_mark(self, table: &Table, end: End) -> bool
+        ensures { (items : List Item) → IsSide table.now end items self.entry.own.now
+            → IsSide table.now (other end) items self.entry.peer.now
+            → result ≡ is_open_at_mark table.now end items }
+    {
+        for (own, kept) in &self.own.from {
+            if self.is_left_open(table, end, own, kept) {
+                return true;
+            }
+        }
+        false
+    }
+}

@@ -1,0 +1,75 @@
+//! Dialogue portions that do not fit the dialogue of the half over which a message goes (Q.774 3.2).
+
+ghost use Rattle.std.specs.Prelude.{◌≡◌, ℕ, Bool, List, option_map};
+ghost use Rattle.tcap_parts.specs.DialogueMeaning.{dialogue_of};
+ghost use Rattle.tcap_record.specs.declared.entry.End.{End as Side};
+ghost use Rattle.tcap_end.specs.Dialogue.{is_user_abort};
+ghost use Rattle.tcap_end.specs.Table.{Table};
+ghost use Rattle.tcap_model.specs.World.{Item};
+ghost use Rattle.tcap_faults.specs.Found.{IsThere};
+ghost use Rattle.tcap_faults.specs.HalfKept.{IsHalf};
+ghost use Rattle.tcap_faults.specs.HalfKinds.{is_first_answer, is_wrong_aborting, is_wrong_dialogue, is_wrong_going_on};
+ghost use Rattle.tcap_faults.specs.HalfOf.{HalfOf};
+
+use crate::dialogue::half::Half;
+use crate::dialogue::half_origin::How;
+use crate::transaction::lookup::There;
+use crate::transaction::sent_from_id::is_response;
+use tcap_msg::{Kind as Form, MessageParts};
+use tcap_parts::DialogueView;
+
+/// Whether it is an ABRT of the user.
+fn is_user_abort(dialogue: Option<DialogueView>) -> bool
+    ensures { result ≡ is_user_abort (option_map dialogue_of dialogue.entry) }
+{
+    matches!(dialogue, Some(DialogueView::Abort { source, .. }) if source.number == 0)
+}
+
+/// Whether a dialogue portion does not fit in a Continue or an End.
+fn is_wrong_going_on(is_first: bool, has_request: bool, dialogue: Option<DialogueView>) -> bool
+    ensures { result ≡ is_wrong_going_on is_first has_request (option_map dialogue_of dialogue.entry) }
+{
+    if is_first {
+        has_request && !is_response(dialogue)
+    } else {
+        dialogue.is_some()
+    }
+}
+
+/// Whether it does not fit in an Abort.
+fn is_wrong_aborting(is_first: bool, has_request: bool, dialogue: Option<DialogueView>) -> bool
+    ensures { result ≡ is_wrong_aborting is_first has_request (option_map dialogue_of dialogue.entry) }
+{
+    (!is_first && is_response(dialogue)) || (is_user_abort(dialogue) && !has_request)
+}
+
+impl There<'_> {
+    /// Whether a message to it would be the first answer to the peer's Begin.
+    fn is_first_answer(self, half: &Half) -> bool
+        ensures { (table : Table) (side : Side) (items : List Item) (h : HalfOf)
+            → IsThere table side items self.entry.id.now self.entry → IsHalf table h half.now
+            → result ≡ is_first_answer side items self.entry.id.now h }
+    {
+        if half.how != How::Accepted {
+            return false;
+        }
+        match self.to {
+            Some(told) => told.from.first().is_none(),
+            None => true,
+        }
+    }
+
+    /// Whether the dialogue portion of a message to it does not fit the dialogue of its half.
+    pub(crate) fn is_wrong_dialogue<M: MessageParts>(self, message: &M, half: &Half) -> bool
+        ensures { (table : Table) (side : Side) (items : List Item) (h : HalfOf)
+            → IsThere table side items self.entry.id.now self.entry → IsHalf table h half.now
+            → result ≡ is_wrong_dialogue side items self.entry.id.now (M.meaning message.now) h }
+    {
+        let is_first = self.is_first_answer(half);
+        if matches!(message.kind(), Form::Abort) {
+            is_wrong_aborting(is_first, half.requests, message.dialogue())
+        } else {
+            is_wrong_going_on(is_first, half.requests, message.dialogue())
+        }
+    }
+}

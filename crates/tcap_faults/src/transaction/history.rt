@@ -1,0 +1,151 @@
+//! What is kept of what both ends sent, since the last quiet mark.
+
+ghost use Rattle.std.specs.Prelude.{◌≡◌, ℕ, List, [], not, option_copied};
+ghost use Rattle.std.specs.List.{list_any};
+ghost use Rattle.tcap_msg.specs.Meaning.{id_of};
+ghost use Rattle.tcap_record.specs.declared.entry.End.{End as Side};
+ghost use Rattle.tcap_record.specs.Ends.{other};
+ghost use Rattle.tcap_end.specs.Table.{Table};
+ghost use Rattle.tcap_model.specs.World.{Item};
+ghost use Rattle.tcap_refute.specs.Before.{ends_to, sent_by};
+ghost use Rattle.tcap_refute.specs.Asking.{told_from};
+ghost use Rattle.tcap_refute.specs.Facts.{FromFact, told_since};
+ghost use Rattle.tcap_refute.specs.Kept.{told_by_from};
+ghost use Rattle.tcap_faults.specs.Counts.{is_nothing};
+ghost use Rattle.tcap_faults.specs.Tangled.{guesses};
+ghost use Rattle.tcap_faults.specs.Told.{began, has_ended, has_used, one_passes, told};
+ghost use Rattle.tcap_faults.specs.Kept.{AreFacts, IsSide};
+
+use crate::transaction::id_list::Ids;
+use crate::transaction::sent_from_id::{SentFrom, begins, first_of};
+use crate::transaction::sent_to_id::{SentTo, is_ended, is_silenced, tells};
+use std::alloc::Global;
+use std::collections::{BTreeMap, BTreeSet};
+use tcap_msg::{TransactionId, TransactionIdView};
+use tcap_record::End;
+use tcap_refute::FromId;
+
+/// What is kept of an end.
+#[derive(Drop)]
+pub(crate) struct SideFacts {
+    /// What it sent, by originating IDs.
+    pub(crate) from: BTreeMap<TransactionId, SentFrom>,
+    /// What it sent, by destination IDs.
+    pub(crate) to: BTreeMap<TransactionId, SentTo>,
+    /// Of the destination IDs of its Continues from an ID those that the other end used.
+    pub(crate) joined: BTreeMap<TransactionId, Ids>,
+    /// Its IDs from which, behind a Begin, it went on to an ID that the other end had not used.
+    pub(crate) guessed: BTreeSet<TransactionId>,
+    /// Its IDs that it answered as closed: by an Abort with cause 1 that can answer no other.
+    pub(crate) closed: BTreeSet<TransactionId>,
+    /// Its IDs that are joined with one to which it sent an End, or an Abort without cause.
+    pub(crate) over: BTreeSet<TransactionId>,
+    /// Whether it used an ID of its own again.
+    pub(crate) again: bool,
+}
+
+/// What is kept of both ends.
+#[derive(Drop)]
+pub(crate) struct Facts {
+    pub(crate) a: SideFacts,
+    pub(crate) b: SideFacts,
+}
+
+impl SideFacts {
+    /// That of nothing.
+    fn new(alloc: Global) -> SideFacts
+        ensures { (table : Table) (side : Side) → IsSide table side [] result }
+    {
+        SideFacts {
+            from: BTreeMap::new(alloc),
+            to: BTreeMap::new(alloc),
+            joined: BTreeMap::new(alloc),
+            guessed: BTreeSet::new(alloc),
+            closed: BTreeSet::new(alloc),
+            over: BTreeSet::new(alloc),
+            again: false,
+        }
+    }
+
+    /// What F2 to F7 ask of what the end sent from an ID, where there is one.
+    pub(crate) fn first_from(&self, id: Option<TransactionIdView>) -> Option<&FromId>
+        ensures { (table : Table) (side : Side) (items : List Item) (fact : FromFact) → IsSide table side items self.now
+            → told_by_from (option_copied result) fact ≡ told_from (told_since table side items) (id_of id.entry) fact }
+    {
+        match id {
+            Some(id) => first_of(self.from.get(&id.to_transaction_id())),
+            None => None,
+        }
+    }
+
+    /// Whether the end used an ID: it sent a Begin or a Continue from there.
+    pub(crate) fn has_used(&self, id: &TransactionId) -> bool
+        ensures { (table : Table) (side : Side) (items : List Item) → IsSide table side items self.now
+            → result ≡ has_used side items id.now }
+    {
+        self.from.contains_key(id)
+    }
+
+    /// Whether it sent a Begin from there.
+    pub(crate) fn began(&self, id: &TransactionId) -> bool
+        ensures { (table : Table) (side : Side) (items : List Item) → IsSide table side items self.now
+            → result ≡ began side id.now items }
+    {
+        begins(self.from.get(id))
+    }
+
+    /// Whether, behind a Begin from there, it went on to an ID that the other end had not used.
+    pub(crate) fn has_guessed(&self, id: &TransactionId) -> bool
+        ensures { (table : Table) (side : Side) (items : List Item) → IsSide table side items self.now
+            → result ≡ one_passes (guesses (other side) id.now) [] items }
+    {
+        self.guessed.contains(id)
+    }
+
+    /// Whether it told an ID something that is no Abort of the provider.
+    pub(crate) fn has_spoken_to(&self, id: &TransactionId) -> bool
+        ensures { (table : Table) (side : Side) (items : List Item) → IsSide table side items self.now
+            → result ≡ not (is_nothing (told side id.now items)) }
+    {
+        tells(self.to.get(id))
+    }
+
+    /// Whether it sent an End or an Abort to an ID.
+    pub(crate) fn has_silenced(&self, id: &TransactionId) -> bool
+        ensures { (table : Table) (side : Side) (items : List Item) → IsSide table side items self.now
+            → result ≡ list_any (ends_to id.now) (sent_by side items) }
+    {
+        is_silenced(self.to.get(id))
+    }
+
+    /// Whether it sent an End, or an Abort without cause, to an ID.
+    pub(crate) fn has_ended(&self, id: &TransactionId) -> bool
+        ensures { (table : Table) (side : Side) (items : List Item) → IsSide table side items self.now
+            → result ≡ has_ended side items id.now }
+    {
+        is_ended(self.to.get(id))
+    }
+}
+
+impl Facts {
+    /// That of nothing.
+    pub(crate) fn new(alloc: Global) -> Facts
+        ensures { (table : Table) → AreFacts table [] result }
+    {
+        Facts {
+            a: SideFacts::new(alloc),
+            b: SideFacts::new(alloc),
+        }
+    }
+
+    /// What is kept of an end.
+    pub(crate) fn of(&self, side: End) -> &SideFacts
+        ensures { (table : Table) (items : List Item) → AreFacts table items self.now
+            → IsSide table side items result.now }
+    {
+        match side {
+            End::A => &self.a,
+            End::B => &self.b,
+        }
+    }
+}

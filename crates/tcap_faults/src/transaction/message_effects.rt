@@ -1,0 +1,56 @@
+//! What a message does to what is kept of transaction IDs, by what was sent before.
+
+ghost use Rattle.std.specs.Prelude.{◌≡◌, ◌&&◌, ℕ, List, Some};
+ghost use Rattle.tcap_msg.specs.declared.message.Message.{Message};
+ghost use Rattle.tcap_record.specs.declared.entry.End.{End as Side};
+ghost use Rattle.tcap_end.specs.Table.{Table};
+ghost use Rattle.tcap_model.specs.World.{Item};
+ghost use Rattle.tcap_faults.specs.Effects.{AreEffects};
+ghost use Rattle.tcap_faults.specs.Found.{AreFound};
+ghost use Rattle.tcap_faults.specs.UsedAgain.{uses_again};
+
+use crate::transaction::lookup::Found;
+use crate::transaction::sent_from_id::begins;
+use crate::transaction::sent_to_id::is_ended;
+
+/// What a message does. Where it lacks an ID, nothing is said of what rests on that.
+#[derive(Clone, Copy)]
+pub(crate) struct Effects {
+    /// Whether it uses an own ID again.
+    pub(crate) again: bool,
+    /// Whether its end had used its originating ID.
+    pub(crate) used: bool,
+    /// Whether its end had begun that ID, and the peer had not used its destination ID.
+    pub(crate) guesses: bool,
+    /// Whether its end had sent an End, or an Abort without cause, to its destination ID.
+    pub(crate) over: bool,
+    /// Whether the peer had used that ID.
+    pub(crate) joins: bool,
+    /// Whether it had, and had sent an End, or an Abort without cause, to the originating ID.
+    pub(crate) peer_over: bool,
+}
+
+impl Found<'_> {
+    /// What the message does, of which it is said whether it uses an own ID again.
+    pub(crate) fn effects(self, again: bool) -> Effects
+        ensures { (table : Table) (side : Side) (items : List Item) (m : Message) → AreFound table side items m self.entry
+            → again ≡ uses_again table side items m → AreEffects table side items m result }
+    {
+        let (used, begun, ended) = match self.own {
+            Some(own) => (own.from.is_some(), begins(own.from), is_ended(own.to)),
+            None => (false, false, false),
+        };
+        let (joins, over) = match self.there {
+            Some(there) => (there.from.is_some(), is_ended(there.to)),
+            None => (false, false),
+        };
+        Effects {
+            again,
+            used,
+            guesses: begun & !joins,
+            over,
+            joins,
+            peer_over: joins & ended,
+        }
+    }
+}

@@ -1,0 +1,170 @@
+//! What an end sent to a transaction ID, since the last quiet mark.
+
+ghost use Rattle.std.specs.Prelude.{◌≡◌, [], None, ℕ, List, OnOk, not, option_copied};
+ghost use Rattle.std.specs.List.{list_any};
+ghost use Rattle.tcap_msg.specs.declared.message.Message.{Message};
+ghost use Rattle.tcap_msg.specs.Parts.{cause_in};
+ghost use Rattle.tcap_record.specs.declared.entry.End.{End as Side};
+ghost use Rattle.tcap_end.specs.Table.{Table};
+ghost use Rattle.tcap_model.specs.World.{Item};
+ghost use Rattle.tcap_refute.specs.Before.{components_of, ends_to, sent_by};
+ghost use Rattle.tcap_faults.specs.Counts.{is_nothing};
+ghost use Rattle.tcap_faults.specs.Told.{has_ended, told};
+ghost use Rattle.tcap_faults.specs.Ids.{AreAmong, AreIds};
+ghost use Rattle.tcap_faults.specs.Kept.{IsTo, IsToAt, ends, of_user, otids_of, sent_to, silences};
+ghost use Rattle.tcap_faults.specs.Noting.{IsCaused, IsTold};
+ghost use Rattle.tcap_faults.specs.Tallies.{IsTally};
+
+use crate::component::tally::Tally;
+use crate::transaction::id_list::Ids;
+use crate::transaction::messages_at_id::OfMessages;
+use std::alloc::{AllocError, Global};
+use tcap_ber::SmallView;
+use tcap_end::Table;
+use tcap_msg::{Kind as Form, MessageParts};
+
+/// What was sent to an ID.
+#[derive(Drop)]
+pub(crate) struct SentTo {
+    /// Whether a message is no Abort of the provider.
+    pub(crate) spoke: bool,
+    /// The originating IDs of the Continues.
+    pub(crate) from: Ids,
+    /// Whether the provider refused a Begin from there (P-Abort cause 4).
+    pub(crate) refused: bool,
+    /// How many Aborts with cause 1 there are.
+    pub(crate) unknown: u128,
+    /// Whether there is an End, or an Abort without cause.
+    pub(crate) ended: bool,
+    /// Whether there is an End or an Abort.
+    pub(crate) silenced: bool,
+    /// The components of all but the Aborts of the provider.
+    pub(crate) components: Tally,
+}
+
+/// Whether a message is an End, or an Abort without cause.
+pub(crate) fn ends<M: MessageParts>(message: &M) -> bool
+    ensures { result ≡ ends (M.meaning message.now) }
+{
+    match message.kind() {
+        Form::End => true,
+        Form::Abort => message.cause().is_none(),
+        _ => false,
+    }
+}
+
+/// Whether it is an End or an Abort.
+fn silences<M: MessageParts>(message: &M) -> bool
+    ensures { result ≡ silences (M.meaning message.now) }
+{
+    matches!(message.kind(), Form::End | Form::Abort)
+}
+
+impl SentTo {
+    /// The cause of an Abort of the provider.
+    fn note_cause(&mut self, cause: SmallView)
+        ensures { IsCaused cause.number self.old self.new }
+    {
+        match cause.number {
+            1 => self.unknown = self.unknown.saturating_add(1),
+            4 => self.refused = true,
+            _ => {}
+        }
+    }
+
+    /// A message more that is no Abort of the provider.
+    fn note_of_user<M: MessageParts>(
+        &mut self,
+        alloc: Global,
+        table: &Table,
+        message: &M,
+    ) -> Result<(), AllocError>
+        ensures { (ms : List Message) → cause_in (M.meaning message.now) ≡ None
+            → AreIds (otids_of ms) self.old.from → IsTally table.now (components_of (of_user ms)) self.old.components
+            → OnOk result (IsTold table.now ms (M.meaning message.now) self.old self.new) }
+    {
+        self.spoke = true;
+        if let (Form::Continue, Some(otid)) = (message.kind(), message.otid()) {
+            self.from.add(otid)?;
+        }
+        self.components.note_all(alloc, table, message.components())
+    }
+}
+
+impl OfMessages for SentTo {
+    ghost of = { IsTo };
+
+    fn new(alloc: Global) -> SentTo {
+        SentTo {
+            spoke: false,
+            from: Ids::new(alloc),
+            refused: false,
+            unknown: 0,
+            ended: false,
+            silenced: false,
+            components: Tally::new(alloc),
+        }
+    }
+
+    fn note<M: MessageParts>(
+        &mut self,
+        alloc: Global,
+        table: &Table,
+        message: &M,
+    ) -> Result<(), AllocError> {
+        self.ended |= ends(message);
+        self.silenced |= silences(message);
+        match message.cause() {
+            Some(cause) => {
+                self.note_cause(cause);
+                Ok(())
+            }
+            None => self.note_of_user(alloc, table, message),
+        }
+    }
+}
+
+/// The originating IDs of the Continues.
+pub(crate) fn comes_from(to: Option<&SentTo>) -> Option<&Ids>
+    ensures { (table : Table) (ms : List Message) → IsToAt table ms (option_copied to.entry)
+        → AreAmong (otids_of ms) (option_copied result) }
+{
+    match to {
+        Some(kept) => Some(&kept.from),
+        None => None,
+    }
+}
+
+/// Whether one is no Abort of the provider.
+pub(crate) fn tells(to: Option<&SentTo>) -> bool
+    ensures { (table : Table) (side : Side) (items : List Item) (id : List ℕ)
+        → IsToAt table (sent_to side items id) (option_copied to.entry) → result ≡ not (is_nothing (told side id items)) }
+{
+    match to {
+        Some(kept) => kept.spoke,
+        None => false,
+    }
+}
+
+/// Whether one is an End or an Abort.
+pub(crate) fn is_silenced(to: Option<&SentTo>) -> bool
+    ensures { (table : Table) (side : Side) (items : List Item) (id : List ℕ)
+        → IsToAt table (sent_to side items id) (option_copied to.entry)
+        → result ≡ list_any (ends_to id) (sent_by side items) }
+{
+    match to {
+        Some(kept) => kept.silenced,
+        None => false,
+    }
+}
+
+/// Whether one is an End, or an Abort without cause.
+pub(crate) fn is_ended(to: Option<&SentTo>) -> bool
+    ensures { (table : Table) (side : Side) (items : List Item) (id : List ℕ)
+        → IsToAt table (sent_to side items id) (option_copied to.entry) → result ≡ has_ended side items id }
+{
+    match to {
+        Some(kept) => kept.ended,
+        None => false,
+    }
+}

@@ -1,0 +1,302 @@
+//! Tangled transaction IDs, and own IDs that are used again (Q.774 3.3).
+
+ghost use Rattle.std.specs.Prelude.{◌≡◌, ℕ, List, [], ◌∷◌, None, Some, true, ◌&&◌, false, not, Option, option_copied};
+ghost use Rattle.std.specs.List.{list_any};
+ghost use Rattle.std.specs.Str.{bytes_eq};
+ghost use Rattle.std.specs.Option.{option_to_list};
+ghost use Rattle.tcap_msg.specs.declared.kind.Kind.TheVariants as forms;
+ghost use Rattle.tcap_msg.specs.declared.message.Message.{Message};
+ghost use Rattle.tcap_record.specs.declared.entry.End.{End as Side};
+ghost use Rattle.tcap_record.specs.Ends.{other};
+ghost use Rattle.tcap_end.specs.End.{is_id};
+ghost use Rattle.tcap_end.specs.Table.{Table};
+ghost use Rattle.tcap_model.specs.World.{Item};
+ghost use Rattle.tcap_refute.specs.Before.{asked, has_a};
+ghost use Rattle.tcap_faults.specs.Counts.{is_nothing};
+ghost use Rattle.tcap_faults.specs.Told.{began, has_used, told};
+ghost use Rattle.tcap_faults.specs.Found.{AreFound, IsOwn, IsOwnAt, IsThere};
+ghost use Rattle.tcap_faults.specs.Ids.{AreAmong, IsOneOf};
+ghost use Rattle.tcap_faults.specs.Kept.{IsSide, dtids_of, sent_from};
+ghost use Rattle.tcap_faults.specs.Tangled.{first_tangled, goes_to_begun, owns_of, peers_of, tangle_of_own, tangle_of_peer, tangled_for, tangled_id, tangled_in, two_differ};
+ghost use Rattle.tcap_faults.specs.UsedAgain.{may_be_over, uses_again};
+
+use crate::transaction::history::SideFacts;
+use crate::transaction::id_list::Ids;
+use crate::transaction::lookup::{Found, Own, There, key_of};
+use crate::transaction::sent_from_id::{begins, begins_twice, goes_on, goes_to};
+use crate::transaction::sent_to_id::{is_silenced, tells};
+use crate::verdict::unblamed_reason::{Tangle, TangledId};
+use tcap_end::Table;
+use tcap_msg::{MessageParts, TransactionId};
+use tcap_record::End;
+
+/// An end and its peer, as they are kept.
+#[derive(Clone, Copy)]
+pub(crate) struct Ends<'a> {
+    pub(crate) own: &'a SideFacts,
+    pub(crate) peer: &'a SideFacts,
+}
+
+/// Whether it is that ID.
+fn is_that(id: &TransactionId, other: Option<&TransactionId>) -> bool
+    ensures { result ≡ is_id id.now (option_copied other.entry) }
+{
+    match other {
+        Some(other) => id.octets() == other.octets(),
+        None => false,
+    }
+}
+
+impl SideFacts {
+    /// The destination IDs of the Continues that the end sent from an ID.
+    pub(crate) fn goes_to(&self, id: &TransactionId) -> Option<&Ids>
+        ensures { (table : Table) (side : Side) (items : List Item) → IsSide table side items self.now
+            → AreAmong (dtids_of (sent_from side items id.now)) (option_copied result) }
+    {
+        goes_to(self.from.get(id))
+    }
+}
+
+impl<'a> Ends<'a> {
+    /// Whether the peer began an ID, and went on from there to one that the end began, where one own ID at the most is joined
+    /// with it.
+    fn is_begun_by_both(self, there: There) -> bool
+        ensures { (table : Table) (side : Side) (items : List Item) (id : List ℕ) → IsSide table side items self.entry.own.now
+            → IsThere table side items id there.entry → two_differ (owns_of side items id) ≡ false
+            → result ≡ (has_a forms.Begin (asked side id items)
+            && list_any (goes_to_begun side items) (asked side id items)) }
+    {
+        if !begins(there.from) {
+            return false;
+        }
+        match there.joined {
+            Some(ids) => self.began_first(ids),
+            None => false,
+        }
+    }
+
+    /// Whether the end began the first of these IDs.
+    fn began_first(self, ids: &Ids) -> bool
+        ensures { (table : Table) (side : Side) (items : List Item) (xs : List (List ℕ))
+            → IsSide table side items self.entry.own.now → AreAmong xs (Some ids.now)
+            → two_differ xs ≡ false → result ≡ list_any (λ own. began side own items) xs }
+    {
+        match ids.first() {
+            Some(first) => self.own.began(&first.to_transaction_id()),
+            None => false,
+        }
+    }
+
+    /// Why an ID of the peer is tangled, if it is.
+    fn tangle_of_peer(self, there: There) -> Option<Tangle>
+        ensures { (table : Table) (side : Side) (items : List Item) (id : List ℕ) → IsSide table side items self.entry.own.now
+            → IsSide table (other side) items self.entry.peer.now → IsThere table side items id there.entry
+            → result ≡ tangle_of_peer side items id }
+    {
+        if there.owns_differ() {
+            Some(Tangle::TwoIds)
+        } else if begins_twice(there.from) {
+            Some(Tangle::BegunTwice)
+        } else if self.is_begun_by_both(there) {
+            Some(Tangle::BothBegan)
+        } else if self.peer.has_guessed(there.id) {
+            Some(Tangle::Guessed)
+        } else {
+            None
+        }
+    }
+
+    /// An ID of the peer, where it is tangled.
+    fn tangled_peer(self, peer: End, there: There) -> Option<TangledId>
+        ensures { (table : Table) (side : Side) (items : List Item) (id : List ℕ) → IsSide table side items self.entry.own.now
+            → IsSide table (other side) items self.entry.peer.now → IsThere table side items id there.entry
+            → result ≡ tangled_for peer id (tangle_of_peer side items id) }
+    {
+        match self.tangle_of_peer(there) {
+            Some(why) => Some(TangledId {
+                side: peer,
+                id: there.id.view().to_transaction_id(),
+                why,
+            }),
+            None => None,
+        }
+    }
+
+    /// What is kept of an own ID; where it is that one, it is not looked up.
+    fn own_near(self, id: &'a TransactionId, own: Option<Own<'a>>) -> Own<'a>
+        ensures { (table : Table) (side : Side) (items : List Item) (near : Option (List ℕ))
+            → IsSide table side items self.entry.own.now → IsSide table (other side) items self.entry.peer.now
+            → IsOwnAt table side items near own.entry → IsOwn table side items id.now result }
+    {
+        match own {
+            Some(own) if is_that(own.id, Some(id)) => own,
+            _ => self.own_at(id),
+        }
+    }
+
+    /// An own ID that is one of these, if there is one, where it is tangled, and all are one; that one is not looked up.
+    fn tangled_near(
+        self,
+        end: End,
+        joined: Option<&TransactionId>,
+        own: Option<Own>,
+    ) -> Option<TangledId>
+        ensures { (table : Table) (side : Side) (items : List Item) (near : Option (List ℕ)) (ids : List (List ℕ))
+            → IsSide table side items self.entry.own.now → IsSide table (other side) items self.entry.peer.now
+            → IsOwnAt table side items near own.entry → IsOneOf ids (option_copied joined.entry) → two_differ ids ≡ false
+            → result ≡ first_tangled end (tangle_of_own side items) ids }
+    {
+        match joined {
+            Some(id) => self.own_near(id, own).tangled(end),
+            None => None,
+        }
+    }
+
+    /// An ID of the peer that is joined with an own one, which is not tangled, where it is.
+    fn tangled_behind(self, peer: End, own: Own) -> Option<TangledId>
+        ensures { (table : Table) (side : Side) (items : List Item) (id : List ℕ) → IsSide table side items self.entry.own.now
+            → IsSide table (other side) items self.entry.peer.now → IsOwn table side items id own.entry
+            → two_differ (peers_of side items id) ≡ false
+            → result ≡ first_tangled peer (tangle_of_peer side items) (peers_of side items id) }
+    {
+        match own.joined() {
+            Some(joined) => self.tangled_peer(peer, self.there(&joined)),
+            None => None,
+        }
+    }
+
+    /// An own ID more, or one behind it, where it is tangled, beside an ID of the peer that is not, with which none is joined that is.
+    /// Where it is the one that is joined with it, nothing more is behind them.
+    fn tangled_besides(
+        self,
+        end: End,
+        own: Own,
+        joined: Option<&TransactionId>,
+    ) -> Option<TangledId>
+        ensures { (table : Table) (items : List Item) (more id : List ℕ) → IsSide table end items self.entry.own.now
+            → IsSide table (other end) items self.entry.peer.now → IsOwn table end items more own.entry
+            → IsOneOf (owns_of end items id) (option_copied joined.entry)
+            → None ≡ tangled_for (other end) id (tangle_of_peer end items id)
+            → None ≡ first_tangled end (tangle_of_own end items) (owns_of end items id)
+            → result ≡ tangled_id end items (more ∷ []) id }
+    {
+        if is_that(own.id, joined) {
+            return None;
+        }
+        if let Some(tangled) = own.tangled(end) {
+            return Some(tangled);
+        }
+        self.tangled_behind(end.other(), own)
+    }
+
+    /// The first tangled ID: that of the peer, one near it, or one behind them; an own ID more may be near.
+    pub(crate) fn tangled_id(self, end: End, there: There, own: Option<Own>) -> Option<TangledId>
+        ensures { (table : Table) (items : List Item) (id : List ℕ) (near : Option (List ℕ))
+            → IsSide table end items self.entry.own.now → IsSide table (other end) items self.entry.peer.now
+            → IsThere table end items id there.entry → IsOwnAt table end items near own.entry
+            → result ≡ tangled_id end items (option_to_list near) id }
+    {
+        if let Some(tangled) = self.tangled_peer(end.other(), there) {
+            return Some(tangled);
+        }
+        let joined = there.joined_own();
+        let near = joined.as_ref();
+        if let Some(tangled) = self.tangled_near(end, near, own) {
+            return Some(tangled);
+        }
+        match own {
+            Some(own) => self.tangled_besides(end, own, near),
+            None => None,
+        }
+    }
+
+    /// The first tangled ID that a message goes over, of which that is found.
+    pub(crate) fn tangled_in(self, end: End, found: Found) -> Option<TangledId>
+        ensures { (table : Table) (items : List Item) (m : Message) → IsSide table end items self.entry.own.now
+            → IsSide table (other end) items self.entry.peer.now → AreFound table end items m found.entry
+            → result ≡ tangled_in end items m }
+    {
+        match found.there {
+            Some(there) => self.tangled_id(end, there, found.own),
+            None => None,
+        }
+    }
+
+    /// The first tangled ID that a message goes over.
+    pub(crate) fn tangled_of<M: MessageParts>(self, end: End, message: &M) -> Option<TangledId>
+        ensures { (table : Table) (items : List Item) → IsSide table end items self.entry.own.now
+            → IsSide table (other end) items self.entry.peer.now
+            → result ≡ tangled_in end items (M.meaning message.now) }
+    {
+        let otid = key_of(message.otid());
+        let dtid = key_of(message.dtid());
+        let found = self.find(otid.as_ref(), dtid.as_ref());
+        self.tangled_in(end, found)
+    }
+
+    // ---- an own ID that is used again
+
+    /// Whether the transaction of an own ID may be over.
+    fn may_be_over(self, table: &Table, own: Own) -> bool
+        ensures { (side : Side) (items : List Item) (id : List ℕ) → IsSide table.now side items self.entry.own.now
+            → IsOwn table.now side items id own.entry → result ≡ may_be_over table.now side items id }
+    {
+        table.prearranged() || is_silenced(own.to) || self.own.over.contains(own.id)
+    }
+
+    /// Whether a message uses an own ID again, of which that is found.
+    pub(crate) fn uses_again(self, table: &Table, found: Found) -> bool
+        ensures { (side : Side) (items : List Item) (m : Message) → IsSide table.now side items self.entry.own.now
+            → AreFound table.now side items m found.entry → result ≡ uses_again table.now side items m }
+    {
+        let Some(own) = found.own else {
+            return false;
+        };
+        if own.from.is_none() || !self.may_be_over(table, own) {
+            return false;
+        }
+        match found.there {
+            Some(there) => there.is_answered_anew(own),
+            None => true,
+        }
+    }
+}
+
+impl Own<'_> {
+    /// The ID, where it is tangled.
+    fn tangled(self, end: End) -> Option<TangledId>
+        ensures { (table : Table) (side : Side) (items : List Item) (id : List ℕ) → IsOwn table side items id self.entry
+            → result ≡ tangled_for end id (tangle_of_own side items id) }
+    {
+        if !self.is_tangled() {
+            return None;
+        }
+        Some(TangledId {
+            side: end,
+            why: Tangle::TwoIds,
+            id: self.id.view().to_transaction_id(),
+        })
+    }
+}
+
+impl There<'_> {
+    /// Whether an own ID that the end used is joined with it.
+    fn is_joined(self, own: Own) -> bool
+        ensures { (table : Table) (side : Side) (items : List Item) (own_id id : List ℕ)
+            → IsOwn table side items own_id own.entry → IsThere table side items id self.entry
+            → has_used side items own_id ≡ true → result ≡ list_any (bytes_eq own_id) (owns_of side items id) }
+    {
+        goes_on(own.from, self.id) || goes_on(self.from, own.id)
+    }
+
+    /// Whether a Continue from an own ID answers a Begin of the peer, to which nothing was told before.
+    fn is_answered_anew(self, own: Own) -> bool
+        ensures { (table : Table) (side : Side) (items : List Item) (own_id id : List ℕ)
+            → IsOwn table side items own_id own.entry → IsThere table side items id self.entry
+            → has_used side items own_id ≡ true
+            → result ≡ (has_a forms.Begin (asked side id items) && is_nothing (told side id items)
+            && not (list_any (bytes_eq own_id) (owns_of side items id))) }
+    {
+        begins(self.from) && !tells(self.to) && !self.is_joined(own)
+    }
+}

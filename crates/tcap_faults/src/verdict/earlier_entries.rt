@@ -1,0 +1,112 @@
+//! What is kept of the entries of a record before one of them.
+
+ghost use Rattle.std.specs.Prelude.{◌≡◌, ◌+◌, ◌<◌, ◌^◌, List, [], ◌∷◌, ◌++◌, slice_get, Some, IsSome, option_copied, IfOk, OnOk};
+ghost use Rattle.tcap_record.specs.declared.entry.Entry.{Entry};
+ghost use Rattle.tcap_model.specs.Entries.{item_of};
+ghost use Rattle.tcap_model.specs.World.{Item};
+ghost use Rattle.tcap_faults.specs.Replay.{IsReplayed};
+ghost use Rattle.tcap_faults.specs.Searching.{IsKept};
+ghost use Rattle.tcap_faults.specs.Subject.{items_among};
+
+use crate::transaction::history::Facts;
+use crate::transaction::lookup::key_of;
+use crate::verdict::first_fault::entry_count;
+use std::alloc::{AllocError, Global};
+use tcap_end::Table;
+use tcap_msg::MessageParts;
+use tcap_record::{Body, End, Entry, Record};
+use tcap_refute::SearchFault;
+
+/// What is kept of so many entries of a record, and what was found in them of an end.
+#[derive(Drop)]
+pub(crate) struct Replay {
+    pub(crate) kept: Facts,
+    /// The number of the first of them in which the end used an own ID again, since the last quiet mark.
+    pub(crate) again: Option<u64>,
+}
+
+/// The entry of that number, if there is one.
+pub(crate) fn entry_at(record: &Record, number: u64) -> Option<&Entry>
+    ensures entry { option_copied result ≡ slice_get «record».now.entries.items number }
+    ensures small { IsSome result → number < 2 ^ 63 }
+{
+    record.entries.get(number as usize)
+}
+
+impl Facts {
+    /// An entry more; what is no item is passed over.
+    pub(crate) fn note_entry(
+        &mut self,
+        alloc: Global,
+        table: &Table,
+        entry: &Entry,
+    ) -> Result<(), AllocError>
+        ensures { (items : List Item) → IsKept table.now items self.old
+            → OnOk result (IsKept table.now (items ++ items_among (item_of entry.now ∷ [])) self.new) }
+    {
+        match (entry.side, &entry.body) {
+            (Some(sender), Body::Good(message)) => {
+                let view = message.view();
+                let otid = key_of(view.otid());
+                let dtid = key_of(view.dtid());
+                let found = self.find(sender, otid.as_ref(), dtid.as_ref());
+                let effects = self.effects(table, sender, found);
+                self.note(alloc, table, sender, &view, effects)
+            }
+            (None, Body::Quiet) => {
+                self.note_mark(alloc);
+                Ok(())
+            }
+            _ => Ok(()),
+        }
+    }
+}
+
+impl Replay {
+    /// That of the entries before the one of that number; of all, where there is none.
+    pub(crate) fn before(
+        alloc: Global,
+        record: &Record,
+        table: &Table,
+        end: End,
+        number: u64,
+    ) -> Result<Replay, SearchFault>
+        ensures { IfOk result (IsReplayed table.now end «record».now.entries.items number) }
+    {
+        let mut replay = Replay {
+            kept: Facts::new(alloc),
+            again: None,
+        };
+        for (place, entry) in record.entries.iter().enumerate() {
+            if place as u64 == number {
+                break;
+            }
+            replay.take(alloc, table, end, place as u64, entry)?;
+        }
+        Ok(replay)
+    }
+
+    /// The entry of that number more.
+    pub(crate) fn take(
+        &mut self,
+        alloc: Global,
+        table: &Table,
+        end: End,
+        number: u64,
+        entry: &Entry,
+    ) -> Result<(), AllocError>
+        ensures { (entries : List Entry) → IsReplayed table.now end entries number self.old
+            → slice_get entries number ≡ Some entry.now
+            → OnOk result (IsReplayed table.now end entries (number + 1) self.new) }
+    {
+        // It bounds how many components there are, so that no count of them is above the greatest.
+        let _count = entry_count(entry);
+        self.kept.note_entry(alloc, table, entry)?;
+        self.again = if self.kept.ends(end).own.again {
+            self.again.or(Some(number))
+        } else {
+            None
+        };
+        Ok(())
+    }
+}

@@ -1,0 +1,265 @@
+//! The search for the first entry of a record that is a fault of each end, in one pass.
+
+ghost use Rattle.std.specs.Prelude.{◌≡◌, ◌≤◌, ◌<◌, ◌^◌, ℕ, Bool, true, List, [], ◌∷◌, ◌++◌, Option, Some, Ok, length, IfOk, OnOk};
+ghost use Rattle.tcap_ber.specs.declared.fault.Fault.{Fault};
+ghost use Rattle.tcap_msg.specs.Parts.{components_in};
+ghost use Rattle.tcap_record.specs.declared.entry.End.{End as Side};
+ghost use Rattle.tcap_record.specs.declared.entry.End.TheVariants as sides;
+ghost use Rattle.tcap_model.specs.declared.reason.Reason.TheVariants.{BadMessage};
+ghost use Rattle.tcap_model.specs.Entries.{item_of};
+ghost use Rattle.tcap_model.specs.World.{Item, Sent};
+ghost use Rattle.tcap_faults.specs.Fault.{blamed};
+ghost use Rattle.tcap_faults.specs.Searching.{AreRoomy, IsKept, IsTaken, Takes, components_in_all, looking_at, looking_bad, looking_behind, looking_first, looking_put, looking_with};
+
+use crate::transaction::history::Facts;
+use crate::transaction::lookup::key_of;
+use std::alloc::{AllocError, Global};
+use tcap_ber::Reason;
+use tcap_end::Table;
+use tcap_msg::{Message, MessageParts};
+use tcap_record::{Body, End, Entry, Record};
+use tcap_refute::{Kind, Refutation, SearchFault, kind_of_reason};
+
+/// What is blamed on each end.
+#[derive(Clone, Copy, Debug, PartialEq, Eq)]
+pub struct BlamedEnds {
+    /// The lowest entry of A, or quiet mark, that is a fault, with its lowest kind.
+    pub a: Option<Refutation>,
+    /// That of B.
+    pub b: Option<Refutation>,
+}
+
+/// What was found of an end.
+#[derive(Clone, Copy)]
+pub(crate) struct Looking {
+    /// Whether nothing more is looked for.
+    pub(crate) is_over: bool,
+    pub(crate) found: Option<Refutation>,
+}
+
+/// What is kept of the entries so far, and what was found.
+#[derive(Drop)]
+pub(crate) struct SearchState {
+    pub(crate) kept: Facts,
+    pub(crate) a: Looking,
+    pub(crate) b: Looking,
+}
+
+/// How many components a message has.
+fn component_count(message: &Message) -> usize
+    ensures count { result ≡ length (components_in message.now) }
+    ensures small { result < 2 ^ 63 }
+{
+    let portion = match message {
+        Message::Unidirectional { components, .. } => Some(components),
+        Message::Begin { components, .. }
+        | Message::Continue { components, .. }
+        | Message::End { components, .. } => components.as_ref(),
+        Message::Abort { .. } => None,
+    };
+    match portion {
+        Some(portion) => portion.items().len(),
+        None => 0,
+    }
+}
+
+/// How many components an entry has.
+pub(crate) fn entry_count(entry: &Entry) -> usize
+    ensures count { (item : Item) → item_of entry.now ≡ Ok item → components_in_all (item ∷ []) ≤ result }
+    ensures small { result < 2 ^ 63 }
+{
+    match &entry.body {
+        Body::Good(message) => component_count(message),
+        _ => 0,
+    }
+}
+
+impl Looking {
+    /// Nothing was found; nothing is looked for where the end is not asked about.
+    fn new(is_asked: bool) -> Looking
+        ensures { result ≡ looking_first is_asked }
+    {
+        Looking {
+            is_over: !is_asked,
+            found: None,
+        }
+    }
+
+    /// With what was found in an entry, if anything was.
+    fn with(self, entry: u64, kind: Option<Kind>) -> Looking
+        ensures { result ≡ looking_with entry kind self }
+    {
+        match kind {
+            Some(kind) => Looking {
+                is_over: true,
+                found: Some(Refutation { entry, kind }),
+            },
+            None => self,
+        }
+    }
+}
+
+impl SearchState {
+    /// What was found of an end.
+    fn of(&self, side: End) -> Looking
+        ensures { result ≡ looking_at side self.now }
+    {
+        match side {
+            End::A => self.a,
+            End::B => self.b,
+        }
+    }
+
+    /// The same, with that found of an end.
+    fn put(&mut self, side: End, looking: Looking)
+        ensures { self.new ≡ looking_put side looking self.old }
+    {
+        match side {
+            End::A => self.a = looking,
+            End::B => self.b = looking,
+        }
+    }
+
+    /// A message of that number, which an end sent.
+    fn take_message<M: MessageParts>(
+        &mut self,
+        alloc: Global,
+        table: &Table,
+        number: u64,
+        sender: End,
+        message: &M,
+    ) -> Result<(), AllocError>
+        ensures { (items : List Item) → IsKept table.now items self.old.kept
+            → AreRoomy (items ++ Sent sender (M.meaning message.now) ∷ [])
+            → OnOk result (IsTaken table.now items number (Sent sender (M.meaning message.now)) self.old self.new) }
+    {
+        let otid = key_of(message.otid());
+        let dtid = key_of(message.dtid());
+        let found = self.kept.find(sender, otid.as_ref(), dtid.as_ref());
+        let effects = self.kept.effects(table, sender, found);
+        let looking = self.of(sender);
+        if !looking.is_over {
+            let kind = self
+                .kept
+                .fault_of(alloc, table, sender, message, found, effects)?;
+            self.put(sender, looking.with(number, kind));
+        }
+        self.kept.note(alloc, table, sender, message, effects)
+    }
+
+    /// A quiet mark of that number: whether it is a fault of an end.
+    fn at_mark(&self, table: &Table, number: u64, side: End) -> Looking
+        ensures { (items : List Item) → IsKept table.now items self.now.kept
+            → result ≡ looking_behind table.now items number Item.Quiet side (looking_at side self.now) }
+    {
+        let looking = self.of(side);
+        if looking.is_over {
+            return looking;
+        }
+        looking.with(number, self.kept.mark_of(table, side))
+    }
+
+    /// A quiet mark of that number.
+    fn take_mark(&mut self, alloc: Global, table: &Table, number: u64)
+        ensures { (items : List Item) → IsKept table.now items self.old.kept
+            → IsTaken table.now items number Item.Quiet self.old self.new }
+    {
+        let a = self.at_mark(table, number, End::A);
+        let b = self.at_mark(table, number, End::B);
+        self.a = a;
+        self.b = b;
+        self.kept.note_mark(alloc);
+    }
+
+    /// Octets of that number that are no message, which an end sent.
+    fn take_bad(&mut self, number: u64, sender: End, reason: Reason)
+        ensures { (fault : Fault) → fault.reason ≡ reason → (side : Side)
+            → looking_at side self.new ≡ looking_bad number (Some sender) (BadMessage fault) side (looking_at side self.old) }
+    {
+        let looking = self.of(sender);
+        if !looking.is_over {
+            self.put(sender, looking.with(number, kind_of_reason(reason)));
+        }
+    }
+
+    /// Takes the next entry, of that number: whether one behind it is looked at.
+    fn take(
+        &mut self,
+        alloc: Global,
+        table: &Table,
+        number: u64,
+        entry: &Entry,
+    ) -> Result<bool, AllocError>
+        ensures { (items : List Item) → IsKept table.now items self.old.kept
+            → ((item : Item) → item_of entry.now ≡ Ok item → AreRoomy (items ++ item ∷ []))
+            → IfOk result (λ more. Takes table.now items number entry.now more self.old self.new) }
+    {
+        match (entry.side, &entry.body) {
+            (Some(sender), Body::Bad(fault)) => {
+                self.take_bad(number, sender, fault.reason);
+                return Ok(false);
+            }
+            (Some(sender), Body::Good(message)) => {
+                self.take_message(alloc, table, number, sender, &message.view())?;
+            }
+            (None, Body::Quiet) => self.take_mark(alloc, table, number),
+            _ => return Ok(false),
+        }
+        Ok(!self.a.is_over || !self.b.is_over)
+    }
+}
+
+/// What is blamed on the ends that are asked about; on the other, whatever it is.
+fn search(
+    alloc: Global,
+    record: &Record,
+    table: &Table,
+    a: bool,
+    b: bool,
+) -> Result<BlamedEnds, SearchFault>
+    ensures { IfOk result (λ r. (a ≡ true → r.a ≡ blamed table.now sides.A «record».now.entries.items)
+        × (b ≡ true → r.b ≡ blamed table.now sides.B «record».now.entries.items)) }
+{
+    let mut state = SearchState {
+        kept: Facts::new(alloc),
+        a: Looking::new(a),
+        b: Looking::new(b),
+    };
+    for (number, entry) in record.entries.iter().enumerate() {
+        // It bounds how many components there are, so that no count of them is above the greatest.
+        let _count = entry_count(entry);
+        if !state.take(alloc, table, number as u64, entry)? {
+            break;
+        }
+    }
+    Ok(BlamedEnds {
+        a: state.a.found,
+        b: state.b.found,
+    })
+}
+
+/// The lowest entry of that end, or quiet mark, that has a kind, with its lowest kind: no run in which the end keeps the rules has
+/// it there, whatever its peer sends (Q.771, Q.773, Q.774). `None` where there is none. The entries are looked at up to and
+/// including the first that is no item, of either end. Each message and each component takes a few look-ups in maps. `Memory` where
+/// memory ran out.
+pub fn blame(
+    alloc: Global,
+    record: &Record,
+    table: &Table,
+    end: End,
+) -> Result<Option<Refutation>, SearchFault>
+    ensures { IfOk result (λ r. r ≡ blamed table.now end «record».now.entries.items) }
+{
+    match end {
+        End::A => Ok(search(alloc, record, table, true, false)?.a),
+        End::B => Ok(search(alloc, record, table, false, true)?.b),
+    }
+}
+
+/// The same of both ends, in one pass.
+pub fn blame_both(alloc: Global, record: &Record, table: &Table) -> Result<BlamedEnds, SearchFault>
+    ensures { IfOk result (λ r. (r.a ≡ blamed table.now sides.A «record».now.entries.items)
+        × (r.b ≡ blamed table.now sides.B «record».now.entries.items)) }
+{
+    search(alloc, record, table, true, true)
+}
