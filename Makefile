@@ -6,6 +6,11 @@
 # make clib      proves and builds the library for programs in C, clib/out/libtcapjudge.a and .so, and compares what it and
 #                its examples say with what the program prints, and where Eclipse Titan is installed the verdicts of its
 #                example for TTCN-3
+# make dist      packs the proved program, the library for C, the tools, their pages and the tables into out/dist, as
+#                tcapjudge-VERSION-x86_64-linux.tar.gz and tcapjudge_VERSION_amd64.deb. Then it tests both (tests/dist.py)
+# make install   puts the same files below PREFIX, by default /usr/local, and DESTDIR before that
+# make dist-test installs, tries and removes the Debian package in a Debian that debootstrap makes: one to five minutes, as root. The gate
+#                does not run it
 # make test      the gate: all proofs, wrong bodies that have to be refused, the tests and runs of the program, with the seconds
 #                of each part and its processor time. So many checks go side by side as there are processors, and 5 GB of free memory
 #                for each; with RT_JOBS=N, N of them
@@ -21,10 +26,11 @@
 # make fuzz      runs the program over random and changed records, tables and certificates, for SECONDS, by default 60;
 #                SEED, and CASE of it, give the same ones again
 # make octets    runs it over messages that are cut, and over two with each octet set to each value: some minutes
-.PHONY: demo quick program clib test edits changed bench memory attack fuzz octets measured needs
+.PHONY: demo quick program clib dist install dist-test test edits changed bench memory attack fuzz octets measured needs
 
 PROGRAM = crates/tcapjudge/out/tcapjudge
 SECONDS = 60
+PREFIX = /usr/local
 
 demo: needs
 	@python3 dev/demo.py
@@ -41,6 +47,16 @@ program: needs
 clib: program
 	@python3 dev/clib.py
 	@python3 tests/titan.py
+
+dist: clib
+	@python3 dev/dist.py
+	@SOURCE_DATE_EPOCH=$${SOURCE_DATE_EPOCH:-$$(git log -1 --format=%ct)} python3 tests/dist.py out/dist
+
+install: clib
+	@python3 dev/dist.py --install "$(DESTDIR)$(PREFIX)"
+
+dist-test:
+	@python3 dev/dist_test.py
 
 test: needs
 	@python3 dev/gate.py

@@ -4,7 +4,7 @@ libraries that `rt ci` built; tests/titan.py over the library that this made; an
 allocation of a run of the program fail in turn. Meanwhile it tries wrong bodies (dev/edits.py), as soon as their
 crates are proved. It passes on what all these print. Then it prints the seconds and the processor time of the proof of
 each crate and of its tests, and ends with the line `N passed, M failed`, which counts everything. The exit status is 0
-if none failed.
+if none failed. It keeps that line in out/gate-result with git's hash of the tree, for the manifest of a package (dev/dist.py).
 
 `rt ci` does not report when a part begins and ends. So twice a second the gate looks in /proc for the runs of `rattle`
 that `rt ci` started, which a word in their environment marks. A part lasts from the first to the last time that it is
@@ -27,6 +27,7 @@ import threading
 import time
 
 import edits
+import tree
 
 # The tools for users are in tools/.
 sys.path.append("tools")
@@ -247,7 +248,8 @@ def refused_memory():
     return counts
 
 
-def main():
+def run_all():
+    """Runs all parts. Returns how many passed and failed."""
     os.environ[MARK] = str(os.getpid())
     # If make stops the gate, the gate stops what it runs.
     signal.signal(signal.SIGTERM, lambda *_: sys.exit(1))
@@ -277,8 +279,16 @@ def main():
     show_parts(parts, seconds, used)
     names = ["rt ci", *TESTS, "borrows", "the library for C", "TTCN-3", "allocations that fail", "wrong bodies"]
     show_failures(zip(names, [ci, *others]))
-    passed, failed = (sum(getattr(it, what) for it in [ci, *others]) for what in ("passed", "failed"))
-    print(f"{passed} passed, {failed} failed", flush=True)
+    return [sum(getattr(it, what) for it in [ci, *others]) for what in ("passed", "failed")]
+
+
+def main():
+    judged = tree.tree()
+    tree.forget_result()
+    passed, failed = run_all()
+    line = f"{passed} passed, {failed} failed"
+    tree.keep_result(judged, line)
+    print(line, flush=True)
     return int(failed != 0)
 
 

@@ -1,3 +1,4 @@
+#!/usr/bin/env python3
 """Makes lines for `tcapjudge pack` from a capture, one file for each pair of ends. docs/CAPTURES.md describes it.
 
     python3 tools/lines_of_capture.py CAPTURE FOLDER [--a WHAT] [--by PARTS] [--join | --apart] [--under-way] [--whole]
