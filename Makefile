@@ -39,7 +39,7 @@ quick: needs
 	@python3 dev/quick.py
 
 program: needs
-	@echo "Proves what is not yet proved: minutes on a fresh clone"
+	@echo "Proves what is not yet proved: about an hour on a fresh clone"
 	@log=$$(mktemp) && { (cd crates/tcapjudge && rt run -- --help) >"$$log" 2>&1 \
 		|| { cat "$$log" >&2; rm -f "$$log"; exit 1; }; rm -f "$$log"; }
 	@echo "The proved program is $(PROGRAM)"

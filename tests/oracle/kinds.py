@@ -1,4 +1,4 @@
-"""Finds the faults of an end of TCAP dialogues: an independent reading of the kinds F1 to F15 that docs/VERDICTS.md
+"""Finds the faults of an end of TCAP dialogues: an independent reading of the kinds F1 to F15 that docs/KINDS.md
 describes (Q.771, operation classes and linked operations; Q.773 4.2.2 and 4.2.3; Q.774 3.2 and 3.3). It reads the
 output of `tcapjudge show` for a record and of `tcapjudge table` for an operation table, and shares nothing else with
 the code under test. tests/fault_kinds.py compares its findings with the known faults of tests/cases/faults.json, and
