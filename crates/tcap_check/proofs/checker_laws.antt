@@ -1,4 +1,4 @@
--- The steps of a checker, from entry to entry, and its answers.
+-- The steps of a checker, entry by entry, and its results.
 pub mod SentAsItIsLaws
 pub mod ListedStepsLaws
 pub mod SendingLaws

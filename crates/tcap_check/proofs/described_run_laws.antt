@@ -1,4 +1,4 @@
--- From a run to its certificate: a certificate that describes a run gives one.
+-- A certificate that describes a run gives a run.
 pub mod ExpiryLaws
 pub mod ImpliedLaws
 pub mod OrderLaws

@@ -1,4 +1,4 @@
--- From a certificate to the run that it gives.
+-- The run that a certificate gives.
 pub mod StepsAreOne
 pub mod StepCounts
 pub mod GivenBound

@@ -1,4 +1,4 @@
--- One end alone: its replay is a run of this end, and a run of both ends gives one for each.
+-- The replay for one end is a run of this end, and a run of both ends gives one for each.
 pub mod AloneWeights
 pub mod AloneLoad
 pub mod AloneCounts

@@ -1,4 +1,4 @@
--- Prompt certificates, and runs that deliver each message before the next one is sent.
+-- Prompt certificates, and runs that deliver each message before the next is sent.
 pub mod PromptLaws
 pub mod AtOnceRuns
 pub mod AtOnceLaws

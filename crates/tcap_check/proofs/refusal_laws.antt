@@ -1,4 +1,4 @@
--- What a refusal says, and what was taken before it.
+-- What a refusal shows, and what was taken before it.
 pub mod NoSends
 pub mod SendShows
 pub mod FollowingLaws

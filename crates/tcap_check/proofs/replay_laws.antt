@@ -1,4 +1,4 @@
--- The replay of a certificate is a run, step by step; what it loses and discards.
+-- The replay of a certificate is a run, step by step, with these losses and discards.
 pub mod WaitingLaws
 pub mod ReplaySteps
 pub mod ListedEventLaws

@@ -1,5 +1,5 @@
--- What a certificate gives for one end alone: a run in which that end keeps the rules. What the certificate says of the end is in the
--- definition of that run (`Replayed`), and of the losses in `Told`.
+-- What does a certificate give for one end that is judged alone? It gives a run in which that end keeps the rules.
+-- `Replayed` defines the run, and `Told` its losses.
 use Rattle.std.specs.Prelude.{◌≡◌, ◌+◌, ◌*◌, ◌≤◌, List, [], length, Option, Some, None}
 use Rattle.tcap_record.specs.declared.entry.End.{End as Side}
 use Rattle.tcap_record.specs.declared.entry.Entry.{Entry}
@@ -13,8 +13,8 @@ use Rattle.tcap_certificate.specs.Follows.{losses_from, lost_from}
 use Rattle.tcap_check.specs.Given.{IsGiven}
 use Rattle.tcap_certificate.specs.Unheard.{steps_of, unheard_of}
 
--- The entries are items, and these events are a run that sends them, in which that end keeps the rules, whatever its peer sends, and
--- that leaves nothing on its way to it.
+-- The entries are items, and these events are a run that sends them. In the run this end keeps the rules, its peer may
+-- send anything, and nothing is left on its way to this end. The run's counts are bounded.
 pub record IsGivenFor (side : Side) (table : Table) (entries : List Entry) (events : List Event) : Type 0 where
   pub items : List Item
   pub are : AreItems entries items
@@ -24,11 +24,11 @@ pub record IsGivenFor (side : Side) (table : Table) (entries : List Entry) (even
   pub bound : steps_of side events ≤ 3 * length entries + count_components items
   pub unheard : unheard_of side events ≤ length entries
 
--- The same of whoever is judged: of both ends, or of that one.
+-- What a certificate gives for the judged ends: a run of both ends (`IsGiven`), or of one end alone (`IsGivenFor`).
 abbrev pub IsGivenTo : Option Side → Table → Certificate → List Entry → List Event → Type 0
 IsGivenTo None table c entries events = IsGiven table c entries events
 IsGivenTo (Some side) table c entries events = IsGivenFor side table entries events
 
--- Of the peer's messages exactly those are lost whose fates say so: none is discarded.
+-- The run loses exactly those messages of the peer whose fates are losses, so it discards none.
 abbrev pub DiscardsNothing : Side → Certificate → List Item → List Event → Type 0
 DiscardsNothing side c items events = losses_from (other side) events ≡ lost_from (other side) 0 c.fates items

@@ -1,4 +1,4 @@
--- What a certificate gives: a run, or the reason why it gives none.
+-- What does a certificate give, and what does a refusal show? It gives a run, or the first reason why it gives none.
 use Rattle.std.specs.Prelude.{◌≡◌, ◌≢◌, ◌⊎◌, ℕ, ◌+◌, ◌*◌, ◌≤◌, ◌<◌, ℤ, Bool, true, false, List, [], ◌∷◌, ◌++◌, length, map, take, slice_get, Contains, Option, Some, None, Result, Ok, Err}
 use Rattle.tcap_msg.specs.declared.message.Message.{Message}
 use Rattle.tcap_record.specs.declared.entry.End.{End as Side}
@@ -31,7 +31,8 @@ use Rattle.tcap_certificate.specs.Unheard.{IsLawfulUnheard}
 
 -- ---- a run
 
--- The entries are items, and these events are a run of two ends that sends them, as the certificate describes it.
+-- The entries are items, and these events are a run of two ends that keep the rules. The run sends the items and
+-- follows the certificate, and its length is bounded.
 pub record IsGiven (table : Table) (c : Certificate) (entries : List Entry) (events : List Event) : Type 0 where
   pub items : List Item
   pub are : AreItems entries items
@@ -42,7 +43,7 @@ pub record IsGiven (table : Table) (c : Certificate) (entries : List Entry) (eve
 
 -- ---- prompt runs
 
--- whether what happens next sends something, or nothing happens any more
+-- whether the next event sends something or is a quiet mark, or no event is left
 abbrev pub is_over_or_sends : List Event → Bool
 is_over_or_sends [] = true
 is_over_or_sends (Sends side message ∷ events) = true
@@ -51,14 +52,14 @@ is_over_or_sends (Quiet ∷ events) = true
 is_over_or_sends (Tells side message ∷ events) = true
 is_over_or_sends (event ∷ events) = false
 
--- Each message, the last one too, leaves its channel before another is sent: where something is sent, and at the end,
--- nothing is on its way. With no loss and no reply, it is delivered.
+-- Each message, the last one too, leaves its channel before the next is sent. With no loss and no provider's reply,
+-- each message is received.
 abbrev pub DeliversAtOnce : Table → List Event → Type 0
 DeliversAtOnce table events = (before behind : List Event) (w : World) → events ≡ before ++ behind
     → is_over_or_sends behind ≡ true → Runs table before w
     → (w.from_a ≡ []) × (w.from_b ≡ [])
 
--- No hidden step, which is a loss, an expiry or a closing, and none of an end that keeps no rule.
+-- The event is visible: no loss, expiry or closing, and no message of an end that keeps no rules.
 abbrev pub IsSeen : Event → Type 0
 IsSeen (Loses side number) = ⊥
 IsSeen (Expires side name id) = ⊥
@@ -68,47 +69,47 @@ IsSeen _ = Unit {0}
 
 -- ---- implied expiries
 
--- An own invocation of that ID is there, in the half of that name.
+-- This invoke ID is in use by an own invocation on this half.
 abbrev pub IsInUse : End → HalfName → ℤ → Type 0
 IsInUse e name id =
     (kept : KeptHalf) × (own : OwnInvocation) × (named e name ≡ Some kept) × (own_invocation kept.half id ≡ Some own)
 
 -- ---- reasons
 
--- the entry of that number
+-- The entry with this number is this item.
 abbrev pub IsAt : List Entry → ℕ → Item → Type 0
 IsAt entries number item = (entry : Entry) × (slice_get entries number ≡ Some entry) × IsItem entry item
 
--- Something listed for that gap names an entry that does not stand before the gap, or the gap lies behind the end;
--- count is that of the fates.
+-- The entry does not come before the gap, or the gap comes after the end of the record. `count` is the count of fates.
 abbrev pub IsOutside : ℕ → ℕ → ℕ → Type 0
 IsOutside count entry gap = (gap ≤ entry) ⊎ (count < gap)
 
--- A closing lies outside, or, of an end that is judged, for the items before its gap, names no Begin, or one with a quiet mark between.
+-- A closing is out of range. Or it is of a judged end and, after the items before its gap, it names no Begin, or a
+-- quiet mark comes between.
 abbrev pub IsNoClosing : Option Side → ℕ → List Entry → Closing → Type 0
 IsNoClosing judged count entries x = IsOutside count x.entry x.gap
     ⊎ ((items : List Item) × AreItems (take x.gap entries) items × (is_judged judged x.side ≡ true) × (closing_event items x ≡ None))
 
--- An expiry lies outside, or, of an end that is judged, for the items before its gap, names no Invoke of a Begin or Continue of its
--- end, or one with a quiet mark between.
+-- An expiry is out of range. Or it is of a judged end and, after the items before its gap, it names no Invoke in a
+-- Begin or Continue of its end, or a quiet mark comes between.
 abbrev pub IsNoExpiry : Option Side → ℕ → List Entry → Expiry → Type 0
 IsNoExpiry judged count entries x = IsOutside count x.entry x.gap
     ⊎ ((items : List Item) × AreItems (take x.gap entries) items × (is_judged judged x.side ≡ true) × (expiry_event items x ≡ None))
 
--- A fate lies outside its range, or is that of a quiet mark and not the next gap.
+-- A fate is out of range, or it is the fate of a quiet mark and is not the next gap.
 abbrev pub IsNoFate : ℕ → List Entry → ℕ → Fate → Type 0
 IsNoFate count entries number fate = (fate_fits count number fate ≡ false)
     ⊎ (IsAt entries number Item.Quiet × (fate ≡ Gap (number + 1) → ⊥))
 
--- The fate of that entry, or something listed that names it, is none.
+-- The fate of this entry is out of range, or a listed event that names this entry is.
 abbrev pub IsOutOfRange : Option Side → Certificate → List Entry → ℕ → Type 0
 IsOutOfRange judged c entries number =
     ((fate : Fate) × (slice_get c.fates number ≡ Some fate) × IsNoFate (length c.fates) entries number fate)
     ⊎ ((x : Closing) × Contains c.close x × (x.entry ≡ number) × IsNoClosing judged (length c.fates) entries x)
     ⊎ ((x : Expiry) × Contains c.expire x × (x.entry ≡ number) × IsNoExpiry judged (length c.fates) entries x)
 
--- An earlier message of the same end has a later time. What an end sends that alone is judged comes to nobody, so of its order nothing
--- is asked.
+-- An earlier message of the same end has a later time. This is not checked of an end that is judged alone, since nobody
+-- receives its messages.
 abbrev pub IsBeforeEarlier : Option Side → Certificate → List Entry → ℕ → Type 0
 IsBeforeEarlier judged c entries number =
     (side : Side) × (message before : Message) × (earlier : ℕ) × (fate later : Fate) × (is_heard judged side ≡ true)
@@ -116,7 +117,8 @@ IsBeforeEarlier judged c entries number =
     × (slice_get c.fates number ≡ Some fate) × (slice_get c.fates earlier ≡ Some later)
     × (is_later (time_of fate) (time_of later) ≡ true)
 
--- A message before that entry, to an end that is judged, is delivered behind it, or is taken by it or behind it.
+-- A message to a judged end, from before this entry, is delivered after this entry, or is taken by this entry or a
+-- later one.
 abbrev pub IsPending : Option Side → Certificate → List Entry → ℕ → Type 0
 IsPending judged c entries number =
     (side : Side) × (message : Message) × (earlier : ℕ) × (fate : Fate) × (is_heard judged side ≡ true)
@@ -128,8 +130,9 @@ IsPending judged c entries number =
     by_fate (By reply) = number ≤ reply
     by_fate Lost = ⊥
 
--- A run that sends the entries before that one, and is up to the gap before it what the certificate says, leaves a half
--- open; or, where one end alone is judged, what is replayed up to that gap leaves a half of it open that may not close unseen.
+-- If both ends are judged: some run that sends the entries before this one, and follows the certificate, leaves a half
+-- open. If one end is judged alone: its replay up to the gap before this entry leaves open a half that may not close
+-- without a message.
 abbrev pub IsStillOpen : Option Side → Table → Certificate → List Entry → ℕ → Type 0
 IsStillOpen (Some judged) table c entries number =
     (before behind : Replay) × (taken (Some judged) table c (map item_of (take number entries)) ≡ Ok before)
@@ -140,12 +143,13 @@ IsStillOpen None table c entries number =
     × FollowsFrom c w.sent 0 w.sent (without_losses events)
     × (quiet (end_at side w) ≡ Err faults.StillOpen)
 
--- An entry has a message and no end, or an end and a quiet mark.
+-- An entry has a message and no end, or a quiet mark and an end.
 abbrev pub IsNoItem : Entry → Type 0
 IsNoItem entry = ((message : Message) × (entry.side ≡ None) × (entry.body ≡ Good message))
     ⊎ ((side : Side) × (entry.side ≡ Some side) × (entry.body ≡ QuietMark))
 
--- What a refusal of that entry for that reason says of the certificate and the entries; of 64, 65 and 66 nothing.
+-- What the refusal of this entry for this reason shows of the certificate and the entries. For reasons 64, 65 and 66 it
+-- shows nothing.
 abbrev pub IsReason : Option Side → Table → Certificate → List Entry → ℕ → Reason → Type 0
 IsReason judged table c entries number reasons.FateCount =
     ((number < length entries) × (slice_get c.fates number ≡ None))
@@ -162,16 +166,17 @@ IsReason judged table c entries number reasons.CertificateShape = ⊥
 IsReason judged table c entries number reasons.Memory = ⊥
 IsReason judged table c entries number reason = Unit {0}
 
--- what a refusal shows of the certificate and the entries
+-- what a fault shows of the certificate and the entries
 abbrev pub ShowsReason : Option Side → Table → Certificate → List Entry → CheckFault → Type 0
 ShowsReason judged table c entries fault = IsReason judged table c entries fault.entry fault.reason
 
--- These entries are refused with that fault whatever comes behind them; of each reason but 64, 65 and 66 the certificate and they show it.
+-- These entries are refused with this fault no matter which entries come after them, and the certificate and the
+-- entries show the reason, unless it is 64, 65 or 66.
 abbrev pub IsRefused : Option Side → Table → Certificate → List Entry → CheckFault → Type 0
 IsRefused judged table c entries fault = (more : List Entry)
     → (replayed_by judged table c (entries ++ more) ≡ Err fault) × ShowsReason judged table c (entries ++ more) fault
 
--- Where a checker refuses the next entry, memory aside, it is refused whatever comes behind it.
+-- If a checker refuses the next entry, and memory did not run out, the entries are refused no matter which come after.
 abbrev pub RefusesForGood : Checking → Result Item Reason → Result (Unit {0}) CheckFault → Type 0
 RefusesForGood s next answer = (entries : List Entry) (entry : Entry) (fault : CheckFault) → Took s (map item_of entries)
     → item_of entry ≡ next → answer ≡ Err fault → fault ≢ fault_at reasons.Memory 0
@@ -179,22 +184,23 @@ RefusesForGood s next answer = (entries : List Entry) (entry : Entry) (fault : C
 
 -- ---- who may have sent items
 
--- Two lawful ends may have sent these items, in this order; or that end alone may have sent its part of them.
+-- Two ends that keep the rules may have sent these items, in this order. Or the end that is judged alone may have sent
+-- its part of them.
 abbrev pub MayBeSent : Option Side → List Item → Table → Type 0
 MayBeSent None items table = (moves : ℕ) × IsLawful items table moves
 MayBeSent (Some side) items table = IsLawfulFor side items table
 
 -- ---- reports
 
--- What a report says of items: two lawful ends may have sent them, by so many steps; or the end that is judged its part of them, by a run that
--- loses so many of its peer's messages.
+-- The report is true of these items. Two ends that keep the rules may have sent them in this many steps. Or the end
+-- that is judged alone may have sent its part, in a run that loses this many of its peer's messages.
 abbrev pub SaysLawful : Option Side → List Item → Table → Report → Type 0
 SaysLawful None items table report = IsLawful items table report.moves
 SaysLawful (Some judged) items table report = IsLawfulUnheard judged items table report.unheard
 
--- How large the numbers are in a report of a run that a certificate gives for these items. Of both ends it has at most two steps for each item,
--- one for each component and one for each listed event. Of one end it has at most three steps for each item and one for each component,
--- and no more unheard messages than items.
+-- The counts of a report are bounded. A run of both ends has at most two steps for each item, one for each component
+-- and one for each listed event. A run of one end has at most three steps for each item and one for each component, and
+-- at most as many unheard messages as items.
 abbrev pub IsBounded : Option Side → Certificate → List Item → Report → Type 0
 IsBounded None c items report = report.moves ≤ 2 * length items + count_components items + length c.expire + length c.close
 IsBounded (Some judged) c items report =

@@ -1,7 +1,8 @@
--- What a listed event may name of a Begin or a Continue.
+-- What does a checker keep of a Begin or Continue that a listed event names?
 use Rattle.std.specs.Prelude.{ℕ, ℤ, Bool, List, Option}
 
--- whether it is a Begin; its originating ID; and of each component the invoke ID, where it is an Invoke
+-- Whether the message is a Begin, its originating ID, and for each component its invoke ID if it is an Invoke, else
+-- None.
 pub record Noted : Type 0 where
   pub begins : Bool
   pub otid : List ℕ

@@ -1,4 +1,5 @@
--- What a checker keeps of the entries that it took: who sent them, and of those that listed events name, the IDs.
+-- What does a checker keep of the entries that it took? It keeps who sent each, and the IDs of those that listed events
+-- name.
 use Rattle.std.specs.Prelude.{ℕ, ◌+◌, ℤ, Bool, true, false, List, [], ◌∷◌, map, slice_get, Option, Some, None, ◌==◌, ◌||◌, nat_lt, cond, option_map}
 use Rattle.std.specs.List.{list_any}
 use Rattle.tcap_msg.specs.declared.message.Message.{Message}
@@ -17,32 +18,32 @@ use Rattle.tcap_certificate.specs.Certificate.{Certificate}
 use Rattle.tcap_model.specs.Since.{originating}
 use Rattle.tcap_certificate.specs.Follows.{half_begun, invoke_id}
 
--- whether it is a Begin
+-- whether a message is a Begin
 abbrev pub begins : Message → Bool
 begins (Begin otid dialogue components) = true
 begins _ = false
 
--- what there is to name of a message
+-- what a listed event may name of a message that has an originating ID
 abbrev pub note_of : Message → Option Noted
 note_of message = option_map
     (λ otid. record { begins = begins message; otid = otid; invokes = map invoke_id (components_in message) })
     (originating message)
 
--- an entry, where it is named or not
+-- what is kept of an entry; its IDs are kept only if a listed event names the entry
 abbrev pub outline_of : Bool → Item → Outline
 outline_of named (Sent side message) = outlines.Sent side (cond named (note_of message) None)
 outline_of named Item.Quiet = outlines.Mark
 
--- whether a listed event names that entry
+-- whether a listed event names this entry
 abbrev pub is_named : Certificate → ℕ → Bool
 is_named c entry = list_any (λ x. x.entry == entry) c.close || list_any (λ x. x.entry == entry) c.expire
 
--- the entries, the first of which has that number
+-- what is kept of these entries; the first has this number
 abbrev pub outlines_from : Certificate → ℕ → List Item → List Outline
 outlines_from c number [] = []
 outlines_from c number (item ∷ items) = outline_of (is_named c number) item ∷ outlines_from c (number + 1) items
 
--- the number of the entry behind the last quiet mark; the first of these items has number n
+-- the number of the entry after the last quiet mark; the first of these items has number n
 abbrev pub since_from : ℕ → ℕ → List Item → ℕ
 since_from since n [] = since
 since_from since n (Sent side message ∷ items) = since_from since (n + 1) items
@@ -50,24 +51,26 @@ since_from since n (Item.Quiet ∷ items) = since_from (n + 1) (n + 1) items
 
 -- ---- what a listed event names
 
--- the entry of that number, where no quiet mark stands behind it
+-- the entry with this number, or None if a quiet mark comes after it
 abbrev pub outline_named : List Outline → ℕ → ℕ → Option Outline
 outline_named entries since entry = cond (nat_lt entry since) None (slice_get entries entry)
 
--- the half that a closing names
+-- the half that a closing closes, if the closing names this entry
 abbrev pub half_closed_by : Closing → Outline → Option HalfName
 half_closed_by x (outlines.Sent sender (Some note)) = where_so note.begins (Some (half_begun x.side sender note.otid))
 half_closed_by x _ = None
 
+-- the half that a closing closes, found among the entries that were taken
 abbrev pub half_closed : List Outline → ℕ → Closing → Option HalfName
 half_closed entries since x = then_so (outline_named entries since x.entry) (half_closed_by x)
 
--- the own invocation that an expiry names: its half's own ID, and the invoke ID
+-- the invocation that an expiry ends, if the expiry names this entry: its half, by its own ID, and its invoke ID
 abbrev pub invocation_ended_by : Expiry → Outline → Option (HalfName × ℤ)
 invocation_ended_by x (outlines.Sent sender (Some note)) =
     where_so (is_side x.side sender)
     (then_so (then_so (slice_get note.invokes x.component) (λ id. id)) (λ id. Some (names.Own note.otid, id)))
 invocation_ended_by x _ = None
 
+-- the invocation that an expiry ends, found among the entries that were taken
 abbrev pub invocation_ended : List Outline → ℕ → Expiry → Option (HalfName × ℤ)
 invocation_ended entries since x = then_so (outline_named entries since x.entry) (invocation_ended_by x)

@@ -1,4 +1,4 @@
--- What a certificate says, by gap and by entry.
+-- What does a plan hold for each gap and each entry of a certificate?
 use Rattle.std.specs.Prelude.{◌≡◌, ◌≤◌, ℕ, Bool, false, length, slice_get, Option, Some, None}
 use Rattle.tcap_check.specs.declared.plan.Plan.{Plan}
 use Rattle.tcap_certificate.specs.Certificate.{Certificate}
@@ -8,11 +8,13 @@ use Rattle.tcap_check.specs.Listed.{listed_in}
 use Rattle.tcap_check.specs.Outlines.{is_named}
 use Rattle.tcap_check.specs.Progress.{due_in}
 
+-- the flag, or false if there is none
 abbrev pub flag_by : Option Bool → Bool
 flag_by None = false
 flag_by (Some flag) = flag
 
--- The lists of each gap and of each entry are those of the certificate, and it tells which entries are named.
+-- The plan of a certificate lists, for each gap, the listed events and the messages due, and, for each entry, the
+-- messages that it takes. It also marks the entries that closings or expiries name.
 pub record IsPlan (c : Certificate) (plan : Plan) : Type 0 where
   pub listed : (gap : ℕ) → gap ≤ length c.fates → list_at gap plan.listed ≡ listed_in c gap
   pub due : (gap : ℕ) → gap ≤ length c.fates → list_at gap plan.due ≡ due_in gap 0 c.fates

@@ -1,19 +1,20 @@
--- What holds of a checker between entries.
+-- Which invariants does a `Replaying` keep between entries?
 use Rattle.std.specs.Prelude.{◌≡◌, ◌≤◌, ◌*◌, ◌^◌, length, Ok}
 use Rattle.tcap_check.specs.declared.replaying.Replaying.{Replaying}
 use Rattle.tcap_check.specs.Checking.{Checking, Kept}
 use Rattle.tcap_check.specs.Plan.{IsPlan}
 use Rattle.tcap_check.specs.Progress.{load, unheard_load}
 
+-- what this replay keeps
 abbrev pub kept_in : Replaying → Kept
 kept_in x = record { progress = x.progress; entries = x.entries.items; since = x.since }
 
--- what a replay under way stands for
+-- the `Checking` that this replay implements
 abbrev pub checking_of : Replaying → Checking
 checking_of x = record { judged = x.judged; table = x.table.now; certificate = x.certificate.now; so_far = Ok (kept_in x) }
 
--- It goes by the certificate's plan; there is a fate for each entry so far; and there are at most so many steps, and
--- messages, for each.
+-- The replay follows its certificate's plan. Each entry so far has a fate, and there are at most 100,000 fates. The
+-- steps and unheard messages, with those that may still come, are bounded by the number of entries.
 pub record IsReady (x : Replaying) : Type 0 where
   pub plan : IsPlan x.certificate.now x.plan
   pub count : length x.entries.items ≤ length x.certificate.now.fates
@@ -21,7 +22,7 @@ pub record IsReady (x : Replaying) : Type 0 where
   pub room : load x.progress ≤ length x.entries.items * 2 ^ 68
   pub unheard : unheard_load x.progress ≤ length x.entries.items
 
--- All but the ends and what is on its way is the same.
+-- Everything but the progress is unchanged.
 pub record IsSameBesideProgress (x y : Replaying) : Type 0 where
   pub alloc : y.alloc ≡ x.alloc
   pub judged : y.judged ≡ x.judged
@@ -31,7 +32,7 @@ pub record IsSameBesideProgress (x y : Replaying) : Type 0 where
   pub entries : y.entries ≡ x.entries
   pub since : y.since ≡ x.since
 
--- All but what is kept of entries is the same.
+-- Everything but the entries is unchanged.
 pub record IsSameBesideEntries (x y : Replaying) : Type 0 where
   pub alloc : y.alloc ≡ x.alloc
   pub judged : y.judged ≡ x.judged

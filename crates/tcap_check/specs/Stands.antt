@@ -1,4 +1,4 @@
--- What a replay whose steps are listed leaves, whatever a call answers: a run so far.
+-- What does a replay with listed steps leave, even if an entry is refused? It leaves a run so far.
 use Rattle.std.specs.Prelude.{◌≡◌, ◌≢◌, ◌≤◌, ◌<◌, ◌+◌, ◌++◌, ℕ, true, length, drop, map, take, List, Option, None, Result, Ok, Err, Some, IfOk, IfSome, Contains, slice_get}
 use Rattle.std.specs.List.{AllByRecursion}
 use Rattle.tcap_msg.specs.declared.message.Message.{Message}
@@ -29,93 +29,96 @@ use Rattle.tcap_check.specs.declared.replaying.Replaying.{Replaying}
 use Rattle.tcap_certificate.specs.Replayed.{Replay, discards_by, fault_at, is_heard, replayed_by}
 use Rattle.tcap_check.specs.Told.{IsDiscarded, IsTold, MayAllBeDiscarded, discards_of, events_of, told_of}
 
--- Where one end alone is judged, the message of that number, which the fates do not say is lost, is discarded in these events for that reason.
+-- One end is judged alone and cannot receive the message with this number. These events discard the message for this
+-- reason, and its fate is not a loss.
 abbrev pub IsDiscardOf : Option Side → Table → Certificate → List Event → ℕ → EndFault → Type 0
 IsDiscardOf None table c events number reason = ⊥
 IsDiscardOf (Some side) table c events number reason =
     IsDiscarded side table events number reason × (slice_get c.fates number ≢ Some Lost)
 
--- What is told of the losses in these events is so: each discard is one, and each other loss of a message to an end that is judged is one
--- whose fate says so. Where both ends are judged, nothing is discarded.
+-- The discards account for the losses in these events: each discard is one (`IsDiscardOf`), and every other loss of a
+-- message to a judged end has a fate that is a loss. If both ends are judged, nothing is discarded.
 abbrev pub DiscardsSo : Option Side → Table → Certificate → List Event → List (ℕ × EndFault) → Type 0
 DiscardsSo judged table c events discards = AllByRecursion (λ x. IsDiscardOf judged table c events x.0 x.1) discards
     × ((sender : Side) (number : ℕ) → is_heard judged sender ≡ true → Contains events (Loses sender number) → IsTold c discards number)
 
--- What was replayed is a run, and what is told of its losses is so.
+-- The events of a replay are a run, and its discards account for its losses.
 abbrev pub TellsSo : Option Side → Table → Certificate → Replay → Type 0
 TellsSo judged table c r = Runs table r.events r.world × DiscardsSo judged table c r.events r.discards
 
--- What is kept is what is kept of a replay whose steps are listed.
+-- `x` keeps what is kept of some replay, with its steps listed.
 abbrev pub IsListed : Replaying → Type 0
 IsListed x = (r : Replay) × (kept_of true x.judged x.certificate.now r ≡ kept_in x)
 
--- where a call is refused, and not for want of memory
+-- if a call is refused, and memory did not run out
 abbrev pub IfRefused : Result (Unit {0}) CheckFault → Type 0 → Type 0
 IfRefused (Ok done) P = Unit {0}
 IfRefused (Err fault) P = fault ≢ fault_at Memory 0 → P
 
--- the reason why an end refuses to send a message, where it does
+-- the reason why an end may not send a message, if this is why the entry is refused
 abbrev pub refusal_to_send : Reason → Option EndFault
 refusal_to_send (SendRefused reason) = Some reason
 refusal_to_send reason = None
 
--- Where a call is refused since an end may not send a message, that of the entry of that number, the end that is left refuses to send it,
--- for that reason.
+-- If the call is refused since an end may not send a message, the fault is at this entry, and that end, as it is left,
+-- refuses to send the message for the same reason.
 abbrev pub ShowsSend : Table → Side → ℕ → Message → Result (Unit {0}) CheckFault → Progress → Type 0
 ShowsSend table side number message (Ok done) left = Unit {0}
 ShowsSend table side number message (Err fault) left =
     IfSome (refusal_to_send fault.reason) (λ reason. (fault.entry ≡ number) × (send table (seat_at side left).end message ≡ Err reason))
 
--- The same of an entry of that number, which may be no message; then no send is refused.
+-- `ShowsSend` for an entry that may be no message. If it is no message, no send is refused.
 abbrev pub ShowsItem : Table → ℕ → Result Item Reason → Result (Unit {0}) CheckFault → Progress → Type 0
 ShowsItem table number (Ok (Sent side message)) result left = ShowsSend table side number message result left
 ShowsItem table number entry (Ok done) left = Unit {0}
 ShowsItem table number entry (Err fault) left = refusal_to_send fault.reason ≡ None
 
--- unless memory ran out in a call
+-- unless memory ran out in the call
 abbrev pub UnlessMemory : Result (Unit {0}) CheckFault → Type 0 → Type 0
 UnlessMemory (Ok done) P = P
 UnlessMemory (Err fault) P = fault ≢ fault_at Memory 0 → P
 
--- The first so many of the entries are replayed, and not the next, where there is one.
+-- The replay takes this many of the entries, and refuses the next one, if there is one.
 pub record GoesTo (judged : Option Side) (table : Table) (c : Certificate) (entries : List Entry) (count : ℕ) : Type 0 where
   pub within : count ≤ length entries
   pub front : Replay
   pub takes : taken judged table c (map item_of (take count entries)) ≡ Ok front
   pub no_more : count < length entries → (fault : CheckFault) × (taken judged table c (map item_of (take (count + 1) entries)) ≡ Err fault)
 
--- the replay of the entries as far as it goes: of those that are taken, and of the next as far as that goes
+-- the replay after the entries that it takes, and after the next one up to the first step that cannot happen
 abbrev pub stopped_at : Option Side → Table → Certificate → List Entry → ℕ → Replay → Replay
 stopped_at judged table c entries count front = next_so_far judged table c (map item_of (drop count entries)) front
 
--- What is kept is what is kept of it.
+-- The progress is what is kept of the replay of these entries, up to the first step that cannot happen.
 pub record StandsAmong (table : Table) (c : Certificate) (judged : Option Side) (entries : List Entry) (p : Progress) : Type 0 where
   pub count : ℕ
   pub goes : GoesTo judged table c entries count
   pub stands : p ≡ progress_of true judged c (stopped_at judged table c entries count goes.front)
 
--- ---- what a caller has of it
+-- ---- what a caller gets
 
+-- the value for this end
 abbrev pub of_side : {A : Type 0} → Side → A → A → A
 of_side sides.A a b = a
 of_side sides.B a b = b
 
--- Where a certificate is refused since an end may not send an entry, that end, as it is there, refuses to send its message, for that reason.
+-- If a certificate is refused since an end may not send an entry, that end, as returned, refuses to send the message
+-- for the same reason.
 abbrev pub IsRefusedThere : Table → List Entry → CheckFault → End → End → Type 0
 IsRefusedThere table entries fault a b = IfSome (refusal_to_send fault.reason) (λ reason. (side : Side) × (message : Message)
     × IsAt entries fault.entry (Sent side message) × (send table (of_side side a b) message ≡ Err reason))
 
--- the same of the ends that are kept, where a call is refused
+-- If a call is refused since an end may not send an entry, the kept ends show it (`IsRefusedThere`).
 abbrev pub ShowsAmong : Table → List Entry → Result (Unit {0}) CheckFault → Progress → Type 0
 ShowsAmong table entries (Ok done) left = Unit {0}
 ShowsAmong table entries (Err fault) left = IsRefusedThere table entries fault left.a.end left.b.end
 
--- what is answered of a run: the reason why there is none, or the run
+-- the fault, or the run if there is no fault
 abbrev pub answered : {A : Type 0} → Option CheckFault → A → Result A CheckFault
 answered None run = Ok run
 answered (Some fault) run = Err fault
 
--- The steps of a run of whoever is judged, that sends these entries, and what is discarded in it; or the first reason why the certificate
+-- The answer is the steps of a run that sends these entries, with its discards, or the first reason why the certificate
 -- gives none.
 pub record IsAnswered (judged : Option Side) (table : Table) (c : Certificate) (entries : List Entry) (answer : Result (List Step) CheckFault) : Type 0 where
   pub given : IfOk answer (λ steps. IsGivenTo judged table c entries (events_of steps))
@@ -123,14 +126,16 @@ pub record IsAnswered (judged : Option Side) (table : Table) (c : Certificate) (
   pub discards : map_ok discards_of answer ≡ discards_by judged table c (map item_of entries)
   pub may : IfOk answer (λ steps. MayAllBeDiscarded judged c (discards_of steps))
 
--- If the replay of these entries ended with this result, and these steps are listed, then these, or its refusal, are the answer.
+-- If the replay of these entries ends with this result and lists these steps, then the answer is these steps, or the
+-- fault of the result.
 abbrev pub EndsListed : Option Side → Table → Certificate → List Entry → Result (Unit {0}) CheckFault → Progress → Type 0
 EndsListed judged table c entries result p = (steps : List Step) → p.steps ≡ Some (told_of steps)
     → IsAnswered judged table c entries (map_ok (λ done. steps) result)
 
--- The steps are a run from the empty world, as far as a replay goes: those of the entries that it takes, which are the first ones, and
--- those of the next entry, or of the end, up to the first that may not happen. The run sends the entries that are taken, and nothing else.
--- What is told of its losses is so. The ends are those after it.
+-- The steps are a run from the empty world, up to the first step that cannot happen. They are the steps of the entries
+-- that the replay takes, which come first, and then those before the next entry, or before the end of the record. The
+-- run sends exactly the entries that are taken. The discards account for its losses. `a` and `b` are the ends after
+-- these steps.
 pub record IsSoFar (judged : Option Side) (table : Table) (c : Certificate) (entries : List Entry) (steps : List Step) (a b : End) : Type 0 where
   pub count : ℕ
   pub goes : GoesTo judged table c entries count

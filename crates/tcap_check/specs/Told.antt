@@ -1,4 +1,4 @@
--- What is told of a run.
+-- Which events and discards does a list of steps report?
 use Rattle.std.specs.Prelude.{◌≡◌, ◌⊎◌, ℕ, Bool, true, false, Contains, List, [], ◌∷◌, ◌++◌, filter_map, map, slice_get, Option, Some, None, Err}
 use Rattle.std.specs.List.{AllByRecursion}
 use Rattle.tcap_record.specs.declared.entry.End.{End as Side}
@@ -13,7 +13,7 @@ use Rattle.tcap_check.specs.declared.step.Step.{Step}
 use Rattle.tcap_check.specs.declared.step.Step.TheVariants as steps
 use Rattle.tcap_certificate.specs.Certificate.{Certificate}
 
--- what a step stands for: a discard for the loss of the message
+-- the event of a step; a discard is the loss of the message
 abbrev pub event_of : Step → Event
 event_of (steps.Sends side message) = Sends side message
 event_of (steps.Tells side message) = Tells side message
@@ -25,55 +25,59 @@ event_of (steps.Expires side name id) = Expires side name id
 event_of (steps.Closes side name) = Closes side name
 event_of steps.Quiet = Quiet
 
+-- the events of these steps
 abbrev pub events_of : List Step → List Event
 events_of list = map event_of list
 
--- the message that a step discards, and why
+-- the number of the message that a step discards, with the reason
 abbrev pub discard_of : Step → Option (ℕ × EndFault)
 discard_of (steps.Discards side number reason) = Some (number, reason)
 discard_of step = None
 
+-- the discards among these steps
 abbrev pub discards_of : List Step → List (ℕ × EndFault)
 discards_of list = filter_map discard_of list
 
--- The steps, and the number of each message that was discarded, with the reason.
+-- The events of a run, and the number of each discarded message with the reason.
 pub record Told : Type 0 where
   pub events : List Event
   pub discards : List (ℕ × EndFault)
 
+-- the report before the first step
 abbrev pub nothing_told : Told
 nothing_told = record { events = []; discards = [] }
 
--- what a list of steps tells
+-- the events and discards of a list of steps
 abbrev pub told_of : List Step → Told
 told_of list = record { events = events_of list; discards = discards_of list }
 
--- these steps more, none of which is a discard
+-- the report with more events; none is a discard
 abbrev pub more_told : List Event → Told → Told
 more_told events told = record told { events = told.events ++ events }
 
--- that the last of the steps was a discard
+-- the report with its last event marked as the discard of this message, for this reason
 abbrev pub discard_more : ℕ → EndFault → Told → Told
 discard_more number reason told = record told { discards = told.discards ++ (number, reason) ∷ [] }
 
--- what is told of a run, where it is
+-- the report, if steps are listed
 abbrev pub told_if : Bool → List Event → List (ℕ × EndFault) → Option Told
 told_if true events discards = Some (record { events = events; discards = discards })
 told_if false events discards = None
 
 -- ---- discards
 
--- Whether a message of that number may be discarded: not in a run of both ends; where one alone is judged, only what the
--- certificate says is delivered in a gap.
+-- Whether the message with this number may be discarded. Nothing is discarded in a run of both ends. If one end is
+-- judged alone, only a message whose fate is a gap may be discarded.
 abbrev pub MayBeDiscarded : Option Side → Certificate → ℕ → Type 0
 MayBeDiscarded None c number = ⊥
 MayBeDiscarded (Some side) c number = (gap : ℕ) × (slice_get c.fates number ≡ Some (Gap gap))
 
+-- Each of these discards is allowed.
 abbrev pub MayAllBeDiscarded : Option Side → Certificate → List (ℕ × EndFault) → Type 0
 MayAllBeDiscarded judged c discards = AllByRecursion (λ x. MayBeDiscarded judged c x.0) discards
 
--- In these events the message of that number, which the peer of an end sent, is lost where it is the oldest on its way to
--- the end, which can't receive it there, for that reason.
+-- These events lose the peer's message with this number when it is the oldest on its way to this end. The end cannot
+-- receive the message then, for this reason.
 pub record IsDiscarded (side : Side) (table : Table) (events : List Event) (number : ℕ) (reason : EndFault) : Type 0 where
   pub before : List Event
   pub behind : List Event
@@ -86,6 +90,6 @@ pub record IsDiscarded (side : Side) (table : Table) (events : List Event) (numb
   pub number_is : first.number ≡ number
   pub refused : receive table (end_at side world) first.message ≡ Err reason
 
--- Of a message of the peer that is lost its fate says so, or it is among the discards.
+-- The fate of this message is a loss, or the message is among the discards.
 abbrev pub IsTold : Certificate → List (ℕ × EndFault) → ℕ → Type 0
 IsTold c discards number = (slice_get c.fates number ≡ Some Lost) ⊎ ((reason : EndFault) × Contains discards (number, reason))

@@ -1,4 +1,4 @@
--- Worked refusals: how far the replay goes of a certificate that gives no run.
+-- How far does the replay go for nine certificates that give no run?
 use Rattle.std.specs.Prelude.{◌≡◌, ℕ, pos, List, [], ◌∷◌, map, Option, Some, None}
 use Rattle.tcap_parts.specs.declared.code.Code.TheVariants.{Local}
 use Rattle.tcap_parts.specs.declared.component.Component.TheVariants.{Invoke}
@@ -20,8 +20,8 @@ use Rattle.tcap_certificate.specs.Replayed.{Replay, refused, replayed_by}
 use Rattle.tcap_certificate.specs.Worked.{by_fates}
 use Rattle.tcap_check.specs.Stands.{GoesTo, stopped_at}
 
--- A record, a certificate that gives no run of it, how many of its entries are replayed, and the steps of these and of the next one, up to
--- the first that may not happen.
+-- A record with a certificate that gives no run of it: who is judged, the count of entries that the replay takes, and
+-- the events and discards up to the first step that cannot happen.
 pub record WorkedSoFar : Type 0 where
   pub judged : Option Side
   pub items : List Item
@@ -30,7 +30,8 @@ pub record WorkedSoFar : Type 0 where
   pub events : List Event
   pub discards : List (ℕ × EndFault)
 
--- So it is, and the certificate is refused for that reason, at that entry.
+-- The certificate is refused for this reason at this entry, and its replay takes this count of entries and makes these
+-- events and discards.
 abbrev pub StopsSoFar : WorkedSoFar → Reason → ℕ → Type 0
 StopsSoFar w reason entry =
     (replayed_by w.judged table w.certificate (map entry_of w.items) ≡ refused reason entry)
@@ -40,12 +41,12 @@ StopsSoFar w reason entry =
 
 -- ---- a gap
 
--- two invocations
+-- a Begin with two Invokes
 abbrev two_invokes : Message
 two_invokes = begin None (Some (Invoke (pos 2) None (Local (pos 45)) None ∷ invoke 45 ∷ []))
 
--- Of three expiries that are listed the second may not happen, since the first ended its invocation. The third does not happen, and the
--- message is not delivered.
+-- Three expiries are listed. The second cannot happen, since the first ended its invocation. So the third expiry and
+-- the delivery do not happen.
 abbrev pub expiry_after_a_refused_one : WorkedSoFar
 expiry_after_a_refused_one = record {
   judged = None;
@@ -59,7 +60,8 @@ expiry_after_a_refused_one = record {
   discards = [];
 }
 
--- Closings come before expiries: the half that closed closes no more, and its invocation does not end.
+-- Closings come before expiries. The second closing cannot happen, since the first closed its half. So the third
+-- closing and the expiry do not happen.
 abbrev pub expiry_after_a_refused_closing : WorkedSoFar
 expiry_after_a_refused_closing = record {
   judged = None;
@@ -74,7 +76,8 @@ expiry_after_a_refused_closing = record {
   discards = [];
 }
 
--- A's End crosses two Continues of B. In the last gap the End is delivered; then the first Continue is lost, and A can't receive the second.
+-- A's End crosses two Continues of B. In the last gap B receives the End, then the first Continue is lost, and A cannot
+-- receive the second.
 abbrev pub delivery_after_its_losses : WorkedSoFar
 delivery_after_its_losses = record {
   judged = None;
@@ -88,7 +91,8 @@ delivery_after_its_losses = record {
 
 -- ---- an entry
 
--- A begins anew with the ID of an open half, over which it invokes: the earlier invocation ends, and then A may not send.
+-- A begins again with the ID of an open half, and invokes an ID that is in use there. The earlier invocation expires,
+-- but A may not send.
 abbrev pub send_after_what_it_implies : WorkedSoFar
 send_after_what_it_implies = record {
   judged = None;
@@ -99,7 +103,7 @@ send_after_what_it_implies = record {
   discards = [];
 }
 
--- A's half is open, so its provider answers no Continue; the one before it was lost.
+-- A's half is open, so its provider may not answer a Continue. The Continue before it is lost first.
 abbrev pub reply_after_its_losses : WorkedSoFar
 reply_after_its_losses = record {
   judged = None;
@@ -112,7 +116,8 @@ reply_after_its_losses = record {
   discards = [];
 }
 
--- A message that is to come before an earlier one is refused before its gap: the closing that is listed for the gap does not happen.
+-- A message that overtakes an earlier one is refused before its gap, so the closing that is listed for the gap does not
+-- happen.
 abbrev pub overtaking_before_its_gap : WorkedSoFar
 overtaking_before_its_gap = record {
   judged = None;
@@ -123,7 +128,7 @@ overtaking_before_its_gap = record {
   discards = [];
 }
 
--- A alone sends what it may not; a message of B that it could not receive is discarded before that.
+-- A is judged alone and sends an End that it may not. Before that it discards a message of B that it cannot receive.
 abbrev pub send_after_a_discard : WorkedSoFar
 send_after_a_discard = record {
   judged = Some A;
@@ -136,7 +141,8 @@ send_after_a_discard = record {
 
 -- ---- a quiet mark
 
--- A alone: the half that nobody answered closes, and the one that is active may not. The Begin of B that is on its way is not lost.
+-- A is judged alone. Its half that was not answered closes, but its active half may not. So the Begin of B that is on
+-- its way is not lost.
 abbrev pub mark_after_a_half : WorkedSoFar
 mark_after_a_half = record {
   judged = Some A;
@@ -149,7 +155,7 @@ mark_after_a_half = record {
   discards = [];
 }
 
--- Both ends: A's Begin is lost, and its half is open.
+-- Both ends are judged. A's Begin is lost, but its half is still open.
 abbrev pub mark_after_its_losses : WorkedSoFar
 mark_after_its_losses = record {
   judged = None;

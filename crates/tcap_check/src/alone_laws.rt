@@ -1,5 +1,5 @@
-//! What a certificate gives for one end alone: a run in which that end keeps the rules, whatever its peer sends. Each
-//! function says by its contract alone what holds of the definitions.
+//! Laws of the run that a certificate gives for one end alone. In that run the end keeps the rules, and its peer may
+//! send anything. Each function has an empty body, and its contract states one law.
 
 ghost use Rattle.std.specs.Prelude.{◌≡◌, ℕ, List, [], map, length, Contains, Ok, None, Some};
 ghost use Rattle.std.specs.List.{AllByRecursion};
@@ -18,18 +18,18 @@ ghost use Rattle.tcap_check.specs.Told.{IsDiscarded, IsTold};
 ghost use Rattle.tcap_certificate.specs.Unheard.{unheard_of};
 ghost use Rattle.tcap_check.specs.AloneGiven.{DiscardsNothing, IsGivenFor};
 
-/// A run of one end from any certificate: what it gives is a run, from the empty world, which sends the items that the
-/// entries are, in their order, and nothing else, and in which that end keeps the rules; it leaves nothing on its way to it. But for the losses of what the
-/// end sent, it has at most three times as many steps as there are entries, and one for each component; no more of the
-/// peer's messages are lost than there are entries.
+/// States that what a certificate gives for one end is a run from the empty world. The run sends exactly the items that
+/// the entries are, in order, the end keeps the rules in it, and it leaves nothing on its way to the end. Apart from
+/// the losses of the end's own messages, the run has at most three steps for each entry and one for each component. It
+/// loses at most as many of the peer's messages as there are entries.
 pub fn gives_a_run_of_one_end()
     ensures { (side : Side) (table : Table) (c : Certificate) (entries : List Entry) (events : List Event)
         → replayed_by (Some side) table c entries ≡ Ok events
         → IsGivenFor side table entries events }
 {}
 
-/// Where a certificate gives a run of two ends, it gives each end alone a run too, in which none of the peer's messages
-/// is lost but those whose fates say so: none is discarded.
+/// States that a certificate that gives a run of both ends also gives a run of each end alone. That run loses only
+/// those messages of the peer whose fates are losses, and discards none.
 pub fn both_give_each()
     ensures { (side : Side) (table : Table) (c : Certificate) (entries : List Entry) (items : List Item)
         (events : List Event)
@@ -38,30 +38,30 @@ pub fn both_give_each()
         × (discards_by (Some side) table c (map item_of entries) ≡ Ok []) }
 {}
 
-/// So that end may have sent its part of these items, whatever its peer sends.
+/// States that the end of such a run may have sent its part of the items, no matter what its peer sent.
 pub fn what_one_end_is_given_is_lawful()
     ensures { (side : Side) (table : Table) (c : Certificate) (entries : List Entry) (events : List Event)
         → replayed_by (Some side) table c entries ≡ Ok events
         → (items : List Item) × AreItems entries items × IsLawfulFor side items table }
 {}
 
-/// A message that is discarded in that run is lost where it is the oldest on its way to the end, which can't receive it there, for the
-/// reason that it answers.
+/// States that the run discards a message only when the message is the oldest on its way to the end. The end cannot
+/// receive the message then, for the reason that the discard gives.
 pub fn discards_have_reasons()
     ensures { (side : Side) (table : Table) (c : Certificate) (entries : List Entry) (events : List Event) (discards : List (ℕ × EndFault))
         → replayed_by (Some side) table c entries ≡ Ok events → discards_by (Some side) table c (map item_of entries) ≡ Ok discards
         → AllByRecursion (λ x. IsDiscarded side table events x.0 x.1) discards }
 {}
 
-/// The other way: where a message of the peer is lost in it, its fate says so, or it is among those that are discarded.
+/// States that each message of the peer that the run loses has a loss as its fate, or is among the discards.
 pub fn losses_are_told()
     ensures { (side : Side) (table : Table) (c : Certificate) (entries : List Entry) (events : List Event) (discards : List (ℕ × EndFault))
         → replayed_by (Some side) table c entries ≡ Ok events → discards_by (Some side) table c (map item_of entries) ≡ Ok discards
         → (number : ℕ) → Contains events (Loses (other side) number) → IsTold c discards number }
 {}
 
-/// In that run each of the peer's messages is received, answered by the provider, or lost: none is left on its way. So
-/// those that are lost are all that the end does not hear.
+/// States that the run leaves none of the peer's messages on its way: the end receives each, its provider answers it,
+/// or it is lost. So the unheard messages are exactly those that are lost.
 pub fn nothing_waits_for_the_end()
     ensures { (side : Side) (table : Table) (c : Certificate) (entries : List Entry) (events : List Event) (w : World)
         → replayed_by (Some side) table c entries ≡ Ok events → Runs table events w

@@ -1,11 +1,11 @@
-//! Lists of items by a number.
+//! Lists of items, one for each number.
 
 ghost use Rattle.std.specs.Prelude.{◌≡◌, ◌<◌, ◌++◌, ◌∷◌, [], ℕ, ◌==◌, cond, OnOk, OnErr, IfOk, length};
 ghost use Rattle.tcap_check.specs.Buckets.{count_lists, list_at};
 
 use std::alloc::{AllocError, Global};
 
-/// A list for each of so many numbers, from 0.
+/// A list of items for each number from 0 up to a count.
 #[derive(Debug, Drop)]
 pub struct Buckets<T> {
     lists: Vec<Vec<T>>,
@@ -15,7 +15,7 @@ impl<T: Drop> Buckets<T> {
     ghost use Rattle.std.specs.Prelude.{◌≡◌, ◌<◌, ◌++◌, ◌∷◌, [], ℕ, ◌==◌, cond, OnOk, IfOk};
     ghost use Rattle.tcap_check.specs.Buckets.{count_lists, list_at};
 
-    /// So many empty lists.
+    /// Creates this many empty lists. Fails if memory runs out.
     pub(crate) fn new(alloc: Global, count: usize) -> Result<Buckets<T>, AllocError>
         ensures empty { IfOk result (λ made. (n : ℕ) → list_at n made ≡ []) }
         ensures count { IfOk result (λ made. count_lists made ≡ count) }
@@ -27,7 +27,7 @@ impl<T: Drop> Buckets<T> {
         Ok(Buckets { lists })
     }
 
-    /// One item more of a number, behind the others; none where there is no list of it.
+    /// Appends an item to the list of this number, or drops it if there is no such list. Fails if memory runs out.
     pub(crate) fn push(&mut self, at: usize, item: T) -> Result<(), AllocError>
         ensures pushed { OnOk result ((n : ℕ) → n < count_lists self.old
             → list_at n self.new ≡ cond (n == at) (list_at n self.old ++ item ∷ []) (list_at n self.old)) }
@@ -39,7 +39,7 @@ impl<T: Drop> Buckets<T> {
         Ok(())
     }
 
-    /// The items of a number; none where there is no list of it.
+    /// Returns the items of this number, or none if there is no such list.
     pub fn get(&self, at: usize) -> &[T]
         ensures { result.now ≡ list_at at self.now }
     {

@@ -1,5 +1,5 @@
-//! A checker: it replays a certificate over entries that come one after the other, for both ends or for the one that is judged, and
-//! believes nothing of it, nor of a peer that is not judged.
+//! A checker, which replays a certificate over entries that come one by one, for both ends or for one end alone. It
+//! trusts neither the certificate nor a peer that is not judged.
 
 ghost use Rattle.std.specs.Prelude.{◌≡◌, ◌≢◌, ◌++◌, ◌∷◌, [], List, length, map, None, Result, Ok, Err, IfOk, IsTrue, OnOk, is_ok};
 ghost use Rattle.tcap_certificate.specs.declared.fault.CheckFault.{CheckFault as Refusal};
@@ -25,26 +25,30 @@ use tcap_model::Reason;
 use tcap_msg::MessageParts;
 use tcap_record::End;
 
-/// What a check that succeeds says of the run.
+/// The counts of a run that a certificate gives.
 #[derive(Clone, Copy, Debug, PartialEq, Eq)]
 pub struct Report {
-    /// How many steps the run has: one for each entry, each delivery, each loss, each listed event, and each earlier invocation
-    /// that ended because its ID was invoked anew. Where one end is judged, the losses of what it sent and what is listed of its
-    /// peer are left out, and each of its halves that closes at a quiet mark counts.
+    /// The number of steps.
+    ///
+    /// There is one step for each entry, delivery, loss and listed event, and for each earlier invocation that expired
+    /// because its ID was invoked again. If one end is judged alone, the losses of messages from that end and the
+    /// events listed for its peer do not count. Each half of the end that closes at a quiet mark does count.
     pub moves: u128,
-    /// Where one end is judged, how many messages of its peer it is taken not to have received: lost by the certificate, or
-    /// because it could not receive them; else 0.
+    /// The number of the peer's messages that are lost, if one end is judged alone; else 0.
+    ///
+    /// A message is lost by the certificate, or because the judged end cannot receive it.
     pub unheard: u64,
 }
 
-/// A certificate that is replayed over entries as they come, for both ends, or for the one that is judged, whatever its peer sends. A
-/// refusal is answered for ever. Unless memory ran out, what it stands for is the replay of the entries that it took (`Took`). It
-/// keeps copies of the messages that wait.
+/// The replay of a certificate over entries as they come, for both ends or for one end alone.
+///
+/// It keeps copies of the messages that wait. After a refusal, or after memory ran out, every later call returns the
+/// same fault.
 #[derive(Debug, Drop)]
 pub struct Checker<'a> {
-    // No message is lent to it, so that it may be dropped behind its table and its certificate.
+    // No message is lent to the replay, so a checker may be dropped after its table and its certificate.
     replaying: Replaying<'a, 'static>,
-    // Why there is no run, or that memory ran out.
+    // The fault that every later call returns, if there is one.
     fault: Option<CheckFault>,
 }
 
@@ -66,8 +70,12 @@ impl<'a> Model for Checker<'a> {
 }
 
 impl<'a> Checker<'a> {
-    /// A checker of that certificate for both ends, over which no entry went yet. `FateRange` where a number of the
-    /// certificate lies out of its range, at the entry of it; or `Memory`.
+    /// Creates a checker that judges both ends and has taken no entry.
+    ///
+    /// # Errors
+    ///
+    /// `FateRange` if a number of the certificate is out of range, at the entry that this number belongs to; `Memory`
+    /// if memory runs out.
     pub fn new(
         alloc: Global,
         table: &'a Table,
@@ -82,9 +90,15 @@ impl<'a> Checker<'a> {
         Checker::judging(alloc, table, certificate, None)
     }
 
-    /// The same; with `Some(end)` that end alone is judged, whatever its peer sends, with `None` both. Of one end, nothing is asked
-    /// of what the certificate says of the peer's halves, or of what became of that end's own messages, but for the ranges of its
-    /// numbers.
+    /// Creates a checker that judges one end alone with `Some(end)`, or both with `None`, and has taken no entry.
+    ///
+    /// If one end is judged alone, what the certificate lists for the peer, and the fates of messages from that end,
+    /// are checked only for their ranges.
+    ///
+    /// # Errors
+    ///
+    /// `FateRange` if a number of the certificate is out of range, at the entry that this number belongs to; `Memory`
+    /// if memory runs out.
     pub fn judging(
         alloc: Global,
         table: &'a Table,
@@ -104,11 +118,18 @@ impl<'a> Checker<'a> {
         })
     }
 
-    /// Takes the next entry: the message that an end sent, or the fault of the octets that are none, whatever end sent
-    /// them. On Ok it is sent in the run that is built; else the certificate gives no run of these entries, whatever comes behind
-    /// them: `FateCount`, `FateRange`, `OutOfOrder`, `BadReply`, `SendRefused`, `HiddenRefused` or `BadMessage`; or `Memory` ran
-    /// out. It is answered for ever. Where one end is judged, its peer's message is told; `SendRefused` is of its own messages alone, and
-    /// `OutOfOrder` of its peer's.
+    /// Takes the next entry: a message that an end sent, or the fault of octets that are no message, from either end.
+    ///
+    /// If one end is judged alone, its peer may send any message.
+    ///
+    /// # Errors
+    ///
+    /// `FateCount`, `FateRange`, `OutOfOrder`, `BadReply`, `SendRefused`, `HiddenRefused` or `BadMessage` if the
+    /// certificate gives no run of these entries, no matter which entries follow. `Memory` if memory runs out. Every
+    /// later call returns the same fault.
+    ///
+    /// If one end is judged alone, `SendRefused` is only for messages from that end, and `OutOfOrder` only for messages
+    /// from its peer.
     pub fn step<M: MessageParts>(
         &mut self,
         side: End,
@@ -133,10 +154,14 @@ impl<'a> Checker<'a> {
         answer
     }
 
-    /// Takes the next entry: a quiet mark. On Ok all is quiet there in the run that is built; else the certificate gives
-    /// no run of these entries, whatever comes behind them: `FateCount`, `FateRange`, `BadReply`, `HiddenRefused` or `NotQuiet`; or
-    /// `Memory` ran out. It is answered for ever. Where one end is judged, nothing waits for it there, and its open halves close
-    /// unseen.
+    /// Takes the next entry, a quiet mark: nothing is on its way, and no half is open.
+    ///
+    /// If one end is judged alone, its open halves close before the mark without a message.
+    ///
+    /// # Errors
+    ///
+    /// `FateCount`, `FateRange`, `BadReply`, `HiddenRefused` or `NotQuiet` if the certificate gives no run of these
+    /// entries, no matter which entries follow. `Memory` if memory runs out. Every later call returns the same fault.
     pub fn mark(&mut self) -> Result<(), CheckFault>
         ensures took { (entries : List (Result Item Why)) → Took self.old entries → result ≢ Err (fault_at reasons.Memory 0)
             → Took self.new (entries ++ Ok Item.Quiet ∷ []) }
@@ -157,7 +182,8 @@ impl<'a> Checker<'a> {
         answer
     }
 
-    /// The next entry is neither.
+    /// Refuses the next entry, which is neither a message nor a quiet mark: `NoItem`, or `FateCount` if it has no fate.
+    /// Every later call returns the same fault.
     pub(crate) fn no_item(&mut self) -> Result<(), CheckFault>
         ensures took { (entries : List (Result Item Why)) → Took self.old entries
             → Took self.new (entries ++ Err reasons.NoItem ∷ []) }
@@ -176,8 +202,10 @@ impl<'a> Checker<'a> {
         Err(fault)
     }
 
-    /// How many messages are kept: those of the entries so far that are delivered, or taken by a reply, behind them; where one end is
-    /// judged, those of its peer. They are counted anew. Behind a refusal the number means nothing.
+    /// Counts the messages that wait: a judged end receives them, or its provider answers them, after the entries so
+    /// far.
+    ///
+    /// The call goes over all messages on their way. After a refusal the number has no meaning.
     pub fn pending(&self) -> usize
         ensures kept { (k : Kept) → self.now.so_far ≡ Ok k → result ≡ count_waiting self.now.judged k.progress }
         ensures ahead { (entries : List (Result Item Why)) → Took self.now entries → IsTrue (is_ok self.now.so_far)
@@ -190,10 +218,15 @@ impl<'a> Checker<'a> {
         }
     }
 
-    /// No entry is left. On Ok the certificate gives a run of exactly these entries, of so many steps: they are items, and two
-    /// lawful ends may have sent them, or the one that is judged its part. Where the certificate describes such a run of two ends, Ok
-    /// is answered. Else the first reason why it gives none: one that was answered, `FateCount`, `FateRange`, `BadReply` or
-    /// `HiddenRefused`; or `Memory` ran out.
+    /// Ends the record after the entries so far, and returns the counts of the run.
+    ///
+    /// The entries are items, and two ends that keep the rules may have sent them, or the end that is judged alone may
+    /// have sent its part of them. If both ends are judged, and the certificate describes such a run, the result is Ok.
+    ///
+    /// # Errors
+    ///
+    /// The fault of an earlier call. `FateCount`, `FateRange`, `BadReply` or `HiddenRefused` if the certificate gives
+    /// no run of these entries. `Memory` if memory runs out.
     pub fn finish(self) -> Result<Report, CheckFault>
         ensures for_ever { (f : Refusal) → self.entry.so_far ≡ Err f → result ≡ Err f }
         ensures finished { (entries : List (Result Item Why)) → Took self.entry entries → result ≢ Err (fault_at reasons.Memory 0)

@@ -1,5 +1,5 @@
-//! What a certificate gives: a run of two ends that sends the items of a record, or the reason why it gives none. Each
-//! function says by its contract alone what holds of the definitions.
+//! Laws of the run of two ends that a certificate gives, and of the reasons why it gives none. Each function has an
+//! empty body, and its contract states one law.
 
 ghost use Rattle.std.specs.Prelude.{◌≡◌, ℕ, ℤ, List, [], length, map, filter_map, Contains, IsTrue, is_ok, Option, Some, Result, Ok, Err, None};
 ghost use Rattle.std.specs.List.{AllByRecursion};
@@ -25,58 +25,57 @@ ghost use Rattle.tcap_check.specs.Checking.{Checking, Took};
 ghost use Rattle.tcap_model.specs.declared.reason.Reason.{Reason};
 ghost use Rattle.tcap_certificate.specs.Replayed.{replayed_by};
 
-/// A run from any certificate: what it gives is a run of two ends, from the empty world, which sends the items that the
-/// entries are, in their order, and nothing else; the certificate describes it. It has at most twice as many steps as
-/// there are entries, one for each component, and one for each listed event.
+/// States that what a certificate gives is a run of two ends from the empty world. The run sends exactly the items that
+/// the entries are, in order, and the certificate describes it. It has at most two steps for each entry, one for each
+/// component, and one for each listed event.
 pub fn gives_a_run()
     ensures { (table : Table) (c : Certificate) (entries : List Entry) (events : List Event)
         → replayed_by None table c entries ≡ Ok events
         → IsGiven table c entries events }
 {}
 
-/// So two lawful ends may have sent these items, in this order, by so many steps.
+/// States that two ends that keep the rules may have sent these items, in this order, in that many steps.
 pub fn what_is_given_is_lawful()
     ensures { (table : Table) (c : Certificate) (entries : List Entry) (events : List Event)
         → replayed_by None table c entries ≡ Ok events
         → (items : List Item) × AreItems entries items × IsLawful items table (length events) }
 {}
 
-/// The other way: where the entries are items, and the certificate describes some run that sends them, it gives a run,
-/// of as many steps.
+/// States that a certificate that describes some run of these items gives a run of them, with as many steps.
 pub fn gives_where_a_run_is_described()
     ensures { (table : Table) (c : Certificate) (entries : List Entry) (items : List Item) (events : List Event)
         → AreItems entries items → IsRunOf items table events → IsDescribedBy table c items events
         → (given : List Event) × (replayed_by None table c entries ≡ Ok given) × (length given ≡ length events) }
 {}
 
-/// A run that a certificate describes, and that sends the items, takes every message: it is delivered, answered or lost,
-/// and nothing is left on its way.
+/// States that a run that a certificate describes leaves nothing on its way: each message is received, answered or
+/// lost.
 pub fn described_runs_take_all()
     ensures { (table : Table) (c : Certificate) (items : List Item) (events : List Event) (w : World)
         → Runs table events w → w.sent ≡ items → Follows c items events
         → (w.from_a ≡ []) × (w.from_b ≡ []) }
 {}
 
-/// What follows a certificate is described by it, with the names that it has.
+/// States that a certificate describes the events that follow it.
 pub fn what_follows_is_described()
     ensures { (table : Table) (c : Certificate) (items : List Item) (events : List Event) → Follows c items events
         → IsDescribedBy table c items events }
 {}
 
-/// A run may call a half by either of its names: what is behind it is the same.
+/// States that a run may call a half by either of its names: the world after the events is the same.
 pub fn names_do_not_matter()
     ensures { (table : Table) (w : World) (events others : List Event) → AreSameEvents table w events others
         → played table others w ≡ played table events w }
 {}
 
-/// In events that a certificate describes, both ends keep the rules.
+/// States that both ends keep the rules in events that follow a certificate.
 pub fn described_ends_keep_the_rules()
     ensures { (c : Certificate) (items : List Item) (events : List Event) → Follows c items events
         → BothKeepRules events }
 {}
 
-/// Where a run makes expiries that a message implies, and then sends it, they are exactly those that the send needs: of
-/// the IDs that the message invokes and that were in use in its half.
+/// States that the expiries that a run makes before a message, because the message implies them, are exactly those that
+/// the send needs: of the IDs that the message invokes and that are in use on its half.
 pub fn implied_are_needed()
     ensures { (table : Table) (side : Side) (message : Message) (name : HalfName) (implied : List Event)
         (w before : World) (made : End) (id : ℤ)
@@ -87,16 +86,16 @@ pub fn implied_are_needed()
         × (IsInUse (end_at side w) name id → Contains implied (Expires side name id)) }
 {}
 
-/// What a prompt certificate gives is a run that delivers each message, the last one too, before another is sent, with no
-/// loss, no provider's reply and no closing.
+/// States that a prompt certificate gives a run that delivers each message, the last one too, before the next is sent.
+/// The run has no loss, no provider's reply and no closing.
 pub fn prompt_certificates_deliver_at_once()
     ensures { (table : Table) (c : Certificate) (entries : List Entry) (events : List Event) → IsPrompt c
         → replayed_by None table c entries ≡ Ok events
         → DeliversAtOnce table events × AllByRecursion IsPlain events }
 {}
 
-/// Where the entries are items that some run sends so, with no hidden step, the prompt certificate of so many entries
-/// gives a run.
+/// States that the prompt certificate gives a run of these items if some run sends them promptly and without hidden
+/// steps.
 pub fn prompt_runs_are_given()
     ensures { (table : Table) (entries : List Entry) (items : List Item) (events : List Event)
         → AreItems entries items → IsRunOf items table events → AllByRecursion IsSeen events
@@ -104,27 +103,28 @@ pub fn prompt_runs_are_given()
         → (given : List Event) × (replayed_by None table (prompt (length items)) entries ≡ Ok given) }
 {}
 
-/// What a refusal says of the certificate and the entries, where both ends are judged, or one alone.
+/// States what a refusal shows of the certificate and the entries, if both ends are judged or one alone.
 pub fn refusals_have_reasons()
     ensures { (judged : Option Side) (table : Table) (c : Certificate) (entries : List Entry) (fault : CheckFault)
         → replayed_by judged table c entries ≡ Err fault
         → IsReason judged table c entries fault.entry fault.reason }
 {}
 
-/// What a checker took, and did not refuse, are items that two lawful ends may have sent, in this order; or the end that alone is judged its
-/// part of them. The messages that were sent last may still be on their way.
+/// States that entries that a checker took, and did not refuse, are items that two ends that keep the rules may have
+/// sent, in this order, or the end that is judged alone its part of them. Messages that were sent last may still be on
+/// their way.
 pub fn what_was_taken_may_be_sent()
     ensures { (checker : Checking) (entries : List (Result Item Reason)) → Took checker entries → IsTrue (is_ok checker.so_far)
         → (items : List Item) × (map (λ item. Ok item) items ≡ entries) × MayBeSent checker.judged items checker.table }
 {}
 
-/// The events of a run, and what is discarded in it, are told by one list of steps alone.
+/// States that the events and the discards of a run determine its list of steps.
 pub fn one_list_of_steps()
     ensures { (table : Table) (steps others : List Step) (w : World) → Runs table (events_of steps) w
         → events_of steps ≡ events_of others → discards_of steps ≡ discards_of others → steps ≡ others }
 {}
 
-/// A run that follows a prompt certificate has no loss, no provider's reply and no closing.
+/// States that a run that follows a prompt certificate has no loss, no provider's reply and no closing.
 pub fn prompt_runs_are_plain()
     ensures { (certificate : Certificate) (items : List Item) (events : List Event) → IsPrompt certificate
         → Follows certificate items events → AllByRecursion IsPlain events }

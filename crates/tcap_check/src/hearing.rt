@@ -1,4 +1,4 @@
-//! What is delivered in the gaps of a replay to both ends, or to the one that is judged (Q.774 3.2 and 3.3).
+//! Deliveries in the gaps of a replay, to both ends or to one end alone (Q.774 3.2 and 3.3).
 
 ghost use Rattle.std.specs.Prelude.{◌≡◌, ◌<◌, ◌≤◌, ◌+◌, ◌^◌, IfOk, OnErr, OnOk, Some, length, slice_get, true};
 ghost use Rattle.tcap_record.specs.Ends.{other};
@@ -19,7 +19,7 @@ use tcap_end::{EndFault, EndState, Table};
 use tcap_model::Reason;
 use tcap_record::End;
 
-/// Who sent the entry of that number, where it is a message that comes to an end that is judged.
+/// Returns the sender of the entry with this number, if the entry is a message to a judged end.
 fn heard_from(entries: &[Outline], judged: Option<End>, number: u32) -> Option<End>
     ensures { result ≡ heard_from judged (slice_get entries.now number) }
 {
@@ -33,7 +33,7 @@ fn heard_from(entries: &[Outline], judged: Option<End>, number: u32) -> Option<E
     }
 }
 
-/// Whether that end sent the entry of that number.
+/// Returns whether this end sent the entry with this number.
 fn is_told(entries: &[Outline], side: End, number: u32) -> bool
     ensures { result ≡ is_told side (slice_get entries.now number) }
 {
@@ -43,7 +43,7 @@ fn is_told(entries: &[Outline], side: End, number: u32) -> bool
     }
 }
 
-/// Those of these entries that that end sent.
+/// Returns the numbers, among these, of entries that this end sent. Fails if memory runs out.
 pub(crate) fn told_among(
     alloc: Global,
     entries: &[Outline],
@@ -61,7 +61,8 @@ pub(crate) fn told_among(
     Ok(told)
 }
 
-/// An end receives the first of these messages on their way to it, which has to be that of the number; or the reason why it can't.
+/// Receives the first of these messages at an end. Returns the reason why the end cannot receive it, or `None`. Fails
+/// with `BadReply` if there is no first message with this number, or if it will be lost, or with `Memory`.
 fn hear(
     end: &mut EndState,
     table: &Table,
@@ -92,8 +93,8 @@ fn hear(
 }
 
 impl<'r> Progress<'r> {
-    /// The first message on its way from an end, which has to be that of the number, is received; or it is refused, or discarded where the
-    /// end that can't receive it is judged alone.
+    /// Delivers the first message on its way from an end, which must have this number. If the other end cannot receive
+    /// the message, an end that is judged alone discards it; if both are judged, this is a `BadReply`.
     fn deliver_first(
         &mut self,
         table: &Table,
@@ -127,7 +128,8 @@ impl<'r> Progress<'r> {
         }
     }
 
-    /// The message of that number from an end is delivered, behind what is lost before it.
+    /// Delivers the message with this number from an end, after the losses before it. Fails with `BadReply` or
+    /// `Memory`.
     fn deliver(
         &mut self,
         table: &Table,
@@ -146,7 +148,8 @@ impl<'r> Progress<'r> {
         self.deliver_first(table, judged, sender, number)
     }
 
-    /// The messages among these entries that come to an end that is judged are delivered, in the order of their numbers.
+    /// Delivers those of these entries that are messages to a judged end, in the order of their numbers. Fails with
+    /// `BadReply` or `Memory` at the first that cannot be delivered.
     fn deliver_all(
         &mut self,
         table: &Table,
@@ -168,8 +171,9 @@ impl<'r> Progress<'r> {
         Ok(())
     }
 
-    /// What happens in the gap before the next entry: the closings and the expiries of the ends that are judged, and the deliveries to
-    /// them.
+    /// Makes the steps of the gap before the next entry: the closings and expiries listed for judged ends, then the
+    /// deliveries to them. `since` is the number of the entry after the last quiet mark. Fails with `FateRange`,
+    /// `HiddenRefused`, `BadReply` or `Memory`.
     pub(crate) fn pass_gap(
         &mut self,
         table: &Table,

@@ -1,4 +1,4 @@
-//! A message as it waits to be delivered.
+//! Messages that wait to be delivered.
 
 ghost use Rattle.std.specs.Prelude.{◌≡◌, IfOk, IfSome};
 ghost use Rattle.tcap_msg.specs.Meaning.{message_of};
@@ -7,16 +7,16 @@ use std::alloc::{AllocError, Global};
 use std::marker::Model;
 use tcap_msg::{Message, MessageParts, MessageView};
 
-/// Whose a message is.
+/// The owner of a message.
 #[derive(Debug, Drop)]
 pub(crate) enum Keeping<'r> {
-    /// Its own: a copy.
+    /// A copy that the replay owns.
     Own(Message),
-    /// That of a record which outlives the replay.
+    /// A message of a record that outlives the replay.
     Lent(&'r Message),
 }
 
-/// A message that is kept until it is delivered: a copy, or lent by a record that outlives the replay.
+/// A message that is kept until it is delivered.
 #[derive(Debug, Drop)]
 pub(crate) struct Held<'r> {
     keeping: Keeping<'r>,
@@ -32,7 +32,7 @@ impl<'r> Model for Held<'r> {
 }
 
 impl<'r> Held<'r> {
-    /// The message, lent where it can be, else a copy. `AllocError` where memory ran out.
+    /// Keeps the lent message if there is one, else a copy of `message`. Fails if memory runs out.
     pub(crate) fn new<M: MessageParts>(
         alloc: Global,
         message: &M,
@@ -48,7 +48,7 @@ impl<'r> Held<'r> {
         Ok(Held { keeping })
     }
 
-    /// The message, lent.
+    /// Returns a view of the message.
     pub(crate) fn view(&self) -> MessageView<'_>
         ensures { message_of result ≡ self.now }
     {

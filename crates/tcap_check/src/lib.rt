@@ -1,4 +1,5 @@
-//! Certificates, replayed over a record, for both ends or for one; with what holds of all that they give (Q.774 3.2 and 3.3).
+//! Replay of certificates over a record, for both ends or for one, and what is proved of all that certificates give
+//! (Q.774 3.2 and 3.3).
 #![tactic(auto)]
 
 pub mod alone_laws;

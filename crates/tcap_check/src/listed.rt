@@ -1,4 +1,4 @@
-//! What a certificate lists for its gaps.
+//! Events that a certificate lists for its gaps.
 
 ghost use Rattle.std.specs.Prelude.{◌≡◌};
 ghost use Rattle.tcap_check.specs.Listed.{side_of};
@@ -6,17 +6,17 @@ ghost use Rattle.tcap_check.specs.Listed.{side_of};
 use tcap_certificate::{Closing, Expiry};
 use tcap_record::End;
 
-/// A closing or an expiry: an event that no entry shows.
+/// A closing or an expiry, which no entry shows.
 #[derive(Clone, Copy, Debug)]
 pub enum Listed {
     /// A half closes.
     Closes(Closing),
-    /// An invocation ends.
+    /// An invocation expires.
     Expires(Expiry),
 }
 
 impl Listed {
-    /// The end at which it happens.
+    /// Returns the end at which the event happens.
     pub(crate) fn side(&self) -> End
         ensures { result ≡ side_of self.now }
     {

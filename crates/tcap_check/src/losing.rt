@@ -1,4 +1,4 @@
-//! How messages are lost in a replay.
+//! Losses of messages in a replay.
 
 ghost use Rattle.std.specs.Prelude.{◌≡◌, ◌<◌, ◌+◌, ◌^◌, OnOk, drop};
 ghost use Rattle.tcap_check.specs.Progress.{HasNoMore, IsMemory, discard_told, first_lost, front_lost, last_lost, load, lost_counted};
@@ -11,7 +11,7 @@ use tcap_end::EndFault;
 use tcap_record::End;
 
 impl Progress<'_> {
-    /// A message that an end sent is lost, which was taken from its channel: that is counted.
+    /// Counts the loss of a message from this end. The message was taken from its channel before.
     pub(crate) fn count_lost(&mut self, judged: Option<End>, side: End)
         requires room { self.old.moves + 1 < 2 ^ 128 }
         requires count { self.old.unheard + 1 < 2 ^ 64 }
@@ -27,7 +27,7 @@ impl Progress<'_> {
         }
     }
 
-    /// The first message on its way from an end is dropped, if there is one.
+    /// Drops the first message on its way from an end, if there is one.
     pub(crate) fn drop_first(&mut self, side: End)
         ensures left { self.new ≡ with_waiting side (drop 1 (seat_at side self.old).waiting) self.old }
         ensures moves { self.new.moves ≡ self.old.moves }
@@ -39,7 +39,7 @@ impl Progress<'_> {
         };
     }
 
-    /// The first message on its way from an end, which has that number, is lost.
+    /// Loses the first message on its way from an end, which has this number. Fails if memory runs out.
     fn lose_first(&mut self, judged: Option<End>, side: End, number: u64) -> Result<(), CheckFault>
         requires room { self.old.moves + 1 < 2 ^ 128 }
         requires count { self.old.unheard + 1 < 2 ^ 64 }
@@ -53,7 +53,8 @@ impl Progress<'_> {
         Ok(())
     }
 
-    /// The message of that number, which an end sent and which was taken from its channel, is discarded for that reason.
+    /// Discards, for this reason, the message with this number from `sender`, which was taken from its channel before.
+    /// Fails if memory runs out.
     pub(crate) fn discard(
         &mut self,
         judged: Option<End>,
@@ -71,7 +72,7 @@ impl Progress<'_> {
         Ok(())
     }
 
-    /// The number of the first message on its way from an end, where it is one that will be lost.
+    /// Returns the number of the first message on its way from an end, if the message will be lost.
     fn first_lost(&self, side: End) -> Option<u64>
         ensures { result ≡ first_lost (seat_at side self.now).waiting }
     {
@@ -81,7 +82,7 @@ impl Progress<'_> {
         }
     }
 
-    /// The messages at the front of what is on its way from an end that will be lost are lost.
+    /// Loses the messages at the front of an end's channel that will be lost. Fails if memory runs out.
     pub(crate) fn lose_front(&mut self, judged: Option<End>, side: End) -> Result<(), CheckFault>
         requires room { load self.old < 2 ^ 128 }
         requires count { unheard_load self.old < 2 ^ 64 }
@@ -98,7 +99,7 @@ impl Progress<'_> {
         Ok(())
     }
 
-    /// What is lost before a quiet mark, or at the end.
+    /// Makes the losses before a quiet mark, or at the end of the record. Fails if memory runs out.
     pub(crate) fn lose_last(&mut self, judged: Option<End>) -> Result<(), CheckFault>
         requires room { load self.old < 2 ^ 128 }
         requires count { unheard_load self.old < 2 ^ 64 }

@@ -1,4 +1,4 @@
-//! What a checker does at a quiet mark (Q.774 3.2 and 3.3).
+//! Quiet marks in a replay (Q.774 3.2 and 3.3).
 
 ghost use Rattle.std.specs.Prelude.{◌≡◌, ◌<◌, ◌+◌, ◌^◌, length, None, OnOk, Some};
 ghost use Rattle.tcap_end.specs.Hidden.{close};
@@ -17,7 +17,7 @@ use tcap_end::{HalfName, Table};
 use tcap_model::Reason;
 use tcap_record::End;
 
-/// It is not quiet at the mark of that number.
+/// Returns the refusal of the mark with this number.
 fn not_quiet(number: u64) -> CheckFault
     ensures { result ≡ fault_at NotQuiet number }
 {
@@ -28,7 +28,8 @@ fn not_quiet(number: u64) -> CheckFault
 }
 
 impl Progress<'_> {
-    /// All open halves of an end close unseen before the mark of that number.
+    /// Closes all open halves of an end, without messages, before the mark with this number. Fails with `NotQuiet` if
+    /// one of them may not close.
     fn quiet_halves(&mut self, table: &Table, side: End, number: u64) -> Result<(), CheckFault>
         requires room { self.old.moves < 2 ^ 126 }
         ensures closed { Yields (halves_quieted side table.now number self.old) result self.new }
@@ -45,7 +46,8 @@ impl Progress<'_> {
         Ok(())
     }
 
-    /// The same, of the end that alone is judged, where steps are not listed.
+    /// Closes all open halves of the end that is judged alone, if steps are not listed. Fails with `NotQuiet` if one of
+    /// them may not close.
     fn close_unlisted(&mut self, table: &Table, alone: End, number: u64) -> Result<(), CheckFault>
         requires unlisted { self.old.steps ≡ None }
         requires room { self.old.moves < 2 ^ 126 }
@@ -55,7 +57,7 @@ impl Progress<'_> {
         self.quiet_halves(table, alone, number)
     }
 
-    /// A half of an end closes unseen before the mark of that number.
+    /// Closes a half of an end, without a message, before the mark with this number. Fails with `NotQuiet` or `Memory`.
     fn close_half(
         &mut self,
         table: &Table,
@@ -81,7 +83,8 @@ impl Progress<'_> {
         self.tell(Step::Closes(side, name))
     }
 
-    /// Halves of an end close unseen, one after the other, before the mark of that number.
+    /// Closes these halves of an end, one by one, before the mark with this number. Fails with `NotQuiet` at the first
+    /// that may not close, or with `Memory`.
     fn close_each(
         &mut self,
         table: &Table,
@@ -99,7 +102,8 @@ impl Progress<'_> {
         Ok(())
     }
 
-    /// Nothing is on its way, and both ends are quiet at the mark of that number.
+    /// Takes the mark with this number. Fails with `NotQuiet` if a message is on its way or a half is open, or with
+    /// `Memory`.
     fn be_quiet(&mut self, number: u64) -> Result<(), CheckFault>
         requires room { self.old.moves + 1 < 2 ^ 128 }
         ensures quiet { YieldsInMemory (quiet_kept number self.old) result self.new }
@@ -107,7 +111,7 @@ impl Progress<'_> {
         ensures grows { OnOk result (GrewBy 1 0 self.old self.new) }
     {
         let nothing = self.a.waiting.is_empty() && self.b.waiting.is_empty();
-        // Neither end is changed where one of them is not quiet.
+        // If one end is not quiet, neither end is changed.
         if !nothing || !self.a.end.is_quiet() || !self.b.end.is_quiet() {
             return Err(not_quiet(number));
         }
@@ -118,8 +122,8 @@ impl Progress<'_> {
         self.tell(Step::Quiet)
     }
 
-    /// A quiet mark where one end alone is judged and steps are listed: its open halves close one after the other, so that it is known
-    /// which of them may not.
+    /// Takes a quiet mark if one end is judged alone and steps are listed. Its open halves close one by one, which
+    /// shows which of them may not. Fails with `NotQuiet` or `Memory`.
     #[tactic(auto, using(crate::proofs::progress_laws::KeptGrowth::shut_grows))]
     fn mark_listed(
         &mut self,
@@ -142,8 +146,9 @@ impl Progress<'_> {
         self.be_quiet(number)
     }
 
-    /// A quiet mark, which takes no message: the open halves of the end that alone is judged close unseen, nothing waits for an end that
-    /// is judged, and all is quiet.
+    /// Takes a quiet mark, which must take no message. The open halves of an end that is judged alone close, and then
+    /// messages to judged ends are lost. Fails with `NotQuiet` if then a message is on its way or a half is open, or
+    /// with `Memory`.
     pub(crate) fn take_mark(
         &mut self,
         alloc: Global,

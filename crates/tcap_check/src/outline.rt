@@ -1,4 +1,4 @@
-//! What is kept of the entries that were taken: of those that listed events name, the IDs alone.
+//! What a replay keeps of the entries that it took: who sent each, and the IDs of those that listed events name.
 
 ghost use Rattle.std.specs.Prelude.{◌≡◌, map, slice_get, Some, None, IfOk, MatchOption};
 ghost use Rattle.tcap_parts.specs.Meaning.{components_left};
@@ -16,8 +16,8 @@ use tcap_msg::{Kind, MessageParts, TransactionId};
 use tcap_parts::{ComponentView, Components};
 use tcap_record::End;
 
-/// What a listed event may name of a Begin or a Continue: whether it is a Begin; its originating ID; and of each component
-/// the invoke ID, where it is an Invoke.
+/// The parts of a Begin or a Continue that a listed event may name: whether it is a Begin, its originating ID, and the
+/// invoke ID of each component that is an Invoke.
 #[derive(Debug, Drop)]
 pub(crate) struct Note {
     begins: bool,
@@ -33,18 +33,18 @@ impl Model for Note {
     ghost view = { λ n. record { begins = n.begins; otid = n.otid; invokes = n.invokes.items } };
 }
 
-/// What is kept of an entry.
+/// An entry, as far as a replay keeps it.
 #[derive(Debug, Drop)]
 pub(crate) enum Outline {
-    /// It was a quiet mark.
+    /// A quiet mark.
     Mark,
-    /// That end sent it; and what listed events name of it, if one names this entry and it is a Begin or a Continue.
+    /// A message from this end. The note is present if a listed event names the entry, and it is a Begin or a Continue.
     Sent(End, Option<Note>),
 }
 
 impl Note {
-    /// The half at an end of the transaction that this Begin began: by its own ID for who sent it, else by its peer's. None
-    /// where it is no Begin.
+    /// Returns the name, at one end, of the half that this Begin began: by own ID at the sender, by the peer's ID at
+    /// the other end. Returns `None` if the message is no Begin.
     fn half_begun(&self, at: End, sender: End) -> Option<HalfName>
         ensures { result ≡ where_so self.now.begins (Some (half_begun at sender self.now.otid)) }
     {
@@ -59,7 +59,7 @@ impl Note {
         }
     }
 
-    /// The invocation that a component of the message began: its half's own ID, and its invoke ID.
+    /// Returns the invocation that the component at this place began: its half, by own ID, and its invoke ID.
     fn invocation(&self, component: u32) -> Option<(HalfName, i8)>
         ensures { result ≡ then_so (then_so (slice_get self.now.invokes component) (λ id. id))
             (λ id. Some (names.Own self.now.otid, id)) }
@@ -71,7 +71,8 @@ impl Note {
     }
 }
 
-/// The entry of that number, where no quiet mark stands behind it; since is the number of the entry behind the last.
+/// Returns the entry with this number, or `None` if a quiet mark comes after it. `since` is the number of the entry
+/// after the last quiet mark.
 fn outline_named(entries: &[Outline], since: usize, entry: u32) -> Option<&Outline>
     ensures { MatchOption result (outline_named entries.now since entry ≡ None)
         (λ outline. outline_named entries.now since entry ≡ Some outline.now) }
@@ -83,7 +84,7 @@ fn outline_named(entries: &[Outline], since: usize, entry: u32) -> Option<&Outli
     entries.get(entry)
 }
 
-/// The half that a closing names, where its entry is a Begin and no quiet mark stands behind it.
+/// Returns the half that a closing names, or `None` if its entry is no Begin or a quiet mark comes after the entry.
 pub(crate) fn half_closed(entries: &[Outline], since: usize, x: &Closing) -> Option<HalfName>
     ensures { result ≡ half_closed entries.now since x.now }
 {
@@ -93,8 +94,8 @@ pub(crate) fn half_closed(entries: &[Outline], since: usize, x: &Closing) -> Opt
     }
 }
 
-/// The own invocation that an expiry names, where its entry is a Begin or a Continue of that end with that Invoke and no
-/// quiet mark stands behind it: its half's own ID, and its invoke ID.
+/// Returns the own invocation that an expiry names: its half, by own ID, and its invoke ID. Returns `None` if its entry
+/// is no Begin or Continue of that end with that Invoke, or a quiet mark comes after the entry.
 pub(crate) fn invocation_ended(
     entries: &[Outline],
     since: usize,
@@ -108,7 +109,7 @@ pub(crate) fn invocation_ended(
     }
 }
 
-/// The invoke IDs of components, of each that is an Invoke.
+/// Returns the invoke ID of each component, or `None` for one that is no Invoke. Fails if memory runs out.
 fn invoke_ids(alloc: Global, components: Components) -> Result<Vec<Option<i8>>, AllocError>
     ensures { IfOk result (λ ids. ids.items ≡ map invoke_id (components_left components.entry)) }
 {
@@ -122,7 +123,7 @@ fn invoke_ids(alloc: Global, components: Components) -> Result<Vec<Option<i8>>, 
     Ok(ids)
 }
 
-/// What there is to name of a message.
+/// Returns what listed events may name of a message, or `None` if it has no originating ID. Fails if memory runs out.
 fn note_of<M: MessageParts>(alloc: Global, message: &M) -> Result<Option<Note>, AllocError>
     ensures { IfOk result (λ note. note ≡ note_of (M.meaning message.now)) }
 {
@@ -137,7 +138,7 @@ fn note_of<M: MessageParts>(alloc: Global, message: &M) -> Result<Option<Note>, 
 }
 
 impl Outline {
-    /// What is kept of a message that an end sent, where a listed event names it or not.
+    /// Creates the outline of a message from this end, with its IDs if `named`. Fails if memory runs out.
     pub(crate) fn of_message<M: MessageParts>(
         alloc: Global,
         named: bool,

@@ -1,4 +1,4 @@
-//! What a certificate says, by gap and by entry, and whether its numbers are in their ranges.
+//! A certificate sorted by gap and by entry, and the check of its ranges.
 
 ghost use Rattle.std.specs.Prelude.{◌≡◌, [], ◌∷◌, ◌<◌, ◌≤◌, ◌+◌, ℕ, ◌==◌, ◌||◌, length, slice_get, map, IfOk, OnOk};
 ghost use Rattle.tcap_check.specs.Buckets.{count_lists, list_at};
@@ -16,21 +16,20 @@ use std::alloc::{AllocError, Global};
 use tcap_certificate::{Certificate, CheckFault, Closing, Expiry, Fate};
 use tcap_model::Reason;
 
-/// What a certificate says: what is listed, what is delivered and what is taken, by gap and by entry; and which entries
-/// are named.
+/// The lines of a certificate, sorted by gap and by entry.
 #[derive(Debug, Drop)]
 pub struct Plan {
-    /// What is listed for each gap: its closings, then its expiries, each in their order.
+    /// The events listed for each gap: its closings, then its expiries, each in listed order.
     pub listed: Buckets<Listed>,
-    /// The numbers of the entries that are delivered in each gap, from the lowest on.
+    /// The numbers of the entries that are delivered in each gap, in rising order.
     pub due: Buckets<u32>,
-    /// The numbers of the entries that each entry takes as a provider's reply, from the lowest on.
+    /// The numbers of the entries that each entry answers as a provider's reply, in rising order.
     pub taken: Buckets<u32>,
-    /// Of each entry, whether a listed event names it.
+    /// For each entry, whether a listed event refers to it.
     pub named: Vec<bool>,
 }
 
-/// Whether a fate of that entry lies behind it, and within so many entries.
+/// Returns whether the fate of an entry is a gap or a reply after the entry, within this count of entries, or a loss.
 fn fits_behind(count: usize, entry: usize, fate: Fate) -> bool
     ensures { result ≡ fate_fits count entry fate }
 {
@@ -41,7 +40,7 @@ fn fits_behind(count: usize, entry: usize, fate: Fate) -> bool
     }
 }
 
-/// Whether the fates are in their ranges; else the first that is not.
+/// Checks that all fates are in range. Fails with `FateRange` at the first that is not.
 fn check_fates(fates: &[Fate]) -> Result<(), CheckFault>
     ensures { result ≡ fates_fit (length fates.now) 0 fates.now }
 {
@@ -56,7 +55,7 @@ fn check_fates(fates: &[Fate]) -> Result<(), CheckFault>
     Ok(())
 }
 
-/// A number of the certificate that is out of its range, at that entry.
+/// Returns the refusal of a number of the certificate that is out of range, at this entry.
 pub(crate) fn out_of_range(entry: u32) -> CheckFault
     ensures { result ≡ fault_at FateRange entry }
 {
@@ -66,7 +65,7 @@ pub(crate) fn out_of_range(entry: u32) -> CheckFault
     }
 }
 
-/// Whether what is listed for a gap stands behind the entry that it names.
+/// Checks that a listed event is in a gap after the entry that it names, up to the last gap.
 fn check_gap(count: usize, entry: u32, gap: u32) -> Result<(), CheckFault>
     ensures { result ≡ all_fit count ((entry, gap) ∷ []) }
 {
@@ -76,7 +75,7 @@ fn check_gap(count: usize, entry: u32, gap: u32) -> Result<(), CheckFault>
     Ok(())
 }
 
-/// Whether the closings stand behind the entries that they name; else the first that does not.
+/// Checks that each closing is in a gap after the entry that it names. Fails with `FateRange` at the first that is not.
 fn check_closings(count: usize, close: &[Closing]) -> Result<(), CheckFault>
     ensures { result ≡ all_fit count (map (λ x. (x.entry, x.gap)) close.now) }
 {
@@ -86,7 +85,7 @@ fn check_closings(count: usize, close: &[Closing]) -> Result<(), CheckFault>
     Ok(())
 }
 
-/// Whether the expiries stand behind the entries that they name; else the first that does not.
+/// Checks that each expiry is in a gap after the entry that it names. Fails with `FateRange` at the first that is not.
 fn check_expiries(count: usize, expire: &[Expiry]) -> Result<(), CheckFault>
     ensures { result ≡ all_fit count (map (λ x. (x.entry, x.gap)) expire.now) }
 {
@@ -96,7 +95,7 @@ fn check_expiries(count: usize, expire: &[Expiry]) -> Result<(), CheckFault>
     Ok(())
 }
 
-/// Whether all numbers of a certificate are in their ranges; else the first that is not.
+/// Checks that all numbers of a certificate are in range. Fails with `FateRange` at the first that is not.
 pub(crate) fn check_ranges(certificate: &Certificate) -> Result<(), CheckFault>
     ensures { result ≡ certificate_fits certificate.now }
 {
@@ -106,7 +105,7 @@ pub(crate) fn check_ranges(certificate: &Certificate) -> Result<(), CheckFault>
     check_expiries(count, certificate.expiries())
 }
 
-/// The closings of each gap, then its expiries.
+/// Returns the closings of each gap, then its expiries. Fails if memory runs out.
 fn listed_by_gap(
     alloc: Global,
     count: usize,
@@ -128,7 +127,7 @@ fn listed_by_gap(
     Ok(lists)
 }
 
-/// The entries that are delivered in each gap.
+/// Returns the entries that are delivered in each gap. Fails if memory runs out.
 fn due_by_gap(alloc: Global, count: usize, fates: &[Fate]) -> Result<Buckets<u32>, AllocError>
     requires few { length fates.now ≤ 100000 }
     ensures { IfOk result (λ made. (gap : ℕ) → gap < count → list_at gap made ≡ due_in gap 0 fates.now) }
@@ -142,7 +141,7 @@ fn due_by_gap(alloc: Global, count: usize, fates: &[Fate]) -> Result<Buckets<u32
     Ok(lists)
 }
 
-/// The entries that each entry takes.
+/// Returns the entries that each entry answers. Fails if memory runs out.
 fn taken_by_entry(alloc: Global, count: usize, fates: &[Fate]) -> Result<Buckets<u32>, AllocError>
     requires few { length fates.now ≤ 100000 }
     ensures { IfOk result (λ made. (entry : ℕ) → entry < count → list_at entry made ≡ taken_by entry 0 fates.now) }
@@ -156,7 +155,7 @@ fn taken_by_entry(alloc: Global, count: usize, fates: &[Fate]) -> Result<Buckets
     Ok(lists)
 }
 
-/// Marks an entry as named; nothing where there is no flag of it.
+/// Marks an entry as named, if there is a flag for it.
 fn mark(named: &mut Vec<bool>, entry: u32)
     ensures marked { (n : ℕ) → n < length named.old.items
         → flag_by (slice_get named.new.items n) ≡ (n == entry) || flag_by (slice_get named.old.items n) }
@@ -167,7 +166,7 @@ fn mark(named: &mut Vec<bool>, entry: u32)
     }
 }
 
-/// Which entries are named.
+/// Returns for each entry whether a listed event refers to it. Fails if memory runs out.
 fn named_entries(
     alloc: Global,
     count: usize,
@@ -188,7 +187,11 @@ fn named_entries(
 }
 
 impl Plan {
-    /// The plan of a certificate, whatever it says. Fails where memory runs out.
+    /// Creates the plan of a certificate, whose numbers need not be in range.
+    ///
+    /// # Errors
+    ///
+    /// `AllocError` if memory runs out.
     pub fn new(alloc: Global, certificate: &Certificate) -> Result<Plan, AllocError>
         ensures plan { IfOk result (λ plan. IsPlan certificate.now plan) }
         ensures few { length certificate.now.fates ≤ 100000 }

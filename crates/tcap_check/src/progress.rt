@@ -1,4 +1,4 @@
-//! What a checker keeps of two ends and two channels between them, and single steps (Q.774 3.2 and 3.3).
+//! What a replay keeps of two ends and the two channels between them, and single steps (Q.774 3.2 and 3.3).
 
 ghost use Rattle.std.specs.Prelude.{◌≡◌, ◌<◌, ◌+◌, ◌^◌, [], ◌∷◌, None, Option, IfSome, IsSome, OnErr, OnOk, length};
 ghost use Rattle.tcap_msg.specs.Parts.{otid_in};
@@ -25,14 +25,14 @@ use tcap_end::{EndFault, EndState, HalfName, Table};
 use tcap_model::Reason;
 use tcap_record::End;
 
-/// A message on its way, with the number of its entry. Of one that will be lost nothing else is kept.
+/// A message on its way, with the number of its entry. The message itself is not kept if it will be lost.
 #[derive(Debug, Drop)]
 pub(crate) struct Waiting<'r> {
     pub(crate) number: u64,
     pub(crate) message: Option<Held<'r>>,
 }
 
-/// An end, what it sent that is on its way, and the greatest time of what it sent.
+/// An end, the messages on their way from it, and the latest time of a message from it.
 #[derive(Debug, Drop)]
 pub(crate) struct Seat<'r> {
     pub(crate) end: EndState,
@@ -40,21 +40,21 @@ pub(crate) struct Seat<'r> {
     pub(crate) latest: u64,
 }
 
-/// What is kept of a replay: both ends, what is on its way, and what is counted of the steps so far.
+/// The state of a replay: both ends, the messages on their way, and counts of the steps so far.
 #[derive(Debug, Drop)]
 pub(crate) struct Progress<'r> {
     pub(crate) a: Seat<'r>,
     pub(crate) b: Seat<'r>,
-    // How many steps there are, without the losses of what the end sent that alone is judged.
+    // The number of steps; losses of messages from an end that is judged alone do not count.
     pub(crate) moves: u128,
-    // How many messages of its peer were lost.
+    // The number of lost messages from the peer of an end that is judged alone, else 0.
     pub(crate) unheard: u64,
-    // The steps themselves, where they are listed.
+    // The steps, if they are listed.
     pub(crate) steps: Option<Steps>,
 }
 
 impl<'r> Seat<'r> {
-    /// An end over which nothing went yet.
+    /// Creates an end before the first step.
     fn new(alloc: Global) -> Seat<'r>
         ensures { result ≡ empty_seat }
     {
@@ -65,7 +65,7 @@ impl<'r> Seat<'r> {
         }
     }
 
-    /// How many messages are on its way that will not be lost.
+    /// Counts the messages on their way that will not be lost.
     #[tactic(auto, using(crate::proofs::progress_laws::LosingLaws::kept_more, crate::proofs::progress_laws::LosingLaws::lost_more))]
     pub(crate) fn count_kept(&self) -> usize
         ensures count { result ≡ count_kept self.now.waiting }
@@ -81,7 +81,7 @@ impl<'r> Seat<'r> {
     }
 }
 
-/// Whether an end is judged: both are, or that one alone.
+/// Returns whether an end is judged: with `None`, both are.
 pub(crate) fn is_judged(judged: Option<End>, side: End) -> bool
     ensures { result ≡ is_judged judged side }
 {
@@ -91,13 +91,13 @@ pub(crate) fn is_judged(judged: Option<End>, side: End) -> bool
     }
 }
 
-/// Memory ran out.
+/// The fault that memory ran out.
 pub(crate) const OUT_OF_MEMORY: CheckFault = CheckFault {
     reason: Reason::Memory,
     entry: 0,
 };
 
-/// The same name, once more.
+/// Copies the name of a half.
 pub(crate) fn copy_name(name: &HalfName) -> HalfName
     ensures { result ≡ name.now }
 {
@@ -107,7 +107,7 @@ pub(crate) fn copy_name(name: &HalfName) -> HalfName
     }
 }
 
-/// An end receives a message, which is lent once for all that is asked of it.
+/// Receives a message at an end. Fails with the end's reason, or if memory runs out.
 pub(crate) fn receive(end: &mut EndState, table: &Table, message: &Held) -> Result<(), EndFault>
     ensures step { AnswersInMemory (receive table.now end.old message.now) result end.new }
     ensures kept { OnErr result (end.new ≡ end.old) }
@@ -118,7 +118,7 @@ pub(crate) fn receive(end: &mut EndState, table: &Table, message: &Held) -> Resu
 }
 
 impl<'r> Progress<'r> {
-    /// Two ends over which nothing went yet, whose steps are listed, or not.
+    /// Creates two ends before the first step, with a list of steps if `listed`.
     pub(crate) fn new(alloc: Global, listed: bool) -> Progress<'r>
         ensures { result ≡ nothing_kept (told_if listed [] []) }
     {
@@ -136,7 +136,7 @@ impl<'r> Progress<'r> {
         }
     }
 
-    /// A step, which is no discard, is told where steps are listed.
+    /// Appends a step, which is no discard, to the list of steps, if there is one. Fails if memory runs out.
     #[inline(always)]
     pub(crate) fn tell(&mut self, step: Step) -> Result<(), CheckFault>
         requires plain { discard_of step ≡ None }
@@ -151,7 +151,8 @@ impl<'r> Progress<'r> {
         Ok(())
     }
 
-    /// That the message of that number, which an end sent, is discarded, and why, is told where steps are listed.
+    /// Appends the discard of the message with this number to the list of steps, if there is one. Fails if memory runs
+    /// out.
     pub(crate) fn tell_discard(
         &mut self,
         sender: End,
@@ -169,7 +170,7 @@ impl<'r> Progress<'r> {
         Ok(())
     }
 
-    /// An end and what it sent.
+    /// Returns an end with the messages on their way from it.
     pub(crate) fn seat(&self, side: End) -> &Seat<'r>
         ensures { result.now ≡ seat_at side self.now }
     {
@@ -179,7 +180,7 @@ impl<'r> Progress<'r> {
         }
     }
 
-    /// Closes a half of an end unseen.
+    /// Closes a half of an end without a message. Fails with `HiddenRefused` or `Memory`.
     fn close(&mut self, table: &Table, x: &Closing, name: HalfName) -> Result<(), CheckFault>
         requires room { self.old.moves + 1 < 2 ^ 128 }
         ensures closed { YieldsInMemory (half_closes table.now x.now name self.old) result self.new }
@@ -200,7 +201,7 @@ impl<'r> Progress<'r> {
         self.tell(Step::Closes(x.side, name))
     }
 
-    /// Ends an own invocation of an end unseen.
+    /// Expires an own invocation of an end. Fails with `HiddenRefused` or `Memory`.
     fn expire(
         &mut self,
         table: &Table,
@@ -227,7 +228,8 @@ impl<'r> Progress<'r> {
         self.tell(Step::Expires(x.side, name, id))
     }
 
-    /// What is listed happens unseen: the half closes that a closing names, or the invocation ends that an expiry names.
+    /// Makes a listed event: closes the half, or expires the invocation, that it names. Fails with `FateRange` if it
+    /// names none, or with `HiddenRefused` or `Memory`.
     fn hide(
         &mut self,
         table: &Table,
@@ -252,7 +254,8 @@ impl<'r> Progress<'r> {
         }
     }
 
-    /// What is listed of the ends that are judged happens unseen, in that order. What is listed of a peer that is not is passed over.
+    /// Makes the listed events of judged ends, in order, and skips those of a peer that is not judged. Fails with
+    /// `FateRange`, `HiddenRefused` or `Memory` at the first that cannot happen.
     pub(crate) fn hide_all(
         &mut self,
         table: &Table,

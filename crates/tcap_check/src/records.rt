@@ -1,4 +1,4 @@
-//! A certificate, replayed over a record.
+//! The replay of a certificate over a record.
 
 ghost use Rattle.std.specs.Prelude.{◌≡◌, ◌≢◌, ◌++◌, ◌∷◌, [], Bool, true, List, length, map, None, Result, Ok, Err, OnOk};
 ghost use Rattle.tcap_record.specs.Viewed.{entry_read};
@@ -28,8 +28,11 @@ use tcap_msg::MessageView;
 use tcap_record::{Body, BodyView, End, Entry, EntryView, Record};
 
 impl<'a> Checker<'a> {
-    /// Takes the next entry of a record: as `step` where it is a message or octets that are none, as `mark` where it is a
-    /// quiet mark. `NoItem` where it has a message and no end, or an end and a quiet mark.
+    /// Takes the next entry of a record: by `mark` if it is a quiet mark, else by `step`.
+    ///
+    /// # Errors
+    ///
+    /// `NoItem` if the entry has a message and no end, or a quiet mark and an end. Else as `step` and `mark`.
     pub fn take(&mut self, entry: &EntryView) -> Result<(), CheckFault>
         ensures took { (entries : List (Result Item Why)) → Took self.old entries → result ≢ Err (fault_at reasons.Memory 0)
             → Took self.new (entries ++ item_of (entry_read entry.now) ∷ []) }
@@ -50,7 +53,8 @@ impl<'a> Checker<'a> {
 }
 
 impl<'r> Replaying<'_, 'r> {
-    /// Takes the next entry of a record that outlives the replay; its message is lent while it waits.
+    /// Takes the next entry of a record that outlives the replay, so that its message is lent while it waits. Fails
+    /// with the reason for the refusal, or with `Memory`.
     #[tactic(auto, using(crate::proofs::refusal_laws::SendShows::mark_shows, crate::proofs::refusal_laws::SendShows::refused_shows))]
     fn take_entry(&mut self, entry: &'r Entry) -> Result<(), CheckFault>
         requires ready { IsReady self.old }
@@ -72,7 +76,8 @@ impl<'r> Replaying<'_, 'r> {
         }
     }
 
-    /// Takes the entries of a record that outlives the replay, of which none was taken, up to one that is refused.
+    /// Takes the entries of a record that outlives the replay. No entry was taken before. Fails at the first that is
+    /// refused, or with `Memory`.
     pub(crate) fn take_all(&mut self, record: &'r Record) -> Result<(), CheckFault>
         requires ready { IsReady self.old }
         ensures took { (listed : Bool) → TookListed listed (checking_of self.old) []
@@ -96,7 +101,8 @@ impl<'r> Replaying<'_, 'r> {
     }
 }
 
-/// Replays a certificate over a record, for both ends or for the one that is judged.
+/// Replays a certificate over a record, and returns the counts of the run. Fails with the first refusal, or with
+/// `Memory`.
 fn replay(
     alloc: Global,
     record: &Record,
@@ -112,14 +118,22 @@ fn replay(
     replaying.finish()
 }
 
-/// Whether a certificate gives a run for a record (Q.774 3.2 and 3.3). Where no end is named both are judged. On Ok the entries of the
-/// record are items, messages and quiet marks, and two lawful ends, over two channels in order that may lose messages, with hidden
-/// expiries and closings, may have sent exactly these, in this order, by so many steps. Where one end is named it alone is judged,
-/// whatever its peer sends: some run sends exactly these items, in this order, in which that end keeps the rules. What a certificate
-/// says of its peer's halves, and of what became of the messages of the end itself, is not asked, but for the ranges of its numbers; a
-/// message of its peer that the end can't receive is taken as lost; `unheard` is how many of the peer's the run loses. Else the first
-/// reason why the certificate gives no such run, at an entry (`CheckFault`); or memory ran out, and nothing is said. Nothing is
-/// assumed of who made the certificate.
+/// Checks that a certificate gives a run of a record, and returns the counts of the run (Q.774 3.2 and 3.3).
+///
+/// The certificate is not trusted.
+///
+/// With `None` both ends are judged: two ends that keep the rules may have sent exactly the entries of the record, in
+/// this order. Their channels keep order and may lose messages, and there may be hidden expiries and closings.
+///
+/// With `Some(end)` this end is judged alone: some run sends exactly these entries, in this order, and the end keeps
+/// the rules in it, no matter what its peer sends. What the certificate lists for the peer, and the fates of messages
+/// from the end, are checked only for their ranges. A message of the peer that the end cannot receive is lost.
+/// `unheard` counts the messages of the peer that the run loses.
+///
+/// # Errors
+///
+/// The first reason why the certificate gives no such run, with an entry. `Memory` if memory runs out, which says
+/// nothing about the record.
 pub fn check(
     alloc: Global,
     record: &Record,

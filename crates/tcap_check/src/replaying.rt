@@ -1,4 +1,4 @@
-//! A certificate that is replayed over entries, for both ends or for the one that is judged: what a checker does with each.
+//! A replay of a certificate over entries, for both ends or for one end alone.
 
 ghost use Rattle.std.specs.Prelude.{◌≡◌, ◌≢◌, ◌++◌, ◌∷◌, ◌+◌, ◌<◌, ◌≤◌, ◌^◌, [], List, length, not, slice_get, true, ◌||◌, Bool, Some, Result, Ok, Err, IfOk, IfSome, OnOk, ok_or};
 ghost use Rattle.tcap_certificate.specs.declared.fault.CheckFault.{CheckFault as Refusal};
@@ -30,12 +30,12 @@ use tcap_model::Reason;
 use tcap_msg::{Message, MessageParts};
 use tcap_record::End;
 
-/// A replay under way. Of the entries so far it keeps the messages that wait, lent where they outlive it (`'r`), who sent
-/// each, and the IDs of those that a listed event names.
+/// A replay between entries. Of the entries so far it keeps the messages that wait, who sent each, and the IDs of those
+/// that listed events name. Messages that outlive the replay (`'r`) are lent, others are copied.
 #[derive(Debug, Drop)]
 pub(crate) struct Replaying<'a, 'r> {
     alloc: Global,
-    // The end that is judged alone; else both are.
+    // The end that is judged alone, or `None` if both are.
     pub(crate) judged: Option<End>,
     table: &'a Table,
     certificate: &'a Certificate,
@@ -46,8 +46,8 @@ pub(crate) struct Replaying<'a, 'r> {
 }
 
 impl<'a, 'r> Replaying<'a, 'r> {
-    /// A replay of that certificate for both ends or for the one that is judged, over which no entry went yet, and whose steps are
-    /// listed, or not. `FateRange` where a number of the certificate lies out of its range, at the entry of it; or `Memory`.
+    /// Creates a replay that has taken no entry, and lists its steps if `listed`. Fails with `FateRange` if a number of
+    /// the certificate is out of range, at the entry that this number belongs to, or with `Memory`.
     pub(crate) fn new(
         alloc: Global,
         table: &'a Table,
@@ -81,7 +81,7 @@ impl<'a, 'r> Replaying<'a, 'r> {
         })
     }
 
-    /// A refusal of the next entry.
+    /// Returns the refusal of the next entry for this reason.
     fn refusal(&self, reason: Reason) -> CheckFault
         ensures { result ≡ fault_at reason (length self.now.entries.items) }
     {
@@ -91,7 +91,7 @@ impl<'a, 'r> Replaying<'a, 'r> {
         }
     }
 
-    /// The fate of the next entry, if it has one.
+    /// Returns the fate of the next entry. Fails with `FateCount` if it has none.
     fn fate(&self) -> Result<Fate, CheckFault>
         ensures { result ≡ ok_or (slice_get self.now.certificate.now.fates (length self.now.entries.items))
             (fault_at reasons.FateCount (length self.now.entries.items)) }
@@ -102,21 +102,22 @@ impl<'a, 'r> Replaying<'a, 'r> {
         }
     }
 
-    /// Whether a listed event names the next entry.
+    /// Returns whether a listed event names the next entry.
     fn is_named(&self) -> bool
         ensures { result ≡ flag_by (slice_get self.now.plan.named.items (length self.now.entries.items)) }
     {
         matches!(self.plan.named.get(self.entries.len()), Some(true))
     }
 
-    /// Whether a message with that fate may come behind what its end sent earlier: what the judged end sends comes to nobody.
+    /// Returns whether a message with this fate overtakes no earlier message of its end. Messages of an end that is
+    /// judged alone are always in order, since nobody receives them.
     fn is_in_order(&self, side: End, fate: Fate) -> bool
         ensures { result ≡ is_alone self.now.judged side || not (overtakes fate (seat_at side self.now.progress)) }
     {
         self.judged == Some(side) || !self.progress.seat(side).overtakes(fate)
     }
 
-    /// The peer's messages that the next entry takes, where that end alone is judged.
+    /// Returns the peer's messages that the next entry takes, if this end is judged alone. Fails if memory runs out.
     fn tied_to(&self, judged: End) -> Result<Vec<u32>, CheckFault>
         requires plan { IsPlan self.now.certificate.now self.now.plan }
         requires within { length self.now.entries.items ≤ length self.now.certificate.now.fates }
@@ -130,7 +131,7 @@ impl<'a, 'r> Replaying<'a, 'r> {
         }
     }
 
-    /// The gap before the next entry.
+    /// Makes the steps of the gap before the next entry. Fails with the first that cannot happen, or with `Memory`.
     fn pass_gap(&mut self) -> Result<(), CheckFault>
         requires ready { IsReady self.old }
         ensures passed { YieldsInMemory (gap_before self.old.judged self.old.table.now self.old.certificate.now
@@ -150,7 +151,7 @@ impl<'a, 'r> Replaying<'a, 'r> {
         )
     }
 
-    /// What is kept of the next entry.
+    /// Appends the outline of the next entry. Fails if memory runs out.
     fn keep(&mut self, outline: Outline) -> Result<(), CheckFault>
         ensures kept { OnOk result (self.new.entries.items ≡ self.old.entries.items ++ outline ∷ []) }
         ensures memory { (f : Refusal) → result ≡ Err f → f ≡ fault_at reasons.Memory 0 }
@@ -162,7 +163,7 @@ impl<'a, 'r> Replaying<'a, 'r> {
         }
     }
 
-    /// What is kept of the next entry, which is a message that an end sent.
+    /// Appends the outline of the next entry, a message from this end. Fails if memory runs out.
     fn keep_message<M: MessageParts>(&mut self, side: End, message: &M) -> Result<(), CheckFault>
         ensures kept { OnOk result (self.new.entries.items ≡ self.old.entries.items
             ++ outline_of (flag_by (slice_get self.old.plan.named.items (length self.old.entries.items)))
@@ -176,7 +177,8 @@ impl<'a, 'r> Replaying<'a, 'r> {
         self.keep(outline)
     }
 
-    /// Behind the gap: an end sends a message, or the peer of the judged one tells it.
+    /// Sends a message from this end, after the gap before it. If the end is not judged, it may send anything. Fails
+    /// with `BadReply`, `SendRefused` or `Memory`.
     fn join<M: MessageParts>(
         &mut self,
         side: End,
@@ -214,7 +216,8 @@ impl<'a, 'r> Replaying<'a, 'r> {
         )
     }
 
-    /// The next entry is a message that an end sent; it is lent, where it outlives the replay.
+    /// Takes the next entry, a message from this end. It is lent if it outlives the replay. Fails with the reason for
+    /// the refusal, or with `Memory`.
     #[tactic(auto, using(crate::proofs::refusal_laws::SendShows::gap_shows))]
     fn take_message<M: MessageParts>(
         &mut self,
@@ -243,7 +246,7 @@ impl<'a, 'r> Replaying<'a, 'r> {
         self.keep_message(side, message)
     }
 
-    /// The next entry is a message that an end sent, and that outlives the replay.
+    /// Takes the next entry, a message from this end that outlives the replay.
     pub(crate) fn take_lent(&mut self, side: End, message: &'r Message) -> Result<(), CheckFault>
         requires ready { IsReady self.old }
         ensures taken { YieldsInMemory (kept_next self.old.judged self.old.table.now self.old.certificate.now
@@ -259,7 +262,7 @@ impl<'a, 'r> Replaying<'a, 'r> {
         self.take_message(side, &message.view(), Some(message))
     }
 
-    /// All is quiet behind the gap, or for the end that is judged.
+    /// Takes a quiet mark after the gap before it. Fails with `NotQuiet` or `Memory`.
     fn be_quiet(&mut self) -> Result<(), CheckFault>
         requires plan { IsPlan self.old.certificate.now self.old.plan }
         requires within { length self.old.entries.items ≤ length self.old.certificate.now.fates }
@@ -285,7 +288,8 @@ impl<'a, 'r> Replaying<'a, 'r> {
             .take_mark(self.alloc, self.table, Some(judged), entry as u64, &tied)
     }
 
-    /// The next entry is a quiet mark.
+    /// Takes the next entry, a quiet mark. Fails with `FateRange` if its fate is not the next gap, with another reason
+    /// for the refusal, or with `Memory`.
     pub(crate) fn take_mark(&mut self) -> Result<(), CheckFault>
         requires ready { IsReady self.old }
         ensures taken { YieldsInMemory (kept_next self.old.judged self.old.table.now self.old.certificate.now
@@ -308,7 +312,7 @@ impl<'a, 'r> Replaying<'a, 'r> {
         self.keep(Outline::Mark)
     }
 
-    /// The next entry is none that a run sends.
+    /// Returns the refusal of the next entry, which is no item, for this reason, or `FateCount` if it has no fate.
     pub(crate) fn refuse(&self, reason: Reason) -> CheckFault
         ensures { kept_next self.now.judged self.now.table.now self.now.certificate.now (Err reason) (kept_in self.now) ≡ Err result }
     {
@@ -318,7 +322,8 @@ impl<'a, 'r> Replaying<'a, 'r> {
         }
     }
 
-    /// The next entry is a message that an end sent, or octets that are none.
+    /// Takes the next entry, a message from this end or octets that are no message. Fails with the reason for the
+    /// refusal, or with `Memory`.
     pub(crate) fn take_body<M: MessageParts>(
         &mut self,
         side: End,
@@ -338,7 +343,8 @@ impl<'a, 'r> Replaying<'a, 'r> {
         }
     }
 
-    /// No entry is left: the last gap, and the loss of what is still on its way.
+    /// Ends the record: makes the steps of the last gap, then the losses of messages still on their way. Fails with
+    /// `FateCount` if a fate is left, with the first step that cannot happen, or with `Memory`.
     pub(crate) fn end(&mut self) -> Result<(), CheckFault>
         requires ready { IsReady self.old }
         ensures ended { YieldsInMemory (kept_ended self.old.judged self.old.table.now self.old.certificate.now (kept_in self.old)) result
@@ -353,7 +359,7 @@ impl<'a, 'r> Replaying<'a, 'r> {
         self.progress.lose_last(self.judged)
     }
 
-    /// No entry is left: the last gap, and what is said of the run.
+    /// Ends the record as `end`, and returns the counts of the run.
     pub(crate) fn finish(self) -> Result<Report, CheckFault>
         requires ready { IsReady self }
         ensures { (listed : Bool) (entries : List (Result Item Why)) → TookListed listed (checking_of self.entry) entries
@@ -370,7 +376,7 @@ impl<'a, 'r> Replaying<'a, 'r> {
         }
     }
 
-    /// What is kept.
+    /// Returns what the replay keeps.
     pub(crate) fn into_progress(self) -> Progress<'r>
         ensures { result ≡ self.entry.progress }
     {
@@ -378,7 +384,7 @@ impl<'a, 'r> Replaying<'a, 'r> {
     }
 }
 
-/// Whether a fate is the gap behind that entry.
+/// Returns whether a fate is the gap after this entry.
 pub(crate) fn is_gap_behind(fate: Fate, entry: usize) -> bool
     requires room { entry < 2 ^ 63 }
     ensures { result ≡ is_gap (entry + 1) fate }

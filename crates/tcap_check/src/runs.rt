@@ -1,4 +1,4 @@
-//! The run that a certificate gives for a record, step by step, as far as it goes.
+//! The run that a certificate gives for a record, step by step, up to a refusal.
 
 ghost use Rattle.std.specs.Prelude.{◌≡◌, ◌≢◌, [], true, map, Some, Ok, Err, IfOk, IfSome, OnOk};
 ghost use Rattle.tcap_certificate.specs.declared.fault.CheckFault.{CheckFault as Refusal};
@@ -21,20 +21,20 @@ use tcap_end::{EndState, Table};
 use tcap_model::Reason;
 use tcap_record::{End, Record};
 
-/// A run as far as it goes.
+/// A run, complete or up to a refusal.
 #[derive(Debug, Drop)]
 pub struct Partial {
-    /// Why the certificate gives no run, at an entry; none where this is the run that it gives.
+    /// The reason why the certificate gives no run, with an entry, or `None` if the run is complete.
     pub refused: Option<CheckFault>,
-    /// Its steps, from the first on.
+    /// The steps, in order.
     pub steps: Vec<Step>,
-    /// The end A behind them.
+    /// The end A after these steps.
     pub a: EndState,
-    /// The end B behind them.
+    /// The end B after these steps.
     pub b: EndState,
 }
 
-/// Replays the entries of a record as far as they are taken, and, where all are, the last gap.
+/// Replays the entries of a record and the end of the record. Fails with the first refusal, or with `Memory`.
 fn go_through<'r>(replaying: &mut Replaying<'_, 'r>, record: &'r Record) -> Result<(), CheckFault>
     requires ready { IsReady replaying.old }
     ensures answer { TookListed true (checking_of replaying.old) [] → UnlessMemory result (EndsListed replaying.old.judged
@@ -48,7 +48,7 @@ fn go_through<'r>(replaying: &mut Replaying<'_, 'r>, record: &'r Record) -> Resu
     replaying.end()
 }
 
-/// Why there is no run, where there is none. Fails where memory ran out.
+/// Returns the refusal, if there is one. Fails if memory ran out.
 fn refusal_of(answer: Result<(), CheckFault>) -> Result<Option<CheckFault>, AllocError>
     ensures refused { IfOk result (λ refused. answered refused tt ≡ answer) }
     ensures memory { OnOk result (answer ≢ Err (fault_at reasons.Memory 0)) }
@@ -60,7 +60,8 @@ fn refusal_of(answer: Result<(), CheckFault>) -> Result<Option<CheckFault>, Allo
     }
 }
 
-/// What there is where a certificate is refused at once: no steps, between two new ends. Fails where memory ran out.
+/// Returns the result for a certificate that is refused before the first entry: no steps and two new ends. Fails if
+/// memory ran out.
 fn nothing_of(alloc: Global, fault: CheckFault) -> Result<Partial, AllocError>
     ensures refused { IfOk result (λ run. run.refused ≡ Some fault) }
     ensures none { IfOk result (λ run. (run.steps.items ≡ []) × (run.a ≡ nothing) × (run.b ≡ nothing)) }
@@ -77,10 +78,15 @@ fn nothing_of(alloc: Global, fault: CheckFault) -> Result<Partial, AllocError>
     }
 }
 
-/// Replays a certificate over a record as far as it goes (Q.774 3.2 and 3.3): the steps up to where it is refused, why, and both ends as they
-/// are there, before the step that is refused. Of one end that is judged alone the peer stays as at the start. Where nothing is refused
-/// these are the steps of `run_of`. The ranges of the certificate's numbers are looked at first: where one is outside, there are no steps,
-/// and both ends are new. Fails where memory runs out.
+/// Replays a certificate over a record as far as possible, and returns the steps up to a refusal (Q.774 3.2 and 3.3).
+///
+/// Both ends are returned as they are after these steps. If nothing is refused, the steps are those of `run_of`. If a
+/// number of the certificate is out of range, there are no steps and both ends are new. If one end is judged alone, its
+/// peer stays as it was at the start.
+///
+/// # Errors
+///
+/// `AllocError` if memory runs out.
 pub fn run_until(
     alloc: Global,
     record: &Record,
@@ -114,11 +120,19 @@ pub fn run_until(
     })
 }
 
-/// The run that a certificate gives for a record, step by step (Q.774 3.2 and 3.3). Where no end is named both are judged: it is a run
-/// of two ends, over two channels that keep order and may lose messages, that sends the entries of the record, in their order, and
-/// nothing else. Where one is named it alone keeps the rules in it, whatever its peer sends: the peer's messages are told (`Tells`),
-/// those of the end are sent and lost at once, since nothing is asked of what the peer hears, and a message that the end can't receive
-/// is lost (`Discards`). Else the first reason why the certificate gives no such run, at an entry, as `check` answers it; or `Memory`.
+/// Returns the run that a certificate gives for a record, step by step (Q.774 3.2 and 3.3).
+///
+/// With `None` both ends are judged: a run of two ends that sends exactly the entries of the record, in order, over two
+/// channels that keep order and may lose messages.
+///
+/// With `Some(end)` this end alone keeps the rules, and its peer may send anything (`Tells`). The end's own messages
+/// are lost as soon as they are sent, since it does not matter what the peer receives. A message that the end cannot
+/// receive is lost (`Discards`).
+///
+/// # Errors
+///
+/// The first reason why the certificate gives no such run, with an entry, as `check` returns it. `Memory` if memory
+/// runs out.
 pub fn run_of(
     alloc: Global,
     record: &Record,

@@ -1,4 +1,4 @@
-//! What a checker does where an end sends a message, or its provider answers one (Q.774 3.2 and 3.3).
+//! Messages in a replay that an end sends, or by which its provider answers a message (Q.774 3.2 and 3.3).
 
 ghost use Rattle.std.specs.Prelude.{◌≡◌, ◌<◌, ◌≤◌, ◌+◌, ◌^◌, [], ◌∷◌, Err, length, filter_map, IfOk, IfSome, OnErr, OnOk};
 ghost use Rattle.tcap_parts.specs.Meaning.{component_of};
@@ -30,15 +30,15 @@ use tcap_record::End;
 /// The step by which a message is sent.
 #[derive(Clone, Copy)]
 pub(crate) enum Way {
-    /// Its end sends it.
+    /// The end sends the message by the rules.
     Sends,
-    /// Its end tells it, of which nothing is asked.
+    /// The end sends the message and need not keep the rules.
     Tells,
-    /// The provider of its end answers the message of that number by it.
+    /// The provider of the end answers the message with this number.
     Replies(u64),
 }
 
-/// Where a fate stands in the order of what happens: gap g at 2g, the entry k at 2k + 1; 0 for what is lost.
+/// Returns the time of a fate: 2g for gap g, 2k + 1 for a reply in entry k, and 0 for a loss.
 fn time_or_zero(fate: Fate) -> u64
     ensures { result ≡ time_or_zero fate }
 {
@@ -49,8 +49,7 @@ fn time_or_zero(fate: Fate) -> u64
     }
 }
 
-/// The half over which a message is sent that carries Invokes over one: by its own ID for a Begin or a Continue, by its
-/// peer's for an End.
+/// Returns the half over which a message invokes: by own ID for a Begin or a Continue, by the peer's ID for an End.
 fn invoking_half<M: MessageParts>(message: &M) -> Option<HalfName>
     ensures { result ≡ invoking_half (M.meaning message.now) }
 {
@@ -63,7 +62,8 @@ fn invoking_half<M: MessageParts>(message: &M) -> Option<HalfName>
     }
 }
 
-/// Whether the provider of an end may answer a message by this Abort. One that will be lost it may not.
+/// Returns whether the provider of an end may answer a message by this Abort. It never answers a message that will be
+/// lost.
 fn may_refuse<A: MessageParts>(seat: &Seat, first: &Waiting, abort: &A) -> bool
     ensures { result ≡ may_be_answered seat.now.end first.now.message (A.meaning abort.now) }
 {
@@ -75,7 +75,7 @@ fn may_refuse<A: MessageParts>(seat: &Seat, first: &Waiting, abort: &A) -> bool
 }
 
 impl<'r> Seat<'r> {
-    /// Whether a message with that fate comes before what its end sent earlier.
+    /// Returns whether a message with this fate leaves the channel before an earlier message of its end.
     pub(crate) fn overtakes(&self, fate: Fate) -> bool
         ensures { result ≡ overtakes fate self.now }
     {
@@ -85,7 +85,8 @@ impl<'r> Seat<'r> {
         }
     }
 
-    /// A message that the end sends is on its way. Of one that will be lost its number alone is kept.
+    /// Appends a message to the end's channel. The message itself is not kept if it will be lost. Fails if memory runs
+    /// out.
     fn join<M: MessageParts>(
         &mut self,
         alloc: Global,
@@ -110,7 +111,7 @@ impl<'r> Seat<'r> {
     }
 }
 
-/// A copy of a message.
+/// Copies a message. Fails if memory runs out.
 fn copied<M: MessageParts>(alloc: Global, message: &M) -> Result<Message, CheckFault>
     ensures copied { IfOk result (λ copy. copy ≡ M.meaning message.now) }
     ensures memory { OnErr result (result ≡ Err (fault_at Memory 0)) }
@@ -119,7 +120,7 @@ fn copied<M: MessageParts>(alloc: Global, message: &M) -> Result<Message, CheckF
 }
 
 impl<'r> Progress<'r> {
-    /// That a message is sent is told where steps are listed.
+    /// Appends the step that sends a message to the list of steps, if there is one. Fails if memory runs out.
     fn tell_sent<M: MessageParts>(
         &mut self,
         alloc: Global,
@@ -141,7 +142,7 @@ impl<'r> Progress<'r> {
         self.tell(step)
     }
 
-    /// A message is on its way from its end.
+    /// Appends a message to its end's channel. Fails if memory runs out.
     fn put<M: MessageParts>(
         &mut self,
         alloc: Global,
@@ -163,7 +164,7 @@ impl<'r> Progress<'r> {
         joined.map_err(|_| OUT_OF_MEMORY)
     }
 
-    /// A message was sent, in that way.
+    /// Appends a message to its end's channel, and counts the step by which it is sent. Fails if memory runs out.
     pub(crate) fn join<M: MessageParts>(
         &mut self,
         alloc: Global,
@@ -186,7 +187,7 @@ impl<'r> Progress<'r> {
         self.tell_sent(alloc, way, side, message)
     }
 
-    /// Ends an own invocation of an end unseen, where that may be.
+    /// Expires an own invocation of an end, if it may expire. Fails if memory runs out.
     fn try_end(
         &mut self,
         table: &Table,
@@ -210,7 +211,8 @@ impl<'r> Progress<'r> {
         self.tell(Step::Expires(side, name, id))
     }
 
-    /// Ends the earlier invocation whose ID a component of a message invokes anew, where that may be.
+    /// Expires the earlier invocation whose ID this component invokes again, if it may expire. Fails if memory runs
+    /// out.
     fn end_invoked<M: MessageParts>(
         &mut self,
         table: &Table,
@@ -232,7 +234,7 @@ impl<'r> Progress<'r> {
         }
     }
 
-    /// Ends each earlier invocation whose ID a message invokes anew, where that may be.
+    /// Expires each earlier invocation whose ID a message invokes again, if it may expire. Fails if memory runs out.
     fn end_implied<M: MessageParts>(
         &mut self,
         table: &Table,
@@ -252,7 +254,7 @@ impl<'r> Progress<'r> {
         Ok(())
     }
 
-    /// An end sends a message as it is.
+    /// Sends a message from an end without expiries before it. Fails with the end's reason, and changes nothing then.
     fn send_as_is<M: MessageParts>(
         &mut self,
         table: &Table,
@@ -272,8 +274,9 @@ impl<'r> Progress<'r> {
         }
     }
 
-    /// An end sends a message. As it is where it can: a message that can be sent so invokes no ID that is in use, and
-    /// nothing ends before it. Else once each earlier invocation ended whose ID it invokes anew.
+    /// Sends a message from an end. First tries without expiries: a message that can be sent this way invokes no ID in
+    /// use. Else expires the earlier invocations whose IDs it invokes again, and tries once more. Fails with
+    /// `SendRefused` or `Memory`.
     #[tactic(auto, using(crate::proofs::checker_laws::SentAsItIsLaws::sends_as_is, crate::proofs::refusal_laws::SendShows::memory_shows))]
     fn send<M: MessageParts>(
         &mut self,
@@ -311,8 +314,8 @@ impl<'r> Progress<'r> {
         }
     }
 
-    /// Whether the first message on its way to an end is that of the number, and its provider may answer it by this
-    /// Abort.
+    /// Returns whether the first message on its way to an end has this number, and the end's provider may answer it by
+    /// this Abort.
     fn may_answer<A: MessageParts>(&self, side: End, abort: &A, taken: u32) -> bool
         ensures { result ≡ first_may_be_answered side (A.meaning abort.now) taken
             (seat_at (other side) self.now).waiting self.now }
@@ -325,7 +328,8 @@ impl<'r> Progress<'r> {
         }
     }
 
-    /// The provider of an end answers the first message on its way to it, which has to be that of the number.
+    /// Answers the first message on its way to an end, which must have this number, by its provider. Fails with
+    /// `BadReply` or `Memory`.
     #[tactic(auto, using(crate::proofs::checker_laws::SendingLaws::answered, crate::proofs::checker_laws::SendingLaws::not_answered))]
     fn answer_first<A: MessageParts>(
         &mut self,
@@ -354,7 +358,8 @@ impl<'r> Progress<'r> {
         self.join(alloc, way, side, fate, number, abort, lent)
     }
 
-    /// The same, behind what is lost before it.
+    /// Answers the message with number `taken` by the end's provider, after the losses before it. Fails with `BadReply`
+    /// or `Memory`.
     fn answer<A: MessageParts>(
         &mut self,
         alloc: Global,
@@ -377,8 +382,9 @@ impl<'r> Progress<'r> {
         self.answer_first(alloc, side, fate, number, abort, lent, taken)
     }
 
-    /// A message with that number and fate, which takes these messages: the provider's answer to one, where it is an
-    /// Abort with a cause; else one that the end sends, which takes none. It is lent, where it outlives the replay.
+    /// Sends a message that takes these messages. An Abort with a cause is the provider's answer to exactly one
+    /// message. Any other message takes none, and the end sends it. The message is lent if it outlives the replay.
+    /// Fails with `BadReply`, `SendRefused` or `Memory`.
     #[tactic(auto, using(crate::proofs::refusal_laws::SendShows::reply_shows))]
     pub(crate) fn send_or_answer<M: MessageParts>(
         &mut self,

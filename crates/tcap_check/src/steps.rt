@@ -1,4 +1,4 @@
-//! The steps of a run, as they happen.
+//! The list of the steps of a run.
 
 use crate::step::Step;
 use std::alloc::{AllocError, Global};
@@ -6,7 +6,7 @@ use std::marker::Model;
 use tcap_end::EndFault;
 use tcap_record::End;
 
-/// The steps so far, from the first on.
+/// The steps so far, in order.
 #[derive(Debug, Drop)]
 pub(crate) struct Steps {
     list: Vec<Step>,
@@ -25,7 +25,7 @@ impl Steps {
     ghost use Rattle.tcap_model.specs.Run.{Loses};
     ghost use Rattle.tcap_check.specs.Told.{discard_more, discard_of, event_of, more_told, nothing_told, told_of};
 
-    /// No steps.
+    /// Creates an empty list.
     pub(crate) fn new(alloc: Global) -> Steps
         ensures { result ≡ nothing_told }
     {
@@ -34,7 +34,7 @@ impl Steps {
         }
     }
 
-    /// One step more, which is no discard.
+    /// Appends a step that is no discard. Fails if memory runs out.
     #[tactic(auto, using(crate::proofs::checker_laws::ToldStepLaws::one_more))]
     pub(crate) fn push(&mut self, step: Step) -> Result<(), AllocError>
         requires plain { discard_of step ≡ None }
@@ -44,7 +44,7 @@ impl Steps {
         Ok(())
     }
 
-    /// One step more: the message of that number, which an end sent, is discarded for that reason.
+    /// Appends the discard, for this reason, of the message with this number from `sender`. Fails if memory runs out.
     #[tactic(auto, using(crate::proofs::checker_laws::ToldStepLaws::one_discard_more))]
     pub(crate) fn push_discard(
         &mut self,
@@ -58,7 +58,7 @@ impl Steps {
         Ok(())
     }
 
-    /// The steps, as a list.
+    /// Returns the steps as a vector.
     pub(crate) fn into_list(self) -> Vec<Step>
         ensures { told_of result.items ≡ self }
     {

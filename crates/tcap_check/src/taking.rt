@@ -1,4 +1,4 @@
-//! What a checker does with a message: an end that is judged sends it, or its provider, or its peer tells it (Q.774 3.2 and 3.3).
+//! Messages in a replay, from a judged end, from its provider, or from its peer (Q.774 3.2 and 3.3).
 
 ghost use Rattle.std.specs.Prelude.{◌≡◌, ◌<◌, ◌^◌, IfSome, OnOk};
 ghost use Rattle.tcap_check.specs.Left.{Leaves, message_left, taken_left};
@@ -16,8 +16,8 @@ use tcap_msg::{Message, MessageParts};
 use tcap_record::End;
 
 impl<'r> Progress<'r> {
-    /// A message with that number and fate that the peer of the judged end tells. It takes no message. It is lent, where it outlives
-    /// the replay.
+    /// Takes a message from the peer of the judged end. The message must take no other message. It is lent if it
+    /// outlives the replay. Fails with `BadReply` or `Memory`.
     fn take_told<M: MessageParts>(
         &mut self,
         alloc: Global,
@@ -43,9 +43,10 @@ impl<'r> Progress<'r> {
         self.join(alloc, Way::Tells, side, fate, number, message, lent)
     }
 
-    /// A message with that number and fate, which takes these: an end sends it, or its provider answers by it the message that it
-    /// takes, or the peer of the one that is judged tells it. What that one sends is lost at once, whatever its fate. It is lent,
-    /// where it outlives the replay.
+    /// Takes a message with this number and fate, which takes these messages. A judged end sends it, its provider
+    /// answers a message by it, or it is from the peer of an end that is judged alone. An end that is judged alone
+    /// loses its messages at once, no matter what their fates are. The message is lent if it outlives the replay. Fails
+    /// with `BadReply`, `SendRefused` or `Memory`.
     #[tactic(auto, using(crate::proofs::refusal_laws::SendShows::told_shows, crate::proofs::refusal_laws::SendShows::memory_shows))]
     pub(crate) fn take_message<M: MessageParts>(
         &mut self,

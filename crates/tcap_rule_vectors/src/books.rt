@@ -1,21 +1,21 @@
-//! Books of tables, from texts of JSON: what is read, the names in it, and which table is that of a dialogue.
+//! Rows about books of tables: what a text gives, the names in it, and which table a dialogue gets.
 
 use std::alloc::Global;
 use tcap_ber::ObjectIdView;
 use tcap_books::{Book, CARRIED_BOOK, NamedTable};
 use tcap_parts::CodeView;
 
-/// Returns the book of a text.
+/// Returns the book of a text, or `None` if the text is no book.
 fn book_of(alloc: Global, text: &str) -> Option<Book> {
     Book::from_json(alloc, text.as_bytes()).ok()
 }
 
-/// Returns the name of a table, a dash if it has none.
+/// Returns the name of a table, or a dash if it has none.
 fn name_of(table: &NamedTable) -> &str {
     table.name().unwrap_or("-")
 }
 
-/// Returns the text of a book of so many tables.
+/// Returns the text of a book of this many tables.
 pub(crate) fn long_book(alloc: Global, count: usize) -> Option<String> {
     let mut text = String::from_str(alloc, "{\"tables\":[{\"operations\":[]}").ok()?;
     for _ in 1..count {
@@ -25,7 +25,7 @@ pub(crate) fn long_book(alloc: Global, count: usize) -> Option<String> {
     Some(text)
 }
 
-/// Returns whether a text is a book of so many tables, if a count is wanted, and else has a fault of this text.
+/// Returns whether a text is a book with the expected count of tables, or has the expected fault.
 pub(crate) fn is_book(alloc: Global, text: &[u8], wanted: &str) -> Option<bool> {
     match Book::from_json(alloc, text) {
         Ok(book) => Some(wanted.parse::<usize>().ok() == Some(book.tables().len())),
@@ -33,7 +33,7 @@ pub(crate) fn is_book(alloc: Global, text: &[u8], wanted: &str) -> Option<bool> 
     }
 }
 
-/// Returns the text of a book of tables with these contexts, named by their numbers.
+/// Returns the text of a book of tables with these contexts, whose names are their numbers.
 fn book_text(alloc: Global, contexts: &str) -> Option<String> {
     let mut text = String::from_str(alloc, "{\"tables\":[").ok()?;
     for (number, of_one) in contexts.split('|').enumerate() {
@@ -48,7 +48,7 @@ fn book_text(alloc: Global, contexts: &str) -> Option<String> {
     Some(text)
 }
 
-/// Returns whether the table of a dialogue with this context, a dash for none, has this name.
+/// Returns whether a dialogue with this context, or a dash for none, gets the table with this name.
 fn is_chosen(alloc: Global, text: &str, context: &str, wanted: &str) -> Option<bool> {
     let book = book_of(alloc, text)?;
     let octets = if context == "-" {
@@ -60,7 +60,7 @@ fn is_chosen(alloc: Global, text: &str, context: &str, wanted: &str) -> Option<b
     Some(table.map_or("-", name_of) == wanted)
 }
 
-/// Looks at a row of `choices`: the contexts of each table, with bars between tables.
+/// Checks a row of `choices`: the contexts of each table with bars between tables, the context, the table.
 pub(crate) fn is_choice(
     alloc: Global,
     contexts: &str,
@@ -70,13 +70,13 @@ pub(crate) fn is_choice(
     is_chosen(alloc, &book_text(alloc, contexts)?, context, wanted)
 }
 
-/// Looks at a row of `carried`: a context, and the table of the book that the program carries.
+/// Checks a row of `carried`: a context, and the table that the program's own book gives for it.
 pub(crate) fn is_carried(alloc: Global, context: &str, wanted: &str) -> Option<bool> {
     is_chosen(alloc, CARRIED_BOOK, context, wanted)
 }
 
-/// Returns the name of an operation, a dash if it has none. Its code is local, in decimal digits, or global, in hexadecimal digits
-/// after `g:`.
+/// Returns the name of an operation, or a dash if it has none. The code is local in decimal digits, or global in
+/// hexadecimal digits after `g:`.
 fn operation_of<'a>(alloc: Global, table: &'a NamedTable, code: &str) -> Option<&'a str> {
     let name = match code.strip_prefix("g:") {
         Some(digits) => {
@@ -88,7 +88,7 @@ fn operation_of<'a>(alloc: Global, table: &'a NamedTable, code: &str) -> Option<
     Some(name.unwrap_or("-"))
 }
 
-/// Looks at a row of `names`: the text of a book of one table, and codes with the names of the operations.
+/// Checks a row of `names`: the text of a book of one table, and codes with the names of their operations.
 pub(crate) fn are_names(alloc: Global, text: &str, codes: &[&str]) -> Option<bool> {
     let book = book_of(alloc, text)?;
     let [table] = book.tables() else {
@@ -103,7 +103,7 @@ pub(crate) fn are_names(alloc: Global, text: &str, codes: &[&str]) -> Option<boo
     Some(!codes.is_empty())
 }
 
-/// Looks at a row of `added`: two books, and the names of the tables when the second one is added to the first.
+/// Checks a row of `added`: two books, and the names of all tables after the second book is added to the first.
 pub(crate) fn is_added(alloc: Global, first: &str, second: &str, wanted: &str) -> Option<bool> {
     let mut book = book_of(alloc, first)?;
     book.add(book_of(alloc, second)?).ok()?;

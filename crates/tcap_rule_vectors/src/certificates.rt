@@ -1,11 +1,11 @@
-//! Certificates, and their texts, read and written again.
+//! Rows about certificates: their texts, read and written again.
 
 use std::alloc::Global;
 use tcap_certificate::{Certificate, Closing, Expiry, Fate};
 use tcap_certificate_text::{from_json, to_json};
 use tcap_record::End;
 
-/// Octets that may come before and after a text, and change nothing.
+/// Octets around a text that change nothing.
 const AROUND: [(&[u8], &[u8]); 7] = [
     (b"", b""),
     (b"", b"\n"),
@@ -16,13 +16,13 @@ const AROUND: [(&[u8], &[u8]); 7] = [
     (b"\n\t", b"\n"),
 ];
 
-/// Octets that may not come after a text.
+/// Octets after a text that make it invalid.
 const AFTER: [&[u8]; 5] = [b"}", b"1", b"\n,", b"\n\0", b"\n{}"];
 
 /// Octets that replace an octet of a text.
 const OTHERS: &[u8] = b"019AB,]}\" \n\xFF";
 
-/// Returns so many fates, from 1, each greater than the one before it by a step.
+/// Returns this many fates: 1, and then each greater than the one before by `step`.
 fn fates(alloc: Global, count: &str, step: u32) -> Option<String> {
     let count = count.parse::<u32>().ok()?;
     let mut text = String::from_str(alloc, "[1").ok()?;
@@ -35,12 +35,12 @@ fn fates(alloc: Global, count: &str, step: u32) -> Option<String> {
     Some(text)
 }
 
-/// Returns the text of a certificate with these fates alone.
+/// Returns the text of a certificate with only these fates.
 fn with_fates(alloc: Global, fates: &str) -> Option<String> {
     format!(in alloc; "{{\"close\":[],\"expire\":[],\"fates\":{fates},\"version\":1}}").ok()
 }
 
-/// Returns the text of the certificate that a column stands for.
+/// Returns the text of the certificate that a column describes.
 pub(crate) fn certificate_of(alloc: Global, column: &str) -> Option<String> {
     if let Some(fates) = column.strip_prefix("fates ") {
         return with_fates(alloc, fates);
@@ -54,8 +54,8 @@ pub(crate) fn certificate_of(alloc: Global, column: &str) -> Option<String> {
     String::from_str(alloc, column).ok()
 }
 
-/// Returns what is written of the certificate with this text, or the number of the reason why the text is none. Returns `None`
-/// if memory runs out.
+/// Returns the certificate of this text, written again, or the number of the reason why the text is no certificate.
+/// Returns `None` if memory runs out.
 fn written(alloc: Global, text: &[u8]) -> Option<String> {
     match from_json(alloc, text) {
         Ok(certificate) => to_json(alloc, &certificate).ok(),
@@ -66,7 +66,7 @@ fn written(alloc: Global, text: &[u8]) -> Option<String> {
     }
 }
 
-/// Returns whether a text with these octets before and after it gives the same as the text alone.
+/// Returns whether a text with these octets around it gives the expected result.
 fn is_same(alloc: Global, before: &[u8], text: &[u8], after: &[u8], wanted: &str) -> Option<bool> {
     let mut all = Vec::from_slice(alloc, before).ok()?;
     all.extend_from_slice(text).ok()?;
@@ -74,7 +74,8 @@ fn is_same(alloc: Global, before: &[u8], text: &[u8], after: &[u8], wanted: &str
     Some(written(alloc, &all)?.as_str() == wanted)
 }
 
-/// Looks at a row of `certificates alone` or `certificates of octets`: a text, and what is written of it, `=` for the text.
+/// Checks a row of `certificates alone` or `certificates of octets`: a text, and the certificate written again, or `=`
+/// if that is the text.
 pub(crate) fn is_written(alloc: Global, text: &[u8], wanted: &str) -> Option<bool> {
     let written = written(alloc, text)?;
     Some(if wanted == "=" {
@@ -84,7 +85,7 @@ pub(crate) fn is_written(alloc: Global, text: &[u8], wanted: &str) -> Option<boo
     })
 }
 
-/// Looks at a row of `certificates`: as above, also with octets before and after the text.
+/// Checks a row of `certificates`, with other octets around the text too.
 pub(crate) fn is_certificate(alloc: Global, text: &[u8], wanted: &str) -> Option<bool> {
     let written = written(alloc, text)?;
     for (before, after) in AROUND {
@@ -100,7 +101,7 @@ pub(crate) fn is_certificate(alloc: Global, text: &[u8], wanted: &str) -> Option
     is_written(alloc, text, wanted)
 }
 
-/// Looks at a row of `beginnings`: a text, and the count of its beginnings, itself left out, that are refused as no certificate.
+/// Checks a row of `beginnings`: a text, and how many of its proper beginnings are refused as no certificate.
 pub(crate) fn are_refused(alloc: Global, text: &[u8], wanted: usize) -> Option<bool> {
     let mut count = 0_usize;
     for len in 0..text.len() {
@@ -111,8 +112,8 @@ pub(crate) fn are_refused(alloc: Global, text: &[u8], wanted: usize) -> Option<b
     Some(count == wanted)
 }
 
-/// Looks at a row of `other octets`: a text, and the count of the changes of one octet of it after which it gives the same with a space
-/// before it, which has it read by another reader.
+/// Checks a row of `other octets`: a text, and the count of changes of one octet after which a space before the text
+/// makes no difference. The space leads to another reader.
 pub(crate) fn are_same(alloc: Global, text: &[u8], wanted: usize) -> Option<bool> {
     let mut octets = Vec::from_slice(alloc, text).ok()?;
     let mut count = 0_usize;
@@ -130,7 +131,7 @@ pub(crate) fn are_same(alloc: Global, text: &[u8], wanted: usize) -> Option<bool
     Some(count == wanted)
 }
 
-/// Returns the fate of these words.
+/// Returns the fate that these words describe.
 fn fate_of(words: &str) -> Option<Fate> {
     if let Some(gap) = words.strip_prefix("gap ") {
         return Some(Fate::Gap(gap.parse::<u32>().ok()?));
@@ -145,8 +146,8 @@ fn fate_of(words: &str) -> Option<Fate> {
     }
 }
 
-/// Looks at a row of `made certificates`: a fate, the component of an expiry of A, the gap of a closing of B, and what is written of the
-/// certificate with these, or `none`.
+/// Checks a row of `made certificates`: a fate, the component of an expiry of A, the gap of a closing of B, and the
+/// text of the certificate with these, or `none`.
 pub(crate) fn is_made(
     alloc: Global,
     fate: &str,

@@ -1,4 +1,4 @@
-//! The commands of rows.
+//! The commands in the heads of the rows, and the function that checks each row.
 
 use crate::books::{are_names, is_added, is_book, is_carried, is_choice, long_book};
 use crate::certificates::{
@@ -14,7 +14,7 @@ use crate::tables::{are_classes, is_table, long_text};
 use std::alloc::Global;
 use tcap_vectors::octets_of;
 
-/// Returns whether a row about a table or a book holds.
+/// Checks a row about a table or a book.
 fn holds_of_table(alloc: Global, command: &str, columns: &[&str]) -> Option<bool> {
     match (command, columns) {
         ("[tables]", [text, wanted @ ..]) => is_table(alloc, text.as_bytes(), wanted),
@@ -42,7 +42,7 @@ fn holds_of_table(alloc: Global, command: &str, columns: &[&str]) -> Option<bool
     }
 }
 
-/// Returns whether a row about the text of a certificate holds.
+/// Checks a row about the text of a certificate.
 fn holds_of_certificate(alloc: Global, command: &str, column: &str, wanted: &str) -> Option<bool> {
     let text = if command == "[certificates of octets]" {
         hex::decode(alloc, column).ok()?
@@ -57,7 +57,7 @@ fn holds_of_certificate(alloc: Global, command: &str, column: &str, wanted: &str
     }
 }
 
-/// Returns whether a row about a record, a run, a certificate made by hand, a dialogue or a trace holds.
+/// Checks a row about a record, a run, a certificate made by hand, a dialogue or a trace.
 fn holds_of_verdict(alloc: Global, command: &str, columns: &[&str]) -> Option<bool> {
     match (command, columns) {
         ("[moves]", [asked @ .., wanted]) => is_answered(alloc, Question::Moves, asked, wanted),
@@ -95,8 +95,8 @@ fn holds_of_verdict(alloc: Global, command: &str, columns: &[&str]) -> Option<bo
     }
 }
 
-/// Returns whether a row of this command holds; `None` if it can't be read, the command is unknown, or memory runs out outside a
-/// call of `calls`. It counts the calls in which memory runs out.
+/// Returns whether a row of this command holds, and counts the calls in which memory runs out. Returns `None` if the
+/// row cannot be read, the command is unknown, or memory runs out outside a call of `calls`.
 pub(crate) fn holds(alloc: Global, command: &str, row: &str, failed: &mut usize) -> Option<bool> {
     let columns: Vec<&str> = row.split(';').collect(alloc).ok()?;
     match (command, columns.as_slice()) {

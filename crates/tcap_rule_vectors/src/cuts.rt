@@ -1,4 +1,4 @@
-//! How a record is cut into dialogues.
+//! Rows about how a record is cut into dialogues.
 
 use std::alloc::Global;
 use std::collections::BTreeSet;
@@ -7,7 +7,7 @@ use tcap_dialogues::{Cut, Gathered, HeadingView, Reuse};
 use tcap_msg::{Kind, TransactionId};
 use tcap_record::End;
 
-/// Returns the kind of a message of this letter.
+/// Returns the kind of message that this letter means.
 fn kind_of(letter: u8) -> Option<Kind> {
     match letter {
         b'u' => Some(Kind::Unidirectional),
@@ -18,7 +18,7 @@ fn kind_of(letter: u8) -> Option<Kind> {
     }
 }
 
-/// Returns the transaction ID of this octet, a dash for none.
+/// Returns the transaction ID with this octet, or `None` for a dash.
 fn id_of(letter: u8) -> Option<TransactionId> {
     if letter == b'-' {
         None
@@ -27,7 +27,7 @@ fn id_of(letter: u8) -> Option<TransactionId> {
     }
 }
 
-/// Takes an entry. Returns whether it is the first of one more dialogue.
+/// Takes an entry, and returns whether it begins one more dialogue.
 fn take(cut: &mut Cut, word: &str, done: &mut Vec<Gathered>) -> Option<bool> {
     let [sender, kind, from, to, rest @ ..] = word.as_bytes() else {
         return None;
@@ -51,7 +51,7 @@ fn take(cut: &mut Cut, word: &str, done: &mut Vec<Gathered>) -> Option<bool> {
     cut.take(heading, done).ok()
 }
 
-/// Appends the numbers of the entries of a dialogue, and of the earlier one that had an ID of it.
+/// Appends the numbers of the entries of a dialogue, and of the earlier dialogue that had one of its IDs.
 fn push_dialogue(text: &mut String, dialogue: &Gathered) -> Option<()> {
     for number in &dialogue.numbers {
         write!(text, "{number},").ok()?;
@@ -77,8 +77,8 @@ fn push_sent(alloc: Global, text: &mut String, cut: &Cut, end: End) -> Option<()
     Some(())
 }
 
-/// Returns the dialogues, and how many entries are the first of one more dialogue and the IDs from which the ends sent, with semicolons
-/// between them.
+/// Returns the dialogues, the count of entries that begin one more dialogue, and the IDs from which the ends sent, with
+/// semicolons between them.
 fn text_of(alloc: Global, done: &[Gathered], begun: u64, sent: &str) -> Option<String> {
     let mut text = String::new(alloc);
     for dialogue in done {
@@ -88,7 +88,7 @@ fn text_of(alloc: Global, done: &[Gathered], begun: u64, sent: &str) -> Option<S
     Some(text)
 }
 
-/// Cuts a record of these entries into dialogues, and returns the text of these.
+/// Cuts a record of these entries into dialogues, and returns their text.
 fn cut(alloc: Global, reuse: Reuse, entries: &str) -> Option<String> {
     let mut cut = Cut::new(alloc, reuse);
     let mut done = Vec::new(alloc);
@@ -106,8 +106,8 @@ fn cut(alloc: Global, reuse: Reuse, entries: &str) -> Option<String> {
     text_of(alloc, &done, begun, sent.as_str())
 }
 
-/// Looks at a row of `cuts`: for how many entries IDs linger, or `once`; entries; the dialogues; how many entries are the first of one
-/// more dialogue; the IDs from which A sent, and those from which B did.
+/// Checks a row of `cuts`: for how many entries IDs linger, or `once`; the entries; the dialogues; the count of entries
+/// that begin one more dialogue; and the IDs from which A and from which B sent.
 pub(crate) fn is_cut(alloc: Global, linger: &str, entries: &str, wanted: &[&str]) -> Option<bool> {
     let reuse = match linger.parse::<u64>() {
         Ok(linger) => Reuse::Again(linger),

@@ -1,4 +1,4 @@
-//! Verdicts on dialogues, and on traces.
+//! Rows about verdicts on dialogues and traces.
 
 use crate::packing::lines_of;
 use crate::runs::judged_by;
@@ -12,7 +12,7 @@ use tcap_report::{Asked, Junit, Page, Sinks, Sum, Watch, run_trace};
 use tcap_traces::{Circumstances, Ends, Said, Verdict, judge_dialogue, trace_verdict};
 use tcap_vectors::octets_of;
 
-/// Returns the circumstances of these words.
+/// Returns the circumstances that these words describe.
 fn circumstances_of(words: &str) -> Option<Circumstances> {
     let mut found = Circumstances {
         again: false,
@@ -39,7 +39,7 @@ fn circumstances_of(words: &str) -> Option<Circumstances> {
     Some(found)
 }
 
-/// Returns what is said of the ends of a record.
+/// Returns the verdicts on the ends of a record.
 fn ends_of(alloc: Global, record: &str, table: &str, circumstances: &str) -> Option<Ends> {
     let circumstances = circumstances_of(circumstances)?;
     let octets = octets_of(alloc, record)?;
@@ -51,12 +51,12 @@ fn ends_of(alloc: Global, record: &str, table: &str, circumstances: &str) -> Opt
     judge_dialogue(alloc, &mut record, &table, circumstances).ok()
 }
 
-/// Returns whether this is said of an end. A dash is not looked at.
+/// Returns whether this is the expected verdict on an end. A dash accepts any.
 fn is_said(alloc: Global, said: Said, wanted: &str) -> Option<bool> {
     Some(wanted == "-" || format!(in alloc; "{said:?}").ok()?.as_str() == wanted)
 }
 
-/// Looks at a row of `dialogues`: a record, a table, circumstances, and what is said of A and of B.
+/// Checks a row of `dialogues`: a record, a table, circumstances, and the verdicts on A and on B.
 pub(crate) fn is_judged(alloc: Global, columns: &[&str], a: &str, b: &str) -> Option<bool> {
     let [record, table, circumstances] = columns else {
         return None;
@@ -71,7 +71,7 @@ fn is_verdict(alloc: Global, verdict: Verdict, wanted: &str) -> Option<bool> {
     Some(format!(in alloc; "{word} {status}").ok()?.as_str() == wanted)
 }
 
-/// Returns what is said of an end that passes or is undecided.
+/// Returns the verdict `passes` or `undecided` on an end.
 fn said_of(word: &str) -> Option<Said> {
     match word {
         "passes" => Some(Said::Pass(0)),
@@ -80,7 +80,8 @@ fn said_of(word: &str) -> Option<Said> {
     }
 }
 
-/// Looks at a row of `verdicts on dialogues`: what is said of A and of B, and the verdicts that are asked of both ends or of one.
+/// Checks a row of `verdicts on dialogues`: the verdicts on A and on B, and the verdicts on the dialogue for both ends
+/// or for one.
 pub(crate) fn are_verdicts(alloc: Global, a: &str, b: &str, asked: &[&str]) -> Option<bool> {
     let ends = Ends {
         a: said_of(a)?,
@@ -95,7 +96,8 @@ pub(crate) fn are_verdicts(alloc: Global, a: &str, b: &str, asked: &[&str]) -> O
     Some(!asked.is_empty())
 }
 
-/// Looks at a row of `verdicts on traces`: the count of entries that can be read, the worst verdict on a dialogue, and the verdict.
+/// Checks a row of `verdicts on traces`: the count of readable entries, the worst verdict on a dialogue, and the
+/// verdict.
 pub(crate) fn is_trace_verdict(
     alloc: Global,
     readable: u64,
@@ -110,7 +112,7 @@ pub(crate) fn is_trace_verdict(
     is_verdict(alloc, trace_verdict(false, readable, worst), wanted)
 }
 
-/// An observer who looks at nothing.
+/// An observer that does nothing.
 #[derive(Drop)]
 struct Nobody;
 
@@ -118,7 +120,7 @@ impl Watch for Nobody {
     fn look(&mut self, _sum: &Sum) {}
 }
 
-/// Looks at a row of `traces`: lines, a book, and the verdict. The trace is written in all forms.
+/// Checks a row of `traces`: lines, a book, and the verdict. The report is written in each of its formats.
 pub(crate) fn is_trace(alloc: Global, lines: &str, book: &str, wanted: &str) -> Option<bool> {
     let lines = lines_of(alloc, lines)?;
     let book = Book::from_json(alloc, book.as_bytes()).ok()?;

@@ -1,4 +1,4 @@
-//! Calls of one end, from a list, and what they answer.
+//! Rows about one end: calls, and the expected results.
 
 use crate::tables::table_of;
 use std::alloc::Global;
@@ -6,7 +6,7 @@ use tcap_end::{EndFault, EndState, HalfName, Table};
 use tcap_msg::{Message, MessageParts, TransactionId, decode, view};
 use tcap_vectors::octets_of;
 
-/// Returns the half of that name.
+/// Returns the half with this name.
 fn half_of(side: &str, octet: &str) -> Option<HalfName> {
     let id = TransactionId::new(&[octet.parse::<u8>().ok()?])?;
     match side {
@@ -16,7 +16,7 @@ fn half_of(side: &str, octet: &str) -> Option<HalfName> {
     }
 }
 
-/// Sends or receives a message, and returns what the end answers.
+/// Sends or receives a message, and returns the end's result.
 fn moved<M: MessageParts>(
     table: &Table,
     end: &mut EndState,
@@ -30,7 +30,7 @@ fn moved<M: MessageParts>(
     }
 }
 
-/// Sends or receives the message of that name, as a value or as a view of its octets.
+/// Sends or receives the message with this name, as a value or as a view of its octets.
 fn moved_by_name(
     alloc: Global,
     end: &mut EndState,
@@ -55,7 +55,7 @@ fn moved_by_name(
     answered
 }
 
-/// Returns what `refuse_begin` or `refuse_continue` answers of views of two messages.
+/// Returns the result of `refuse_begin` or `refuse_continue` for views of two messages.
 fn refused_views(
     end: &EndState,
     octets: &[u8],
@@ -71,7 +71,7 @@ fn refused_views(
     })
 }
 
-/// Returns what it answers of a message and of the Abort of these octets, as values.
+/// Returns the result of `refuse_begin` or `refuse_continue` for a message and the Abort of these octets, as values.
 fn refused_value(
     alloc: Global,
     end: &EndState,
@@ -89,7 +89,7 @@ fn refused_value(
     Some(answered)
 }
 
-/// Returns what it answers of two messages as values.
+/// Returns the result of `refuse_begin` or `refuse_continue` for two messages as values.
 fn refused_values(
     alloc: Global,
     end: &EndState,
@@ -103,7 +103,8 @@ fn refused_values(
     answered
 }
 
-/// Returns what it answers of the messages of those names, as values or as views of their octets.
+/// Returns the result of `refuse_begin` or `refuse_continue` for the messages with these names, as values or as views
+/// of their octets.
 fn refused_by_name(
     alloc: Global,
     end: &EndState,
@@ -120,7 +121,7 @@ fn refused_by_name(
     }
 }
 
-/// Closes a half, or ends an invocation of it unseen, and returns what the end answers.
+/// Closes a half, or expires an invocation on it, and returns the end's result.
 fn unseen(
     alloc: Global,
     end: &mut EndState,
@@ -137,7 +138,7 @@ fn unseen(
     Some(answered)
 }
 
-/// Makes a call, and returns the number of the answer, 0 for no fault, and the number that is wanted.
+/// Makes a call, and returns the number of its result, 0 for success, and the expected number.
 fn answer(alloc: Global, end: &mut EndState, row: &str, as_value: bool) -> Option<(u8, u8)> {
     let mut words = row.split(' ');
     let wanted = words.next()?.parse::<u8>().ok()?;
@@ -173,8 +174,8 @@ fn answer(alloc: Global, end: &mut EndState, row: &str, as_value: bool) -> Optio
     }
 }
 
-/// Makes a list of calls on an end, each once more if memory runs out in it, and counts those. Returns whether each answers what
-/// is wanted.
+/// Makes these calls on an end, and returns whether each has the expected result. A call in which memory runs out is
+/// counted and made again.
 fn made_on(
     alloc: Global,
     end: &mut EndState,
@@ -194,8 +195,8 @@ fn made_on(
     Some(is_wanted)
 }
 
-/// Looks at a row of `calls`: on views of messages, and on messages of their own. `None` if a call can't be read, or memory runs out
-/// outside a call.
+/// Checks a row of `calls`, on views of messages and on messages as values. Returns `None` if a call cannot be read, or
+/// memory runs out outside a call.
 pub(crate) fn are_answered(alloc: Global, calls: &[&str], failed: &mut usize) -> Option<bool> {
     for as_values in [false, true] {
         let mut end = EndState::new(alloc);
@@ -208,7 +209,7 @@ pub(crate) fn are_answered(alloc: Global, calls: &[&str], failed: &mut usize) ->
     Some(true)
 }
 
-/// Returns the text of a table of an operation to which 1,000 others are linked, from this one on, and of the one that is invoked.
+/// Returns the text of a table with two operations: 48, and 50, to which 1,000 operations from `first` on are linked.
 fn table_of_many(alloc: Global, first: u32) -> Option<String> {
     let mut text = format!(in alloc;
         "{{\"operations\":[{{\"class\":4,\"code\":48}},{{\"class\":1,\"code\":50,\"linked\":[{first}"
@@ -220,7 +221,7 @@ fn table_of_many(alloc: Global, first: u32) -> Option<String> {
     Some(text)
 }
 
-/// Looks at a row of `linked codes`: an end receives the first message, and the second one is sent.
+/// Checks a row of `linked codes`: an end receives an Invoke of 50, and sends a linked Invoke of 48.
 pub(crate) fn is_linked(alloc: Global, first: u32, wanted: u8) -> Option<bool> {
     let table = table_of(alloc, &table_of_many(alloc, first)?)?;
     let begin = octets_of(alloc, "begin_with_invoke_of_50")?;
@@ -239,7 +240,8 @@ pub(crate) fn is_linked(alloc: Global, first: u32, wanted: u8) -> Option<bool> {
     Some(received == Ok(()) && number == wanted)
 }
 
-/// Looks at a row of `texts for debugging`: of an end that receives the first message and sends the second one, and of the ID 0102.
+/// Checks a row of `texts for debugging`: the text of an end that receives the first message and sends the second, and
+/// the text of the ID 0102.
 pub(crate) fn are_texts(
     alloc: Global,
     first: &str,

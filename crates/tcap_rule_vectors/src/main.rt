@@ -1,7 +1,8 @@
-//! Test vectors of ends, tables, books, certificates, and verdicts on records and dialogues, as data: the program reads rows on
-//! standard input, looks at each, prints the number of each line whose row does not hold or can't be read, and then how many rows
-//! there are, and how often memory ran out in a call of `calls`. `stdin` begins with a description of its rows. `make memory` gives
-//! it those of `calls`.
+//! Test vectors for ends, tables, books, certificates, and verdicts on records and dialogues.
+//!
+//! The program reads rows on standard input and checks each. It prints the number of each line whose row does not hold
+//! or cannot be read, then the count of rows, and the count of calls in `calls` in which memory ran out. The head of
+//! `stdin` describes the rows. `make memory` runs the rows of `calls`.
 #![tactic(auto)]
 
 mod books;
@@ -20,7 +21,7 @@ use std::io;
 use std::process::ExitCode;
 use tcap_ber::{Counted, read_to_end};
 
-/// Looks at each row of the sheet. Prints the lines of those that do not hold, and the count of rows.
+/// Checks each row of the sheet, and prints the lines of those that do not hold, and the counts.
 fn look(rt: &HostRuntime, sheet: &str) -> io::Result<()> {
     let mut command = "";
     let mut count = 0_usize;

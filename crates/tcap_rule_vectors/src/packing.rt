@@ -1,11 +1,11 @@
-//! Lines of hexadecimal digits that are packed.
+//! Rows about lines of hexadecimal digits that are packed.
 
 use std::alloc::Global;
 use tcap_ber::Counted;
 use tcap_lines::run_pack;
 use tcap_record::{FeedFault, PackFault, pack};
 
-/// Returns the octets of lines, in which `|` and `^` stand for the two ends of lines.
+/// Returns the octets of these lines, in which `|` means a line feed and `^` a carriage return.
 pub(crate) fn lines_of(alloc: Global, column: &str) -> Option<Vec<u8>> {
     let mut lines = column.as_bytes().to_vec(alloc).ok()?;
     for octet in &mut lines {
@@ -18,7 +18,7 @@ pub(crate) fn lines_of(alloc: Global, column: &str) -> Option<Vec<u8>> {
     Some(lines)
 }
 
-/// Returns what `pack` answers of lines, the count of entries or the fault, and the octets that it writes.
+/// Returns the result of `pack` for these lines, which is a count of entries or a fault, and the octets that it writes.
 fn by_library(alloc: Global, lines: &[u8]) -> Option<(String, Vec<u8>)> {
     let mut writer = Counted::new(Vec::new(alloc));
     let answer = match pack(alloc, &mut Counted::new(lines), &mut writer) {
@@ -44,8 +44,8 @@ fn by_run(alloc: Global, lines: &[u8]) -> Option<(String, Vec<u8>)> {
     Some((answer, writer.into_inner()))
 }
 
-/// Looks at a row of `packed lines` or `packed octets`: what the run says, what the library answers, the octets that both write, and
-/// the lines.
+/// Checks a row of `packed lines` or `packed octets`: what the command prints, the library's result, the octets that
+/// both write, and the lines.
 pub(crate) fn are_packed(
     alloc: Global,
     (run, library, digits): (&str, &str, &str),

@@ -1,4 +1,4 @@
-//! Verdicts on records: what the commands of the program print over memory, also if their devices fail.
+//! Rows about records: what the commands of the program print over memory, even if their devices fail.
 
 use crate::certificates::certificate_of;
 use crate::tables::table_text;
@@ -10,7 +10,7 @@ use tcap_vectors::{Failing, octets_of};
 /// A count of octets that no device reaches.
 const NEVER: usize = 1_000_000_000;
 
-/// A command, and what its readers give: the texts of a table and of a certificate, empty if it takes none, and a record.
+/// A command and its inputs: the texts of a table and of a certificate, empty if it takes none, and a record.
 #[derive(Drop)]
 struct Command<'a> {
     word: &'a str,
@@ -19,8 +19,8 @@ struct Command<'a> {
     record: Vec<u8>,
 }
 
-/// What a run printed, how it ended, `None` if the writer failed, and how many octets of the table, the certificate and the record
-/// it left.
+/// The outcome of a command: its output, its status, or `None` if the writer failed, and how many octets of the table,
+/// the certificate and the record it did not read.
 #[derive(Drop)]
 struct Outcome {
     printed: Vec<u8>,
@@ -28,7 +28,7 @@ struct Outcome {
     left: [usize; 3],
 }
 
-/// Returns the command of these columns: its word, a record, and the table and the certificate that it takes.
+/// Returns the command of these columns: its word, a record, and its table and its certificate if it takes them.
 fn command_of<'a>(alloc: Global, columns: &[&'a str]) -> Option<Command<'a>> {
     let (word, record, table, certificate) = match columns {
         [word, record] => (*word, *record, "", ""),
@@ -46,8 +46,8 @@ fn command_of<'a>(alloc: Global, columns: &[&'a str]) -> Option<Command<'a>> {
     })
 }
 
-/// Returns the outcome of a command whose devices fail after so many octets: the readers of the table, the certificate and the record,
-/// and the writer; `None` if there is no such command.
+/// Returns the outcome of a command whose devices fail after these counts of octets: the readers of the table, the
+/// certificate and the record, and the writer. Returns `None` if there is no such command.
 fn outcome_of(alloc: Global, command: &Command, limits: [usize; 4]) -> Option<Outcome> {
     let mut table = Failing::new(command.table.as_bytes(), limits[0]);
     let mut certificate = Failing::new(command.certificate.as_bytes(), limits[1]);
@@ -79,7 +79,7 @@ fn outcome_of(alloc: Global, command: &Command, limits: [usize; 4]) -> Option<Ou
     })
 }
 
-/// Returns the status of a run, and after a colon the lines that it printed, with a bar between two.
+/// Returns the status of a command, a colon, and the lines that it printed, with bars between them.
 fn said(alloc: Global, outcome: &Outcome) -> Option<String> {
     let Some(status) = outcome.status else {
         return String::from_str(alloc, "the writer failed").ok();
@@ -97,20 +97,20 @@ fn said(alloc: Global, outcome: &Outcome) -> Option<String> {
     Some(said)
 }
 
-/// Looks at a row of `commands`: a command, and its status with its lines.
+/// Checks a row of `commands`: a command, and its status with its lines.
 pub(crate) fn is_said(alloc: Global, columns: &[&str], wanted: &str) -> Option<bool> {
     let outcome = outcome_of(alloc, &command_of(alloc, columns)?, [NEVER; 4])?;
     Some(said(alloc, &outcome)?.as_str() == wanted)
 }
 
-/// Looks at a row of `left`: also how many octets of the record are not read then.
+/// Checks a row of `left`: a command, its status with its lines, and how many octets of the record it did not read.
 pub(crate) fn is_left(alloc: Global, columns: &[&str], wanted: &str, left: usize) -> Option<bool> {
     let outcome = outcome_of(alloc, &command_of(alloc, columns)?, [NEVER; 4])?;
     Some(said(alloc, &outcome)?.as_str() == wanted && outcome.left[2] == left)
 }
 
-/// Returns whether a run says that a reader, of this number, failed after so many octets, and left the octets after them and
-/// all those of the readers after it.
+/// Returns whether a command reports that this reader failed after this count of octets, and left its other octets and
+/// all octets of the readers after it.
 fn is_read_fault(
     alloc: Global,
     found: &Outcome,
@@ -129,7 +129,7 @@ fn is_read_fault(
     Some(said(alloc, found)? == wanted && found.left == left)
 }
 
-/// Returns whether a command says so of that reader, whatever the count of octets after which it fails.
+/// Returns whether a command reports the failure of this reader after each count of octets.
 fn are_read_faults(
     alloc: Global,
     command: &Command,
@@ -147,7 +147,8 @@ fn are_read_faults(
     Some(true)
 }
 
-/// Returns whether the writer of a command gets the beginning of what is printed, whatever the count of octets after which it fails.
+/// Returns whether the writer of a command, if it fails after any count of octets, gets that many octets of the whole
+/// output.
 fn are_write_faults(alloc: Global, command: &Command, whole: &Outcome) -> Option<bool> {
     let len = whole.printed.len();
     for count in 0..=len {
@@ -160,7 +161,8 @@ fn are_write_faults(alloc: Global, command: &Command, whole: &Outcome) -> Option
     Some(true)
 }
 
-/// Looks at a row of `failing`: a command, and its status with its lines. Each of its devices fails after each count of octets.
+/// Checks a row of `failing`: a command, and its status with its lines. Each of its devices also fails after each count
+/// of octets.
 pub(crate) fn is_failing(alloc: Global, columns: &[&str], wanted: &str) -> Option<bool> {
     let command = command_of(alloc, columns)?;
     let lens = [
@@ -182,16 +184,16 @@ pub(crate) fn is_failing(alloc: Global, columns: &[&str], wanted: &str) -> Optio
     Some(are_write_faults(alloc, &command, &whole)? && said(alloc, &whole)?.as_str() == wanted)
 }
 
-/// Returns the entry and the kind in `ENTRY KIND ..`, `None` if there is none.
+/// Returns the entry and the kind in `ENTRY KIND ..`, or `None` if there are none.
 fn fact_of(column: &str) -> Option<(usize, &str)> {
     let mut words = column.split(' ');
     let entry = words.next()?.parse::<usize>().ok()?;
     Some((entry, words.next()?))
 }
 
-/// Looks at a row of `first faults`: a record, a table, and the first entry at fault with the lowest kind that `judge` asks for, or a
-/// dash for none of these. If that entry has such a kind, `judge` says so. Else it refutes no entry up to that one, and none at all
-/// if there is no such entry.
+/// Checks a row of `first faults`: a record, a table, and the first entry at fault with its lowest kind that `judge`
+/// checks, or a dash for none. If the entry has such a kind, `judge` must report it. Else `judge` must refute no entry
+/// up to this one, or none at all if no entry is at fault.
 pub(crate) fn is_first(alloc: Global, record: &str, table: &str, fact: &str) -> Option<bool> {
     let command = command_of(alloc, &["judge", record, table])?;
     let said = said(alloc, &outcome_of(alloc, &command, [NEVER; 4])?)?;

@@ -1,4 +1,4 @@
-//! Runs: certificates that the library replays over records.
+//! Rows about runs: certificates that the library replays over records.
 
 use crate::certificates::certificate_of;
 use crate::tables::table_of;
@@ -14,18 +14,18 @@ use tcap_msg::TransactionId;
 use tcap_record::{End, Frames, Record, read_record};
 use tcap_vectors::octets_of;
 
-/// What is asked of a record and a certificate.
+/// A question about a record and a certificate.
 #[derive(Clone, Copy)]
 pub(crate) enum Question {
-    /// How many steps the run has, and how many messages are unheard.
+    /// The count of steps of the run, and of unheard messages.
     Moves,
     /// The steps of the run.
     Run,
-    /// The steps as far as the run goes, why it goes no further, and which halves are open then.
+    /// The steps up to a refusal, the refusal, and the halves that are open after these steps.
     Until,
 }
 
-/// Returns the end of this letter. The outer `None` says that the word is neither a letter nor `both`.
+/// Returns the end with this letter, or `Some(None)` for `both`. Returns `None` for any other word.
 pub(crate) fn judged_by(word: &str) -> Option<Option<End>> {
     match word {
         "A" => Some(Some(End::A)),
@@ -57,7 +57,7 @@ fn push_name(text: &mut String, name: &HalfName) -> Option<()> {
     }
 }
 
-/// Appends the entry and the number of a refusal, and the number of the reason inside it.
+/// Appends the entry and the number of a refusal, and the number of the reason inside it, if there is one.
 fn push_refusal(text: &mut String, fault: CheckFault) -> Option<()> {
     let number = fault.reason.number();
     write!(text, "{} {number}", fault.entry).ok()?;
@@ -69,7 +69,7 @@ fn push_refusal(text: &mut String, fault: CheckFault) -> Option<()> {
     write!(text, "/{inner}").ok()
 }
 
-/// Appends a word about an end and the number of an entry.
+/// Appends an end, a word and the number of an entry.
 fn push_about(text: &mut String, end: End, word: &str, number: u64) -> Option<()> {
     let letter = match end {
         End::A => "A",
@@ -78,7 +78,7 @@ fn push_about(text: &mut String, end: End, word: &str, number: u64) -> Option<()
     write!(text, "{letter} {word} {number}").ok()
 }
 
-/// Appends a word about an end and a half.
+/// Appends an end, a word and a half.
 fn push_of_half(text: &mut String, end: End, word: &str, name: &HalfName) -> Option<()> {
     let letter = match end {
         End::A => "A",
@@ -135,7 +135,7 @@ fn push_halves(alloc: Global, text: &mut String, end: &EndState) -> Option<()> {
     Some(())
 }
 
-/// Appends how far a run goes.
+/// Appends the refusal, the steps and the open halves of a run, with bars between them.
 fn push_partial(alloc: Global, text: &mut String, run: &Partial) -> Option<()> {
     if let Some(fault) = run.refused {
         push_refusal(text, fault)?;
@@ -146,7 +146,7 @@ fn push_partial(alloc: Global, text: &mut String, run: &Partial) -> Option<()> {
     push_halves(alloc, text, &run.b)
 }
 
-/// Appends the answer of a check.
+/// Appends the result of a check.
 fn push_report(text: &mut String, answer: Result<Report, CheckFault>) -> Option<()> {
     match answer {
         Ok(report) => {
@@ -180,7 +180,8 @@ fn push_answer(
     }
 }
 
-/// Looks at a row of `moves`, `runs` or `runs so far`: a record, an end or `both`, a table, a certificate, and the answer.
+/// Checks a row of `moves`, `runs` or `runs so far`: a record, an end or `both`, a table, a certificate, and the
+/// answer.
 pub(crate) fn is_answered(
     alloc: Global,
     question: Question,
@@ -215,14 +216,14 @@ pub(crate) fn is_answered(
     }
 }
 
-/// The greatest count of octets that were held, and of messages that waited.
+/// The greatest counts of octets that were held and of messages that waited.
 #[derive(Clone, Copy)]
 struct Most {
     buffered: usize,
     pending: usize,
 }
 
-/// Takes all octets of a piece, and the entries that are whole then. Returns `None` if there is a fault.
+/// Takes all octets of a piece, and the entries that are then complete. Returns `None` if there is a fault.
 fn take_piece(
     frames: &mut Frames,
     checker: &mut Checker,
@@ -244,8 +245,8 @@ fn take_piece(
     None
 }
 
-/// Takes a record in pieces of so many octets. Returns how many steps the run has, how many octets were held at most, and how many
-/// messages waited at most; `None` if there is a fault.
+/// Takes a record in pieces of this length. Returns the count of steps of the run, and the greatest counts of octets
+/// that were held and of messages that waited, or `None` if there is a fault.
 fn replayed_by(alloc: Global, mut checker: Checker, record: &[u8], len: usize) -> Option<String> {
     let mut frames = Frames::new(alloc);
     let mut most = Most {
@@ -261,7 +262,7 @@ fn replayed_by(alloc: Global, mut checker: Checker, record: &[u8], len: usize) -
     format!(in alloc; "{moves} steps, {buffered} octets, {pending} messages").ok()
 }
 
-/// Looks at a row of `pieces`: the length of a piece, a record, a table, a certificate, and what is said.
+/// Checks a row of `pieces`: the length of a piece, a record, a table, a certificate, and the counts.
 pub(crate) fn is_replayed(
     alloc: Global,
     len: usize,

@@ -1,12 +1,13 @@
-//! Operation tables, from texts of JSON: what is read, and the first fault if a text is none.
+//! Rows about operation tables: what a text of JSON gives, and the first fault if it is no table.
 
 use std::alloc::Global;
 use tcap_ber::ObjectIdView;
 use tcap_end::Table;
 use tcap_parts::CodeView;
 
-/// Returns the text of a table that is named in a column, or that is the column. The usual table has an operation of each class, 45 to
-/// 48, and 50, to which 48 may be linked. In the others some invocations outlast the record, or transactions end by prearrangement.
+/// Returns the text of the table with this name, or the column if it is no name. The usual table has an operation of
+/// each class, 45 to 48, and 50, to which 48 may be linked. In the other tables some invocations do not expire, or
+/// transactions end by prearrangement.
 pub(crate) fn table_text(column: &str) -> &str {
     match column {
         "usual" => {
@@ -34,12 +35,12 @@ pub(crate) fn table_text(column: &str) -> &str {
     }
 }
 
-/// Returns the table of a column; `None` if it is none, or memory runs out.
+/// Returns the table of a column, or `None` if the column is no table or memory runs out.
 pub(crate) fn table_of(alloc: Global, column: &str) -> Option<Table> {
     Table::from_json(alloc, table_text(column).as_bytes()).ok()
 }
 
-/// Returns the text of a table of so many rows, of a row with so many linked codes, or of so many lists, one in the other.
+/// Returns the text of a table with this many rows, of a row with this many linked codes, or of this many nested lists.
 pub(crate) fn long_text(alloc: Global, kind: &str, count: usize) -> Option<String> {
     let mut text = String::from_str(alloc, "{\"operations\":[").ok()?;
     match kind {
@@ -71,7 +72,7 @@ pub(crate) fn long_text(alloc: Global, kind: &str, count: usize) -> Option<Strin
     Some(text)
 }
 
-/// Returns whether a text is a table, if `fine` is wanted, and else has a fault of this number at this row.
+/// Returns whether a text is a table, if `fine` is expected, or has the fault with this number at this row.
 pub(crate) fn is_table(alloc: Global, text: &[u8], wanted: &[&str]) -> Option<bool> {
     let fault = Table::from_json(alloc, text).err();
     match (wanted, fault) {
@@ -85,7 +86,8 @@ pub(crate) fn is_table(alloc: Global, text: &[u8], wanted: &[&str]) -> Option<bo
     }
 }
 
-/// Returns the class of a local code in decimal digits, or of a global one in hexadecimal digits after `g:`, 0 for none.
+/// Returns the class of a local code in decimal digits, or of a global one in hexadecimal digits after `g:`; 0 for
+/// none.
 fn class_of(alloc: Global, table: &Table, code: &str) -> Option<u8> {
     let class = match code.strip_prefix("g:") {
         Some(digits) => {
@@ -97,7 +99,7 @@ fn class_of(alloc: Global, table: &Table, code: &str) -> Option<u8> {
     Some(class.unwrap_or(0))
 }
 
-/// Looks at a row of `classes`: the text of a table, and codes with their classes.
+/// Checks a row of `classes`: the text of a table, and codes with their classes.
 pub(crate) fn are_classes(alloc: Global, text: &str, codes: &[&str]) -> Option<bool> {
     let table = table_of(alloc, text)?;
     let mut is_wanted = !codes.is_empty();

@@ -8,19 +8,18 @@ ghost use Rattle.tcap_vectors.specs.Failing.{Passes, failing_failures, failing_i
 use std::io;
 use tcap_ber::{Counted, Failed, Read, Write};
 
-/// A reader or writer of std as a device that fails once, when a given count of octets has gone through
-/// it, and then goes on.
+/// A reader or writer of std that fails once, after a given count of octets, and then goes on.
 #[derive(Drop)]
 pub struct Failing<T> {
     device: Counted<T>,
-    /// How often it failed, up to `u64::MAX`.
+    /// The count of failures, up to `u64::MAX`.
     failures: u64,
-    /// How many octets go through before it fails; `None` once it has failed by itself.
+    /// The count of octets that pass before the injected failure, or `None` after it.
     left: Option<usize>,
 }
 
 impl<T> Failing<T> {
-    /// The device over `inner` that fails once `after` octets have gone through it.
+    /// Creates a device over `inner` that fails after `after` octets.
     pub fn new(inner: T, after: usize) -> Failing<T>
         ensures inner { failing_inner result ≡ inner }
         ensures failures { failing_failures result ≡ 0 }
@@ -33,7 +32,7 @@ impl<T> Failing<T> {
         }
     }
 
-    /// The reader or writer that was given.
+    /// Returns the reader or writer inside.
     pub fn into_inner(self) -> T
         ensures { result ≡ failing_inner self }
     {
@@ -65,7 +64,7 @@ impl<T: io::Read> Read for Failing<T> {
         ensures counts { CountsFailure (failing_failures self.old)
             (failing_failures self.new) result }
 
-        // By itself it fails where no octet is left to go through, there alone, and then never again.
+        // The injected failure occurs when no more octets may pass, and never again.
         ensures passes { IfOk result (Passes (failing_left self.old) (failing_left self.new)) }
         ensures fails { failing_left self.old ≡ Some 0 → 0 < length buffer.old
             → IsErr result × (failing_left self.new ≡ None) }
@@ -104,8 +103,7 @@ impl<T: io::Write> Write for Failing<T> {
         ensures counts { CountsFailure (failing_failures self.old)
             (failing_failures self.new) result }
 
-        // By itself it fails where more octets are given than are left to go through, there alone, and
-        // takes those.
+        // The injected failure occurs when more octets are given than may still pass. Those that may pass are written.
         ensures passes { OnOk result
             (Passes (failing_left self.old) (failing_left self.new) (length octets.now)) }
         ensures cuts { failing_left self.new ≡ None → (left : ℕ) → failing_left self.old ≡ Some left

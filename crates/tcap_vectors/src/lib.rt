@@ -1,4 +1,5 @@
-//! What the test vectors share: messages of each kind with what is expected of them, octets in words, and a device that fails in mid-stream.
+//! Test data that several test programs share: messages of each kind with their expected output, octets spelled by
+//! words, and a device that fails in mid-stream.
 #![tactic(auto)]
 
 mod failing;

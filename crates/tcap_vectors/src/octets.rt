@@ -1,9 +1,9 @@
-//! Octets in words.
+//! Octets that words spell.
 
 use crate::vectors::vector;
 use std::alloc::Global;
 
-/// Repeats the octets after `start`, so that they are there so many times.
+/// Repeats the octets from `start` on, so that they occur this many times. Returns `None` if memory runs out.
 fn repeat(alloc: Global, octets: &mut Vec<u8>, start: usize, times: u32) -> Option<()> {
     let piece = octets.get(start..)?.to_vec(alloc).ok()?;
     octets.truncate(start);
@@ -13,7 +13,7 @@ fn repeat(alloc: Global, octets: &mut Vec<u8>, start: usize, times: u32) -> Opti
     Some(())
 }
 
-/// Sets the length of the element whose content begins at `start`. It is shorter than 128 octets.
+/// Sets the length of the element whose content begins at `start`. Returns `None` if the content has over 127 octets.
 fn close(octets: &mut Vec<u8>, start: usize) -> Option<()> {
     let len = octets.len().checked_sub(start)?;
     if len > 0x7F {
@@ -23,7 +23,7 @@ fn close(octets: &mut Vec<u8>, start: usize) -> Option<()> {
     Some(())
 }
 
-/// Returns the hexadecimal digits that a word stands for: those of an end, of a quiet mark or of a vector, or the word itself.
+/// Returns the hexadecimal digits of an end, a quiet mark or a named vector, or else the word.
 fn digits_of(word: &str) -> &str {
     match word {
         "A" => "41",
@@ -33,9 +33,16 @@ fn digits_of(word: &str) -> &str {
     }
 }
 
-/// Returns the octets that the words of a column spell; `None` if they spell none, or memory runs out. A word is `A`, `B` or `Q`, an
-/// end or a quiet mark; hexadecimal digits; the name of a vector; `xCOUNT`, which repeats the word before it; `/COUNT`, which cuts
-/// what is after so many octets; or `TAG(` and `)`, an element around the octets between them, of fewer than 128.
+/// Returns the octets that the words of a column spell, or `None` if they spell none or memory runs out.
+///
+/// The words are:
+///
+/// - `A` or `B` for an end, and `Q` for a quiet mark,
+/// - hexadecimal digits,
+/// - the name of a vector,
+/// - `xCOUNT`, which repeats the word before it,
+/// - `/COUNT`, which cuts the octets to this count,
+/// - `TAG(` and `)`, an element around the octets between them, at most 127.
 pub fn octets_of(alloc: Global, column: &str) -> Option<Vec<u8>> {
     let mut octets = Vec::new(alloc);
     let mut opened: Vec<usize> = Vec::new(alloc);

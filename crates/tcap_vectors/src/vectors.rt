@@ -1,9 +1,10 @@
-//! Messages of each kind, with their parts and what `show` prints of them.
+//! Messages of each kind, with their parts and the lines that `show` prints.
 
-/// Messages with the shortest lengths, but for the padded one. The columns: the name, the octets as hexadecimal digits, the parts, and
-/// the lines that `show` prints of it where end A sent it. The parts are the kind, the octets of the originating and of the
-/// destination transaction ID, the P-Abort cause, whether there is a dialogue portion, and the count of components; a part that a
-/// message has not is a dash.
+/// The messages, one in each row, with lengths in the shortest form except in `padded_begin`.
+///
+/// The columns are the name, the octets in hexadecimal digits, the parts, and the lines that `show` prints if end A
+/// sent the message. The parts are the kind, the originating and the destination transaction ID, the P-Abort cause,
+/// whether there is a dialogue portion, and the count of components. A dash means that the message lacks the part.
 pub const VECTORS: &str = r"
 begin_with_invoke;620d4801016c08a10602010102012d;Begin 01 - - - 1;0 A Begin otid=01\n  Invoke id=1 op=45\n
 padded_begin;62810d4801016c08a10602010102012d;Begin 01 - - - 1;0 A Begin otid=01\n  Invoke id=1 op=45\n
@@ -32,7 +33,7 @@ continue_from_01;6506480101490102;Continue 01 02 - - 0;0 A Continue otid=01 dtid
 continue_with_reject_of_null;650f4801014901026c07a4050500800100;Continue 01 02 - - 1;0 A Continue otid=01 dtid=02\n  Reject id=null general=0\n
 ";
 
-/// The digits of the vector of that name.
+/// Returns the hexadecimal digits of the vector with this name, if there is one.
 pub fn vector(wanted: &str) -> Option<&'static str> {
     for row in VECTORS.lines() {
         let mut columns = row.split(';');

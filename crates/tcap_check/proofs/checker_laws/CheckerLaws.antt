@@ -1,4 +1,4 @@
--- What a checker answers is what it stands for.
+-- The results of a checker are those of the replay that it implements.
 use Rattle.std.proofs.Common.{◌≡◌, ℕ, Bool, true, false, List, [], ◌∷◌, ◌++◌, length, Option, Some, None, Result, Ok, Err, refl, sym, ap, subst, ◌∙◌, IfSome, IsTrue, is_ok}
 use Rattle.tcap_record.specs.declared.entry.End.{End as Side}
 use Rattle.tcap_record.specs.declared.entry.End.TheVariants as sides
@@ -21,28 +21,28 @@ use Rattle.tcap_check.specs.Told.{Told, discards_of, events_of, told_if, told_of
 use Rattle.tcap_check.proofs.checker_laws.EntryLaws.{took_end, took_next}
 use Rattle.tcap_check.proofs.progress_laws.KeptPending.{pending_is}
 
--- a checker with what it keeps, or why there is none
+-- a checker with what it keeps, or with its fault
 abbrev pub checking : Option Side → Table → Certificate → Option CheckFault → Kept → Checking
 checking judged table c fault k = record { judged = judged; table = table; certificate = c; so_far = so_far_of fault k }
 
--- what is kept of no entry
+-- what is kept before the first entry
 abbrev pub first_kept : Bool → Kept
 first_kept listing = record { progress = nothing_kept (told_if listing [] []); entries = []; since = 0 }
 
--- what is said of the run that is given
+-- the report on the run that the certificate gives
 abbrev pub given : Option Side → Table → Certificate → List (Result Item Reason) → Result Report CheckFault
 given judged table c entries = map_ok (reported judged) (run_by judged table c entries)
 
 abbrev pub refusing : CheckFault → Result Report CheckFault
 refusing fault = Err fault
 
--- One more entry is taken,
+-- A checker takes one more entry.
 pub took_ok : (listing : Bool) (judged : Option Side) (table : Table) (c : Certificate) (k next : Kept) (entry : Result Item Reason)
     → kept_next judged table c entry k ≡ Ok next → (entries : List (Result Item Reason)) → TookListed listing (checking judged table c None k) entries
     → TookListed listing (checking judged table c None next) (entries ++ entry ∷ [])
 took_ok listing judged table c k next entry is entries took = sym is ∙ took_next listing (checking judged table c None k) entries entry took
 
--- or refused.
+-- A checker refuses one more entry.
 pub took_err : (listing : Bool) (judged : Option Side) (table : Table) (c : Certificate) (k next : Kept) (entry : Result Item Reason) (fault : CheckFault)
     → kept_next judged table c entry k ≡ Err fault → (entries : List (Result Item Reason))
     → TookListed listing (checking judged table c None k) entries → TookListed listing (checking judged table c (Some fault) next) (entries ++ entry ∷ [])
@@ -51,7 +51,7 @@ took_err listing judged table c k next entry fault is entries took =
 
 -- ---- the end
 
--- The last gap: the report, or the reason.
+-- The events of a run are those of the replay, with the losses at the end.
 pub ends_so : (judged : Option Side) (table : Table) (c : Certificate) (entries : List (Result Item Reason)) (o : Result Replay CheckFault)
     → (certificate_fits c >> entries_by judged table c entries nothing_replayed) ≡ o
     → run_by judged table c entries ≡ (o >>= λ r. Ok (lost_last judged c r).events)
@@ -65,7 +65,7 @@ ends_so judged table c entries o is = by (certificate_fits c) is
     by (Ok fits) e = ap (λ (z : Result Replay CheckFault). z >>= events_of) e
     by (Err fault) e = ap (λ (z : Result Replay CheckFault). z >>= events_of) e
 
--- The same of what is discarded.
+-- The discards are those of the replay of all entries.
 pub discards_so : (judged : Option Side) (table : Table) (c : Certificate) (entries : List (Result Item Reason)) (o : Result Replay CheckFault)
     → replay_by judged table c entries ≡ o → discards_by judged table c entries ≡ (o >>= λ r. Ok (lost_last judged c r).discards)
 discards_so judged table c entries o is = by (certificate_fits c) is
@@ -81,7 +81,7 @@ discards_so judged table c entries o is = by (certificate_fits c) is
 abbrev report_ok : Progress → Result Report CheckFault
 report_ok p = Ok (report_of p)
 
--- What is counted at the end is what is said of the run.
+-- The counts at the end are those of the report.
 counted_is : (listing : Bool) (judged : Option Side) (c : Certificate) (r : Replay) → report_of (progress_of listing judged c r) ≡ reported judged r.events
 counted_is listing None c r = refl
 counted_is listing (Some judged) c r = refl
@@ -124,7 +124,7 @@ pub finished_err : (listing : Bool) (judged : Option Side) (table : Table) (c : 
 finished_err listing judged table c k fault is entries took =
     refused_at_end listing judged table c entries fault (sym is ∙ took_end listing (checking judged table c None k) entries took)
 
--- The steps that were listed are those of the run, and so are the discards;
+-- The listed steps and discards are those of the run.
 pub record AreListed (judged : Option Side) (table : Table) (c : Certificate) (entries : List (Result Item Reason)) (steps : List Step) : Type 0 where
   pub events : (let x : Result (List Event) CheckFault = Ok (events_of steps) in x) ≡ run_by judged table c entries
   pub discards : (let x : Result (List (ℕ × EndFault)) CheckFault = Ok (discards_of steps) in x) ≡ discards_by judged table c entries
@@ -150,7 +150,7 @@ listed_ok judged table c k left steps is tell entries took =
               ∙ sym (discards_so judged table c entries (Ok r) e);
         }
 
--- and there are none where it is refused.
+-- If the end of the record is refused, so is the replay.
 pub listed_err : (judged : Option Side) (table : Table) (c : Certificate) (k : Kept) (fault : CheckFault)
     → kept_ended judged table c k ≡ Err fault → (entries : List (Result Item Reason)) → TookListed true (checking judged table c None k) entries
     → replay_by judged table c entries ≡ Err fault
@@ -165,21 +165,21 @@ listed_err judged table c k fault is entries took =
 
 -- ---- a checker as it is kept
 
--- Behind a refusal it stays as it is.
+-- After a refusal a checker stays as it is.
 pub stays : (listing : Bool) (s : Checking) (fault : CheckFault) (entry : Result Item Reason) → s.so_far ≡ Err fault
     → (entries : List (Result Item Reason)) → TookListed listing s entries → TookListed listing s (entries ++ entry ∷ [])
 stays listing s fault entry is entries took =
     is ∙ sym (ap (λ (o : Result Kept CheckFault). o >>= kept_next s.judged s.table s.certificate entry) is)
     ∙ took_next listing s entries entry took
 
--- It is one with what it keeps.
+-- A checker is determined by what it keeps.
 pub turned : (listing : Bool) (s : Checking) (judged : Option Side) (table : Table) (c : Certificate) (o fault : Option CheckFault) (k : Kept)
     → s ≡ checking judged table c o k → o ≡ fault → (entries : List (Result Item Reason)) → TookListed listing s entries
     → TookListed listing (checking judged table c fault k) entries
 turned listing s judged table c o fault k is same entries took =
     subst (λ (x : Option CheckFault). TookListed listing (checking judged table c x k) entries) same (subst (λ (x : Checking). TookListed listing x entries) is took)
 
--- At first it took no entry.
+-- A new checker has taken no entry.
 pub took_nothing : (listing : Bool) (judged : Option Side) (table : Table) (c : Certificate) (k : Kept) → certificate_fits c ≡ Ok tt → k ≡ first_kept listing
     → TookListed listing (checking judged table c None k) []
 took_nothing listing judged table c k fits is = rw (is, fits) (ap (λ (x : Kept). let a : Result Kept CheckFault = Ok x in a) (by judged c.fates))
@@ -192,14 +192,14 @@ took_nothing listing judged table c k fits is = rw (is, fits) (ap (λ (x : Kept)
     by (Some sides.B) [] = refl
     by (Some sides.B) (fate ∷ fates) = refl
 
--- At the end it answers a refusal again.
+-- After a refusal, the end of the record returns the same refusal.
 pub finishes_still : (listing : Bool) (s : Checking) (fault : CheckFault) → s.so_far ≡ Err fault → (entries : List (Result Item Reason)) → TookListed listing s entries
     → refusing fault ≡ given s.judged s.table s.certificate entries
 finishes_still listing s fault is entries took =
     refused_at_end listing s.judged s.table s.certificate entries fault
     (sym (ap (λ (o : Result Kept CheckFault). o >>= kept_ended s.judged s.table s.certificate) is) ∙ took_end listing s entries took)
 
--- or what its replay does.
+-- Else the end of the record returns the report on the run.
 pub finishes_so : (listing : Bool) (s : Checking) (judged : Option Side) (table : Table) (c : Certificate) (o : Option CheckFault) (k : Kept)
     (report : Result Report CheckFault) → s ≡ checking judged table c o k → o ≡ None → (entries : List (Result Item Reason))
     → (TookListed listing (checking judged table c None k) entries → report ≡ given judged table c entries) → TookListed listing s entries
@@ -208,7 +208,7 @@ finishes_so listing s judged table c o k report is none entries so took =
     so (turned listing s judged table c o None k is none entries took)
     ∙ ap (λ (x : Checking). given x.judged x.table x.certificate entries) (sym is)
 
--- A refusal that it stands for is the one that it keeps.
+-- The refusal of a checker is the fault that it keeps.
 pub kept_fault : (s : Checking) (judged : Option Side) (table : Table) (c : Certificate) (o : Option CheckFault) (k : Kept) (fault : CheckFault)
     → s ≡ checking judged table c o k → o ≡ Some fault → (f : CheckFault) → s.so_far ≡ Err f → refusing fault ≡ Err f
 kept_fault s judged table c o k fault is some f refused =
@@ -222,7 +222,7 @@ no_fault s judged table c o k f is none refused =
     let same : so_far_of None k ≡ Err f =
     ap (λ (x : Option CheckFault). so_far_of x k) (sym none) ∙ ap (λ (x : Checking). x.so_far) (sym is) ∙ refused in cc
 
--- ---- how many messages wait
+-- ---- the count of messages that wait
 
 waits : (listing : Bool) (judged : Option Side) (table : Table) (c : Certificate) (k : Kept) (entries : List (Result Item Reason))
     → TookListed listing (checking judged table c None k) entries → count_waiting judged k.progress ≡ count_ahead judged (length entries) c.fates entries

@@ -1,4 +1,4 @@
--- The steps of a checker, over what is kept, are those of the replay, entry by entry, whoever is judged.
+-- The steps over what is kept are those of the replay, entry by entry, for each choice of judged ends.
 use Rattle.std.proofs.Common.{◌≡◌, ℕ, ◌+◌, ◌==◌, Bool, true, false, List, [], ◌∷◌, ◌++◌, length, Option, Some, None, Result, Ok, Err, refl, sym, ap, ap₂, ◌∙◌, zero-add}
 use Rattle.std.specs.Prelude.{ok_or, slice_get}
 use Rattle.tcap_record.specs.declared.entry.End.{End as Side}
@@ -34,7 +34,7 @@ gap_is_heard (Some judged) table c r next empty is = gap_keeps judged table c r 
 
 -- ---- the parts of an entry
 
--- What is kept of an entry more.
+-- What is kept after one more entry.
 kept_more : (listing : Bool) (judged : Option Side) (c : Certificate) (item : Item) (r next : Replay) → next.world.sent ≡ r.world.sent ++ item ∷ []
     → kept_with c item (kept_of listing judged c r) (progress_of listing judged c next) ≡ kept_of listing judged c next
 kept_more listing judged c item r next sent =
@@ -82,7 +82,7 @@ module _ (listing : Bool) (judged : Option Side) (table : Table) (c : Certificat
       by None has = refl
       by (Some fate) has = entry_is fate entry r has
 
-  -- the last gap, and what is lost behind it
+  -- the last gap, and the losses after it
   ended_is : (r : Replay) → kept_ended judged table c (kept_of listing judged c r)
       ≡ map_ok (progress_of listing judged c) (map_ok (lost_last judged c) (ended judged table c r))
   ended_is r =
@@ -102,7 +102,7 @@ module _ (listing : Bool) (judged : Option Side) (table : Table) (c : Certificat
       by true (Err reason) = refl
       by false s = refl
 
--- ---- entries, one after the other
+-- ---- entries, one by one
 
 module _ (judged : Option Side) (table : Table) (c : Certificate) where
   more_from : (entries : List (Result Item Reason)) (entry : Result Item Reason) (r : Replay)
@@ -146,14 +146,14 @@ module _ (judged : Option Side) (table : Table) (c : Certificate) where
 
 -- ---- a checker
 
--- One step over what is kept of a step that was made.
+-- A step over what is kept follows a step of the replay.
 then_made : {B C : Type 0} (f : Replay → B) (g : Replay → C) (step : Result Replay CheckFault) (kept : B → Result C CheckFault)
     (on : Replay → Result Replay CheckFault) → ((x : Replay) → step ≡ Ok x → kept (f x) ≡ map_ok g (on x))
     → (map_ok f step >>= kept) ≡ map_ok g (step >>= on)
 then_made f g (Ok x) kept on same = same x refl
 then_made f g (Err reason) kept on same = refl
 
--- Where a checker stands for these entries, its next step stands for one more.
+-- If a checker implements the replay of these entries, its next step implements one more.
 pub took_next : (listing : Bool) (s : Checking) (entries : List (Result Item Reason)) (entry : Result Item Reason) → TookListed listing s entries
     → (s.so_far >>= kept_next s.judged s.table s.certificate entry)
     ≡ map_ok (kept_of listing s.judged s.certificate) (taken s.judged s.table s.certificate (entries ++ entry ∷ []))

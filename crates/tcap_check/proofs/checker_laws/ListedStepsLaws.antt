@@ -1,4 +1,4 @@
--- What is answered of a run whose steps are listed.
+-- The answer for a run whose steps are listed.
 use Rattle.std.proofs.Common.{◌≡◌, true, List, map, Option, Some, None, Result, Ok, Err, IfSome, refl, sym, subst}
 use Rattle.std.specs.Prelude.{◌≢◌, IfOk, OnOk}
 use Rattle.tcap_record.specs.declared.entry.End.{End as Side}
@@ -23,7 +23,7 @@ use Rattle.tcap_check.proofs.checker_laws.RecordLaws.{run_given, run_may}
 use Rattle.tcap_check.proofs.refusal_laws.SendShows.{unfit_shows}
 use Rattle.tcap_check.proofs.refusal_laws.TakenEntriesLaws.{GoesAlike}
 
--- An answer with the replay's events and discards is what is answered.
+-- An answer with the replay's events and discards is the answer.
 answers : (judged : Option Side) (table : Table) (c : Certificate) (entries : List Entry) (answer : Result (List Step) CheckFault)
     → map_ok events_of answer ≡ replayed_by judged table c entries
     → map_ok discards_of answer ≡ discards_by judged table c (map item_of entries) → IsAnswered judged table c entries answer
@@ -34,14 +34,14 @@ answers judged table c entries answer events discards = record {
   may = run_may discards_of judged table c (map item_of entries) answer (λ other. discards);
 }
 
--- Where the replay is refused, its refusal is the answer,
+-- If the replay is refused, its refusal is the answer.
 pub refused_answers : (judged : Option Side) (table : Table) (c : Certificate) (entries : List Entry) (fault : CheckFault)
     → replay_by judged table c (map item_of entries) ≡ Err fault → IsAnswered judged table c entries (Err fault)
 refused_answers judged table c entries fault is =
     answers judged table c entries (Err fault) (sym (ends_so judged table c (map item_of entries) (Err fault) is))
     (sym (discards_so judged table c (map item_of entries) (Err fault) is))
 
--- and so is that of a number that is out of its range.
+-- If a number of the certificate is out of range, that refusal is the answer.
 pub unfit_answers : (judged : Option Side) (table : Table) (c : Certificate) (entries : List Entry) (fault : CheckFault)
     → certificate_fits c ≡ Err fault → IsAnswered judged table c entries (Err fault)
 unfit_answers judged table c entries fault is = refused_answers judged table c entries fault (rw is refl)
@@ -51,7 +51,7 @@ pub refused_listed : (judged : Option Side) (table : Table) (c : Certificate) (e
     → (let x : Result (Unit {0}) CheckFault = Err fault in EndsListed judged table c entries x left)
 refused_listed judged table c entries fault left is steps tell = refused_answers judged table c entries fault is
 
--- Where all entries were taken, the answer is how the last gap ends.
+-- If all entries were taken, the last gap decides the answer.
 pub ends_listed : (x y : Replaying) (entries : List Entry) (o : Result (Unit {0}) CheckFault) (left : Progress) → GoesAlike x y
     → TookListed true (checking_of y) (map item_of entries)
     → YieldsInMemory (kept_ended y.judged y.table.now y.certificate.now (kept_in y)) o left
@@ -65,7 +65,7 @@ ends_listed x y entries (Err fault) left alike took yields = λ other steps tell
     (refused_answers y.judged y.table.now y.certificate.now entries fault
     (listed_err y.judged y.table.now y.certificate.now (kept_in y) fault (yields other) (map item_of entries) took))
 
--- The steps are answered where nothing is refused.
+-- If nothing is refused, the steps are the answer.
 answered_so : (refused : Option CheckFault) (o : Result (Unit {0}) CheckFault) (steps : List Step) → answered refused tt ≡ o
     → map_ok (λ done. steps) o ≡ answered refused steps
 answered_so None (Ok done) steps is = refl
@@ -73,7 +73,7 @@ answered_so None (Err fault) steps is = cc
 answered_so (Some fault) (Ok done) steps is = cc
 answered_so (Some fault) (Err other) steps is = cc
 
--- The answer of a replay, from its making on.
+-- The answer of a replay from its creation on.
 pub run_answered : (x : Replaying) (judged : Option Side) (table : Table) (c : Certificate) (entries : List Entry) (kept left : Progress)
     (o : Result (Unit {0}) CheckFault) (refused : Option CheckFault) (steps : List Step) → x.judged ≡ judged → x.table.now ≡ table → x.certificate.now ≡ c
     → left ≡ kept → answered refused tt ≡ o → EndsListed x.judged x.table.now x.certificate.now entries o kept
@@ -83,7 +83,7 @@ run_answered x judged table c entries kept left o refused steps who at by same i
     (subst (IsAnswered x.judged x.table.now x.certificate.now entries) (answered_so refused o steps is)
     (ends steps (subst (λ (p : Progress). p.steps ≡ Some (told_of steps)) same tell)))
 
--- Where it refuses to send an entry, the end that is left refuses to.
+-- If a send is refused, the end that is left refuses it too.
 pub run_stopped : (x : Replaying) (table : Table) (entries : List Entry) (kept left : Progress) (o : Result (Unit {0}) CheckFault)
     (refused : Option CheckFault) → x.table.now ≡ table → left ≡ kept → answered refused tt ≡ o → ShowsAmong x.table.now entries o kept
     → IfSome refused (λ fault. IsRefusedThere table entries fault left.a.end left.b.end)
@@ -93,7 +93,7 @@ run_stopped x table entries kept left (Err other) (Some fault) at same is shows 
     let one : fault ≡ other = cc in
     rw (one, same, sym at) shows
 
--- The same where a number of the certificate is out of its range.
+-- The answer if a number of the certificate is out of range.
 module _ {F : Type 0} (result : Result Partial F) (judged : Option Side) (table : Table) (c : Certificate) (entries : List Entry) (fault : CheckFault) where
   pub nothing_answered : IfOk result (λ run. run.refused ≡ Some fault) → OnOk result (fault ≢ fault_at Memory 0)
       → (fault ≢ fault_at Memory 0 → certificate_fits c ≡ Err fault)

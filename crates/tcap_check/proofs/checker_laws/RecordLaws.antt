@@ -1,4 +1,4 @@
--- A record that is checked, entry by entry.
+-- The check of a record, entry by entry.
 use Rattle.std.proofs.Common.{◌≡◌, ◌<◌, ◌≤◌, get_or, ℕ, Bool, ◌+◌, suc, zero, List, [], ◌∷◌, ◌++◌, map, take, drop, length, Option, Some, None, Result, Ok, Err, refl, sym, ap, ap₂, subst, ◌∙◌, append_assoc, append-nil, arith}
 use Rattle.std.specs.Prelude.{◌≢◌, IfOk, slice_get}
 use Rattle.std.proofs.lemmas.List.{map-append, take-append-drop, take_all}
@@ -31,7 +31,7 @@ use Rattle.tcap_check.proofs.given_run_laws.GivenRuns.{gives}
 
 -- ---- a refusal before the end
 
--- What is refused among the first entries is refused with more.
+-- If the first entries are refused, so are these with more entries.
 pub taken_short : (judged : Option Side) (table : Table) (c : Certificate) (entries more : List (Result Item Reason)) (fault : CheckFault)
     → taken judged table c entries ≡ Err fault → taken judged table c (entries ++ more) ≡ Err fault
 taken_short judged table c entries [] fault is =
@@ -41,7 +41,7 @@ taken_short judged table c entries (entry ∷ more) fault is =
     (taken_short judged table c (entries ++ entry ∷ []) more fault
     (taken_more judged table c entries entry ∙ ap (λ (o : Result Replay CheckFault). o >>= taken_next judged table c entry) is))
 
--- A checker that refuses stands for a replay that is refused.
+-- A checker with a fault implements a replay that is refused.
 pub refused_is : (listing : Bool) (s : Checking) (entries : List (Result Item Reason)) (fault : CheckFault) → TookListed listing s entries → s.so_far ≡ Err fault
     → taken s.judged s.table s.certificate entries ≡ Err fault
 refused_is listing s entries fault took is = by (taken s.judged s.table s.certificate entries) (sym is ∙ took)
@@ -58,7 +58,7 @@ refused_short listing s entries more all fault took is whole =
     let at : taken s.judged s.table s.certificate all ≡ Err fault = ap (taken s.judged s.table s.certificate) (sym whole) ∙ short in
     replayed_is s.judged s.table s.certificate all ∙ ap (λ (o : Result Replay CheckFault). o >>= ended s.judged s.table s.certificate) at
 
--- A replay that took these entries takes one more.
+-- A replay takes one more entry.
 pub took_more : (listing : Bool) (x y : Replaying) (entry : Result Item Reason) → y.judged ≡ x.judged → y.table ≡ x.table → y.certificate ≡ x.certificate
     → kept_next x.judged x.table.now x.certificate.now entry (kept_in x) ≡ Ok (kept_in y) → (before : List (Result Item Reason))
     → TookListed listing (checking_of x) before → TookListed listing (checking_of y) (before ++ entry ∷ [])
@@ -66,7 +66,7 @@ took_more listing x y entry judged table certificate is before took =
     rw (judged, table, certificate)
     (took_ok listing x.judged x.table.now x.certificate.now (kept_in x) (kept_in y) entry is before took)
 
--- An entry that a replay refuses is the reason for all of them.
+-- If an entry is refused, the replay of all entries is refused for the same reason.
 pub refused_at : (listing : Bool) (judged : Option Side) (table : Table) (c : Certificate) (k : Kept) (entry : Result Item Reason) (fault : CheckFault)
     → kept_next judged table c entry k ≡ Err fault → (before more all : List (Result Item Reason))
     → TookListed listing (checking judged table c None k) before → (before ++ entry ∷ []) ++ more ≡ all
@@ -75,12 +75,12 @@ refused_at listing judged table c k entry fault is before more all took whole =
     refused_short listing (checking judged table c (Some fault) k) (before ++ entry ∷ []) more all fault
     (took_err listing judged table c k k entry fault is before took) refl whole
 
--- What is refused gives no report, no run and no discards.
+-- A refused replay gives no report.
 pub no_report : (judged : Option Side) (table : Table) (c : Certificate) (entries : List (Result Item Reason)) (fault : CheckFault)
     → replay_by judged table c entries ≡ Err fault → refusing fault ≡ given judged table c entries
 no_report judged table c entries fault is = sym (ap (map_ok (reported judged)) (ends_so judged table c entries (Err fault) is))
 
--- What a replay is refused by, in the words of what it was made of.
+-- A refusal, stated for the values that the replay was created from.
 pub refused_for : (r : Replaying) (judged : Option Side) (table : Table) (c : Certificate) (entries : List (Result Item Reason)) (fault other : CheckFault)
     → r.judged ≡ judged → r.table.now ≡ table → r.certificate.now ≡ c → fault ≡ other
     → replay_by r.judged r.table.now r.certificate.now entries ≡ Err fault → replay_by judged table c entries ≡ Err other
@@ -89,7 +89,7 @@ refused_for r judged table c entries fault other is_judged is_table is_c is refu
     ∙ ap₂ (λ (t : Table) (x : Certificate). replay_by r.judged t x entries) (sym is_table) (sym is_c)
     ∙ refused ∙ ap (λ (f : CheckFault). let x : Result Replay CheckFault = Err f in x) is
 
--- Whoever is judged, what is given is a run.
+-- For each choice of judged ends, what is given is a run.
 pub given_to : (judged : Option Side) (table : Table) (c : Certificate) (entries : List Entry) (events : List Event)
     → replayed_by judged table c entries ≡ Ok events → IsGivenTo judged table c entries events
 given_to None table c entries events is = gives table c entries events is
@@ -102,7 +102,7 @@ pub run_given : {A : Type 0} (events : A → List Event) (judged : Option Side) 
 run_given events judged table c entries (Ok x) exact = given_to judged table c entries (events x) (sym (exact (λ e. cc)))
 run_given events judged table c entries (Err fault) exact = tt
 
--- What is discarded in it may be.
+-- The discards of a run are allowed.
 pub run_may : {A : Type 0} (discards : A → List (ℕ × EndFault)) (judged : Option Side) (table : Table) (c : Certificate) (entries : List (Result Item Reason))
     (result : Result A CheckFault)
     → (result ≢ Err (fault_at Memory 0) → map_ok discards result ≡ discards_by judged table c entries)
@@ -112,7 +112,7 @@ run_may discards judged table c entries (Err fault) exact = tt
 
 -- ---- a run
 
--- A report is of a run that sends the entries, in which those who are judged keep the rules.
+-- A report is of a run that sends the entries, in which the judged ends keep the rules.
 pub lawful_is : (judged : Option Side) (table : Table) (c : Certificate) (entries : List Entry) (report : Report)
     → map_ok (reported judged) (replayed_by judged table c entries) ≡ Ok report
     → (items : List Item) × AreItems entries items × SaysLawful judged items table report
@@ -130,9 +130,8 @@ lawful_is judged table c entries report is = by judged (replayed_by judged table
         let same : reported (Some side) events ≡ report = cc in
         (run.items, run.are, (events, run.run.0, run.run.1, run.run.2, run.keeps, run.left, ap (λ (r : Report). r.unheard) same))
 
--- ---- places
+-- ---- numbers of entries
 
--- the entries up to a place and that one
 up_to : (entries : List Entry) (place : ℕ) (entry : Entry) → slice_get entries place ≡ Some entry
     → take (suc place) entries ≡ take place entries ++ entry ∷ []
 up_to [] place entry is = cc

@@ -1,4 +1,4 @@
--- What a checker refuses is refused whatever comes behind it; what it passes is lawful.
+-- A refusal holds no matter which entries follow, and what is not refused is lawful.
 use Rattle.std.proofs.Common.{◌≡◌, ◌≤◌, ◌+◌, ◌*◌, arith, List, [], ◌∷◌, ◌++◌, map, length, Option, Some, None, Result, Ok, Err, refl, sym, ap, ap₂, subst, ◌∙◌, false}
 use Rattle.std.specs.Prelude.{◌≢◌}
 use Rattle.std.proofs.lemmas.List.{map-append}
@@ -51,7 +51,7 @@ stays_refused s entries fault took is = λ more.
     let run : replayed_by judged table c (entries ++ more) ≡ Err fault = ends_so judged table c all (Err fault) behind in
     (run, refusal_says judged table c (entries ++ more) fault run)
 
--- What is answered is what it keeps.
+-- If the result is a fault, the checker keeps this fault.
 answered : (kept : Result Kept CheckFault) (fault : CheckFault) → answer_of kept ≡ Err fault → kept ≡ Err fault
 answered (Ok k) fault is = cc
 answered (Err other) fault is = let same : other ≡ fault = cc in ap (λ (f : CheckFault). let a : Result Kept CheckFault = Err f in a) same
@@ -62,7 +62,7 @@ same_fault fault other is = cc
 one_fault : (fault other : CheckFault) → (let a : Result (Unit {0}) CheckFault = Err fault in a) ≡ Err other → fault ≡ other
 one_fault fault other is = cc
 
--- One entry more is refused,
+-- If one more entry is refused, it is refused for good.
 stays_refused_at : (s : Checking) (entries : List Entry) (entry : Entry) (item : Result Item Reason) (fault : CheckFault)
     → Took s (map item_of entries ++ item ∷ []) → item_of entry ≡ item → s.so_far ≡ Err fault
     → IsRefused s.judged s.table s.certificate (entries ++ entry ∷ []) fault
@@ -71,7 +71,7 @@ stays_refused_at s entries entry item fault took same is =
     (subst (λ (x : List (Result Item Reason)). Took s x)
     (ap (λ (x : Result Item Reason). map item_of entries ++ x ∷ []) (sym same) ∙ sym (map-append item_of entries (entry ∷ []))) took) is
 
--- by whatever call took it;
+-- This holds for each call that takes the entry.
 pub refuses_for_good : (s behind : Checking) (next : Result Item Reason) (answer : Result (Unit {0}) CheckFault)
     → ((entries : List (Result Item Reason)) → Took s entries → answer ≢ Err (fault_at Memory 0) → Took behind (entries ++ next ∷ []))
     → answer ≡ answer_of behind.so_far → behind.judged ≡ s.judged → behind.table ≡ s.table → behind.certificate ≡ s.certificate
@@ -82,7 +82,7 @@ refuses_for_good s behind next answer takes answers judged table certificate = �
     (takes (map item_of entries) took (λ memory. other (one_fault fault (fault_at Memory 0) (sym is ∙ memory)))) same refused in
     rw (sym judged, sym table, sym certificate) so
 
--- or no entry is left.
+-- At the end of the record, a refusal is that of the replay.
 end_is_refused : (judged : Option Side) (table : Table) (c : Certificate) (entries : List Entry) (fault : CheckFault)
     → refusing fault ≡ map_ok (reported judged) (replayed_by judged table c entries) → replayed_by judged table c entries ≡ Err fault
 end_is_refused judged table c entries fault is = by (replayed_by judged table c entries) is
@@ -93,7 +93,6 @@ end_is_refused judged table c entries fault is = by (replayed_by judged table c 
 
 -- ---- items
 
--- The entries of items are these items.
 entry_is : (item : Item) → IsItem (entry_of item) item
 entry_is (Sent side message) = (refl, refl)
 entry_is Item.Quiet = (refl, refl)
@@ -111,13 +110,12 @@ items_of_entries [] = refl
 items_of_entries (item ∷ items) =
     ap₂ (λ (x : Result Item Reason) (xs : List (Result Item Reason)). x ∷ xs) (read_is item) (items_of_entries items)
 
--- Entries are one list of items, and no other.
 pub same_items : (entries : List Entry) (items others : List Item) → AreItems entries items → AreItems entries others → items ≡ others
 same_items entries items others are also = items_same items others (sym (items_of entries items are) ∙ items_of entries others also)
 
 -- ---- a run
 
--- What is replayed is items.
+-- Entries that are replayed are items.
 items_by : (judged : Option Side) (table : Table) (c : Certificate) (entries : List (Result Item Reason)) (events : List Event)
     → run_by judged table c entries ≡ Ok events → (items : List Item) × (map ok_item items ≡ entries)
 items_by judged table c entries events is =
@@ -145,7 +143,7 @@ lawful_of judged table c entries report is = by (run_by judged table c entries) 
         let same = same_items (map entry_of found.0) found.0 law.0 (entries_are found.0) law.1 in
         (found.0, found.1, subst (λ (x : List Item). SaysLawful judged x table report) (sym same) law.2)
 
--- Where the certificate describes a run of the items, that is what it gives.
+-- If the certificate describes a run of the items, it gives a run with the same report.
 described_here : (table : Table) (c : Certificate) (entries : List Entry) (items : List Item) (events : List Event) → AreItems entries items
     → IsRunOf items table events → IsDescribedBy table c items events
     → map_ok (reported None) (replayed_by None table c entries) ≡ Ok (reported None events)
@@ -160,7 +158,7 @@ described_of table c items events run described =
     ap (given None table c) (sym (items_of_entries items))
     ∙ described_here table c (map entry_of items) items events (entries_are items) run described
 
--- A report has no larger numbers than the certificate and the items allow.
+-- The counts of a report are bounded.
 is_bounded : (judged : Option Side) (table : Table) (c : Certificate) (entries : List Entry) (items : List Item) (report : Report)
     → AreItems entries items → map_ok (reported judged) (replayed_by judged table c entries) ≡ Ok report → IsBounded judged c items report
 is_bounded judged table c entries items report are is = by judged (replayed_by judged table c entries) refl is
@@ -184,7 +182,7 @@ is_bounded judged table c entries items report are is = by judged (replayed_by j
         let unheard : unheard_of side events ≤ length items = omega (arith, run.unheard, many) in
         subst (IsBounded (Some side) c items) same (most, unheard)
 
--- ---- what a checker says at its end, where that is what the certificate gives
+-- ---- the result of a checker at its end, if the certificate gives it
 
 module _ (s : Checking) (result : Result Report CheckFault)
     (finished : (entries : List (Result Item Reason)) → Took s entries → result ≢ Err (fault_at Memory 0)
@@ -217,7 +215,7 @@ module _ (s : Checking) (result : Result Report CheckFault)
       (ap (given s.judged s.table s.certificate) (items_of_entries items)
       ∙ sym (finished (map ok_item items) took (is_report result report (fault_at Memory 0) is)) ∙ is)
 
--- ---- what is said of the entries of a record, where that is what the certificate gives
+-- ---- the result for the entries of a record, if the certificate gives it
 
 module _ (judged : Option Side) (table : Table) (c : Certificate) (entries : List Entry) (result : Result Report CheckFault)
     (exact : result ≢ Err (fault_at Memory 0) → result ≡ map_ok (reported judged) (replayed_by judged table c entries)) where

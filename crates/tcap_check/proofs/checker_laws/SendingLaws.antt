@@ -1,4 +1,4 @@
--- The steps of a checker by which an end sends, or its provider answers.
+-- Steps of a checker by which an end sends, or its provider answers.
 use Rattle.std.proofs.Common.{◌≡◌, ℕ, suc, ℤ, ◌+◌, ◌≤◌, arith, true, false, List, [], ◌∷◌, drop, length, Option, Some, None, Result, Ok, Err, refl, sym, ap, ◌∙◌}
 use Rattle.std.specs.Prelude.{filter_map}
 use Rattle.tcap_parts.specs.declared.component.Component.{Component}
@@ -20,14 +20,14 @@ use Rattle.tcap_end.specs.Hidden.{expire}
 use Rattle.tcap_model.specs.Run.{Event, Expires, Replies}
 use Rattle.tcap_check.specs.Progress.{IsAsMany, end_tried, moved, or_still, seat_at, with_seat_end, with_waiting, first_answered, first_may_be_answered, ids_ended_over, invoked_ended, sent_by}
 
--- A provider that may not answer is refused,
+-- A provider that may not answer is refused.
 pub not_answered : (side : Side) (fate : Fate) (number : ℕ) (abort : Message) (taken : ℕ) (messages : List Waiting) (p : Progress)
     → first_may_be_answered side abort taken messages p ≡ false
     → first_answered side fate number abort taken messages p ≡ Err (fault_at BadReply number)
 not_answered side fate number abort taken [] p is = refl
 not_answered side fate number abort taken (first ∷ more) p is = rw is refl
 
--- and one that may takes the first message away.
+-- A provider that may answer takes the first message.
 pub answered : (side : Side) (fate : Fate) (number : ℕ) (abort : Message) (taken : ℕ) (messages : List Waiting) (p : Progress)
     → first_may_be_answered side abort taken messages p ≡ true
     → first_answered side fate number abort taken messages p
@@ -35,10 +35,10 @@ pub answered : (side : Side) (fate : Fate) (number : ℕ) (abort : Message) (tak
 answered side fate number abort taken [] p is = cc
 answered side fate number abort taken (m ∷ more) p is = rw is refl
 
--- ---- IDs that are invoked anew
+-- ---- IDs that are invoked again
 
--- What is left of the components does to what is now what all of them do to what was; and so far each was one step at
--- most.
+-- The components that are left have the same result from here as all components from the start. Each component so far
+-- made at most one step.
 pub record Ends (table : Table) (side : Side) (half : Option HalfName) (all : List Component) (start : Progress)
     (left : List Component) (now : Progress) : Type 0 where
   pub same : ids_ended_over table side half (filter_map invoke_id left) now
@@ -80,7 +80,7 @@ invoked_still table side None id p = (refl, refl)
 invoked_still table side (Some name) None p = (refl, refl)
 invoked_still table side (Some name) (Some id) p = tried_still table side name id p
 
--- One component more.
+-- One more component.
 pub ends_more : {table : Table} {side : Side} {half : Option HalfName} {all left more : List Component} {start now : Progress} {component : Component}
     → Ends table side half all start left now → left ≡ component ∷ more
     → Ends table side half all start more (invoked_ended table side half (invoke_id component) now)

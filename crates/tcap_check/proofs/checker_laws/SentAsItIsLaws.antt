@@ -1,4 +1,4 @@
--- A message that an end can send as it is: nothing ends before it, since no ID that it invokes is in use.
+-- If an end can send a message at once, no invocation expires before it, since the message invokes no ID in use.
 use Rattle.std.proofs.Common.{arith, ◌≡◌, ℕ, ℤ, List, [], ◌∷◌, Option, Some, None, Result, Ok, Err, refl, ap, ◌∙◌}
 use Rattle.std.specs.Prelude.{filter_map}
 use Rattle.std.specs.List.{Contains}
@@ -21,7 +21,7 @@ use Rattle.tcap_check.specs.Progress.{ids_ended, ids_ended_over, or_still, seat_
 use Rattle.tcap_check.proofs.described_run_laws.ExpiryLaws.{ends_in_use}
 use Rattle.tcap_check.proofs.described_run_laws.ImpliedLaws.{sent_frees}
 
--- IDs that are not in use end nothing.
+-- IDs that are not in use expire nothing.
 none_end : (table : Table) (side : Side) (name : HalfName) (ids : List ℤ) (p : Progress)
     → ((id : ℤ) → Contains ids id → IsInUse (seat_at side p).end name id → ⊥) → ids_ended table side name ids p ≡ p
 none_end table side name [] p free = refl
@@ -34,7 +34,7 @@ none_end table side name (x ∷ ids) p free =
     by (Ok e) is rest = absurd (free x (0, omega arith, refl) (ends_in_use table (seat_at side p).end name x e is))
     by (Err reason) is rest = rw is rest
 
--- So those of a message that can be sent end nothing.
+-- The IDs of a message that can be sent expire nothing.
 pub nothing_ends : (table : Table) (side : Side) (message : Message) (p : Progress) (next : End)
     → send table (seat_at side p).end message ≡ Ok next
     → ids_ended_over table side (invoking_half message) (filter_map invoke_id (components_in message)) p ≡ p
@@ -47,7 +47,7 @@ nothing_ends table side message p next is = by (invoking_half message) refl
         none_end table side name (filter_map invoke_id (components_in message)) p
         (λ id there. sent_frees table (seat_at side p).end next message name id is over there)
 
--- It is sent as the end is.
+-- The message is sent without expiries.
 pub sends_as_is : (table : Table) (side : Side) (fate : Fate) (number : ℕ) (message : Message) (p : Progress) (next : End)
     → send table (seat_at side p).end message ≡ Ok next
     → send_kept table side fate number message p ≡ Ok (sent_by (Sends side message) side fate number message (with_seat_end side next p))

@@ -1,4 +1,4 @@
--- What one step more tells.
+-- The report of steps after one more step.
 use Rattle.std.proofs.Common.{◌≡◌, ℕ, List, [], ◌∷◌, ◌++◌, Option, Some, None, refl, ap, ap₂, ◌∙◌, append-nil, append_assoc}
 use Rattle.std.specs.Prelude.{option_map, Bool, true, false}
 use Rattle.tcap_record.specs.declared.entry.End.{End as Side}
@@ -33,42 +33,41 @@ discards_more (first ∷ list) step = by (discard_of first) refl (discards_more 
 abbrev told : (events : List Event) (discards : List (ℕ × EndFault)) → Told
 told events discards = record { events = events; discards = discards }
 
--- One that is no discard,
+-- One more step that is no discard.
 pub one_more : (list : List Step) (step : Step) → discard_of step ≡ None
     → told_of (list ++ step ∷ []) ≡ more_told (event_of step ∷ []) (told_of list)
 one_more list step none =
     ap₂ told (events_more list step)
     (discards_more list step ∙ ap (λ (o : Option (ℕ × EndFault)). discards_of list ++ with_discard o) none ∙ append-nil (discards_of list))
 
--- and one that is.
+-- One more discard.
 pub one_discard_more : (list : List Step) (side : Side) (number : ℕ) (reason : EndFault)
     → told_of (list ++ steps.Discards side number reason ∷ [])
     ≡ discard_more number reason (more_told (Loses side number ∷ []) (told_of list))
 one_discard_more list side number reason =
     ap₂ told (events_more list (steps.Discards side number reason)) (discards_more list (steps.Discards side number reason))
 
--- ---- what is told of a run
+-- ---- the report on a run
 
--- Steps more of it,
+-- The report after more events.
 pub more_if : (listed : Bool) (more events : List Event) (discards : List (ℕ × EndFault))
     → option_map (more_told more) (told_if listed events discards) ≡ told_if listed (events ++ more) discards
 more_if true more events discards = refl
 more_if false more events discards = refl
 
--- and a discard more.
+-- The report after one more discard.
 pub discard_if : (listing : Bool) (side : Side) (number : ℕ) (reason : EndFault) (events : List Event) (discards : List (ℕ × EndFault))
     → option_map (λ told. discard_more number reason (more_told (Loses side number ∷ []) told)) (told_if listing events discards)
     ≡ told_if listing (events ++ Loses side number ∷ []) (discards ++ (number, reason) ∷ [])
 discard_if true side number reason events discards = refl
 discard_if false side number reason events discards = refl
 
--- No step more tells nothing,
 pub told_still : (o : Option Told) → option_map (more_told []) o ≡ o
 told_still None = refl
 told_still (Some told) =
     ap (λ (x : List Event). let y : Option Told = Some (record { events = x; discards = told.discards }) in y) (append-nil told.events)
 
--- and steps more are told one after the other.
+-- More events can be added one by one.
 pub told_both : (event : Event) (events : List Event) (o : Option Told)
     → option_map (more_told events) (option_map (more_told (event ∷ [])) o) ≡ option_map (more_told (event ∷ events)) o
 told_both event events None = refl

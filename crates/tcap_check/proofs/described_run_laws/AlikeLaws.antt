@@ -1,4 +1,4 @@
--- A run and its replay side by side: their worlds are alike, but for messages that are lost; and so they go on.
+-- A run and its replay side by side: their worlds are alike except for lost messages, and stay alike.
 use Rattle.std.proofs.Common.{◌≡◌, ℕ, ℤ, List, [], ◌∷◌, ◌++◌, length, drop, Option, Some, None, Ok, refl, sym, ap, ap₂, subst, ◌∙◌}
 use Rattle.std.specs.Prelude.{slice_get}
 use Rattle.std.specs.List.{AllByRecursion}
@@ -27,7 +27,7 @@ use Rattle.tcap_model.proofs.RunLaws.{closing, delivery, expiry, loss, quiet, re
 
 -- ---- messages that are not lost
 
--- Those of two channels, one behind the other.
+-- The messages of two joined channels that are not lost.
 waiting_both : (fates : List Fate) (xs ys : List OnItsWay) → waiting fates (xs ++ ys) ≡ waiting fates xs ++ waiting fates ys
 waiting_both fates [] ys = refl
 waiting_both fates (m ∷ xs) ys = by (slice_get fates m.number) (waiting_both fates xs ys)
@@ -39,7 +39,7 @@ waiting_both fates (m ∷ xs) ys = by (slice_get fates m.number) (waiting_both f
     by (Some (By k)) is = ap (λ (x : List OnItsWay). m ∷ x) is
     by (Some Lost) is = is
 
--- Behind the lost ones at the front, the first that is not lost is the head.
+-- After the losses at the front, the first message that is not lost is the head.
 front_is : (fates : List Fate) (channel : List OnItsWay) (head : OnItsWay) (tail : List OnItsWay) → waiting fates channel ≡ head ∷ tail
     → (more : List OnItsWay) × (drop (length (lost_front fates channel)) channel ≡ head ∷ more) × (waiting fates more ≡ tail)
 front_is fates [] head tail is = cc
@@ -56,7 +56,7 @@ front_is fates (first ∷ more) head tail is = by (slice_get fates first.number)
     by (Some (By k)) on e = let same : first ≡ head = cc in (more, ap (λ (x : OnItsWay). x ∷ more) same, cc)
     by (Some Lost) on e = on e
 
--- Where all are lost, nothing is left behind them.
+-- If all messages are lost, none is left.
 front_none : (fates : List Fate) (channel : List OnItsWay) → waiting fates channel ≡ []
     → drop (length (lost_front fates channel)) channel ≡ []
 front_none fates [] is = refl
@@ -72,7 +72,7 @@ front_none fates (first ∷ more) is = by (slice_get fates first.number) (front_
 
 -- ---- worlds
 
--- Both ends and the sent list are the same, and so are the messages on both channels that are not lost.
+-- Both ends and the sent list are equal, and so are the messages on both channels that are not lost.
 pub record Alike (fates : List Fate) (w v : World) : Type 0 where
   pub a : v.a ≡ w.a
   pub b : v.b ≡ w.b
@@ -80,34 +80,29 @@ pub record Alike (fates : List Fate) (w v : World) : Type 0 where
   pub from_a : waiting fates v.from_a ≡ waiting fates w.from_a
   pub from_b : waiting fates v.from_b ≡ waiting fates w.from_b
 
--- Each world is like itself.
 pub alike_same : (fates : List Fate) (w : World) → Alike fates w w
 alike_same fates w = record { a = refl; b = refl; sent = refl; from_a = refl; from_b = refl }
 
--- An end is the same.
 pub ends_same : (fates : List Fate) (side : Side) (w v : World) → Alike fates w v → end_at side v ≡ end_at side w
 ends_same fates sides.A w v is = is.a
 ends_same fates sides.B w v is = is.b
 
--- A channel is the same but for what is lost.
+-- The channels of worlds that are alike are equal except for losses.
 channels_same : (fates : List Fate) (side : Side) (w v : World) → Alike fates w v
     → waiting fates (channel_from side v) ≡ waiting fates (channel_from side w)
 channels_same fates sides.A w v is = is.from_a
 channels_same fates sides.B w v is = is.from_b
 
--- The same end is put in,
 pub alike_end : (fates : List Fate) (side : Side) (e : End) (w v : World) → Alike fates w v
     → Alike fates (with_end side e w) (with_end side e v)
 alike_end fates sides.A e w v is = record { a = refl; b = is.b; sent = is.sent; from_a = is.from_a; from_b = is.from_b }
 alike_end fates sides.B e w v is = record { a = is.a; b = refl; sent = is.sent; from_a = is.from_a; from_b = is.from_b }
 
--- or channels that are the same but for what is lost,
 alike_channel : (fates : List Fate) (side : Side) (xs ys : List OnItsWay) (w v : World) → Alike fates w v
     → waiting fates ys ≡ waiting fates xs → Alike fates (with_channel side xs w) (with_channel side ys v)
 alike_channel fates sides.A xs ys w v is same = record { a = is.a; b = is.b; sent = is.sent; from_a = same; from_b = is.from_b }
 alike_channel fates sides.B xs ys w v is same = record { a = is.a; b = is.b; sent = is.sent; from_a = is.from_a; from_b = same }
 
--- or the same message joins both.
 pub alike_joined : (fates : List Fate) (side : Side) (m : Message) (w v : World) → Alike fates w v
     → Alike fates (joined side m w) (joined side m v)
 alike_joined fates side m w v is = by side
@@ -139,11 +134,10 @@ alike_joined fates side m w v is = by side
       from_b = one w.from_b v.from_b is.from_b;
     }
 
--- A world that is the same is like it too.
 pub to_same : (fates : List Fate) (w same v : World) → same ≡ w → Alike fates w v → Alike fates same v
 to_same fates w same v is alike = subst (λ (x : World). Alike fates x v) (sym is) alike
 
--- What is lost at the front may go,
+-- Worlds stay alike after the losses at the front.
 alike_front : (c : Certificate) (side : Side) (w : World) (r : Replay) → Alike c.fates w r.world
     → Alike c.fates w (lost_from_front c side r).world
 alike_front c side w r is =
@@ -154,13 +148,13 @@ alike_front c side w r is =
     subst (λ (x : World). Alike c.fates x (with_channel side left r.world)) (with_same side w)
     (alike_channel c.fates side (channel_from side w) left w r.world is same)
 
--- and then the first message that is not lost is the head.
+-- The head of the replay's channel, after the losses at the front, is this message.
 record IsFront (c : Certificate) (side : Side) (head : OnItsWay) (more : List OnItsWay) (r : Replay) : Type 0 where
   left : List OnItsWay
   channel : channel_from side (lost_from_front c side r).world ≡ head ∷ left
   same : waiting c.fates left ≡ waiting c.fates more
 
--- A message of the run that is not lost is the head of the replay's channel, behind what is lost there.
+-- A message of the run that is not lost is the head of the replay's channel, after the losses there.
 same_front : (c : Certificate) (side : Side) (w : World) (r : Replay) (head : OnItsWay) (more : List OnItsWay)
     → Alike c.fates w r.world → channel_from side w ≡ head ∷ more
     → waiting c.fates (head ∷ more) ≡ head ∷ waiting c.fates more → IsFront c side head more r
@@ -169,15 +163,14 @@ same_front c side w r head more is channel first =
     let front = front_is c.fates (channel_from side r.world) head (waiting c.fates more) same in
     record { left = front.0; channel = channel_with side _ r.world ∙ front.1; same = front.2 }
 
--- ---- steps of the run, and of the replay
+-- ---- steps of the run and of the replay
 
--- A step happens in the replay too, behind the losses that it needs, and leads to a world alike.
+-- A step happens in the replay too, after the losses before it, and the worlds stay alike.
 pub record Goes (table : Table) (c : Certificate) (event : Event) (r : Replay) (behind : World) : Type 0 where
   pub next : Replay
   pub is : stepped table event (lost_before c event r) ≡ Some next
   pub alike : Alike c.fates behind next.world
 
--- So does an expiry,
 pub expires_goes : (table : Table) (c : Certificate) (side : Side) (name : HalfName) (id : ℤ) (w next : World) (r : Replay)
     → Alike c.fates w r.world → after table (Expires side name id) w ≡ Some next → Goes table c (Expires side name id) r next
 expires_goes table c side name id w next r alike step =
@@ -190,7 +183,6 @@ expires_goes table c side name id w next r alike step =
       alike = to_same c.fates _ next _ h.next_is (alike_end c.fates side h.made w r.world alike);
     }
 
--- a closing,
 pub closes_goes : (table : Table) (c : Certificate) (side : Side) (name : HalfName) (w next : World) (r : Replay)
     → Alike c.fates w r.world → after table (Closes side name) w ≡ Some next → Goes table c (Closes side name) r next
 closes_goes table c side name w next r alike step =
@@ -203,7 +195,6 @@ closes_goes table c side name w next r alike step =
       alike = to_same c.fates _ next _ h.next_is (alike_end c.fates side h.made w r.world alike);
     }
 
--- a delivery of a message that has a gap,
 pub receives_goes : (table : Table) (c : Certificate) (side : Side) (number gap : ℕ) (w next : World) (r : Replay)
     → slice_get c.fates number ≡ Some (Gap gap) → Alike c.fates w r.world → after table (Receives side number) w ≡ Some next
     → Goes table c (Receives side number) r next
@@ -230,7 +221,6 @@ receives_goes table c side number gap w next r fate alike step =
         ≡ Some (with_step (Receives side number) (lost_from_front c (other side) r) (with_end side made (with_channel (other side) left v)))
     taken {head = head} {made = made} left v channel is same = rw (channel, eq-eqb head.number number is, same) refl
 
--- a reply to a message that is taken by one,
 pub replies_goes : (table : Table) (c : Certificate) (side : Side) (number k : ℕ) (w next : World) (r : Replay)
     → slice_get c.fates number ≡ Some (By k) → Alike c.fates w r.world → after table (Replies side number) w ≡ Some next
     → Goes table c (Replies side number) r next
@@ -257,7 +247,7 @@ replies_goes table c side number k w next r fate alike step =
         ≡ Some (with_step (Replies side number) (lost_from_front c (other side) r) (joined side abort (with_channel (other side) left v)))
     taken {head = head} {abort = abort} left v channel is same = rw (channel, eq-eqb head.number number is, same) refl
 
--- Where nothing is on its way in the run, all that is on its way in the replay is lost, and then both are one world,
+-- If nothing is on its way in the run, all that is on its way in the replay is lost, and the worlds are equal.
 quiet_same : (c : Certificate) (w : World) (r : Replay) → Alike c.fates w r.world → w.from_a ≡ [] → w.from_b ≡ []
     → (lost_from_both c r).world ≡ w
 quiet_same c w r is no_a no_b =
@@ -274,7 +264,6 @@ quiet_same c w r is no_a no_b =
         ∙ ap₂ (λ (p q : List OnItsWay). make y.a y.b p q x.sent) from_a from_b
         ∙ ap (λ (items : List Item). make y.a y.b y.from_a y.from_b items) sent
 
--- and so a quiet mark.
 pub quiet_goes : (table : Table) (c : Certificate) (w next : World) (r : Replay)
     → Alike c.fates w r.world → after table Quiet w ≡ Some next → Goes table c Quiet r next
 quiet_goes table c w next r alike step =
@@ -283,7 +272,7 @@ quiet_goes table c w next r alike step =
     let same : after table Quiet both.world ≡ Some next = ap (after table Quiet) (quiet_same c w r alike q.from_a q.from_b) ∙ step in
     record { next = with_step Quiet both next; is = rw same refl; alike = alike_same c.fates next }
 
--- A loss of the run leaves it alike, where the message's fate says so.
+-- After a loss in the run the worlds stay alike, if the message's fate is a loss.
 loss_alike : (table : Table) (fates : List Fate) (side : Side) (number : ℕ) (w next v : World) → slice_get fates number ≡ Some Lost
     → after table (Loses side number) w ≡ Some next → Alike fates w v → Alike fates next v
 loss_alike table fates side number w next v fate step is =
@@ -296,14 +285,14 @@ loss_alike table fates side number w next v fate step is =
     (subst (λ (x : World). Alike fates (with_channel side l.more w) x) (with_same side v)
     (alike_channel fates side l.more (channel_from side v) w v is same))
 
--- ---- what is ahead in the run
+-- ---- the rest of the run
 
--- a loss is of a message whose fate says so
+-- a lost message has a loss as its fate
 abbrev pub LossFits : List Fate → Event → Type 0
 LossFits fates (Loses side number) = slice_get fates number ≡ Some Lost
 LossFits fates _ = Unit {0}
 
--- From a world like this one, the run goes on to its end, by these steps but for losses.
+-- From a world like this one, the run goes on to its end by these steps and losses.
 pub record Ahead (table : Table) (fates : List Fate) (final : World) (plain : List Event) (v : World) : Type 0 where
   pub before : List Event
   pub events : List Event
@@ -314,7 +303,7 @@ pub record Ahead (table : Table) (fates : List Fate) (final : World) (plain : Li
   pub fit : AllByRecursion (LossFits fates) events
   pub alike : Alike fates w v
 
--- The run takes such a step, from a world like this one.
+-- From a world like this one, the run makes this step next, apart from losses.
 pub record IsNext (table : Table) (fates : List Fate) (final : World) (event : Event) (plain : List Event) (v : World) : Type 0 where
   pub before : List Event
   pub events : List Event
@@ -327,12 +316,11 @@ pub record IsNext (table : Table) (fates : List Fate) (final : World) (event : E
   pub are : without_losses events ≡ plain
   pub fit : AllByRecursion (LossFits fates) events
 
--- one more step of a run
 run_more : (table : Table) (before : List Event) (event : Event) (w next : World) → Runs table before w
     → after table event w ≡ Some next → Runs table (before ++ event ∷ []) next
 run_more table before event w next ran step = played_on table before (event ∷ []) empty w ran ∙ rw step refl
 
--- the first step that is ahead is no loss
+-- the first step of the rest is no loss
 at_once : (table : Table) (fates : List Fate) (final : World) (first event : Event) (plain : List Event) (v : World) (before events : List Event) (w : World)
     → Runs table before w → played table (first ∷ events) w ≡ Some final → first ∷ without_losses events ≡ event ∷ plain
     → AllByRecursion (LossFits fates) events → Alike fates w v → IsNext table fates final event plain v
@@ -376,13 +364,13 @@ next_of table fates final event plain v (Quiet ∷ events) before w ran plays ar
 next_of table fates final event plain v (Tells side m ∷ events) before w ran plays are fit alike =
     at_once table fates final (Tells side m) event plain v before events w ran plays are fit.1 alike
 
--- Behind some losses, the run takes the first step that is ahead,
+-- The run makes the first step of the rest, after some losses.
 pub next_step : (table : Table) (fates : List Fate) (final : World) (event : Event) (plain : List Event) (v : World)
     → Ahead table fates final (event ∷ plain) v → IsNext table fates final event plain v
 next_step table fates final event plain v on =
     next_of table fates final event plain v on.events on.before on.w on.ran on.plays on.are on.fit on.alike
 
--- and behind it goes on.
+-- After that step the run goes on.
 pub go_on : (table : Table) (fates : List Fate) (final : World) (event : Event) (plain : List Event) (v next : World)
     → (on : IsNext table fates final event plain v) → Alike fates on.next next → Ahead table fates final plain next
 go_on table fates final event plain v next on alike = record {

@@ -1,4 +1,4 @@
--- A gap of a run that a certificate describes is replayed.
+-- The replay of a gap of a run that a certificate describes.
 use Rattle.std.proofs.Common.{arith, ◌≡◌, ℕ, ◌+◌, ◌==◌, Bool, true, false, cond, List, [], ◌∷◌, ◌++◌, map, length, Option, Some, Result, Ok, refl, sym, ap, subst, ◌∙◌, append-nil, None}
 use Rattle.std.specs.Prelude.{ok_or, slice_get}
 use Rattle.std.specs.List.{AllByRecursion}
@@ -26,7 +26,7 @@ use Rattle.tcap_check.specs.Listed.{all_replayed, entry_of, event_listed, listed
 use Rattle.tcap_check.proofs.replay_laws.ListedEventLaws.{gap_events_are, gap_is_listed, judged_all, listed_so}
 use Rattle.tcap_check.proofs.replay_laws.FateLaws.{AreFrom, from_next, first_from, from_start}
 
--- ---- answers that are Ok
+-- ---- results that are Ok
 
 pub ok_then : {A B F : Type 0} (step : Result A F) (rest : A → Result B F) (x : A) (y : B) → step ≡ Ok x → rest x ≡ Ok y → (step >>= rest) ≡ Ok y
 ok_then step rest x y is on = rw is on
@@ -40,13 +40,13 @@ ok_needs so reason rest y is on = rw is on
 pub ok_both : {A B F : Type 0} (step : Result A F) (rest : Result B F) (x : A) (y : B) → step ≡ Ok x → rest ≡ Ok y → (step >> rest) ≡ Ok y
 ok_both step rest x y is on = rw is on
 
--- ---- how many steps are no losses
+-- ---- the count of steps that are no losses
 
--- those of a replay
+-- the count in a replay
 abbrev pub plain : Replay → ℕ
 plain r = length (without_losses r.events)
 
--- Steps that were replayed are as many more.
+-- The count grows by the count of events that were replayed.
 pub plain_more : (table : Table) (r next : Replay) (events : List Event) (items : List Item) → Replays table r events items next
     → plain next ≡ plain r + length events
 plain_more table r next events items h =
@@ -55,7 +55,7 @@ plain_more table r next events items h =
     ∙ length-append (without_losses r.events) (without_losses h.steps)
     ∙ ap (λ (x : List Event). plain r + length x) h.are
 
--- One step that is no loss is one more.
+-- A step that is no loss adds one to the count.
 pub plain_step : (table : Table) (event : Event) (r next : Replay) → is_loss event ≡ false → stepped table event r ≡ Some next
     → plain next ≡ plain r + 1
 plain_step table event r next no_loss is =
@@ -66,7 +66,7 @@ plain_step table event r next no_loss is =
     ∙ length-append (without_losses r.events) (without_losses (event ∷ []))
     ∙ ap (λ (n : ℕ). plain r + n) one
 
--- A run's steps are its losses and the others.
+-- The steps of a run are its losses and the others.
 pub all_steps : (events : List Event)
     → length events ≡ length (without_losses events) + length (losses_from sides.A events) + length (losses_from sides.B events)
 all_steps [] = omega arith
@@ -82,7 +82,7 @@ all_steps (Tells side m ∷ events) = let rest = all_steps events in omega (arit
 
 -- ---- fates
 
--- What is listed as lost has that fate.
+-- Each message that is listed as lost has a loss as its fate.
 pub lost_are : (all fates : List Fate) (side : Side) (n : ℕ) (items : List Item) → AreFrom all n fates
     → AllByRecursion (λ k. slice_get all k ≡ Some Lost) (lost_from side n fates items)
 lost_are all [] side n items are = tt
@@ -101,7 +101,7 @@ lost_are all (Lost ∷ fates) side n (Item.Quiet ∷ items) are = lost_are all f
 lost_are all (Gap g ∷ fates) side n (item ∷ items) are = lost_are all fates side (n + 1) items (from_next all fates n (Gap g) are)
 lost_are all (By k ∷ fates) side n (item ∷ items) are = lost_are all fates side (n + 1) items (from_next all fates n (By k) are)
 
--- So each loss of a run is of a message whose fate says so.
+-- So each loss of a run is of a message whose fate is a loss.
 pub losses_fit : (fates : List Fate) (events : List Event) → AllByRecursion (λ k. slice_get fates k ≡ Some Lost) (losses_from sides.A events)
     → AllByRecursion (λ k. slice_get fates k ≡ Some Lost) (losses_from sides.B events) → AllByRecursion (LossFits fates) events
 losses_fit fates [] a b = tt
@@ -117,7 +117,7 @@ losses_fit fates (Tells side m ∷ events) a b = (tt, losses_fit fates events a 
 
 -- ---- a gap
 
--- Part of a gap was replayed, and these steps of it are left.
+-- Part of a gap was replayed, and these steps of the gap are left.
 pub record IsPart (table : Table) (fates : List Fate) (final : World) (others : List (Option Event)) (rest : List Event) (items : List Item) (answer : Result Replay CheckFault) : Type 0 where
   pub next : Replay
   pub left : List Event
@@ -126,13 +126,13 @@ pub record IsPart (table : Table) (fates : List Fate) (final : World) (others : 
   pub sent : next.world.sent ≡ items
   pub ahead : Ahead table fates final (left ++ rest) next.world
 
--- Nothing joined the sent list of the run, so nothing joins that of the replay.
+-- If nothing joins the sent list of the run, nothing joins that of the replay.
 same_sent : (fates : List Fate) (w next v behind : World) (added items : List Item) → Alike fates w v → Alike fates next behind
     → next.sent ≡ w.sent ++ added → added ≡ [] → v.sent ≡ items → behind.sent ≡ items
 same_sent fates w next v behind added items before after_it grown none sent =
     after_it.sent ∙ grown ∙ ap (λ (x : List Item). w.sent ++ x) none ∙ append-nil w.sent ∙ sym before.sent ∙ sent
 
--- the first of the steps, and what is listed first
+-- the first step, and the first listed event
 first_listed : (event : Event) (here : List Event) (o : Option Event) (others : List (Option Event)) → map Some (event ∷ here) ≡ o ∷ others
     → (o ≡ Some event) × (map Some here ≡ others)
 first_listed event here o others is = (cc, cc)
@@ -140,12 +140,12 @@ first_listed event here o others is = (cc, cc)
 pub some_same : (x y : Event) → (let o : Option Event = Some x in o) ≡ Some y → y ≡ x
 some_same x y is = cc
 
--- A hidden event that may happen in the run may happen in the replay, and adds nothing to the sent list.
+-- A hidden event that can happen in the run can happen in the replay, and sends nothing.
 abbrev GoesUnseen : Table → Certificate → Event → Type 0
 GoesUnseen table c event = (w next : World) (r : Replay) → Alike c.fates w r.world → after table event w ≡ Some next
     → Goes table c event r next × (next.sent ≡ w.sent ++ [])
 
--- What is listed for a gap,
+-- The listed events of a gap are replayed.
 listed_go : (table : Table) (c : Certificate) (final : World) (items : List Item) (listed : List Listed) (others : List (Option Event))
     (here rest : List Event) (r : Replay) → map Some here ≡ map (event_listed items) listed ++ others → r.world.sent ≡ items
     → Ahead table c.fates final (here ++ rest) r.world → IsPart table c.fates final others rest items (all_replayed table c listed r)
@@ -178,14 +178,14 @@ listed_go table c final items (x ∷ more) others (event ∷ here) rest r are se
       ahead = behind.ahead;
     }
 
--- The deliveries were replayed.
+-- The deliveries of a gap were replayed.
 pub record AreDelivered (table : Table) (fates : List Fate) (final : World) (rest : List Event) (items : List Item) (answer : Result Replay CheckFault) : Type 0 where
   pub next : Replay
   pub is : answer ≡ Ok next
   pub sent : next.world.sent ≡ items
   pub ahead : Ahead table fates final rest next.world
 
--- and its deliveries.
+-- The deliveries of a gap are replayed.
 deliveries_go : (table : Table) (c : Certificate) (final : World) (items : List Item) (gap n : ℕ) (fates : List Fate) (its : List Item)
     (rest : List Event) (r : Replay) → AreFrom c.fates n fates → r.world.sent ≡ items
     → Ahead table c.fates final (deliveries gap n fates its ++ rest) r.world
@@ -242,7 +242,7 @@ pub record IsGap (table : Table) (c : Certificate) (final : World) (here rest : 
   pub ahead : Ahead table c.fates final rest next.world
   pub steps : plain next ≡ plain r + length here
 
--- All of a gap, the events of which the certificate lists for the items so far.
+-- A gap is replayed, if its events are those that the certificate describes.
 pub gap_goes : (table : Table) (c : Certificate) (final : World) (here rest : List Event) (r : Replay)
     → map Some here ≡ gap_events c r.world.sent (next_entry r) → Ahead table c.fates final (here ++ rest) r.world
     → IsGap table c final here rest r

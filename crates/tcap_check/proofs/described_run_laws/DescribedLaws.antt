@@ -1,4 +1,5 @@
--- What a certificate describes: its numbers fit, and no message comes before an earlier one of the same end.
+-- In a run that a certificate describes, the certificate is in range, and no message overtakes an earlier one of its
+-- end.
 use Rattle.std.proofs.Common.{arith, ◌≡◌, inl, inr, ◌≤◌, ◌<◌, drop, take, ℕ, zero, suc, ◌+◌, ◌==◌, Bool, true, false, cond, nat_lt, List, [], ◌∷◌, ◌++◌, map, filter, length, Option, Some, None, Ok, refl, sym, ap, subst, ◌∙◌}
 use Rattle.std.specs.Prelude.{◌&&◌, ◌||◌, slice_get}
 use Rattle.std.specs.List.{AllByRecursion}
@@ -27,9 +28,8 @@ use Rattle.tcap_check.proofs.refusal_laws.TakenNumberLaws.{taken_sent}
 use Rattle.tcap_check.proofs.given_run_laws.NumberLaws.{among_plain}
 use Rattle.tcap_check.proofs.replay_laws.MemberLaws.{IsIn, in_left, in_right}
 
--- ---- numbers that fit
+-- ---- ranges
 
--- Fates that fit are found to.
 fates_found : (count n : ℕ) (fates : List Fate) → FatesFit count n fates → fates_fit count n fates ≡ Ok tt
 fates_found count n [] fit = refl
 fates_found count n (Gap g ∷ fates) (above, within, fit) =
@@ -38,7 +38,6 @@ fates_found count n (By k ∷ fates) (above, within, fit) =
     rw (lt-ltb n k above, lt-ltb k count within) (fates_found count (n + 1) fates fit)
 fates_found count n (Lost ∷ fates) fit = fates_found count (n + 1) fates fit
 
--- So is what is listed.
 listed_found : {C : Type 0} (count : ℕ) (entry gap : C → ℕ) (listed : List C)
     → AllByRecursion (λ c. (entry c < gap c) × (gap c ≤ count)) listed
     → all_fit count (map (λ c. (entry c, gap c)) listed) ≡ Ok tt
@@ -48,23 +47,21 @@ listed_found count entry gap (c ∷ listed) ((above, within), all) =
 
 -- ---- gaps
 
--- There is one.
+-- The option has a value.
 abbrev IsThere : Option Event → Type 0
 IsThere o = (event : Event) × (o ≡ Some event)
 
--- What some events are, as options, is there.
 all_there : (events : List Event) (xs : List (Option Event)) → map Some events ≡ xs → AllByRecursion IsThere xs
 all_there events [] is = tt
 all_there [] (x ∷ xs) is = cc
 all_there (event ∷ events) (x ∷ xs) is = ((event, let same : Some event ≡ x = cc in sym same), all_there events xs cc)
 
--- What holds of each of two lists holds of each of the first, and of the second.
 all_left : {A : Type 0} (P : A → Type 0) (xs ys : List A) → AllByRecursion P (xs ++ ys)
     → AllByRecursion P xs × AllByRecursion P ys
 all_left P [] ys all = (tt, all)
 all_left P (x ∷ xs) ys all = let rest = all_left P xs ys all.1 in ((all.0, rest.0), rest.1)
 
--- Each gap is one of the run.
+-- The run has a part for each gap.
 gap_there : (c : Certificate) (items : List Item) (gap : ℕ) (left : List Item) (events : List Event)
     → FollowsFrom c items gap left events
     → (g : ℕ) → gap ≤ g → g ≤ gap + length left → (here : List Event) × (map Some here ≡ gap_events c items g)
@@ -81,7 +78,7 @@ gap_there c items gap (item ∷ more) events (here, implied, rest, sends, here_i
     by true e later = (here, here_is ∙ ap (gap_events c items) (eqb-true gap g e))
     by false e later = let apart = eqb-false gap g e in later (omega (arith, apart, above))
 
--- Each of those that pass is there.
+-- If all selected values exist, each value that passes the test exists.
 passing_there : {C : Type 0} (p : C → Bool) (f : C → Option Event) (xs : List C)
     → AllByRecursion IsThere (map f (filter p xs))
     → AllByRecursion (λ x. p x ≡ true → IsThere (f x)) xs
@@ -95,7 +92,7 @@ passing_there p f (x ∷ xs) all = by (p x) refl (passing_there p f xs) all
     by true e on all = (λ same. all.0, on all.1)
     by false e on all = (λ same. let bad : true ≡ false = sym same ∙ e in cc, on all)
 
--- What is listed, each in a gap of its own.
+-- Each listed event exists in its gap.
 listed_there : {C : Type 0} (count : ℕ) (gap : C → ℕ) (f : C → Option Event) (listed : List C)
     → ((g : ℕ) → g ≤ count → AllByRecursion (λ x. (gap x == g) ≡ true → IsThere (f x)) listed)
     → AllByRecursion (λ x. gap x ≤ count) listed → AllByRecursion (λ x. IsThere (f x) × (gap x ≤ count)) listed
@@ -106,7 +103,7 @@ listed_there count gap f (x ∷ listed) there all =
       listed_there count gap f listed (λ g within. (there g within).1) all.1,
     )
 
--- What names an entry names one before its gap.
+-- The entry that a listed event names comes before its gap.
 named_above : (items : List Item) (gap entry : ℕ) (step : Item → Option Event)
     → IsThere (then_so (named_entry items gap entry) step) → entry < gap
 named_above items gap entry step (event, is) =
@@ -119,7 +116,7 @@ named_above items gap entry step (event, is) =
     by false true e is = e
     by false false e is = cc
 
--- What is listed for a gap of a run is there.
+-- Each event that is listed for a gap of a run exists.
 gap_listed_there : (c : Certificate) (items : List Item) (events : List Event) → FollowsFrom c items 0 items events
     → (g : ℕ)
     → g ≤ length items → AllByRecursion IsThere (map (closing_event items) (filter (λ x. x.gap == g) c.close))
@@ -132,7 +129,7 @@ gap_listed_there c items events follows g within =
     let listed = all_left IsThere (closings ++ expiries) (map Some (deliveries g 0 c.fates items)) all in
     all_left IsThere closings expiries listed.0
 
--- Where a run is described, the numbers of the certificate fit.
+-- If a certificate describes a run, its numbers are in range.
 pub described_fits : (c : Certificate) (items : List Item) (events : List Event) → Follows c items events
     → certificate_fits c ≡ Ok tt
 described_fits c items events follows =
@@ -157,9 +154,9 @@ described_fits c items events follows =
       listed_found count (λ (x : Expiry). x.entry) (λ (x : Expiry). x.gap) c.expire expiries_fit,
     ) refl
 
--- ---- what has a time is taken
+-- ---- messages with a time are taken
 
--- What a gap delivers behind its first item, it delivers.
+-- A gap's deliveries of later items are among its deliveries.
 delivered_next : (side : Side) (m gap n : ℕ) (fate : Fate) (fates : List Fate) (item : Item) (items : List Item)
     → IsIn m (numbers_taken side (deliveries gap (n + 1) fates items))
     → IsIn m (numbers_taken side (deliveries gap n (fate ∷ fates) (item ∷ items)))
@@ -177,12 +174,11 @@ delivered_next side m gap n Lost fates Item.Quiet items is = is
 delivered_next side m gap n (By k) fates (Sent sender message) items is = is
 delivered_next side m gap n (By k) fates Item.Quiet items is = is
 
--- A message that is received is taken from its sender's channel.
 received_from : (side : Side) (n : ℕ) → IsIn n (takes_from side (Receives (other side) n))
 received_from sides.A n = inl refl
 received_from sides.B n = inl refl
 
--- A message whose fate is a gap is delivered in it.
+-- A message whose fate is a gap is delivered in this gap.
 is_delivered : (side : Side) (m gap n i : ℕ) (fates : List Fate) (items : List Item) (message : Message)
     → slice_get fates i ≡ Some (Gap gap) → slice_get items i ≡ Some (Sent side message) → m ≡ n + i
     → IsIn m (numbers_taken side (deliveries gap n fates items))
@@ -199,7 +195,7 @@ is_delivered side m gap n (suc i) (fate ∷ fates) (item ∷ items) message fate
     delivered_next side m gap n fate fates item items
     (is_delivered side m gap (n + 1) i fates items message fate_is item_is (omega (arith, at)))
 
--- What a reply takes behind the first of these fates, it takes.
+-- The messages that a reply takes after the first fate are among those that it takes.
 replied_next : (m reply n : ℕ) (fate : Fate) (fates : List Fate) → IsIn m (taken_by reply (n + 1) fates)
     → IsIn m (taken_by reply n (fate ∷ fates))
 replied_next m reply n (Gap g) fates is = is
@@ -210,7 +206,7 @@ replied_next m reply n (By k) fates is = by (k == reply)
     by true = inr is
     by false = is
 
--- A message whose fate is a reply is taken by it.
+-- A message whose fate is a reply is taken by this reply.
 is_replied : (m reply n i : ℕ) (fates : List Fate) → slice_get fates i ≡ Some (By reply) → m ≡ n + i
     → IsIn m (taken_by reply n fates)
 is_replied m reply n i [] fate_is at = cc
@@ -221,7 +217,7 @@ is_replied m reply n zero (fate ∷ fates) fate_is at =
 is_replied m reply n (suc i) (fate ∷ fates) fate_is at =
     replied_next m reply n fate fates (is_replied m reply (n + 1) i fates fate_is (omega (arith, at)))
 
--- What a gap delivers, the run takes,
+-- The run takes what a gap delivers.
 gap_takes : (side : Side) (n : ℕ) (c : Certificate) (items : List Item) (gap : ℕ) (left : List Item) (events : List Event)
     → FollowsFrom c items gap left events → (g : ℕ) → gap ≤ g → g ≤ gap + length left
     → IsIn n (numbers_taken side (deliveries g 0 c.fates items)) → IsIn n (numbers_taken side events)
@@ -245,7 +241,7 @@ gap_takes side n c items gap (item ∷ more) events (here, implied, rest, sends,
         let found = later (omega (arith, apart, above)) in
         in_right n now next (in_right n (takes_from side sends) (numbers_taken side rest) found)
 
--- and so it does what a reply takes, from the channel of one end.
+-- The run takes what a reply takes, from the channel of one end.
 reply_takes : (n : ℕ) (c : Certificate) (items : List Item) (gap : ℕ) (left : List Item) (events : List Event)
     → FollowsFrom c items gap left events → (k : ℕ) → gap ≤ k → k < gap + length left → IsIn n (taken_by k 0 c.fates)
     → (side : Side) × IsIn n (numbers_taken side events)
@@ -287,16 +283,14 @@ reply_takes n c items gap (item ∷ more) events (here, implied, rest, sends, he
         let (side, found) = later (omega (arith, apart, above)) in
         (side, in_right n (takes_from side sends) (numbers_taken side rest) found)
 
--- ---- whose channel it was
+-- ---- the channel of a message
 
--- Ends that are found to be the same are.
 same_side : (side sender : Side) → is_side side sender ≡ true → sender ≡ side
 same_side sides.A sides.A is = refl
 same_side sides.B sides.B is = refl
 same_side sides.A sides.B is = cc
 same_side sides.B sides.A is = cc
 
--- An item has one sender.
 one_sender : (items others : List Item) (n : ℕ) (first second : Side) (one another : Message) → items ≡ others
     → slice_get items n ≡ Some (Sent first one) → slice_get others n ≡ Some (Sent second another) → first ≡ second
 one_sender items others n first second one another same a b =
@@ -304,13 +298,13 @@ one_sender items others n first second one another same a b =
 
 -- ---- order
 
--- A fate that has a time is a gap up to the last, or an entry.
+-- The gap of a fate is at most the last one, and its reply is an entry.
 abbrev IsWithin : ℕ → Fate → Type 0
 IsWithin count (Gap g) = g ≤ count
 IsWithin count (By k) = k < count
 IsWithin count Lost = Unit {0}
 
--- Fates that fit are so.
+-- Fates in range are within the record.
 fate_within : (count n i : ℕ) (fates : List Fate) (fate : Fate) → FatesFit count n fates
     → slice_get fates i ≡ Some fate → IsWithin count fate
 fate_within count n i [] fate fit is = cc
@@ -340,7 +334,7 @@ module _ (table : Table) (c : Certificate) (items : List Item) (events : List Ev
       subst (λ (s : Side). IsIn n (numbers_taken s (without_losses events))) same found
   is_taken side n message Lost t there has timed = cc
 
-  -- A message has no later time than one of its end behind it.
+  -- A message has no later time than a later message of its end.
   none_later : (side : Side) (first second : ℕ) (one another : Message) (fate later : Fate) → first < second
       → slice_get items first ≡ Some (Sent side one) → slice_get items second ≡ Some (Sent side another)
       → slice_get c.fates first ≡ Some later → slice_get c.fates second ≡ Some fate
@@ -367,7 +361,7 @@ module _ (table : Table) (c : Certificate) (items : List Item) (events : List Ev
       by None (Some u) e_fate e_later = refl
       by None None e_fate e_later = refl
 
--- Where no message of these has a later time, none is overtaken.
+-- If none of these messages has a later time, none is overtaken.
 none_of_these : (side : Side) (fate : Fate) (fates : List Fate) (front : List Item)
     → ((i : ℕ) (message : Message) (first : Fate) → slice_get front i ≡ Some (Sent side message)
     → slice_get fates i ≡ Some first → is_later (time_of fate) (time_of first) ≡ false)
@@ -386,12 +380,11 @@ none_of_these side fate (first ∷ fates) (Sent sender message ∷ front) none =
         rw (is, rest) refl
     by false e rest = rest
 
--- and the one behind them at their number.
 get_behind : {A : Type 0} (xs ys : List A) (y : A) → slice_get (xs ++ y ∷ ys) (length xs) ≡ Some y
 get_behind [] ys y = refl
 get_behind (x ∷ xs) ys y = get_behind xs ys y
 
--- No message is delivered or taken before an earlier one of its end.
+-- No message is delivered or answered before an earlier one of its end.
 pub none_overtakes : (table : Table) (c : Certificate) (items : List Item) (events : List Event) (w : World)
     → Runs table events w
     → w.sent ≡ items → Follows c items events

@@ -1,4 +1,4 @@
--- The other way: what a certificate describes, it gives.
+-- A certificate gives the runs that it describes.
 use Rattle.std.proofs.Common.{arith, ◌≡◌, ℕ, zero, suc, ◌+◌, ◌<◌, ◌==◌, true, false, List, [], ◌∷◌, ◌++◌, map, length, Some, Result, Ok, refl, sym, ap, ap₂, subst, ◌∙◌, append_assoc, append-nil, None}
 use Rattle.std.specs.Prelude.{not, ok_or, slice_get}
 use Rattle.std.specs.List.{AllByRecursion}
@@ -32,7 +32,7 @@ use Rattle.tcap_check.proofs.replay_laws.FateLaws.{from_start}
 
 -- ---- an entry
 
--- A message and the gap before it, where no earlier one comes later.
+-- A message is replayed with the gap before it, if it overtakes no earlier one.
 sent_goes : (table : Table) (c : Certificate) (final : World) (fate : Fate) (side : Side) (message : Message) (here made rest : List Event)
     (sends : Event) (more : List Item) (r : Replay) → is_overtaking side fate c.fates r.world.sent ≡ false
     → map Some here ≡ gap_events c r.world.sent (next_entry r) → sending c (next_entry r) (Sent side message) ≡ Some sends
@@ -57,7 +57,7 @@ sent_goes table c final fate side message here made rest sends more r in_order a
       count = omega (arith, first, second);
     }
 
--- What sends a quiet mark takes no message, and its fate is the next gap.
+-- A quiet mark takes no message, and its fate is the next gap.
 quiet_event : (c : Certificate) (number : ℕ) (fate : Fate) (taken : List ℕ) (event : Event) → slice_get c.fates number ≡ Some fate
     → sending_by c number Item.Quiet taken ≡ Some event → (taken ≡ []) × (is_gap (number + 1) fate ≡ true) × (event ≡ Quiet)
 quiet_event c number fate (t ∷ taken) event has is = cc
@@ -69,7 +69,7 @@ quiet_event c number fate [] event has is = by fate (ap (quiet_by number) (sym h
     by Lost e = cc
     by (By k) e = cc
 
--- A quiet mark and the gap before it.
+-- A quiet mark is replayed with the gap before it.
 mark_goes : (table : Table) (c : Certificate) (final : World) (fate : Fate) (here made rest : List Event) (sends : Event) (r : Replay)
     → slice_get c.fates (next_entry r) ≡ Some fate → map Some here ≡ gap_events c r.world.sent (next_entry r)
     → sending c (next_entry r) Item.Quiet ≡ Some sends → AllByRecursion (IsImplied Item.Quiet) made
@@ -110,13 +110,13 @@ mark_goes table c final fate here made rest sends r has are is all ahead =
 abbrev ok_item : Item → Result Item Reason
 ok_item item = Ok item
 
--- no message of these items is sent before an earlier one of its end comes
+-- no message among these items overtakes an earlier one of its end
 abbrev InOrder : Certificate → List Item → Type 0
 InOrder c items =
     (front more : List Item) (side : Side) (message : Message) (fate : Fate) → items ≡ front ++ Sent side message ∷ more
     → slice_get c.fates (length front) ≡ Some fate → is_overtaking side fate c.fates front ≡ false
 
--- An entry that is this item.
+-- An item is replayed with the gap before it.
 item_goes : (table : Table) (c : Certificate) (final : World) (fate : Fate) (item : Item) (here made rest : List Event) (sends : Event)
     (more : List Item) (r : Replay) → slice_get c.fates (next_entry r) ≡ Some fate → InOrder c final.sent
     → map Some here ≡ gap_events c r.world.sent (next_entry r) → sending c (next_entry r) item ≡ Some sends
@@ -128,19 +128,18 @@ item_goes table c final fate (Sent side message) here made rest sends more r has
 item_goes table c final fate Item.Quiet here made rest sends more r has in_order are is all ends ahead =
     mark_goes table c final fate here made rest sends r has are is all ahead
 
--- The entries were replayed, with so many steps that are no losses.
+-- The entries were replayed, with this many steps that are no losses.
 record AreDone (r : Replay) (steps : ℕ) (answer : Result Replay CheckFault) : Type 0 where
   next : Replay
   is : answer ≡ Ok next
   count : plain next ≡ plain r + steps
 
--- a place inside a list
 some_at : {A : Type 0} (xs : List A) (i : ℕ) → i < length xs → (x : A) × (slice_get xs i ≡ Some x)
 some_at [] i h = absurd (omega (arith, h))
 some_at (x ∷ xs) zero h = (x, refl)
 some_at (x ∷ xs) (suc i) h = some_at xs i (omega (arith, h))
 
--- All entries that are still to come.
+-- All entries that are left are replayed.
 entries_go : (table : Table) (c : Certificate) (final : World) (count : ℕ) → FatesFit count 0 c.fates → length c.fates ≡ length final.sent
     → InOrder c final.sent → (more : List Item) (steps : List Event) (r : Replay) → final.sent ≡ r.world.sent ++ more
     → FollowsFrom c final.sent (next_entry r) more steps → Ahead table c.fates final steps r.world
@@ -192,7 +191,6 @@ entries_go table c final count fit counted in_order (item ∷ more) steps r ends
 
 -- ---- a run
 
--- Entries that are these items,
 pub items_of : (entries : List Entry) (items : List Item) → AreItems entries items → map item_of entries ≡ map ok_item items
 items_of [] [] are = refl
 items_of [] (item ∷ items) are = absurd are
@@ -204,7 +202,7 @@ items_of (entry ∷ entries) (item ∷ items) are =
     by (Sent side message) is = rw (is.0, is.1) refl
     by Item.Quiet is = rw (is.0, is.1) refl
 
--- are no others.
+-- They are no other items.
 pub items_same : (xs ys : List Item) → map ok_item xs ≡ map ok_item ys → xs ≡ ys
 items_same [] [] is = refl
 items_same [] (y ∷ ys) is = cc
@@ -212,7 +210,7 @@ items_same (x ∷ xs) [] is = cc
 items_same (x ∷ xs) (y ∷ ys) is =
     let rest = items_same xs ys (cc) in let first : x ≡ y = cc in ap₂ (λ (z : Item) (zs : List Item). z ∷ zs) first rest
 
--- Two runs with as many steps that are no losses, and the same losses, are as long.
+-- Two runs with the same losses and equally many other steps are equally long.
 as_long : (xs ys : List Event) → length (without_losses xs) ≡ length (without_losses ys)
     → ((side : Side) → losses_from side xs ≡ losses_from side ys) → length xs ≡ length ys
 as_long xs ys same losses =
@@ -221,7 +219,7 @@ as_long xs ys same losses =
     let long = all_steps xs in
     let other_long = all_steps ys in omega (arith, a, b, long, other_long, same)
 
--- Where a certificate describes a run of the items that the entries are, it gives a run of as many steps.
+-- If a certificate describes a run of the entries' items, it gives a run with as many steps.
 pub followed_is_given : (table : Table) (c : Certificate) (entries : List Entry) (items : List Item) (events : List Event)
     → AreItems entries items → IsRunOf items table events → Follows c items events
     → (given : List Event) × (replayed_by None table c entries ≡ Ok given) × (length given ≡ length events)

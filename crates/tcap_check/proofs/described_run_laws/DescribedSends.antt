@@ -1,4 +1,4 @@
--- A message of such a run is replayed: the expiries that it implies, and the event that sends it.
+-- The replay of a message of such a run: the expiries that it implies, and the event that sends it.
 use Rattle.std.proofs.Common.{arith, ◌≡◌, ◌⊎◌, inl, inr, ℕ, ℤ, ◌+◌, true, List, [], ◌∷◌, ◌++◌, filter_map, length, Option, Some, None, Result, Ok, refl, sym, ap, ap₂, subst, ◌∙◌, append_assoc, append-nil}
 use Rattle.std.specs.Prelude.{slice_get}
 use Rattle.std.specs.List.{AllByRecursion}
@@ -38,7 +38,7 @@ use Rattle.tcap_check.proofs.replay_laws.ListedEventLaws.{implied_so}
 
 -- ---- a message
 
--- An item was sent in the replay too, with so many steps.
+-- An item was sent in the replay too, with this many steps.
 pub record IsSent (table : Table) (fates : List Fate) (final : World) (item : Item) (steps : ℕ) (rest : List Event) (r : Replay) (answer : Result Replay CheckFault) : Type 0 where
   pub next : Replay
   pub is : answer ≡ Ok next
@@ -46,7 +46,7 @@ pub record IsSent (table : Table) (fates : List Fate) (final : World) (item : It
   pub ahead : Ahead table fates final rest next.world
   pub count : plain next ≡ plain r + steps
 
--- A message is sent at once.
+-- A message is sent without expiries.
 send_goes : (table : Table) (c : Certificate) (final : World) (side : Side) (message : Message) (rest : List Event) (r : Replay)
     → Ahead table c.fates final (Sends side message ∷ rest) r.world
     → IsSent table c.fates final (Sent side message) 1 rest r (send_replayed table side message r)
@@ -70,23 +70,20 @@ send_goes table c final side message rest r ahead =
       count = plain_more table r next (Sends side message ∷ []) (Sent side message ∷ []) steps;
     }
 
--- an end that was put in twice
 end_twice : (side : Side) (a b : End) (w : World) → with_end side a (with_end side b w) ≡ with_end side a w
 end_twice sides.A a b w = refl
 end_twice sides.B a b w = refl
 
--- a world is as it is with its own end
 end_itself : (side : Side) (w : World) → w ≡ with_end side (end_at side w) w
 end_itself sides.A w = refl
 end_itself sides.B w = refl
 
--- the world behind a step that was replayed
 after_stepped : (table : Table) (event : Event) (r next : Replay) → stepped table event r ≡ Some next → after table event r.world ≡ Some next.world
 after_stepped table event r next is =
     let found = map_some (with_step event r) (after table event r.world) next is in
     found.1 ∙ ap (λ (x : Replay). Some x.world) found.2
 
--- Expiries that a message implies lead from a world like that of the run to another one; only the end changes.
+-- Expiries that a message implies lead to another world in which only the end differs.
 pub record AreImplied (table : Table) (fates : List Fate) (final : World) (side : Side) (made rest : List Event) (v : World) : Type 0 where
   pub before : World
   pub plays : played table made v ≡ Some before
@@ -126,19 +123,18 @@ implied_go table c final side message (Closes own name ∷ made) rest r all ahea
 implied_go table c final side message (Quiet ∷ made) rest r all ahead = absurd (all.0)
 implied_go table c final side message (Tells own m ∷ made) rest r all ahead = absurd (all.0)
 
--- Where a message carries no Invokes over a half, none is implied.
+-- If a message invokes over no half, it implies no expiry.
 none_implied : (side : Side) (message : Message) (made : List Event) → invoking_half message ≡ None
     → AllByRecursion (IsImplied (Sent side message)) made → made ≡ []
 none_implied side message [] over all = refl
 none_implied side message (event ∷ made) over all =
     absurd (implied_so (λ e. ⊥) side message (λ name id named. let none : None ≡ Some name = sym over ∙ named in cc) event all.0)
 
--- nor does a quiet mark imply one.
 pub none_quiet : (made : List Event) → AllByRecursion (IsImplied Item.Quiet) made → made ≡ []
 none_quiet [] all = refl
 none_quiet (event ∷ made) all = absurd (all.0)
 
--- The steps that the replay makes of them are no losses.
+-- The steps that the replay makes for these expiries are no losses.
 implied_plain : (table : Table) (side : Side) (name : HalfName) (ids : List ℤ) (r : Replay)
     → plain (implied table side name ids r) + length r.events ≡ length (implied table side name ids r).events + plain r
 implied_plain table side name [] r = omega arith
@@ -158,7 +154,7 @@ implied_plain table side name (id ∷ ids) r = by (stepped table event r) refl (
         let more = plain_step table (Expires side name id) r next refl is in
         let rest = on next in omega (arith, rest, long, more)
 
--- A message is sent behind the expiries that it implies.
+-- A message is sent after the expiries that it implies.
 sends_go : (table : Table) (c : Certificate) (final : World) (side : Side) (message : Message) (made rest : List Event) (r : Replay)
     → AllByRecursion (IsImplied (Sent side message)) made → Ahead table c.fates final (made ++ Sends side message ∷ rest) r.world
     → IsSent table c.fates final (Sent side message) (length made + 1) rest r
@@ -216,14 +212,13 @@ sent_grows table (event ∷ events) w final is =
     let rest = sent_grows table events found.0 final found.2 in
     (adds.0 ++ rest.0, rest.1 ∙ ap (λ (x : List Item). x ++ rest.0) adds.2 ∙ append_assoc w.sent adds.0 rest.0)
 
--- What joins a list next is what stands there in the end.
+-- The next item of a list is the one at this place in the whole list.
 same_item : (front all behind more : List Item) (item found : Item) → all ≡ (front ++ found ∷ []) ++ behind → all ≡ front ++ item ∷ more
     → found ≡ item
 same_item front all behind more item found a b =
     let same : (found ∷ []) ++ behind ≡ item ∷ more =
     append_cancel_left front ((found ∷ []) ++ behind) (item ∷ more) (sym (append_assoc front (found ∷ []) behind) ∙ sym a ∙ b) in cc
 
--- An Abort with a cause is itself.
 abort_itself : (side : Side) (message : Message) (dtid : List ℕ) (cause : ℕ) → message ≡ Abort dtid (Some (Cause cause))
     → is_abort message (Some (Sent side message)) ≡ true
 abort_itself side message dtid cause is =
@@ -264,7 +259,7 @@ reply_goes table c final side message dtid cause k number more rest r abort fate
       count = plain_more table r goes.next (event ∷ []) (Sent side message ∷ []) (reply_replays table c side message k r goes.next is);
     }
 
--- What sends a message is a send of it, or a reply that takes one message.
+-- A message is sent by a send, or by a reply that takes one message.
 message_event : (c : Certificate) (number : ℕ) (side : Side) (message : Message) (taken : List ℕ) (event : Event)
     → sending_by c number (Sent side message) taken ≡ Some event
     → (event ≡ Sends side message)
@@ -286,7 +281,7 @@ message_event c number side (Continue otid dtid dialogue components) (t ∷ more
 message_event c number side (EndMessage dtid dialogue components) [] event is = inl (some_same _ event is)
 message_event c number side (EndMessage dtid dialogue components) (t ∷ more) event is = cc
 
--- A message was sent as the certificate says.
+-- A message is sent as the certificate says.
 pub message_goes : (table : Table) (c : Certificate) (final : World) (side : Side) (message : Message) (made rest : List Event) (sends : Event)
     (more : List Item) (r : Replay) → sending c (next_entry r) (Sent side message) ≡ Some sends
     → AllByRecursion (IsImplied (Sent side message)) made → final.sent ≡ r.world.sent ++ Sent side message ∷ more

@@ -1,4 +1,4 @@
--- What an expiry leaves of an end: which own invocations are in use behind it, and that two of them change places.
+-- The effect of an expiry on an end: which own invocations stay in use, and that two expiries may change places.
 use Rattle.std.proofs.Common.{arith, ◌≡◌, ◌≢◌, ◌⊎◌, inl, inr, ℕ, ℤ, suc, Bool, true, false, cond, List, [], ◌∷◌, length, Option, Some, None, Ok, refl, sym, ap, subst, ◌∙◌}
 use Rattle.std.specs.Prelude.{ok_or}
 use Rattle.std.specs.List.{Contains}
@@ -34,11 +34,11 @@ use Rattle.tcap_model.proofs.ListLaws.{contains_first}
 
 -- ---- entries by key
 
--- Two tests pass no key both.
+-- No key passes both tests.
 abbrev Apart : {K : Type 0} → (K → Bool) → (K → Bool) → Type 0
 Apart {K} f g = (k : K) → f k ≡ true → g k ≡ true → ⊥
 
--- What one test finds is there without what another takes away.
+-- Removing what one test finds does not affect what the other finds.
 found_apart : {K A : Type 0} (f g : K → Bool) (es : List (K × A)) → Apart f g → lookup f (remove_entry g es) ≡ lookup f es
 found_apart f g [] apart = refl
 found_apart f g (e ∷ es) apart = by (f e.0) (g e.0) refl refl (found_apart f g es apart)
@@ -50,7 +50,7 @@ found_apart f g (e ∷ es) apart = by (f e.0) (g e.0) refl refl (found_apart f g
     by true false is too rest = rw is refl
     by false false is too rest = rw is rest
 
--- Two such tests take away the same in either order.
+-- Two such removals may change places.
 removed_both : {K A : Type 0} (f g : K → Bool) (es : List (K × A)) → Apart f g
     → remove_entry f (remove_entry g es) ≡ remove_entry g (remove_entry f es)
 removed_both f g [] apart = refl
@@ -63,7 +63,7 @@ removed_both f g (e ∷ es) apart = by (f e.0) (g e.0) refl refl (removed_both f
     by true false is too rest = rw is refl
     by false false is too rest = rw (is, too) (ap (λ more. e ∷ more) rest)
 
--- Where keys rise, what is taken away is not there any more.
+-- If keys rise, a removed key is no longer found.
 removed_gone : {A : Type 0} (id : ℤ) (es : List (ℤ × A)) → Rises int_cmp es
     → lookup (is_at (int_cmp id)) (remove_entry (is_at (int_cmp id)) es) ≡ None
 unfolding IsStrictlySortedBy
@@ -80,7 +80,7 @@ removed_gone {A = A} id (e ∷ es) rises = by (is_at (int_cmp id) e.0) refl (rem
     by true is rest = none (lookup (is_at (int_cmp id)) es) refl is
     by false is rest = rw is rest
 
--- Of two IDs one is not found by the other's test.
+-- Tests for two different IDs pass no common key.
 ids_apart : (x y : ℤ) → x ≢ y → Apart (is_at (int_cmp x)) (is_at (int_cmp y))
 ids_apart x y apart k is too = apart (exact x is ∙ sym (exact y too))
   where
@@ -92,13 +92,12 @@ ids_apart x y apart k is too = apart (exact x is ∙ sym (exact y too))
         by Equal is = refl
         by Greater is = cc
 
--- Two IDs are one or are not.
 pub ids_eq : (x y : ℤ) → (x ≡ y) ⊎ (x ≢ y)
 ids_eq x y = keys_eq int_cmp_total exact_signed x y
 
--- ---- finding what is put where a half was found
+-- ---- finding a half that was replaced
 
--- The first half that passes stands in that slot, and passes.
+-- The first half that passes is in this slot, and passes.
 first_is : (passes : Half → Bool) (slot : Slot) (es : List (List ℕ × Half)) (f : KeptHalf) → first_half passes slot es ≡ Some f
     → (f.slot ≡ slot) × (passes f.half ≡ true)
 first_is passes slot [] f is = cc
@@ -114,7 +113,7 @@ first_is passes slot ((key, half) ∷ es) f is = by (passes half) refl is (first
         let same : f ≡ first = cc in (ap (λ (g : KeptHalf). g.slot) same, ap (λ (g : KeptHalf). passes g.half) same ∙ so)
     by false so is rest = rest is
 
--- A half that passes, put where the first was found, is the first.
+-- If the first half that passes is replaced by one that passes, the new half is the first.
 first_put : (passes : Half → Bool) (slot : Slot) (es : List (List ℕ × Half)) (f : KeptHalf) (h : Half)
     → first_half passes slot es ≡ Some f → passes h ≡ true
     → first_half passes slot (insert_entry octets_cmp es f.key h) ≡ Some (record { slot = slot; key = f.key; half = h })
@@ -146,7 +145,7 @@ first_put passes slot ((key, half) ∷ es) f h is so = by (octets_cmp f.key key)
             let tied = tied_itself octets_total f.key in cc
         later false is rest = rest is so
 
--- So it is in an end.
+-- The same replacement in an end.
 where_put : (passes : Half → Bool) (e : End) (f : KeptHalf) (h : Half) → half_where passes e ≡ Some f
     → (passes f.half ≡ true → passes h ≡ true)
     → half_where passes (put e f.slot f.key h) ≡ Some (record { slot = f.slot; key = f.key; half = h })
@@ -165,22 +164,22 @@ where_put passes e f h is keeps = by (first_half passes Begun e.begun) refl
         let there = first_put passes Begun e.begun f h found (keeps passed) in
         rw (slot, there) refl
 
--- Behind a half that has the same IDs, put where the half of that name was found, that half has the name.
+-- If a half is replaced by one with the same IDs, the name finds the new half.
 pub named_put : (e : End) (name : HalfName) (f : KeptHalf) (h : Half) → named e name ≡ Some f
     → h.own ≡ f.half.own → h.peer ≡ f.half.peer
     → named (put e f.slot f.key h) name ≡ Some (record { slot = f.slot; key = f.key; half = h })
 named_put e (names.Own id) f h is own peer = where_put (λ h. is_id id h.own) e f h is (λ so. rw own so)
 named_put e (names.Peer id) f h is own peer = where_put (λ h. is_id id h.peer) e f h is (λ so. rw peer so)
 
--- A half that is put where one was put replaces it.
+-- Of two replacements of a half, the later one stays.
 put_twice : (e : End) (slot : Slot) (key : List ℕ) (g h : Half) → put (put e slot key g) slot key h ≡ put e slot key h
 put_twice e Begun key g h = ap (λ es. record e { begun = es }) (insert_twice octets_total key g h e.begun)
 put_twice e Accepted key g h = ap (λ es. record e { accepted = es }) (insert_twice octets_total key g h e.accepted)
 
 -- ---- an expiry
 
--- What an expiry is: of a half of that name, which is open, and has an invocation of that ID which may end; the same
--- half has the name behind it.
+-- An expiry: the half with this name is open, and has an invocation with this ID that may expire. The name finds the
+-- same half afterwards.
 pub record IsExpiry (table : Table) (e : End) (name : HalfName) (id : ℤ) (next : End) : Type 0 where
   pub kept : KeptHalf
   pub was : named e name ≡ Some kept
@@ -189,7 +188,7 @@ pub record IsExpiry (table : Table) (e : End) (name : HalfName) (id : ℤ) (next
   pub next_is : put e kept.slot kept.key (without_invocation id kept.half) ≡ next
   pub now : named next name ≡ Some (record { slot = kept.slot; key = kept.key; half = without_invocation id kept.half })
 
--- An expiry that is Ok is one.
+-- An expiry that succeeds is one.
 pub expiry_is : (table : Table) (e : End) (name : HalfName) (id : ℤ) (next : End) → expire table e name id ≡ Ok next
     → IsExpiry table e name id next
 expiry_is table e name id next is =
@@ -207,7 +206,7 @@ expiry_is table e name id next is =
           (named_put e name f (without_invocation id f.half) was refl refl);
     }
 
--- An own invocation that ends was in use.
+-- An invocation that expires was in use.
 pub ends_in_use : (table : Table) (e : End) (name : HalfName) (id : ℤ) (next : End) → expire table e name id ≡ Ok next
     → IsInUse e name id
 ends_in_use table e name id next is = by (own_invocation x.kept.half id) refl x.may
@@ -219,7 +218,6 @@ ends_in_use table e name id next is = by (own_invocation x.kept.half id) refl x.
     by None found may = cc
     by (Some own) found may = (x.kept, own, x.was, found)
 
--- An own invocation of another ID is in use behind it as before.
 pub stays_in_use : (table : Table) (e : End) (name : HalfName) (id other : ℤ) (next : End) → expire table e name id ≡ Ok next
     → other ≢ id → IsInUse e name other → IsInUse next name other
 stays_in_use table e name id other next is apart (kept, own, named_is, found) =
@@ -232,7 +230,6 @@ stays_in_use table e name id other next is apart (kept, own, named_is, found) =
           ∙ ap (λ (k : KeptHalf). own_invocation k.half other) same ∙ found,
     )
 
--- What is in use behind it was before.
 pub was_in_use : (table : Table) (e : End) (name : HalfName) (id other : ℤ) (next : End) → expire table e name id ≡ Ok next
     → IsInUse next name other → IsInUse e name other
 was_in_use table e name id other next is (kept, own, named_is, found) = by (ids_eq other id)
@@ -252,7 +249,6 @@ was_in_use table e name id other next is (kept, own, named_is, found) = by (ids_
               ∙ ap (λ (k : KeptHalf). own_invocation k.half other) same ∙ found,
         )
 
--- In an end that is sound its ID is not in use behind it.
 pub not_in_use : (table : Table) (e : End) (name : HalfName) (id : ℤ) (next : End) → IsEnd e → expire table e name id ≡ Ok next
     → IsInUse next name id → ⊥
 not_in_use table e name id next sound is (kept, own, named_is, found) =
@@ -264,7 +260,7 @@ not_in_use table e name id next sound is (kept, own, named_is, found) =
     let some : own_invocation (without_invocation id x.kept.half) id ≡ Some own =
     ap (λ (k : KeptHalf). own_invocation k.half id) same ∙ found in cc
 
--- Two expiries change places.
+-- Two expiries may change places.
 pub expire_before : (table : Table) (e : End) (name : HalfName) (x y : ℤ) (next last : End) → x ≢ y
     → expire table e name y ≡ Ok next → expire table next name x ≡ Ok last
     → (first : End) × (expire table e name x ≡ Ok first) × (expire table first name y ≡ Ok last)
@@ -311,7 +307,6 @@ expire_before table e name x y next last apart one two =
         ∙ ap (λ (k : KeptHalf). put next k.slot k.key (without_invocation x k.half)) between
         ∙ b.next_is
 
--- Whether an own invocation of that ID is in use.
 pub in_use : (e : End) (name : HalfName) (id : ℤ) → IsInUse e name id ⊎ (IsInUse e name id → ⊥)
 in_use e name id = by (named e name) refl
   where
@@ -332,14 +327,14 @@ in_use e name id = by (named e name) refl
         refuted (other, own, other_is, found) = cc (none, other_is)
     by (Some kept) is = by_half kept is (own_invocation kept.half id) refl
 
--- ---- expiries one after the other
+-- ---- several expiries
 
--- The IDs expire, and lead from one end to another.
+-- Expiries of these IDs lead from one end to another.
 abbrev pub Expire : Table → HalfName → List ℤ → End → End → Type 0
 Expire table name [] e last = e ≡ last
 Expire table name (id ∷ ids) e last = (next : End) × (expire table e name id ≡ Ok next) × Expire table name ids next last
 
--- Each was in use before.
+-- Each of these IDs was in use before.
 pub all_in_use : (table : Table) (name : HalfName) (ids : List ℤ) (e last : End) (id : ℤ) → Expire table name ids e last
     → Contains ids id → IsInUse e name id
 all_in_use table name [] e last id ran there = let lt = there.1 in absurd (omega arith)
@@ -350,7 +345,7 @@ all_in_use table name (x ∷ ids) e last id (next, is, ran) there =
     by rest (inl same) = subst (λ (i : ℤ). IsInUse e name i) same (ends_in_use table e name x next is)
     by rest (inr later) = was_in_use table e name x id next is (rest later)
 
--- One that is in use before and not behind them is one of them.
+-- An ID that was in use, and no longer is, is one of these IDs.
 pub one_of_them : (table : Table) (name : HalfName) (ids : List ℤ) (e last : End) (id : ℤ) → Expire table name ids e last
     → IsInUse e name id → (IsInUse last name id → ⊥) → Contains ids id
 one_of_them table name [] e last id ran had free = absurd (free (subst (λ (x : End). IsInUse x name id) ran had))
@@ -362,7 +357,7 @@ one_of_them table name (x ∷ ids) e last id (next, is, ran) had free =
     by rest (inr apart) =
         Contains-append_right (x ∷ []) ids id (rest (stays_in_use table e name x id next is apart had))
 
--- An ID expires first, and then the others.
+-- This ID expires first, then the others.
 pub record IsFirst (table : Table) (name : HalfName) (ids : List ℤ) (e last : End) (id : ℤ) : Type 0 where
   pub next : End
   pub others : List ℤ
@@ -371,7 +366,7 @@ pub record IsFirst (table : Table) (name : HalfName) (ids : List ℤ) (e last : 
   pub counted : length ids ≡ suc (length others)
   pub are : (x : ℤ) → Contains others x → Contains ids x
 
--- One that is in use before and not behind them may expire first.
+-- An ID that was in use, and no longer is, may expire first.
 pub expires_first : (table : Table) (name : HalfName) (ids : List ℤ) (e last : End) (id : ℤ) → Expire table name ids e last
     → IsInUse e name id → (IsInUse last name id → ⊥) → IsFirst table name ids e last id
 expires_first table name [] e last id ran had free = absurd (free (subst (λ (x : End). IsInUse x name id) ran had))

@@ -1,4 +1,4 @@
--- A run may call a half by either of its names, and a certificate that describes it gives one.
+-- A run may call a half by either of its names, and a certificate that describes the run gives one.
 use Rattle.std.proofs.Common.{arith, ◌≡◌, ℤ, List, [], ◌∷◌, length, Option, Some, None, Result, Ok, refl, sym, ap, ◌∙◌, option_map}
 use Rattle.std.specs.Prelude.{not, ok_or}
 use Rattle.std.specs.Result.{result_ok}
@@ -20,7 +20,7 @@ use Rattle.tcap_certificate.specs.Named.{AreSameEvents, IsDescribedBy, IsSameEve
 use Rattle.tcap_certificate.specs.Replayed.{replayed_by}
 use Rattle.tcap_check.proofs.described_run_laws.DescribedRuns.{followed_is_given}
 
--- What an expiry leaves is said by the half alone that the name finds,
+-- the end after an expiry on the half that the name finds, if it can happen
 abbrev expire_found : Table → End → ℤ → Option KeptHalf → Result End EndFault
 expire_found table e id found = do
   kept ← ok_or found faults.CannotExpire
@@ -28,14 +28,14 @@ expire_found table e id found = do
   needs (may_expire table (own_invocation kept.half id)) faults.CannotExpire
   Ok (put e kept.slot kept.key (without_invocation id kept.half))
 
--- and so is what a closing leaves.
+-- the end after the half that the name finds closes, if it can
 abbrev close_found : Table → End → Option KeptHalf → Result End EndFault
 close_found table e found = do
   kept ← ok_or found faults.CannotClose
   needs (may_close table kept.half.phase) faults.CannotClose
   Ok (put e kept.slot kept.key (closed_half kept.half))
 
--- So an event by either name leaves the same world,
+-- An event with either name leads to the same world.
 same_step : (table : Table) (w : World) (event first : Event) → IsSameEvent w event first → after table first w ≡ after table event w
 same_step table w (Expires side name id) first (other, is, same) =
     rw is (ap (λ (o : Option KeptHalf). option_map (λ e. with_end side e w) (result_ok (expire_found table (end_at side w) id o))) (sym same))
@@ -48,7 +48,7 @@ same_step table w (Loses side number) first is = rw (← is) refl
 same_step table w Quiet first is = rw (← is) refl
 same_step table w (Tells side message) first is = rw (← is) refl
 
--- and so do runs.
+-- Runs with either names lead to the same world.
 pub same_runs : (table : Table) (w : World) (events others : List Event) → AreSameEvents table w events others
     → played table others w ≡ played table events w
 same_runs table w [] others is = rw is refl
@@ -60,7 +60,6 @@ same_runs table w (event ∷ events) others (first, rest, joined, same, on) =
     by None goes = refl
     by (Some next) goes = goes next refl
 
--- They are as many,
 same_count : (table : Table) (w v : World) (events others : List Event) → AreSameEvents table w events others
     → played table events w ≡ Some v → length others ≡ length events
 same_count table w v [] others is plays = rw is refl
@@ -73,7 +72,7 @@ same_count table w v (event ∷ events) others (first, rest, joined, same, on) p
     by None goes is = cc
     by (Some next) goes is = let one : length rest ≡ length events = goes next refl is in omega (arith, one)
 
--- so what is described is given, whichever names it uses.
+-- A certificate gives the runs that it describes, by whichever names.
 pub described_is_given : (table : Table) (c : Certificate) (entries : List Entry) (items : List Item) (events : List Event)
     → AreItems entries items → IsRunOf items table events → IsDescribedBy table c items events
     → (given : List Event) × (replayed_by None table c entries ≡ Ok given) × (length given ≡ length events)
@@ -81,7 +80,6 @@ described_is_given table c entries items events are (w, runs, sent) (others, sam
     let (given, is, count) = followed_is_given table c entries items others are (w, same_runs table empty events others same ∙ runs, sent) follows in
     (given, is, count ∙ same_count table empty w events others same runs)
 
--- Events are the same as themselves.
 same_itself : (table : Table) (w : World) (events : List Event) → AreSameEvents table w events events
 same_itself table w [] = refl
 same_itself table w (event ∷ events) = (event, events, refl, one event, λ next at. same_itself table next events)

@@ -1,4 +1,4 @@
--- Expiries that a message implies: a run makes exactly those that its send needs, and the replay makes the same.
+-- Expiries that a message implies: a run makes exactly those that the send needs, and the replay makes the same.
 use Rattle.std.proofs.Common.{arith, ◌≡◌, ◌⊎◌, inl, inr, ℤ, ℕ, suc, Bool, true, false, cond, List, [], ◌∷◌, ◌++◌, length, map, filter_map, Option, Some, None, Result, Ok, Err, is_none, is_some, not, refl, sym, ap, subst, ◌∙◌, append_assoc}
 use Rattle.std.specs.Prelude.{ok_or}
 use Rattle.std.specs.List.{AllByRecursion, Contains, cons_option}
@@ -48,21 +48,20 @@ use Rattle.tcap_model.proofs.WorldLaws.{end_with}
 
 -- ---- what a send needs
 
--- An own invocation of that ID stands in a half.
+-- An own invocation with this ID is in use on the half.
 abbrev Stands : Half → ℤ → Type 0
 Stands h id = (own : OwnInvocation) × (own_invocation h id ≡ Some own)
 
--- A component that is sent invokes no ID that stands, and leaves those that stand.
+-- A component that is sent invokes no ID in use, and leaves each ID in use.
 record Leaves (h g : Half) (c : Component) (id : ℤ) : Type 0 where
   is_no_other : invoke_id c ≡ Some id → ⊥
   stands : Stands g id
 
--- It is such a half where the step was Ok.
+-- This holds for the half that a successful step returns.
 leaves_this : (h x g : Half) (c : Component) (id : ℤ) → Leaves h x c id → (let r : Result Half EndFault = Ok x in r) ≡ Ok g
     → Leaves h g c id
 leaves_this h x g c id leaves is = let same = ok_same {F = EndFault} x g is in rw (← same) leaves
 
--- An Invoke that is sent,
 invoke_leaves : (table : Table) (h g : Half) (i id : ℤ) (linked : Option ℤ) (code : Code) (c : Component) → invoke_id c ≡ Some i
     → send_invoke table h i linked code ≡ Ok g → Stands h id → Leaves h g c id
 invoke_leaves table h g i id linked code c invokes is stands =
@@ -82,11 +81,9 @@ invoke_leaves table h g i id linked code c invokes is stands =
     busy : own_invocation h i ≡ None → id ≡ i → ⊥
     busy none same = let some = stands.1 in let there = ap (own_invocation h) same in cc
 
--- One that is no Invoke is no other.
 no_invoke : (h g : Half) (c : Component) (id : ℤ) → invoke_id c ≡ None → Stands g id → Leaves h g c id
 no_invoke h g c id none stands = record { is_no_other = λ other. cc (none, other); stands = stands }
 
--- an answer,
 answer_leaves : (table : Table) (h g : Half) (is_result last : Bool) (i id : ℤ) (named : Option Code) (c : Component)
     → invoke_id c ≡ None → send_answer table h is_result last i named ≡ Ok g → Stands h id → Leaves h g c id
 answer_leaves table h g is_result last i id named c none is stands =
@@ -102,7 +99,6 @@ answer_leaves table h g is_result last i id named c none is stands =
     by true is = leaves_this h left g c id (no_invoke h left c id none stands) is
     by false is = leaves_this h h g c id (no_invoke h h c id none stands) is
 
--- a Reject,
 reject_leaves : (h g : Half) (i : Option ℤ) (problem : Problem) (id : ℤ) (c : Component) → invoke_id c ≡ None
     → send_reject h i problem ≡ Ok g → Stands h id → Leaves h g c id
 reject_leaves h g None problem id c none is stands = cc
@@ -114,7 +110,6 @@ reject_leaves h g (Some i) (problems.ReturnResult n) id c none is stands =
 reject_leaves h g (Some i) (problems.ReturnError n) id c none is stands =
     let step = needs_ok _ _ _ g is in leaves_this h _ g c id (no_invoke h _ c id none stands) step.1
 
--- each component.
 component_leaves : (table : Table) (h g : Half) (c : Component) (id : ℤ) → send_component table h c ≡ Ok g → Stands h id
     → Leaves h g c id
 component_leaves table h g (Invoke i linked code parameter) id is stands =
@@ -125,7 +120,7 @@ component_leaves table h g (ReturnError i code parameter) id is stands =
     answer_leaves table h g false true i id None _ refl is stands
 component_leaves table h g (Reject i problem) id is stands = reject_leaves h g i problem id _ refl is stands
 
--- Components that are sent invoke no ID that stands.
+-- Components that are sent invoke no ID in use.
 none_stands : (table : Table) (components : List Component) (h g : Half) (id : ℤ) → send_components table h components ≡ Ok g
     → Contains (filter_map invoke_id components) id → Stands h id → ⊥
 none_stands table [] h g id is there stands = let lt = there.1 in absurd (omega arith)
@@ -144,7 +139,7 @@ none_stands table (c ∷ more) h g id is there stands =
     by None is there other rest = rest there
     by (Some x) is there other rest = first x other rest (contains_first x (filter_map invoke_id more) id there)
 
--- A Continue that goes on sends its components over the half.
+-- A later Continue sends its components over the half.
 next_sends : (table : Table) (e next : End) (dtid : List ℕ) (dialogue : Option Dialogue) (components : List Component)
     (f : KeptHalf) → send_next_continue table e dtid dialogue components f ≡ Ok next
     → (g : Half) × (send_components table f.half components ≡ Ok g)
@@ -155,7 +150,7 @@ next_sends table e next dtid dialogue components f sends =
     let (g, made, put) =
     then_ok (send_components table f.half components) (λ half. Ok (put_half e f.slot f.key half)) next may.1 in (g, made)
 
--- So does an End.
+-- An End sends its components over the half.
 end_sends : (table : Table) (e next : End) (dtid : List ℕ) (dialogue : Option Dialogue) (components : List Component)
     → send_end table e dtid dialogue components ≡ Ok next
     → (f : KeptHalf) × (g : Half) × (with_peer e dtid ≡ Some f) × (send_components table f.half components ≡ Ok g)
@@ -167,7 +162,7 @@ end_sends table e next dtid dialogue components sends =
     then_ok (send_components table f.half components) (λ half. Ok (put_half e f.slot f.key (closed_half half))) next may.1 in
     (f, g, some_ok _ _ f ok, made)
 
--- A message that is sent over a half invokes no ID that is in use there.
+-- A message that is sent over a half invokes no ID in use there.
 pub sent_frees : (table : Table) (e next : End) (message : Message) (name : HalfName) (id : ℤ) → send table e message ≡ Ok next
     → invoking_half message ≡ Some name → Contains (filter_map invoke_id (components_in message)) id → IsInUse e name id → ⊥
 sent_frees table e next message name id sends over there (kept, own, named_is, found) = by message sends over there
@@ -202,16 +197,16 @@ sent_frees table e next message name id sends over there (kept, own, named_is, f
         let same : f ≡ kept = cc (f_is, is) in over_kept (items_of components) f g same made there
     by (Abort dtid reason) sends over there = cc
 
--- ---- the expiries as IDs
+-- ---- the expiries, as IDs
 
--- The IDs that expire by these events.
+-- The IDs that expire in these events.
 record AreIds (table : Table) (side : Side) (name : HalfName) (made : List Event) (ids : List ℤ) (w before : World) : Type 0 where
   those : List ℤ
   are : made ≡ map (Expires side name) those
   invoked : (id : ℤ) → Contains those id → Contains ids id
   ran : Expire table name those (end_at side w) (end_at side before)
 
--- An implied event is an expiry of that half, of an ID that is invoked.
+-- An implied event is an expiry on this half, of an ID that the message invokes.
 is_expiry : (side : Side) (message : Message) (name : HalfName) (event : Event) → IsImplied (Sent side message) event
     → invoking_half message ≡ Some name
     → (id : ℤ) × (event ≡ Expires side name id) × Contains (filter_map invoke_id (components_in message)) id
@@ -226,17 +221,15 @@ is_expiry side message name (Closes other half) is over = absurd is
 is_expiry side message name Quiet is over = absurd is
 is_expiry side message name (Tells sender m) is over = absurd is
 
--- The end as it is changes nothing.
 with_same : (side : Side) (w : World) → with_end side (end_at side w) w ≡ w
 with_same sides.A w = refl
 with_same sides.B w = refl
 
--- The later of two ends stays.
 with_twice : (side : Side) (e f : End) (w : World) → with_end side f (with_end side e w) ≡ with_end side f w
 with_twice sides.A e f w = refl
 with_twice sides.B e f w = refl
 
--- Implied events of a run are such expiries.
+-- The implied events of a run are expiries of these IDs.
 ids_of : (table : Table) (side : Side) (message : Message) (name : HalfName) (made : List Event) (w before : World)
     → AllByRecursion (IsImplied (Sent side message)) made → invoking_half message ≡ Some name → played table made w ≡ Some before
     → AreIds table side name made (filter_map invoke_id (components_in message)) w before
@@ -277,14 +270,13 @@ ids_of table side message name (event ∷ events) w before all over plays =
 
 -- ---- the replay
 
--- What the replay makes of IDs that expire and others that are not in use.
+-- The steps that the replay makes for these IDs, and the end that they lead to.
 record Makes (side : Side) (count : ℕ) (last : End) (r next : Replay) : Type 0 where
   steps : List Event
   events : next.events ≡ r.events ++ steps
   as_many : length steps ≡ count
   world : next.world ≡ with_end side last r.world
 
--- An ID that is not in use does not expire,
 not_stepped : (table : Table) (side : Side) (name : HalfName) (id : ℤ) (r : Replay) → (IsInUse (end_at side r.world) name id → ⊥)
     → stepped table (Expires side name id) r ≡ None
 not_stepped table side name id r free = by (expire table (end_at side r.world) name id) refl
@@ -293,13 +285,12 @@ not_stepped table side name id r free = by (expire table (end_at side r.world) n
     by (Ok e) is = absurd (free (ends_in_use table (end_at side r.world) name id e is))
     by (Err reason) is = rw is refl
 
--- and one that does makes a step.
 is_stepped : (table : Table) (side : Side) (name : HalfName) (id : ℤ) (r : Replay) (e : End)
     → expire table (end_at side r.world) name id ≡ Ok e
     → stepped table (Expires side name id) r ≡ Some (with_step (Expires side name id) r (with_end side e r.world))
 is_stepped table side name id r e is = rw is refl
 
--- One step and then others.
+-- One step, and then the others.
 made_first : (side : Side) (event : Event) (few count : ℕ) (e last : End) (r next : Replay) → suc few ≡ count
     → Makes side few last (with_step event r (with_end side e r.world)) next → Makes side count last r next
 made_first side event few count e last r next counted later = record {
@@ -309,7 +300,7 @@ made_first side event few count e last r next counted later = record {
   world = later.world ∙ with_twice side e last r.world;
 }
 
--- The replay makes them: it tries each ID in turn, and those that expire are in use when they are tried.
+-- The replay tries each ID in turn, and makes a step for each that is in use.
 makes : (table : Table) (side : Side) (name : HalfName) (ids those : List ℤ) (last : End) (r : Replay) → IsEnd (end_at side r.world)
     → Expire table name those (end_at side r.world) last → ((id : ℤ) → Contains those id → Contains ids id)
     → ((id : ℤ) → Contains ids id → IsInUse last name id → ⊥)
@@ -362,14 +353,14 @@ makes table side name (x ∷ ids) those last r sound ran invoked free =
         (sym (is_stepped table side name x r f.next f.expires))
         (made_first side event (length f.others) (length those) f.next last r _ (sym f.counted) later)
 
--- The replay makes as many, and leaves the end that the run leaves.
+-- The replay makes as many steps as the run, and leads to the same end.
 pub record AreMade (side : Side) (before : World) (made : List Event) (r next : Replay) : Type 0 where
   pub steps : List Event
   pub events : next.events ≡ r.events ++ steps
   pub as_many : length steps ≡ length made
   pub world : next.world ≡ with_end side (end_at side before) r.world
 
--- The replay makes as many expiries as the run, and leaves the end that the run leaves.
+-- The replay makes as many expiries as the run, and leads to the same end.
 pub implied_same : (table : Table) (side : Side) (message : Message) (name : HalfName) (made : List Event) (w before : World) (sent : End) (r : Replay)
     → IsEnd (end_at side w) → AllByRecursion (IsImplied (Sent side message)) made → invoking_half message ≡ Some name
     → played table made w ≡ Some before → send table (end_at side before) message ≡ Ok sent
@@ -393,7 +384,7 @@ implied_same table side message name made w before sent r sound all over plays s
 
 -- ---- the law
 
--- Where an expiry of that half is one of those of these IDs, its ID is one of them,
+-- If an expiry on this half is among those of these IDs, its ID is one of them.
 one_of_ids : (side : Side) (name : HalfName) (ids : List ℤ) (id : ℤ) → Contains (map (Expires side name) ids) (Expires side name id)
     → Contains ids id
 one_of_ids side name [] id there = let lt = there.1 in absurd (omega arith)
@@ -406,7 +397,7 @@ one_of_ids side name (x ∷ ids) id there =
     by rest (inl same) = (0, omega arith, cc)
     by rest (inr later) = Contains-append_right (x ∷ []) ids id (rest later)
 
--- and the other way round.
+-- If an ID is one of these, its expiry is among theirs.
 ids_one : (side : Side) (name : HalfName) (ids : List ℤ) (id : ℤ) → Contains ids id
     → Contains (map (Expires side name) ids) (Expires side name id)
 ids_one side name [] id there = let lt = there.1 in absurd (omega arith)
@@ -418,7 +409,7 @@ ids_one side name (x ∷ ids) id there = by (ids_one side name ids id) (contains
     by rest (inr later) =
         Contains-append_right (Expires side name x ∷ []) (map (Expires side name) ids) (Expires side name id) (rest later)
 
--- A run makes exactly those that its send needs.
+-- A run makes exactly the expiries that its send needs.
 pub made_are_needed : (table : Table) (side : Side) (message : Message) (name : HalfName) (made : List Event)
     (w before : World) (sent : End) (id : ℤ)
     → AllByRecursion (IsImplied (Sent side message)) made → invoking_half message ≡ Some name

@@ -1,4 +1,4 @@
--- The order in which a run that follows a certificate takes the messages of an end: by number, and by time.
+-- A run that follows a certificate takes the messages of an end in the order of their numbers and of their times.
 use Rattle.std.proofs.Common.{arith, ◌≡◌, ◌⊎◌, inl, inr, ℕ, ◌+◌, ◌*◌, ◌≤◌, ◌<◌, ◌==◌, Bool, true, false, cond, nat_lt, List, [], ◌∷◌, ◌++◌, map, Option, Some, None, refl, sym, ap, subst, ◌∙◌, append-nil}
 use Rattle.std.specs.Prelude.{slice_get}
 use Rattle.std.specs.Cmp.{nat_cmp_is}
@@ -28,12 +28,11 @@ use Rattle.tcap_check.proofs.given_run_laws.NumberLaws.{taken_both, among_plain}
 
 -- ---- numbers in lists
 
--- No number is below one before it.
+-- No number is below an earlier one.
 abbrev pub Rises : List ℕ → Type 0
 Rises [] = Unit {0}
 Rises (x ∷ xs) = ((y : ℕ) → IsIn y xs → x ≤ y) × Rises xs
 
--- So it is where they are sorted,
 not_below : (x y : ℕ) → nat_cmp x y ≡ Less → x ≤ y
 not_below x y less = by (nat_lt y x) refl
   where
@@ -41,7 +40,7 @@ not_below x y less = by (nat_lt y x) refl
     by true e = let greater : Greater ≡ nat_cmp x y = nat_cmp_is x y Greater (ltb-true y x e) in cc
     by false e = ltb-false y x e
 
--- at the front of what is,
+-- The front of a sorted list rises.
 pub rises_front : (xs ys : List ℕ) → IsStrictlySortedBy nat_cmp (xs ++ ys) → Rises xs
 unfolding IsStrictlySortedBy
 rises_front [] ys sorted = tt
@@ -50,12 +49,12 @@ rises_front (x ∷ xs) ys sorted = (
   rises_front xs ys sorted.1,
 )
 
--- and at their end.
+-- The end of a rising list rises.
 rises_tail : (xs ys : List ℕ) → Rises (xs ++ ys) → Rises ys
 rises_tail [] ys rises = rises
 rises_tail (x ∷ xs) ys rises = rises_tail xs ys rises.1
 
--- It stays so where some of the last ones are left out.
+-- A rising list still rises if some of its last numbers are left out.
 rises_fewer : (xs ys zs : List ℕ) → ((n : ℕ) → IsIn n zs → IsIn n ys) → (Rises ys → Rises zs) → Rises (xs ++ ys)
     → Rises (xs ++ zs)
 rises_fewer [] ys zs fewer on rises = on rises
@@ -66,9 +65,9 @@ rises_fewer (x ∷ xs) ys zs fewer on rises =
     by n (inl left) = in_left n xs ys left
     by n (inr right) = in_right n xs ys (fewer n right)
 
--- ---- losses left out
+-- ---- without losses
 
--- Its numbers rise where theirs do.
+-- The numbers of a run without its losses rise if those of the run do.
 pub rises_without : (side : Side) (events : List Event) → Rises (numbers_taken side events)
     → Rises (numbers_taken side (without_losses events))
 rises_without side [] rises = tt
@@ -83,33 +82,31 @@ rises_without side (event ∷ events) rises = by (is_loss event) (rises_without 
 
 -- ---- times
 
--- the time at which the message of that number is taken
+-- the time at which the message with this number is taken
 abbrev pub time_at : List Fate → ℕ → Option ℕ
 time_at fates n = then_so (slice_get fates n) time_of
 
--- The messages of these numbers are taken one after the other, none before that time.
+-- The messages with these numbers are taken in order, none before this time.
 abbrev pub Timed : List Fate → ℕ → List ℕ → Type 0
 Timed fates t [] = Unit {0}
 Timed fates t (n ∷ ns) = (u : ℕ) × (t ≤ u) × (time_at fates n ≡ Some u) × Timed fates u ns
 
--- So it is for an earlier time.
 timed_from : (fates : List Fate) (t u : ℕ) (ns : List ℕ) → t ≤ u → Timed fates u ns → Timed fates t ns
 timed_from fates t u [] below timed = tt
 timed_from fates t u (n ∷ ns) below timed = (timed.0, omega (arith, timed.1), timed.2, timed.3)
 
--- Some are taken at that time, and then the others.
+-- Some are taken at this time, and then the others.
 timed_both : (fates : List Fate) (t : ℕ) (xs ys : List ℕ) → AllByRecursion (λ n. time_at fates n ≡ Some t) xs
     → Timed fates t ys
     → Timed fates t (xs ++ ys)
 timed_both fates t [] ys all timed = timed
 timed_both fates t (x ∷ xs) ys all timed = (t, omega arith, all.0, timed_both fates t xs ys all.1 timed)
 
--- All are taken at that time.
 timed_all : (fates : List Fate) (t : ℕ) (xs : List ℕ) → AllByRecursion (λ n. time_at fates n ≡ Some t) xs
     → Timed fates t xs
 timed_all fates t xs all = rw (← append-nil xs) (timed_both fates t xs [] all tt)
 
--- Each of them has no earlier time.
+-- Each has this time or a later one.
 timed_in : (fates : List Fate) (t u n : ℕ) (xs : List ℕ) → Timed fates t xs → IsIn n xs → time_at fates n ≡ Some u
     → t ≤ u
 timed_in fates t u n [] timed is at = absurd is
@@ -121,7 +118,7 @@ timed_in fates t u n (x ∷ xs) timed (inl same) at =
 timed_in fates t u n (x ∷ xs) timed (inr more) at =
     let later : timed.0 ≤ u = timed_in fates timed.0 u n xs timed.3 more at in omega (arith, timed.1, later)
 
--- Of two of them the one with the lower number has no later time.
+-- Of two messages, the one with the lower number has no later time.
 pub in_turn : (fates : List Fate) (t first second u v : ℕ) (xs : List ℕ) → Rises xs → Timed fates t xs
     → IsIn first xs → IsIn second xs
     → first < second → time_at fates first ≡ Some u → time_at fates second ≡ Some v → u ≤ v
@@ -139,15 +136,15 @@ in_turn fates t first second u v (x ∷ xs) rises timed (inr more_a) (inl same_b
 in_turn fates t first second u v (x ∷ xs) rises timed (inr more_a) (inr more_b) below at_a at_b =
     in_turn fates timed.0 first second u v xs rises.1 timed.3 more_a more_b below at_a at_b
 
--- ---- what events take
+-- ---- the messages that events take
 
--- What takes none adds none.
+-- Events that take nothing add nothing.
 none_take : (side : Side) (xs ys : List Event) → AllByRecursion (λ event. takes_from side event ≡ []) xs
     → numbers_taken side (xs ++ ys) ≡ numbers_taken side ys
 none_take side [] ys all = refl
 none_take side (event ∷ xs) ys all = rw (all.0) (none_take side xs ys all.1)
 
--- What is taken in a gap is delivered in it.
+-- The messages that a gap takes are those that it delivers.
 pub here_takes : (side : Side) (c : Certificate) (items : List Item) (gap : ℕ) (here : List Event)
     → map Some here ≡ gap_events c items gap
     → numbers_taken side here ≡ numbers_taken side (deliveries gap 0 c.fates items)
@@ -155,14 +152,14 @@ here_takes side c items gap here is =
     let parts = gap_split (λ event. takes_from side event ≡ []) c items gap here (λ at name. refl) (λ at name id. refl) is in
     ap (numbers_taken side) parts.2 ∙ none_take side parts.0 (deliveries gap 0 c.fates items) parts.1
 
--- What an item implies takes none.
+-- The expiries that an item implies take nothing.
 implied_takes : (side : Side) (item : Item) (events : List Event) → AllByRecursion (IsImplied item) events
     → numbers_taken side events ≡ []
 implied_takes side item events all =
     ap (numbers_taken side) (sym (append-nil events))
     ∙ none_take side events [] (all_implied (λ event. takes_from side event ≡ []) item events (λ at name id. refl) all)
 
--- From a gap on these are taken: what is delivered in it, what the next item takes, and what is taken behind it.
+-- From a gap on, a run takes what the gap delivers, what the next item takes, and what the rest takes.
 pub step_takes : (side : Side) (c : Certificate) (items : List Item) (gap : ℕ) (item : Item)
     (here implied rest : List Event) (sends : Event)
     → map Some here ≡ gap_events c items gap → AllByRecursion (IsImplied item) implied
@@ -174,18 +171,17 @@ step_takes side c items gap item here implied rest sends is all =
     (taken_both side here implied ∙ ap (λ ns. numbers_taken side here ++ ns) (implied_takes side item implied all)
     ∙ append-nil (numbers_taken side here) ∙ here_takes side c items gap here is)
 
--- ---- what an item takes
+-- ---- the messages that an item takes
 
--- It takes nothing, or is the reply that takes one message.
+-- The event takes nothing, or is the reply that takes one message.
 abbrev pub Takes : List ℕ → Event → Type 0
 Takes taken sends = (((side : Side) → takes_from side sends ≡ []) × (taken ≡ []))
     ⊎ ((replier : Side) × (n : ℕ) × (taken ≡ n ∷ []) × (sends ≡ Replies replier n))
 
--- A send takes nothing.
 a_send : (side : Side) (message : Message) (sends : Event) → Some (Sends side message) ≡ Some sends → Takes [] sends
 a_send side message sends is = inl (λ place. subst (λ f. takes_from place f ≡ []) (some_is is) refl, refl)
 
--- So is the event that sends an item, by the messages that it takes.
+-- The event that sends an item takes exactly the messages that the item takes.
 pub sending_takes : (c : Certificate) (number : ℕ) (item : Item) (taken : List ℕ) (sends : Event)
     → sending_by c number item taken ≡ Some sends
     → Takes taken sends
@@ -216,16 +212,16 @@ sending_takes c number Item.Quiet [] sends is = by (slice_get c.fates number) is
     by None is = cc
 sending_takes c number Item.Quiet (t ∷ more) sends is = cc
 
--- ---- at what time
+-- ---- the time of each event
 
--- What holds of all that each event takes holds of all that is taken.
+-- What holds for all messages that each event takes holds for all messages that are taken.
 all_taken : (side : Side) (Q : ℕ → Type 0) (events : List Event) → AllByRecursion (λ event. AllByRecursion Q (takes_from side event)) events
     → AllByRecursion Q (numbers_taken side events)
 all_taken side Q [] all = tt
 all_taken side Q (event ∷ events) all =
     all_both Q (takes_from side event) (numbers_taken side events) all.0 (all_taken side Q events all.1)
 
--- A delivery takes at the time of its gap.
+-- A delivery takes its message at the time of its gap.
 deliveries_time : (side : Side) (fates : List Fate) (gap : ℕ) (items : List Item)
     → AllByRecursion (λ m. time_at fates m ≡ Some (2 * gap)) (numbers_taken side (deliveries gap 0 fates items))
 deliveries_time side fates gap items =
@@ -240,13 +236,13 @@ deliveries_time side fates gap items =
     one n true at = (at, tt)
     one n false at = tt
 
--- A reply takes at its own.
+-- A reply takes its message at the time of the reply.
 replies_time : (fates : List Fate) (reply : ℕ) → AllByRecursion (λ m. time_at fates m ≡ Some (2 * reply + 1)) (taken_by reply 0 fates)
 replies_time fates reply =
     all_weaker (λ m. slice_get fates m ≡ Some (By reply)) (λ m. time_at fates m ≡ Some (2 * reply + 1)) (taken_by reply 0 fates)
     (λ m at. ap (λ (o : Option Fate). then_so o time_of) at) (taken_are fates fates reply 0 (from_start fates))
 
--- So does the event that sends an item.
+-- The event that sends an item takes its messages at the time of the item.
 sends_time : (side : Side) (P : ℕ → Type 0) (taken : List ℕ) (sends : Event) → Takes taken sends
     → AllByRecursion P taken
     → AllByRecursion P (takes_from side sends)
@@ -257,7 +253,7 @@ sends_time side P taken sends (inr (replier, n, one, is)) all = rw is (by (is_si
     by true = let only : AllByRecursion P (n ∷ []) = rw one at all in (only.0, tt)
     by false = tt
 
--- From a gap on a run takes one message after the other, none before the time of the gap.
+-- From a gap on, a run takes messages in order, none before the time of the gap.
 pub run_timed : (side : Side) (c : Certificate) (items : List Item) (gap : ℕ) (left : List Item) (events : List Event)
     → FollowsFrom c items gap left events → Timed c.fates (2 * gap) (numbers_taken side events)
 run_timed side c items gap [] events follows =

@@ -1,4 +1,4 @@
--- How many steps a run has that a certificate describes.
+-- A bound on the length of a run that a certificate describes.
 use Rattle.std.proofs.Common.{arith, ◌≡◌, ◌≤◌, ◌+◌, ◌*◌, ◌==◌, ℕ, ℤ, Bool, true, false, cond, nat_le, List, [], ◌∷◌, ◌++◌, map, filter, filter_map, length, Option, Some, None, refl, sym, ap, ◌∙◌}
 use Rattle.std.specs.Prelude.{Contains, slice_get}
 use Rattle.std.specs.List.{AllByRecursion}
@@ -32,7 +32,7 @@ use Rattle.tcap_check.proofs.replay_laws.FateLaws.{from_start, all_delivered}
 
 -- ---- runs in parts
 
--- Losses are not hidden.
+-- The count of hidden events is the same without losses.
 losses_apart : (events : List Event) → total hides events ≡ total hides (without_losses events)
 losses_apart [] = refl
 losses_apart (event ∷ events) = by event (losses_apart events)
@@ -49,7 +49,7 @@ losses_apart (event ∷ events) = by event (losses_apart events)
     by Quiet rest = omega (arith, rest)
     by (Tells side message) rest = omega (arith, rest)
 
--- Events in two parts, of which these are the others than losses.
+-- Events in two parts that, without losses, are these lists.
 record InParts (events firsts rests : List Event) : Type 0 where
   first : List Event
   rest : List Event
@@ -57,7 +57,6 @@ record InParts (events firsts rests : List Event) : Type 0 where
   first_is : without_losses first ≡ firsts
   rest_is : without_losses rest ≡ rests
 
--- There are such parts.
 in_parts : (events firsts rests : List Event) → without_losses events ≡ firsts ++ rests → InParts events firsts rests
 in_parts events [] rests is = record { first = []; rest = events; whole = refl; first_is = refl; rest_is = is }
 in_parts [] (x ∷ firsts) rests is = cc
@@ -88,7 +87,7 @@ in_parts (event ∷ events) (x ∷ firsts) rests is =
           rest_is = parts.rest_is;
         }
 
--- The world behind the first step.
+-- The world after the first step.
 first_step : (table : Table) (event : Event) (events : List Event) (v w : World) → played table (event ∷ events) v ≡ Some w
     → (next : World) × (after table event v ≡ Some next) × (played table events next ≡ Some w)
 first_step table event events v w is = by (after table event v) refl is
@@ -118,7 +117,6 @@ record RunsInParts (table : Table) (events firsts rests : List Event) (v w : Wor
   on : played table rest mid ≡ Some w
   count : total hides events ≡ total hides first + total hides rest
 
--- There are such parts of a run.
 run_in_parts : (table : Table) (events firsts rests : List Event) (v w : World) → without_losses events ≡ firsts ++ rests
     → played table events v ≡ Some w → RunsInParts table events firsts rests v w
 run_in_parts table events firsts rests v w are is =
@@ -135,30 +133,28 @@ run_in_parts table events firsts rests v w are is =
       count = ap (total hides) parts.whole ∙ total_both hides parts.first parts.rest;
     }
 
--- A run, and one more part.
+-- A run with one more part.
 onward : (table : Table) (before first : List Event) (v w : World) → Runs table before v → played table first v ≡ Some w
     → Runs table (before ++ first) w
 onward table before first v w runs is = played_on table before first empty v runs ∙ is
 
--- ---- what an item implies
+-- ---- expiries that an item implies
 
--- how many own invocations of these IDs are in use
+-- the count of these IDs that own invocations use
 abbrev uses : End → Option HalfName → List ℤ → ℕ
 uses e name ids = total (one (in_use e name)) ids
 
--- A loss is no matter of ends,
 pub same_end : (side place : Side) (more : List OnItsWay) (w : World) → end_at side (with_channel place more w) ≡ end_at side w
 same_end A A more w = refl
 same_end A B more w = refl
 same_end B A more w = refl
 same_end B B more w = refl
 
--- an end that is put in is there,
 own_end : (side : Side) (made : End) (w : World) → end_at side (with_end side made w) ≡ made
 own_end A made w = refl
 own_end B made w = refl
 
--- and an expiry leaves fewer in use:
+-- After an expiry, fewer of the IDs are in use.
 expiry_uses : (table : Table) (side : Side) (name : HalfName) (id : ℤ) (half : Option HalfName) (ids : List ℤ) (v next : World)
     → IsEnd (end_at side v) → after table (Expires side name id) v ≡ Some next → half ≡ Some name → Contains ids id
     → IsEnd (end_at side next) × (uses (end_at side next) half ids + 1 ≤ uses (end_at side v) half ids)
@@ -171,7 +167,7 @@ expiry_uses table side name id half ids v next sound step half_is there =
     ends.gone there in
     rw (same, half_is) (kept, less)
 
--- so of expiries of IDs over one half there are at most as many as are in use.
+-- There are at most as many expiries of IDs on one half as IDs in use.
 expiries_most : (table : Table) (sender : Side) (m : Message) (events : List Event) (v w : World) → IsEnd (end_at sender v)
     → played table events v ≡ Some w → AllByRecursion (IsImplied (Sent sender m)) (without_losses events)
     → total hides events ≤ uses (end_at sender v) (invoking_half m) (filter_map invoke_id (components_in m))
@@ -196,17 +192,16 @@ expiries_most table sender m (Closes side name ∷ events) v w sound is all = ab
 expiries_most table sender m (Quiet ∷ events) v w sound is all = absurd (all.0)
 expiries_most table sender m (Tells side message ∷ events) v w sound is all = absurd (all.0)
 
--- what an item carries
+-- the count of components of an item
 abbrev components_of : Item → ℕ
 components_of (Sent side message) = length (components_in message)
 components_of Item.Quiet = 0
 
--- They are counted item by item.
 count_more : (item : Item) (items : List Item) → count_components (item ∷ items) ≡ components_of item + count_components items
 count_more (Sent side message) items = refl
 count_more Item.Quiet items = omega arith
 
--- An item implies at most as many as it has components.
+-- An item implies at most as many expiries as it has components.
 implied_most : (table : Table) (item : Item) (events : List Event) (v w : World) → ((side : Side) → IsEnd (end_at side v))
     → played table events v ≡ Some w → AllByRecursion (IsImplied item) (without_losses events)
     → total hides events ≤ components_of item
@@ -223,14 +218,13 @@ implied_most table Item.Quiet events v w sound is all = omega (arith, losses_apa
     none [] all = refl
     none (event ∷ events) all = absurd (all.0)
 
--- ---- what is listed
+-- ---- listed events
 
--- the same of what may be an event
+-- 1 if there is an event and it is hidden, else 0
 abbrev hides_some : Option Event → ℕ
 hides_some None = 0
 hides_some (Some event) = hides event
 
--- That is one at most.
 some_most : (event : Option Event) → hides_some event ≤ 1
 some_most None = omega arith
 some_most (Some (Sends side message)) = omega arith
@@ -242,12 +236,10 @@ some_most (Some (Closes side name)) = omega arith
 some_most (Some Quiet) = omega arith
 some_most (Some (Tells side message)) = omega arith
 
--- Events count the same as options.
 same_total : (events : List Event) → total hides_some (map Some events) ≡ total hides events
 same_total [] = refl
 same_total (event ∷ events) = ap (λ n. hides event + n) (same_total events)
 
--- Deliveries are not hidden.
 deliveries_none : (gap : ℕ) (fates : List Fate) (items : List Item) → total hides (deliveries gap 0 fates items) ≡ 0
 deliveries_none gap fates items =
     none (deliveries gap 0 fates items)
@@ -257,7 +249,7 @@ deliveries_none gap fates items =
     none [] all = refl
     none (event ∷ events) all = let here = all.0 in let rest = none events all.1 in omega (arith, here, rest)
 
--- There is one for each that is listed for the gap.
+-- A gap has at most one hidden event for each event that is listed for it.
 listed_most : (closes expiries : List (Option Event)) (received here : List Event)
     → map Some here ≡ closes ++ expiries ++ map Some received
     → total hides received ≡ 0 → total hides here ≤ length closes + length expiries
@@ -288,7 +280,7 @@ here_most c items gap here is =
       length-map (filter (λ x. x.gap == gap) c.expire) (expiry_event items),
     )
 
--- What adds an item is not hidden, whatever it takes,
+-- The event that sends an item is not hidden, no matter what it takes.
 sending_none : (c : Certificate) (number : ℕ) (item : Item) (taken : List ℕ) → hides_some (sending_by c number item taken) ≡ 0
 sending_none c number (Sent side (Unidirectional dialogue components)) [] = refl
 sending_none c number (Sent side (Unidirectional dialogue components)) (one ∷ more) = refl
@@ -318,15 +310,15 @@ sending_none c number Item.Quiet [] = by (slice_get c.fates number)
     by (Some Lost) = refl
     by (Some (By k)) = refl
 
--- so it is not in a run.
+-- This also holds in a run.
 sends_none : (c : Certificate) (number : ℕ) (item : Item) (event : Event) → sending c number item ≡ Some event → hides event ≡ 0
 sends_none c number item event is = sym (ap hides_some is) ∙ sending_none c number item (taken_by number 0 c.fates)
 
--- how many are listed from a gap on
+-- the count of events that are listed for this gap or a later one
 abbrev later : {X : Type 0} → (X → ℕ) → ℕ → List X → ℕ
 later gap_of gap xs = length (filter (λ x. nat_le gap (gap_of x)) xs)
 
--- That is those of the gap and those behind it,
+-- These are the events of the gap and those of later gaps.
 now_and_later : {X : Type 0} (gap_of : X → ℕ) (gap : ℕ) (xs : List X)
     → length (filter (λ x. gap_of x == gap) xs) + later gap_of (gap + 1) xs ≤ later gap_of gap xs
 now_and_later gap_of gap [] = omega arith
@@ -355,13 +347,12 @@ now_and_later {X} gap_of gap (x ∷ xs) =
     by false is false above true at rest = omega (arith, rest)
     by false is false above false at rest = rest
 
--- and in all at most the list.
 filter_most : {X : Type 0} (passes : X → Bool) (xs : List X) → length (filter passes xs) ≤ length xs
 filter_most passes xs = rw (length-filter passes xs) (count_by-le-length passes xs)
 
 -- ---- the bound
 
--- From a gap on, what happens unseen is implied, or listed for this gap or a later one.
+-- From a gap on, each hidden event is implied, or is listed for this gap or a later one.
 from_gap : (table : Table) (c : Certificate) (items more : List Item) (gap : ℕ) (before events : List Event) (v w : World)
     → Runs table before v → played table events v ≡ Some w → FollowsFrom c items gap more (without_losses events)
     → total hides events ≤ count_components more + later (λ x. x.gap) gap c.expire + later (λ x. x.gap) gap c.close
@@ -404,7 +395,7 @@ from_gap table c items (item ∷ more) gap before events v w runs is
       now_and_later (λ (x : Expiry). x.gap) gap c.expire,
     )
 
--- So it is in all.
+-- In a whole run, each hidden event is implied or listed.
 hidden_most : (table : Table) (c : Certificate) (items : List Item) (events : List Event) (w : World) → Runs table events w
     → Follows c items events → total hides events ≤ count_components items + length c.expire + length c.close
 hidden_most table c items events w runs follows = omega (
@@ -414,7 +405,7 @@ hidden_most table c items events w runs follows = omega (
   filter_most (λ x. nat_le 0 x.gap) c.close,
 )
 
--- A run that a certificate describes has at most so many steps.
+-- The length of a run that a certificate describes is bounded.
 pub described_bound : (table : Table) (c : Certificate) (items : List Item) (events : List Event) → IsRunOf items table events
     → Follows c items events → length events ≤ 2 * length items + count_components items + length c.expire + length c.close
 described_bound table c items events (w, runs, sent) follows = omega (

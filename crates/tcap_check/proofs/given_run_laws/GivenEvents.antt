@@ -1,4 +1,4 @@
--- What each event is that follows a certificate: it fits the fates.
+-- Each event of a run that follows a certificate fits the fates.
 use Rattle.std.proofs.Common.{arith, ◌≡◌, ◌≤◌, ◌<◌, ◌⊎◌, inl, inr, ℕ, ◌+◌, ◌==◌, Bool, true, false, List, [], ◌∷◌, ◌++◌, map, length, Option, Some, None, refl, sym, ap, subst}
 use Rattle.std.specs.Prelude.{slice_get}
 use Rattle.std.specs.List.{AllByRecursion}
@@ -25,7 +25,7 @@ use Rattle.tcap_check.proofs.given_run_laws.NumberLaws.{taken_left, taken_right}
 
 -- ---- gaps
 
--- What happens in a gap fits the fates.
+-- The events of a gap fit the fates.
 pub gap_fated : (c : Certificate) (items : List Item) (gap : ℕ) (here : List Event) → map Some here ≡ gap_events c items gap
     → AllByRecursion (IsFated c.fates) here
 gap_fated c items gap here is =
@@ -34,20 +34,18 @@ gap_fated c items gap here is =
     subst (AllByRecursion (IsFated c.fates)) (sym parts.2)
     (all_both (IsFated c.fates) parts.0 (deliveries gap 0 c.fates items) parts.1 last)
 
--- ---- what sends an item
+-- ---- the event that sends an item
 
--- What sends an item: it sends the message and nothing is taken, or it replies to the one that is taken, or it is a
--- mark.
+-- The event that sends an item: a send that takes nothing, a reply to the message that is taken, or a quiet mark.
 pub data IsSender (taken : List ℕ) : Event → Type 0 where
   by_send : (side : Side) (m : Message) → taken ≡ [] → IsSender taken (Sends side m)
   by_reply : (side : Side) (n : ℕ) → taken ≡ n ∷ [] → IsSender taken (Replies side n)
   by_mark : taken ≡ [] → IsSender taken Quiet
 
--- The same event sends it.
 sender_as : (taken : List ℕ) (made event : Event) → Some made ≡ Some event → IsSender taken made → IsSender taken event
 sender_as taken made event is of_made = subst (IsSender taken) (let same : made ≡ event = some_is is in same) of_made
 
--- That is how the event which sends an item does it.
+-- The event that sends an item is one of these.
 pub sender_is : (c : Certificate) (number : ℕ) (item : Item) (taken : List ℕ) (event : Event)
     → sending_by c number item taken ≡ Some event
     → IsSender taken event
@@ -86,7 +84,7 @@ sender_is c number Item.Quiet [] event is = by (slice_get c.fates number) is
     by (Some (By k)) e = cc
     by (Some Lost) e = cc
 
--- It fits the fates where those that it takes are not lost by them,
+-- The event fits the fates, if no message that it takes is lost by its fate.
 pub sender_fated : (fates : List Fate) (taken : List ℕ) (event : Event)
     → AllByRecursion (λ k. is_lost fates k ≡ false) taken
     → IsSender taken event → IsFated fates event
@@ -95,7 +93,7 @@ sender_fated fates taken event all (by_reply side n one) =
     (subst (AllByRecursion (λ k. is_lost fates k ≡ false)) one all).0
 sender_fated fates taken event all (by_mark none) = tt
 
--- and takes them, from the one end or the other.
+-- The event takes its messages from one end or the other.
 pub sender_takes : (side : Side) (taken : List ℕ) (event : Event) (n : ℕ) → IsIn n taken → IsSender taken event
     → IsIn n (takes_from side event) ⊎ IsIn n (takes_from (other side) event)
 sender_takes side taken event n is (by_send place m none) = absurd (subst (IsIn n) none is)
@@ -109,14 +107,14 @@ sender_takes side taken event n is (by_reply place t one) = by side place (subst
     by B B there = inr there
 sender_takes side taken event n is (by_mark none) = absurd (subst (IsIn n) none is)
 
--- ---- all that follows the certificate
+-- ---- all events of such a run
 
--- Expiries that an item implies fit the fates.
+-- The expiries that an item implies fit the fates.
 pub implied_fated : (fates : List Fate) (item : Item) (events : List Event) → AllByRecursion (IsImplied item) events
     → AllByRecursion (IsFated fates) events
 implied_fated fates item events all = all_implied (IsFated fates) item events (λ side name id. tt) all
 
--- From each gap on all events fit them.
+-- From each gap on, all events fit the fates.
 pub follows_fated : (c : Certificate) (items : List Item) (gap : ℕ) (left : List Item) (events : List Event)
     → FollowsFrom c items gap left events
     → AllByRecursion (IsFated c.fates) events
@@ -130,20 +128,20 @@ follows_fated c items gap (item ∷ more) events (here, implied, rest, sends, ga
     let behind = follows_fated c items (gap + 1) more rest on in
     rw events_are (all_both (IsFated c.fates) (here ++ implied) (sends ∷ rest) before (sender, behind))
 
--- A gap is there, and what it takes is taken.
+-- The run has this gap, and takes what the gap takes.
 pub record HasGap (c : Certificate) (items : List Item) (gap : ℕ) (events : List Event) : Type 0 where
   pub here : List Event
   pub is : map Some here ≡ gap_events c items gap
   pub takes : (side : Side) (n : ℕ) → IsIn n (numbers_taken side here) → IsIn n (numbers_taken side events)
 
--- What sends an item is there, and what it takes is taken.
+-- The run has an event that sends this item, and takes what the event takes.
 pub record HasSender (c : Certificate) (number : ℕ) (events : List Event) : Type 0 where
   pub item : Item
   pub sends : Event
   pub is : sending c number item ≡ Some sends
   pub takes : (side : Side) (n : ℕ) → IsIn n (takes_from side sends) → IsIn n (numbers_taken side events)
 
--- What the rest takes is taken.
+-- A run takes what its rest takes.
 taken_behind : (side : Side) (n : ℕ) (first : List Event) (sends : Event) (rest events : List Event)
     → events ≡ first ++ sends ∷ rest
     → IsIn n (numbers_taken side rest) → IsIn n (numbers_taken side events)
@@ -151,7 +149,7 @@ taken_behind side n first sends rest events are is =
     subst (λ (x : List Event). IsIn n (numbers_taken side x)) (sym are)
     (taken_right side n first (sends ∷ rest) (in_right n (takes_from side sends) (numbers_taken side rest) is))
 
--- Each gap from the first on is there,
+-- The run has each gap from the first on.
 pub gap_at : (c : Certificate) (items : List Item) (gap g : ℕ) (left : List Item) (events : List Event)
     → FollowsFrom c items gap left events
     → gap ≤ g → g ≤ gap + length left → HasGap c items g events
@@ -179,7 +177,7 @@ gap_at c items gap g (item ∷ more) events (here, implied, rest, sends, gap_is,
       takes = λ side n is. taken_behind side n (here ++ implied) sends rest events events_are (found.takes side n is);
     }
 
--- and so is what sends each item.
+-- The run has an event for each item.
 pub sender_at : (c : Certificate) (items : List Item) (gap k : ℕ) (left : List Item) (events : List Event)
     → FollowsFrom c items gap left events
     → gap ≤ k → k < gap + length left → HasSender c k events

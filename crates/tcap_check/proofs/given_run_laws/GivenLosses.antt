@@ -1,5 +1,5 @@
--- Losses: where a run follows a certificate but for losses, and nothing is left on its way, a message is lost exactly
--- where its fate says so.
+-- If a run follows a certificate apart from losses, and leaves nothing on its way, it loses exactly the messages whose
+-- fates are losses.
 use Rattle.std.proofs.Common.{arith, ◌≡◌, ◌≤◌, ◌<◌, ◌⊎◌, inl, inr, ℕ, zero, suc, ◌+◌, Bool, true, false, cond, List, [], ◌∷◌, ◌++◌, filter, length, Option, Some, None, refl, sym, ap, subst, ◌∙◌, append-nil}
 use Rattle.std.specs.Prelude.{slice_get}
 use Rattle.std.specs.List.{AllByRecursion}
@@ -25,18 +25,18 @@ use Rattle.tcap_check.proofs.refusal_laws.TakenNumberLaws.{taken_sent}
 
 -- ---- fates
 
--- The fate says that the message is lost.
+-- The fate exists and is a loss.
 abbrev pub says_lost : Option Fate → Bool
 says_lost None = false
 says_lost (Some (Gap g)) = false
 says_lost (Some (By k)) = false
 says_lost (Some Lost) = true
 
--- The fate of that number does.
+-- The fate with this number is a loss.
 abbrev pub is_lost : List Fate → ℕ → Bool
 is_lost fates n = says_lost (slice_get fates n)
 
--- The messages that an end sent and whose fate says so are those that are lost.
+-- The messages of an end whose fates are losses are those that are lost.
 pub filter_sent : (side : Side) (all : List Fate) (n : ℕ) (fates : List Fate) (items : List Item) → AreFrom all n fates
     → length fates ≡ length items
     → filter (is_lost all) (numbers_sent side n items) ≡ lost_from side n fates items
@@ -74,7 +74,8 @@ filter_sent side all n (fate ∷ fates) (item ∷ items) from counted =
 
 -- ---- events that fit the fates
 
--- What is received or replied to is not lost by its fate; there is no loss, and nothing is told.
+-- No message that is received or answered has a loss as its fate. There is no loss, and no message of an end without
+-- rules.
 abbrev pub IsFated : List Fate → Event → Type 0
 IsFated fates (Sends side m) = Unit {0}
 IsFated fates (Receives side n) = is_lost fates n ≡ false
@@ -85,7 +86,7 @@ IsFated fates (Closes side name) = Unit {0}
 IsFated fates Quiet = Unit {0}
 IsFated fates (Tells side m) = ⊥
 
--- No number that such an event takes is lost by its fate.
+-- Such an event takes no message whose fate is a loss.
 none_fated : (fates : List Fate) (side : Side) (event : Event) → IsFated fates event
     → filter (is_lost fates) (takes_from side event) ≡ []
 none_fated fates side (Receives place n) is = by (is_side side (other place))
@@ -105,7 +106,7 @@ none_fated fates side (Closes place name) is = refl
 none_fated fates side Quiet is = refl
 none_fated fates side (Tells place m) is = refl
 
--- So of all that is taken, what is lost by its fate is among the losses.
+-- So the taken messages whose fates are losses are among the losses.
 filter_taken : (fates : List Fate) (side : Side) (events : List Event)
     → AllByRecursion (IsFated fates) (without_losses events)
     → filter (is_lost fates) (numbers_taken side events) ≡ filter (is_lost fates) (losses_from side events)
@@ -128,7 +129,7 @@ filter_taken fates side (event ∷ events) all =
     by false all on =
         ap (λ first. first ++ kept (numbers_taken side events)) (none_fated fates side event all.0) ∙ on all.1
 
--- Nothing is told.
+-- In such events each end keeps the rules.
 pub fated_keeps : (fates : List Fate) (side : Side) (events : List Event)
     → AllByRecursion (IsFated fates) (without_losses events) → KeepsRules side events
 fated_keeps fates side [] all = refl
@@ -141,13 +142,13 @@ fated_keeps fates side (Closes place name ∷ events) all = fated_keeps fates si
 fated_keeps fates side (Quiet ∷ events) all = fated_keeps fates side events all.1
 fated_keeps fates side (Tells place m ∷ events) all = absurd all.0
 
--- What a reply takes is not lost by its fate.
+-- No message that a reply takes has a loss as its fate.
 pub taken_fated : (fates : List Fate) (reply : ℕ) → AllByRecursion (λ k. is_lost fates k ≡ false) (taken_by reply 0 fates)
 taken_fated fates reply =
     all_weaker (λ k. slice_get fates k ≡ Some (By reply)) (λ k. is_lost fates k ≡ false) (taken_by reply 0 fates) (λ k at. ap says_lost at)
     (taken_are fates fates reply 0 (from_start fates))
 
--- A gap that a fate names is no later than the last,
+-- The gap of a fate in range is at most the last one.
 pub fits_gap : (count n : ℕ) (fates : List Fate) (i g : ℕ) → FatesFit count n fates → slice_get fates i ≡ Some (Gap g)
     → g ≤ count
 fits_gap count n [] i g fit at = cc
@@ -158,7 +159,7 @@ fits_gap count n (Gap h ∷ fates) (suc i) g fit at = fits_gap count (n + 1) fat
 fits_gap count n (By k ∷ fates) (suc i) g fit at = fits_gap count (n + 1) fates i g fit.2 at
 fits_gap count n (Lost ∷ fates) (suc i) g fit at = fits_gap count (n + 1) fates i g fit at
 
--- and an entry is there.
+-- The reply of a fate in range is an entry.
 pub fits_reply : (count n : ℕ) (fates : List Fate) (i k : ℕ) → FatesFit count n fates → slice_get fates i ≡ Some (By k)
     → k < count
 fits_reply count n [] i k fit at = cc
@@ -171,19 +172,19 @@ fits_reply count n (Lost ∷ fates) (suc i) k fit at = fits_reply count (n + 1) 
 
 -- ---- losses
 
--- Each message that an end sent is lost by its fate, or taken by an event that is no loss.
+-- Each message that an end sent has a loss as its fate, or is taken by an event that is no loss.
 abbrev pub IsSettled : List Fate → World → List Event → Type 0
 IsSettled fates w plain = (side : Side) (n : ℕ) (m : Message) → slice_get w.sent n ≡ Some (Sent side m)
     → (is_lost fates n ≡ true) ⊎ IsIn n (numbers_taken side plain)
 
--- What holds of each of these numbers and messages holds of the messages.
+-- What follows for each of these numbers and messages holds for all messages.
 pub all_numbered : (P : OnItsWay → Type 0) (Q : OnItsWay → Type 0) (messages : List OnItsWay) → AllByRecursion P messages
     → ((m : OnItsWay) → P m → IsIn m.number (numbers_of messages) → Q m) → AllByRecursion Q messages
 all_numbered P Q [] all on = tt
 all_numbered P Q (first ∷ more) all on =
     (on first all.0 (inl refl), all_numbered P Q more all.1 (λ m is there. on m is (inr there)))
 
--- So what is still on its way is lost by its fate.
+-- Each message that is still on its way has a loss as its fate.
 pub left_lost : (table : Table) (fates : List Fate) (events : List Event) (w : World) → Runs table events w
     → IsSettled fates w (without_losses events) → (side : Side)
     → AllByRecursion (λ m. is_lost fates m.number ≡ true) (channel_from side w)
@@ -201,12 +202,12 @@ left_lost table fates events w runs settled side =
         (in_order table events w runs side)
         (among_plain side m.number events taken) there)
 
--- A list with nothing behind it rises by itself.
+-- A rising list without the empty list after it rises.
 rises_alone : (xs ys : List ℕ) → ys ≡ [] → IsStrictlySortedBy nat_cmp (xs ++ ys) → IsStrictlySortedBy nat_cmp xs
 rises_alone xs ys none rises =
     subst (IsStrictlySortedBy nat_cmp) (ap (λ (more : List ℕ). xs ++ more) none ∙ append-nil xs) rises
 
--- What is lost in a run is what is lost by its fate, where nothing is left on its way.
+-- If nothing is left on its way, a run loses exactly the messages whose fates are losses.
 pub losses_are : (table : Table) (fates : List Fate) (events : List Event) (w : World) → Runs table events w
     → length fates ≡ length w.sent → AllByRecursion (IsFated fates) (without_losses events)
     → IsSettled fates w (without_losses events)

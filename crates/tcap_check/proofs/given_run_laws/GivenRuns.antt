@@ -1,4 +1,4 @@
--- A run from any certificate.
+-- Each certificate that gives events gives a run.
 use Rattle.std.proofs.Common.{get_or, arith, ◌≡◌, ◌≤◌, ◌<◌, ◌*◌, ◌⊎◌, inl, inr, ℕ, zero, suc, ◌+◌, ◌==◌, Bool, true, false, cond, List, [], ◌∷◌, ◌++◌, map, length, Option, Some, None, Result, Ok, Err, drop, refl, sym, ap, subst, ◌∙◌, append-nil}
 use Rattle.std.specs.Prelude.{slice_get}
 use Rattle.std.specs.List.{AllByRecursion}
@@ -37,14 +37,13 @@ use Rattle.tcap_check.proofs.replay_laws.ListedEventLaws.{gap_split}
 use Rattle.tcap_check.proofs.refusal_laws.TakenNumberLaws.{taken_sent}
 use Rattle.tcap_check.proofs.replay_laws.MemberLaws.{IsIn, in_right}
 
--- ---- each message is settled
+-- ---- each message is lost by its fate or taken
 
--- The other of the other end is the end.
 is_other : (side : Side) → is_side side (other (other side)) ≡ true
 is_other A = refl
 is_other B = refl
 
--- A message is delivered in the gap that its fate names,
+-- A message whose fate is a gap is delivered in this gap.
 delivered_at : (side : Side) (m : Message) (g n i : ℕ) (fates : List Fate) (items : List Item)
     → slice_get fates i ≡ Some (Gap g)
     → slice_get items i ≡ Some (Sent side m) → IsIn (n + i) (numbers_taken side (deliveries g n fates items))
@@ -83,7 +82,7 @@ delivered_at side m g n (suc i) (fate ∷ fates) (item ∷ items) fate_is item_i
     by Item.Quiet (By k) rest = rest
     by Item.Quiet Lost rest = rest
 
--- or taken by the reply that it names.
+-- A message whose fate is a reply is taken by this reply.
 pub replied_at : (k n i : ℕ) (fates : List Fate) → slice_get fates i ≡ Some (By k) → IsIn (n + i) (taken_by k n fates)
 replied_at k n i [] is = cc
 replied_at k n zero (fate ∷ fates) is =
@@ -107,13 +106,12 @@ replied_at k n (suc i) (fate ∷ fates) is =
     by (By h) rest = if_so (h == k) rest
     by Lost rest = rest
 
--- No message is of both ends.
 one_sender : (side : Side) (m other_one : Message) (o : Option Item) → o ≡ Some (Sent side m)
     → o ≡ Some (Sent (other side) other_one) → ⊥
 one_sender A m n o is also = cc
 one_sender B m n o is also = cc
 
--- Each message is lost by its fate or taken.
+-- Each message has a loss as its fate, or is taken.
 pub settled_by : (c : Certificate) (w : World) (plain : List Event) → length c.fates ≡ length w.sent
     → FatesFit (length w.sent) 0 c.fates
     → FollowsFrom c w.sent 0 w.sent plain
@@ -171,7 +169,7 @@ settled_by c w plain counted fit follows sent side n m at = by (slice_get c.fate
 
 -- ---- the end
 
--- Where all on a channel is lost, the lost front of it is all.
+-- If all messages on a channel are lost, the channel is empty after its losses.
 pub front_empty : (fates : List Fate) (channel : List OnItsWay)
     → AllByRecursion (λ m. is_lost fates m.number ≡ true) channel
     → drop (length (lost_front fates channel)) channel ≡ []
@@ -185,14 +183,13 @@ front_empty fates (first ∷ more) all = by (slice_get fates first.number) all.0
     by (Some (By k)) says rest = cc
     by (Some Lost) says rest = rest
 
--- So nothing is left.
+-- So nothing is left on either channel.
 none_left : (c : Certificate) (r : Replay)
     → ((side : Side) → AllByRecursion (λ m. is_lost c.fates m.number ≡ true) (channel_from side r.world))
     → (side : Side) → channel_from side (lost_from_both c r).world ≡ []
 none_left c r all A = front_empty c.fates r.world.from_a (all A)
 none_left c r all B = front_empty c.fates r.world.from_b (all B)
 
--- Entries are the items that they give.
 pub are_items : (entries : List Entry) (items : List Item)
     → map (λ (x : Item). let r : Result Item Reason = Ok x in r) items ≡ map item_of entries
     → AreItems entries items × (length items ≡ length entries)
@@ -204,13 +201,12 @@ are_items (entry ∷ entries) (item ∷ items) is =
     let rest = are_items entries items (cc) in
     ((item_is entry item first, rest.0), ap suc rest.1)
 
--- One step and then another is Ok where both are.
 pub both_ok : {X Y F : Type 0} (step : Result X F) (rest : Result Y F) (y : Y) → (step >> rest) ≡ Ok y
     → (x : X) × (step ≡ Ok x) × (rest ≡ Ok y)
 both_ok (Ok x) rest y is = (x, refl, is)
 both_ok (Err reason) rest y is = cc
 
--- A run that leaves nothing on its way and follows the certificate but for losses is one that it gives.
+-- If a run leaves nothing on its way, and follows the certificate apart from losses, it is given.
 given_run : (table : Table) (c : Certificate) (entries : List Entry) (events : List Event) (w : World)
     → Runs table events w
     → AreItems entries w.sent → length w.sent ≡ length entries → length c.fates ≡ length w.sent
@@ -246,7 +242,7 @@ given_run table c entries events w runs are number counted fit closings expiries
       losses = λ side. losses_are table c.fates events w runs counted fated settled side (none side);
     }
 
--- What is replayed is such a run, once what is still on its way is lost.
+-- The replay is such a run, after the losses of all messages still on their way.
 given_here : (table : Table) (c : Certificate) (entries : List Entry) (r : Replay) (steps : List Event)
     → Extends table nothing_replayed steps r
     → AreItems entries r.world.sent → length r.world.sent ≡ length entries → length c.fates ≡ length r.world.sent
@@ -269,13 +265,13 @@ given_here table c entries r steps extends are number counted fit closings expir
     (subst (FollowsFrom c r.world.sent 0 r.world.sent) (sym plain) gaps)
     (none_left c r (left_lost table c.fates steps r.world extends.plays settled)))
 
--- Numbers that fit, as they are listed.
+-- Numbers in range, as they are listed.
 pub record AreFit (c : Certificate) (count : ℕ) : Type 0 where
   pub fates : FatesFit count 0 c.fates
   pub closings : AllByRecursion (λ (x : Closing). x.gap ≤ count) c.close
   pub expiries : AllByRecursion (λ (x : Expiry). x.gap ≤ count) c.expire
 
--- They fit where the test of the certificate says so.
+-- Numbers that pass the check of the certificate are in range.
 pub are_fit : (c : Certificate) → certificate_fits c ≡ Ok tt → AreFit c (length c.fates)
 are_fit c is =
     let count = length c.fates in
@@ -287,7 +283,7 @@ are_fit c is =
       expiries = listed_ok count (λ (x : Expiry). x.entry) (λ (x : Expiry). x.gap) c.expire close.2;
     }
 
--- Entries that are replayed are given.
+-- What is replayed over entries is given.
 entries_given : (table : Table) (c : Certificate) (entries : List Entry) (r : Replay) → AreFit c (length c.fates)
     → entries_by None table c (map item_of entries) nothing_replayed ≡ Ok r
     → IsGiven table c entries (lost_from_both c r).events
@@ -312,7 +308,7 @@ gives table c entries events is =
     subst (IsGiven table c entries) (ok_same {F = CheckFault} (lost_from_both c r.0).events events r.2)
     (entries_given table c entries r.0 (are_fit c fits.1) r.1)
 
--- In what a certificate describes both ends keep the rules.
+-- In events that follow a certificate, both ends keep the rules.
 pub described_keeps : (c : Certificate) (items : List Item) (events : List Event) → Follows c items events → BothKeepRules events
 described_keeps c items events follows =
     let fated = follows_fated c items 0 items (without_losses events) follows.gaps in

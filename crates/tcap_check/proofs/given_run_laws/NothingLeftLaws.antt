@@ -1,4 +1,4 @@
--- A run that a certificate describes, and that sends the items, leaves nothing on its way.
+-- A run of these items that a certificate describes leaves nothing on its way.
 use Rattle.std.proofs.Common.{◌≡◌, inl, inr, ℕ, Bool, true, false, cond, List, [], ◌∷◌, filter, refl, sym, ap, subst, ◌∙◌}
 use Rattle.std.specs.List.{AllByRecursion}
 use Rattle.tcap_record.specs.declared.entry.End.{End as Side}
@@ -16,7 +16,7 @@ use Rattle.tcap_check.proofs.refusal_laws.TakenNumberLaws.{taken_sent}
 use Rattle.tcap_check.proofs.replay_laws.MemberLaws.{IsIn, in_right}
 use Rattle.tcap_check.proofs.replay_laws.FateLaws.{from_start}
 
--- What passes a test stays in a list of those that do.
+-- An element that passes a test stays among those that do.
 pub among_filter : (p : ℕ → Bool) (n : ℕ) (xs : List ℕ) → p n ≡ true → IsIn n xs → IsIn n (filter p xs)
 among_filter p n [] so is = is
 among_filter p n (x ∷ xs) so (inl e) = let here : p x ≡ true = ap p (sym e) ∙ so in rw here (inl e)
@@ -41,7 +41,7 @@ nothing_left table c items events w runs sent given = (none sides.A, none sides.
     lost_are : (side : Side) → filter (is_lost c.fates) (numbers_sent side 0 w.sent) ≡ lost_from side 0 c.fates w.sent
     lost_are side = filter_sent side c.fates 0 c.fates w.sent (from_start c.fates) follows.counted
 
-    -- A message that is still there is lost by its fate, so it was taken.
+    -- A message that is still on its way has a loss as its fate, so it was taken.
     taken : (side : Side) (head : OnItsWay) (more : List OnItsWay) → channel_from side w ≡ head ∷ more
         → is_lost c.fates head.number ≡ true → IsIn head.number (numbers_taken side events)
     taken side head more at lost =

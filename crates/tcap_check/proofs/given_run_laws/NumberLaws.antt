@@ -1,4 +1,4 @@
--- Numbers of messages, and what was taken from a channel.
+-- Numbers of messages, and the messages that were taken from a channel.
 use Rattle.std.proofs.Common.{◌≡◌, ◌⊎◌, inl, inr, ℕ, Bool, true, false, cond, List, [], ◌∷◌, ◌++◌, filter, refl, sym, ap, ◌∙◌, append_assoc}
 use Rattle.std.specs.Cmp.{nat_cmp_is}
 use Rattle.std.specs.List.Sorted.{IsStrictlySortedBy}
@@ -12,13 +12,12 @@ use Rattle.tcap_check.proofs.replay_laws.MemberLaws.{IsIn, in_left, in_right, in
 
 -- ---- numbers
 
--- No number is below itself.
 not_below : (n x : ℕ) → n ≡ x → nat_cmp x n ≡ Less → ⊥
 not_below n x e below =
     let here : nat_cmp x x ≡ Less = rw e at below in
     let same = nat_cmp_is x x Equal refl in cc
 
--- Where two lists together rise, no number is in both,
+-- If two lists together rise, no number is in both.
 pub parts_apart : (n : ℕ) (xs ys : List ℕ) → IsStrictlySortedBy nat_cmp (xs ++ ys) → IsIn n xs → IsIn n ys → ⊥
 unfolding IsStrictlySortedBy
 parts_apart n [] ys rises left right = left
@@ -26,20 +25,17 @@ parts_apart n (x ∷ xs) ys rises (inl e) right =
     not_below n x e (all_in (λ y. nat_cmp x y ≡ Less) n (xs ++ ys) rises.0 (in_right n xs ys right))
 parts_apart n (x ∷ xs) ys rises (inr left) right = parts_apart n xs ys rises.1 left right
 
--- and the second rises.
 rises_behind : (xs ys : List ℕ) → IsStrictlySortedBy nat_cmp (xs ++ ys) → IsStrictlySortedBy nat_cmp ys
 unfolding IsStrictlySortedBy
 rises_behind [] ys rises = rises
 rises_behind (x ∷ xs) ys rises = rises_behind xs ys rises.1
 
--- A test that all of these pass leaves all of them.
 pub filter_all : (p : ℕ → Bool) (xs : List ℕ) → ((n : ℕ) → IsIn n xs → p n ≡ true) → filter p xs ≡ xs
 filter_all p [] pass = refl
 filter_all p (x ∷ xs) pass = rw (pass x (inl refl)) (ap (λ more. x ∷ more) (filter_all p xs (λ n is. pass n (inr is))))
 
--- ---- what was taken
+-- ---- taken messages
 
--- What two runs of events take, one behind the other.
 pub taken_both : (side : Side) (xs ys : List Event)
     → numbers_taken side (xs ++ ys) ≡ numbers_taken side xs ++ numbers_taken side ys
 taken_both side [] ys = refl
@@ -47,19 +43,17 @@ taken_both side (x ∷ xs) ys =
     ap (λ more. takes_from side x ++ more) (taken_both side xs ys)
     ∙ sym (append_assoc (takes_from side x) (numbers_taken side xs) (numbers_taken side ys))
 
--- What the first takes is taken,
 pub taken_left : (side : Side) (n : ℕ) (xs ys : List Event) → IsIn n (numbers_taken side xs)
     → IsIn n (numbers_taken side (xs ++ ys))
 taken_left side n xs ys is =
     rw (taken_both side xs ys) (in_left n (numbers_taken side xs) (numbers_taken side ys) is)
 
--- and what the second takes.
 pub taken_right : (side : Side) (n : ℕ) (xs ys : List Event) → IsIn n (numbers_taken side ys)
     → IsIn n (numbers_taken side (xs ++ ys))
 taken_right side n xs ys is =
     rw (taken_both side xs ys) (in_right n (numbers_taken side xs) (numbers_taken side ys) is)
 
--- what a loss takes
+-- the messages that an event takes if it is a loss
 abbrev pub loss_of : Side → Event → List ℕ
 loss_of side event = cond (is_loss event) (takes_from side event) []
 
@@ -81,7 +75,6 @@ losses_first side (Closes place name) events = refl
 losses_first side Quiet events = refl
 losses_first side (Tells place m) events = refl
 
--- What is taken without the losses is taken,
 pub among_plain : (side : Side) (n : ℕ) (events : List Event) → IsIn n (numbers_taken side (without_losses events))
     → IsIn n (numbers_taken side events)
 among_plain side n [] is = is
@@ -106,7 +99,6 @@ among_plain side n (event ∷ events) is = by (is_loss event) (among_plain side 
     by true on is = in_right n first rest (on is)
     by false on is = by_parts on (in_either n first plain is)
 
--- and so is what is lost.
 pub among_losses : (side : Side) (n : ℕ) (events : List Event) → IsIn n (losses_from side events)
     → IsIn n (numbers_taken side events)
 among_losses side n [] is = is
@@ -129,7 +121,7 @@ among_losses side n (event ∷ events) is =
     by false on (inl here) = absurd here
     by b on (inr more) = in_right n first rest (on more)
 
--- No message is lost and taken else, where the numbers rise.
+-- If the numbers rise, no message is both lost and taken otherwise.
 pub losses_apart : (side : Side) (n : ℕ) (events : List Event) → IsStrictlySortedBy nat_cmp (numbers_taken side events)
     → IsIn n (losses_from side events) → IsIn n (numbers_taken side (without_losses events)) → ⊥
 losses_apart side n [] rises lost plain = lost

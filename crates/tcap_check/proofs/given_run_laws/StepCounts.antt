@@ -1,4 +1,4 @@
--- How many steps of each kind a run has.
+-- The count of steps of each kind in a run.
 use Rattle.std.proofs.Common.{arith, ◌≡◌, ◌≤◌, ◌<◌, ◌+◌, ℕ, ℤ, zero, suc, Bool, true, false, cond, List, [], ◌∷◌, ◌++◌, filter_map, length, Option, Some, None, Ok, refl, ap}
 use Rattle.std.specs.Prelude.{Contains, is_some, slice_index_or}
 use Rattle.std.specs.List.{cons_option}
@@ -20,26 +20,23 @@ use Rattle.tcap_model.proofs.RunLaws.{grows, runs_keep}
 
 -- ---- sums over lists
 
--- what all of a list count together
+-- the sum of the weights of a list
 abbrev pub total : {X : Type 0} → (X → ℕ) → List X → ℕ
 total weigh [] = 0
 total weigh (x ∷ xs) = weigh x + total weigh xs
 
--- one where a test passes
+-- 1 if the test passes, else 0
 abbrev pub one : {X : Type 0} → (X → Bool) → X → ℕ
 one passes x = cond (passes x) 1 0
 
--- Two lists together count what both do.
 pub total_both : {X : Type 0} (weigh : X → ℕ) (xs ys : List X) → total weigh (xs ++ ys) ≡ total weigh xs + total weigh ys
 total_both weigh [] ys = omega arith
 total_both weigh (x ∷ xs) ys = omega (arith, total_both weigh xs ys)
 
--- Where each counts at most one, they count at most as many as there are.
 pub total_most : {X : Type 0} (weigh : X → ℕ) (xs : List X) → ((x : X) → weigh x ≤ 1) → total weigh xs ≤ length xs
 total_most weigh [] most = omega arith
 total_most weigh (x ∷ xs) most = omega (arith, most x, total_most weigh xs most)
 
--- That is one at most.
 pub one_most : {X : Type 0} (passes : X → Bool) (x : X) → one passes x ≤ 1
 one_most passes x = by (passes x)
   where
@@ -47,7 +44,7 @@ one_most passes x = by (passes x)
     by true = omega arith
     by false = omega arith
 
--- Where a test passes no more than another,
+-- If a test is stricter than another, its 1 is at most that of the other.
 implied_one : {X : Type 0} (p q : X → Bool) (x : X) → (q x ≡ true → p x ≡ true) → one q x ≤ one p x
 implied_one p q x less = by (q x) (p x) less
   where
@@ -57,12 +54,12 @@ implied_one p q x less = by (q x) (p x) less
     by false true less = omega arith
     by false false less = omega arith
 
--- it passes no more of a list,
+-- A stricter test passes at most as many elements.
 no_more : {X : Type 0} (p q : X → Bool) (xs : List X) → ((x : X) → q x ≡ true → p x ≡ true) → total (one q) xs ≤ total (one p) xs
 no_more p q [] less = omega arith
 no_more p q (x ∷ xs) less = omega (arith, implied_one p q x (less x), no_more p q xs less)
 
--- and fewer where one that stands in the list passes the other alone:
+-- It passes fewer, if an element at some index passes only the other test.
 fewer_at : {X : Type 0} (p q : X → Bool) (xs : List X) (x : X) → ((y : X) → q y ≡ true → p y ≡ true) → p x ≡ true → q x ≡ false
     → (k : ℕ) → k < length xs → slice_index_or xs k x ≡ x → total (one q) xs + 1 ≤ total (one p) xs
 fewer_at p q [] x less was gone k below is = absurd (omega (arith, below))
@@ -73,12 +70,11 @@ fewer_at p q (y ∷ xs) x less was gone zero below is =
 fewer_at p q (y ∷ xs) x less was gone (suc k) below is =
     omega (arith, implied_one p q y (less y), fewer_at p q xs x less was gone k (omega (arith, below)) is)
 
--- the same, where the list contains it.
+-- It passes fewer, if an element of the list passes only the other test.
 pub fewer : {X : Type 0} (p q : X → Bool) (xs : List X) (x : X) → ((y : X) → q y ≡ true → p y ≡ true) → p x ≡ true → q x ≡ false
     → Contains xs x → total (one q) xs + 1 ≤ total (one p) xs
 fewer p q xs x less was gone (k, below, is) = fewer_at p q xs x less was gone k below is
 
--- A filtered map gives at most as many.
 pub filter_map_most : {X Y : Type 0} (f : X → Option Y) (xs : List X) → length (filter_map f xs) ≤ length xs
 filter_map_most f [] = omega arith
 filter_map_most {Y = Y} f (x ∷ xs) = by (f x) (filter_map_most f xs)
@@ -87,15 +83,15 @@ filter_map_most {Y = Y} f (x ∷ xs) = by (f x) (filter_map_most f xs)
     by None rest = omega (arith, rest)
     by (Some y) rest = omega (arith, rest)
 
--- ---- what a step counts as
+-- ---- the weight of a step
 
--- one where an event happens to an end unseen
+-- 1 if the event is an expiry or a closing, else 0
 abbrev pub hides : Event → ℕ
 hides (Expires side name id) = 1
 hides (Closes side name) = 1
 hides _ = 0
 
--- one where it adds to the sent list
+-- 1 if the event adds to the sent list, else 0
 abbrev pub joins : Event → ℕ
 joins (Sends side message) = 1
 joins (Replies side number) = 1
@@ -103,7 +99,7 @@ joins Quiet = 1
 joins (Tells side message) = 1
 joins _ = 0
 
--- Each takes a message, adds one, or happens unseen;
+-- Each event takes a message, adds an item, or is hidden.
 each_step : (event : Event) → 1 ≤ length (takes_from A event) + length (takes_from B event) + joins event + hides event
 each_step (Sends side message) = omega arith
 each_step (Receives A number) = omega arith
@@ -116,7 +112,7 @@ each_step (Closes side name) = omega arith
 each_step Quiet = omega arith
 each_step (Tells side message) = omega arith
 
--- so there are at most as many steps as there are of these together.
+-- So there are at most as many steps as these counts add up to.
 pub steps_most : (events : List Event) → length events
     ≤ length (numbers_taken A events) + length (numbers_taken B events) + total joins events + total hides events
 steps_most [] = omega arith
@@ -128,16 +124,16 @@ steps_most (event ∷ events) = omega (
   length-append (takes_from B event) (numbers_taken B events),
 )
 
--- ---- what is taken, and what is sent
+-- ---- taken and sent messages
 
--- Each number is that of one end's message,
+-- Each number is that of a message of one end.
 sent_most : (n : ℕ) (items : List Item) → length (numbers_sent A n items) + length (numbers_sent B n items) ≤ length items
 sent_most n [] = omega arith
 sent_most n (Item.Quiet ∷ items) = omega (arith, sent_most (n + 1) items)
 sent_most n (Sent A message ∷ items) = omega (arith, sent_most (n + 1) items)
 sent_most n (Sent B message ∷ items) = omega (arith, sent_most (n + 1) items)
 
--- and what was taken from a channel was sent.
+-- What was taken from a channel was sent.
 pub taken_most : (table : Table) (events : List Event) (w : World) → Runs table events w
     → length (numbers_taken A events) + length (numbers_taken B events) ≤ length w.sent
 taken_most table events w runs = omega (
@@ -149,7 +145,7 @@ taken_most table events w runs = omega (
   length-append (numbers_taken B events) (numbers_of (channel_from B w)),
 )
 
--- What adds to the sent list adds one item,
+-- An event that adds to the sent list adds one item.
 joins_one : (w : World) (event : Event) (items : List Item) → Adds w event items → joins event ≤ length items
 joins_one w (Sends side m) items adds = rw adds (omega arith)
 joins_one w (Receives side number) items adds = omega arith
@@ -160,7 +156,7 @@ joins_one w (Closes side name) items adds = omega arith
 joins_one w Quiet items adds = rw adds (omega arith)
 joins_one w (Tells side m) items adds = rw adds (omega arith)
 
--- so a run has at most as many such steps as it sends items.
+-- A run has at most as many such steps as it sends items.
 pub joins_most : (table : Table) (events : List Event) (w : World) → Runs table events w → total joins events ≤ length w.sent
 joins_most table = runs_keep table (λ events w. total joins events ≤ length w.sent) (omega arith) by
   where
@@ -172,17 +168,17 @@ joins_most table = runs_keep table (λ events w. total joins events ≤ length w
         let last : total joins (event ∷ []) ≡ joins event = omega arith in
         rw (adds.2, length-append w.sent adds.0, total_both joins before (event ∷ [])) (omega (arith, last, new, kept))
 
--- ---- own invocations that are in use
+-- ---- own invocations in use
 
--- whether one of that ID is, in the half of that name
+-- whether an own invocation with this ID is in use on the half with this name
 abbrev pub in_use : End → Option HalfName → ℤ → Bool
 in_use e name id = is_some (then_so (then_so name (named e)) (λ kept. own_invocation kept.half id))
 
--- It is, where the half is there and has one,
+-- The test passes if the ID is in use.
 is_used : (e : End) (name : HalfName) (id : ℤ) → IsInUse e name id → in_use e (Some name) id ≡ true
 is_used e name id (kept, own, found, has) = rw (found, has) refl
 
--- and there alone.
+-- The test passes only if the ID is in use.
 used_is : (e : End) (name : HalfName) (id : ℤ) → in_use e (Some name) id ≡ true → IsInUse e name id
 used_is e name id is = by (named e name) refl is
   where
@@ -196,13 +192,13 @@ used_is e name id is = by (named e name) refl is
     by None at so = cc
     by (Some kept) at so = found kept (own_invocation kept.half id) at refl so
 
--- One that was in use ended, and none began.
+-- An own invocation that was in use ended, and none began.
 pub record EndsOne (name : HalfName) (id : ℤ) (e next : End) : Type 0 where
   pub was : in_use e (Some name) id ≡ true
   pub gone : in_use next (Some name) id ≡ false
   pub others : (q : ℤ) → in_use next (Some name) q ≡ true → in_use e (Some name) q ≡ true
 
--- That is what an expiry does.
+-- This is the effect of an expiry.
 pub expired : (table : Table) (e next : End) (name : HalfName) (id : ℤ) → IsEnd e
     → expire table e name id ≡ Ok next → EndsOne name id e next
 expired table e next name id sound is = record {

@@ -1,4 +1,4 @@
--- A run and its discards are told by one list of steps.
+-- The events and the discards of a run determine its list of steps.
 use Rattle.std.proofs.Common.{◌≡◌, ◌⊎◌, inl, inr, ℕ, Bool, true, false, List, [], ◌∷◌, ◌++◌, Option, Some, None, refl, sym, ap, ap₂, subst, ◌∙◌, append_assoc, arith}
 use Rattle.std.specs.Prelude.{Contains, filter_map}
 use Rattle.std.specs.List.Sorted.{IsStrictlySortedBy}
@@ -22,12 +22,11 @@ use Rattle.tcap_check.proofs.given_run_laws.NumberLaws.{parts_apart, taken_left,
 
 -- ---- each message is lost once
 
--- What is lost is not taken behind that.
+-- A message that is lost is not taken afterwards.
 abbrev LostOnce : List Event → Type 0
 LostOnce events = (before behind : List Event) (a b : Side) (n : ℕ) → events ≡ before ++ Loses a n ∷ behind
     → IsIn n (numbers_taken b behind) → ⊥
 
--- What a loss takes.
 takes_it : (side : Side) (n : ℕ) (more : List Event) → IsIn n (numbers_taken side (Loses side n ∷ more))
 takes_it side n more = rw (itself side) (inl refl)
 
@@ -66,7 +65,7 @@ lost_once table events w runs before behind a b n are there = by (is_side a b) r
 
 -- ---- steps
 
--- the step, which is no discard, that an event is
+-- the step of an event, other than a discard
 abbrev step_by : Event → Step
 step_by (Sends side m) = steps.Sends side m
 step_by (Tells side m) = steps.Tells side m
@@ -99,7 +98,6 @@ discard_is (steps.Expires side name id) d some = cc
 discard_is (steps.Closes side name) d some = cc
 discard_is steps.Quiet d some = cc
 
--- A discard is a loss.
 lost_is : (s : Step) (d : ℕ × EndFault) → discard_of s ≡ Some d → (side : Side) × (event_of s ≡ Loses side d.0)
 lost_is s d some = let is = discard_is s d some in (is.0, ap event_of is.1)
 
@@ -108,7 +106,6 @@ discards_first : (s : Step) (ss : List Step) (o : Option (ℕ × EndFault)) → 
 discards_first s ss None is = rw is refl
 discards_first s ss (Some d) is = rw is refl
 
--- What is discarded is taken.
 discard_taken : (ss : List Step) (d : ℕ × EndFault) → Contains (discards_of ss) d → (b : Side) × IsIn d.0 (numbers_taken b (events_of ss))
 discard_taken [] d there = absurd (none_in d there)
 discard_taken (s ∷ ss) d there =
@@ -136,7 +133,7 @@ discard_taken (s ∷ ss) d there =
         of (inl same) = here e is same
         of (inr more) = later (rest more)
 
--- A step that is a discard, and another of the same event that is none, leave other discards.
+-- A step that is a discard, and one with the same event that is none, lead to different discards.
 apart_there : (s : Step) (ss os : List Step) (d : ℕ × EndFault) → LostOnce (events_of (s ∷ ss)) → discard_of s ≡ Some d
     → events_of ss ≡ events_of os → d ∷ discards_of ss ≡ discards_of os → ⊥
 apart_there s ss os d once some events discards =
@@ -186,7 +183,7 @@ steps_same (s ∷ ss) (o ∷ os) once events discards =
     by None (Some f) is_s is_o rest e =
         absurd (apart_there o os ss f (subst LostOnce events once) is_o (sym next) (sym e))
 
--- The events of a run, and its discards, are told by one list of steps.
+-- The events and the discards of a run determine its list of steps.
 pub one_list : (table : Table) (ss os : List Step) (w : World) → Runs table (events_of ss) w → events_of ss ≡ events_of os
     → discards_of ss ≡ discards_of os → ss ≡ os
 one_list table ss os w runs = steps_same ss os (lost_once table (events_of ss) w runs)

@@ -1,4 +1,4 @@
--- A certificate that gives a run of both ends gives each of them one, in which nothing is discarded.
+-- A certificate that gives a run of both ends gives each end one, in which nothing is discarded.
 use Rattle.std.proofs.Common.{◌≡◌, ℕ, ◌+◌, ◌==◌, Bool, true, false, cond, List, [], ◌∷◌, ◌++◌, map, filter, length, Some, Result, Ok, Err, refl, sym, ap, ap₂, ◌∙◌, append-nil, None}
 use Rattle.std.specs.Prelude.{◌&&◌, not, ok_or, slice_get}
 use Rattle.std.proofs.lemmas.Bool.{and_parts}
@@ -42,7 +42,7 @@ use Rattle.tcap_check.proofs.one_end_laws.AloneViews.{AreClosed, quiet_closed, s
 
 -- ---- messages
 
--- a gap, and what it leaves in both
+-- a gap, and what it leaves in both replays
 record IsGap (side : Side) (table : Table) (c : Certificate) (r mid s : Replay) : Type 0 where
   made : Replay
   is : gap_by (Some side) table c s ≡ Ok made
@@ -64,11 +64,11 @@ gap_is side table c r mid s is mirrors reached =
       sent = here.sent ∙ append-nil r.world.sent ∙ sym (same_sent side r s mirrors);
     }
 
--- the ties of an entry behind these items
+-- the messages of the peer that the entry after these items takes
 abbrev ties : Side → Certificate → List Item → List ℕ
 ties side c items = filter (is_from (other side) items) (taken_by (length items) 0 c.fates)
 
--- A message of that end.
+-- A message of this end is replayed for the end alone.
 own_item : (side : Side) (table : Table) (c : Certificate) (fate : Fate) (m : Message) (r next s : Replay)
     → own_judged None table c fate side m r ≡ Ok next → Mirrors side r s → IsReached table r.world
     → Reflects side next (own_judged (Some side) table c Lost side m s)
@@ -94,7 +94,7 @@ own_item side table c fate m r next s is mirrors reached =
       mirrors = all_lost_mirrors side next sends.made sends.mirrors;
     }
 
--- One of its peer.
+-- A message of the peer is replayed for the end alone.
 peer_item : (side : Side) (table : Table) (c : Certificate) (fate : Fate) (m : Message) (r next s : Replay)
     → own_judged None table c fate (other side) m r ≡ Ok next → Mirrors side r s → IsReached table r.world
     → Reflects side next (told_replayed table c fate side m s)
@@ -120,9 +120,8 @@ peer_item side table c fate m r next s is mirrors reached =
           mid next gap.made on gap.mirrors;
     }
 
--- ---- a mark
+-- ---- a quiet mark
 
--- Where all are closed none is open.
 none_open : (name : List ℕ → HalfName) (es : List (List ℕ × Half)) → all_closed es ≡ true → open_names name es ≡ []
 none_open name [] is = refl
 none_open name (e ∷ es) is = by (is_closed e.1.phase) is (none_open name es)
@@ -252,7 +251,7 @@ entries_reflect side table c (entry ∷ entries) r next s is mirrors reached =
           mirrors = last.mirrors;
         }
 
--- ---- the whole
+-- ---- the whole record
 
 at_first : (side : Side) → Mirrors side nothing_replayed nothing_replayed
 at_first A = record { world = refl; losses = refl }

@@ -1,4 +1,4 @@
--- What happens in a run of one end, and how many steps such a run has.
+-- The events in a run of one end, and the length of such a run.
 use Rattle.std.proofs.Common.{arith, ◌≡◌, ◌≤◌, ◌+◌, ◌*◌, ℕ, ℤ, Bool, true, false, cond, List, [], ◌∷◌, ◌++◌, filter, length, Some, refl, ap, ◌∙◌}
 use Rattle.std.specs.Prelude.{not}
 use Rattle.std.specs.List.{AllByRecursion}
@@ -22,7 +22,7 @@ use Rattle.tcap_check.proofs.given_run_laws.StepCounts.{taken_most}
 use Rattle.tcap_check.proofs.one_end_laws.AloneLoad.{closes_load, expires_load, load, receives_load, sends_load}
 use Rattle.tcap_model.proofs.WorldLaws.{apart, sent_joined, sent_with_end}
 
--- What happens in a run of one end: it acts, its peer tells, and messages are lost.
+-- An event in a run of one end: an event of the end, a message of its peer, a loss, or a quiet mark.
 abbrev pub IsOwn : Side → Event → Type 0
 IsOwn side (Sends sender message) = sender ≡ side
 IsOwn side (Receives receiver number) = receiver ≡ side
@@ -35,7 +35,7 @@ IsOwn side (Tells teller message) = teller ≡ other side
 
 -- ---- rules
 
--- The end tells nothing.
+-- The end keeps the rules.
 pub own_keeps : (side : Side) (events : List Event) → AllByRecursion (IsOwn side) events → KeepsRules side events
 own_keeps side [] all = refl
 own_keeps side (Tells teller m ∷ events) all = rw (all.0, apart side) (own_keeps side events all.1)
@@ -47,9 +47,9 @@ own_keeps side (Expires actor name id ∷ events) all = own_keeps side events al
 own_keeps side (Closes actor name ∷ events) all = own_keeps side events all.1
 own_keeps side (Quiet ∷ events) all = own_keeps side events all.1
 
--- ---- messages that are not heard
+-- ---- unheard messages
 
--- Each that is lost was taken,
+-- Each lost message was taken.
 lost_taken : (side : Side) (events : List Event)
     → length (filter (is_lost_from side) events) ≤ length (numbers_taken side events)
 lost_taken side [] = omega arith
@@ -84,7 +84,7 @@ lost_taken side (event ∷ events) = by event (lost_taken side events)
     by Quiet rest = rest
     by (Tells teller m) rest = rest
 
--- so there are at most as many as items.
+-- There are at most as many unheard messages as items.
 pub unheard_most : (table : Table) (side : Side) (events : List Event) (w : World) → Runs table events w
     → unheard_of side events ≤ length w.sent
 unheard_most table A events w runs = omega (arith, lost_taken B events, taken_most table events w runs)
@@ -92,11 +92,12 @@ unheard_most table B events w runs = omega (arith, lost_taken A events, taken_mo
 
 -- ---- steps
 
--- what may still happen to the end unseen, and what it may receive, which may happen unseen in turn
+-- the weight of what may still expire or close at the end, and of the messages on their way to it, which may add to
+-- this
 abbrev waiting : Side → World → ℕ
 waiting side w = load (end_at side w) + 2 * length (channel_from (other side) w)
 
--- what the items of a run allow
+-- the bound for these items
 abbrev allowed : List Item → ℕ
 allowed items = 3 * length items + count_components items
 
@@ -141,7 +142,7 @@ waits_lost A B head more w is number = omega (arith, ap length is)
 waits_lost B A head more w is number = omega (arith, ap length is)
 waits_lost B B head more w is number = omega arith
 
--- A step takes no more of what waits, and is no more, than what its items allow.
+-- A step adds at most what its items allow to the count of steps and the weight together.
 abbrev IsAllowed : Side → Event → World → World → Type 0
 IsAllowed side event w next =
     steps_of side (event ∷ []) + waiting side next + allowed w.sent ≤ waiting side w + allowed next.sent
@@ -272,7 +273,7 @@ step_allowed table side Quiet w next sound own is = quiet_allowed table side w n
 step_allowed table side (Tells teller m) w next sound own is =
     tells_allowed table side m w next (rw (← own) is)
 
--- So all steps are no more than what the items allow.
+-- ---- all steps of a run
 own_front : (side : Side) (before : List Event) (event : Event) → AllByRecursion (IsOwn side) (before ++ event ∷ [])
     → AllByRecursion (IsOwn side) before × IsOwn side event
 own_front side [] event all = (tt, all.0)

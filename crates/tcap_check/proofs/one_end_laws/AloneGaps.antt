@@ -1,5 +1,5 @@
--- A gap of both ends, and of one: what is listed of that end and what is delivered to it happens in both, and the rest
--- is not seen.
+-- A gap for both ends, and for one: the events that are listed for the end and the deliveries to it occur in both, and
+-- the others change nothing for the end.
 use Rattle.std.proofs.Common.{◌≡◌, ℕ, ◌+◌, ℤ, ◌==◌, Bool, true, false, cond, List, [], ◌∷◌, length, Some, Result, Ok, option_map, refl, sym, ap, subst, ◌∙◌, None}
 use Rattle.std.specs.Prelude.{◌&&◌, ok_or}
 use Rattle.tcap_record.specs.declared.entry.End.{End as Side}
@@ -28,9 +28,9 @@ use Rattle.tcap_check.specs.declared.listed.Listed.{Listed}
 use Rattle.tcap_check.specs.Listed.{all_replayed, entry_of, event_listed, listed_for, listed_in, listed_judged, listed_replayed, side_of, why_refused}
 use Rattle.tcap_check.proofs.replay_laws.ListedEventLaws.{gap_is_listed, gap_parts, judged_all, listed_so}
 
--- ---- what is listed
+-- ---- listed events
 
--- A hidden event of an end: it is seen by that end, and not by the other.
+-- A hidden event of an end occurs in the view of this end, and changes nothing in the view of the other end.
 record IsHiddenOf (table : Table) (place : Side) (event : Event) : Type 0 where
   seen : (w next : World) → after table event w ≡ Some next
       → after table event (seen_by place w) ≡ Some (seen_by place next)
@@ -60,14 +60,13 @@ hidden_expiry table place name id = record {
   first = λ c r. refl;
 }
 
--- That is what is listed.
 pub other_side : (side place : Side) → is_side side place ≡ false → place ≡ other side
 other_side A A is = cc
 other_side A B is = refl
 other_side B A is = refl
 other_side B B is = cc
 
--- It happens in the second replay too, or it is not seen there.
+-- A listed event occurs in the second replay too, or changes nothing there.
 abbrev IsListed : Side → Replay → Replay → Result Replay CheckFault → Bool → Type 0
 IsListed side next s answer true = Reflects side next answer
 IsListed side next s answer false = Mirrors side next s
@@ -126,7 +125,7 @@ listed_reflect side table c (x ∷ more) r next s is mirrors =
 
 -- ---- deliveries
 
--- What that end receives it receives in both,
+-- A delivery to the end occurs in both replays.
 heard_reflects : (side : Side) (table : Table) (c : Certificate) (n : ℕ) (r next s : Replay)
     → happens table c (Receives side n) BadReply n r ≡ Ok next → Mirrors side r s
     → Reflects side next (heard table c side n s)
@@ -137,7 +136,7 @@ heard_reflects side table c n r next s is mirrors =
     (λ w at. seen_delivery table side n front.world w at) (front_mirrors side c r s mirrors) in
     record { made = taken.made; is = rw (taken.is) refl; mirrors = taken.mirrors }
 
--- and what its peer does is not seen.
+-- A delivery to the peer changes nothing for the end.
 away : (side : Side) (table : Table) (c : Certificate) (n : ℕ) (r next s : Replay)
     → happens table c (Receives (other side) n) BadReply n r ≡ Ok next → Mirrors side r s → Mirrors side next s
 away A table c n r next s is mirrors =
@@ -198,7 +197,7 @@ deliveries_reflect side table c gap n (fate ∷ fates) (item ∷ items) r next s
 
 -- ---- the gap
 
--- a gap for one end, where these items were sent
+-- the deliveries of a gap to one end, after these items
 abbrev heard_at : Table → Certificate → Side → List Item → Replay → Result Replay CheckFault
 heard_at table c side items s =
     all_replayed table c (listed_for (Some side) c (length items)) s >>= deliveries_by (Some side) table c (length items) 0 c.fates items

@@ -1,5 +1,5 @@
--- Behind what is replayed for one end none of its peer's messages is left on its way, and those that it does not hear
--- are lost.
+-- The replay for one end leaves none of its peer's messages on its way, and the unheard messages are those that are
+-- lost.
 use Rattle.std.proofs.Common.{arith, ◌≡◌, ◌≤◌, ◌<◌, ◌⊎◌, inl, inr, ℕ, zero, suc, ◌+◌, ◌==◌, Bool, true, false, cond, List, [], ◌∷◌, map, filter, length, Option, Some, None, Result, Ok, refl, sym, ap, ◌∙◌, append-nil}
 use Rattle.std.specs.Prelude.{get_or, ok_or, slice_get}
 use Rattle.std.specs.List.{AllByRecursion}
@@ -33,9 +33,9 @@ use Rattle.tcap_check.proofs.one_end_laws.AloneTaken.{IsAhead, Took, entries_tak
 use Rattle.tcap_check.proofs.replay_laws.MemberLaws.{IsIn}
 use Rattle.tcap_check.proofs.given_run_laws.NumberLaws.{parts_apart}
 
--- ---- what is left
+-- ---- messages that are left
 
--- Fates that fit are later than their entries.
+-- Fates in range come after their entries.
 fits_behind : (count n i : ℕ) (f : Fate) (fates : List Fate) → FatesFit count n fates → slice_get fates i ≡ Some f
     → ((g : ℕ) → f ≡ Gap g → n + i < g) × ((k : ℕ) → f ≡ By k → n + i < k)
 fits_behind count n i f [] fit at = cc
@@ -68,7 +68,7 @@ counted side table c (entry ∷ entries) r next is =
     let one = then_ok (entry_by (Some side) table c fate.0 entry r) (entries_by (Some side) table c entries) next fate.2 in
     counted side table c entries one.0 next one.2
 
--- What is left on its way is lost by its fate.
+-- Each message that is left on its way has a loss as its fate.
 left_is_lost : (side : Side) (table : Table) (c : Certificate) (r : Replay) → FatesFit (length c.fates) 0 c.fates
     → length r.world.sent ≡ length c.fates → Runs table r.events r.world
     → ((m : OnItsWay) (f : Fate) → slice_get c.fates m.number ≡ Some f → IsAhead f m.number 0 (length c.fates)
@@ -111,7 +111,7 @@ left_is_lost side table c r fit count runs taken =
         let high = fits_reply (length c.fates) 0 c.fates m.number k fit at in
         absurd (apart m there (taken m (By k) at (omega (arith, low), omega arith, high) was))
 
--- So nothing is.
+-- So no message is left.
 pub none_waits : (side : Side) (table : Table) (c : Certificate) (entries : List Entry)
     (events : List Event) (w : World)
     → replayed_by (Some side) table c entries ≡ Ok events → Runs table events w → channel_from (other side) w ≡ []
@@ -139,7 +139,7 @@ none_waits side table c entries events w is runs =
     some_world : {x y : World} → (let o : Option World = Some x in o) ≡ Some y → x ≡ y
     some_world e = cc
 
--- ---- what is not heard
+-- ---- unheard messages
 
 pub unheard_are_lost : (side : Side) (events : List Event) → unheard_of side events
     ≡ length (losses_from (other side) events)

@@ -1,5 +1,4 @@
--- What may still end unseen in an end, its open halves and their own invocations: how each step changes how much that
--- is.
+-- The load of an end, which is the count of its open halves and their own invocations: how each step changes it.
 use Rattle.std.proofs.Common.{arith, ◌≡◌, ◌≤◌, ◌+◌, ℕ, ℤ, Bool, true, false, cond, List, [], ◌∷◌, length, Option, Some, None, Result, Ok, Err, is_none, is_some, refl, subst}
 use Rattle.std.specs.Prelude.{not, ok_or}
 use Rattle.std.specs.BTreeMap.{insert_entry, is_at}
@@ -39,41 +38,39 @@ use Rattle.tcap_end.proofs.FoundLaws.{named_has, own_has, peer_has}
 use Rattle.tcap_end.proofs.HalfLaws.{received_is}
 use Rattle.tcap_check.proofs.one_end_laws.AloneWeights.{half_most, half_over, halves_weigh, put_again, put_most, taken_most, taken_one}
 
--- one where a half in that phase is open
+-- 1 if a half in this phase is open, else 0
 abbrev opens : Phase → ℕ
 opens p = cond (is_closed p) 0 1
 
--- how much of a half may end unseen: itself, where it is open, and its own invocations
+-- the load of a half: itself, if it is open, and its own invocations
 abbrev pub alive : Half → ℕ
 alive h = opens h.phase + length h.out
 
--- how much of an end may
+-- the load of an end
 abbrev pub load : End → ℕ
 load e = halves_weigh alive e
 
 -- ---- halves
 
--- A half is one at most,
 open_most : (p : Phase) → opens p ≤ 1
 open_most phases.Sent = omega arith
 open_most phases.Received = omega arith
 open_most phases.Active = omega arith
 open_most phases.Closed = omega arith
 
--- an open one is one,
 open_one : (p : Phase) → is_closed p ≡ false → opens p ≡ 1
 open_one phases.Sent is = refl
 open_one phases.Received is = refl
 open_one phases.Active is = refl
 open_one phases.Closed is = cc
 
--- and one that has changed its lists alone is alive as far as these say.
+-- If only the lists of a half change, its load grows at most as these do.
 same_phase : (h g : Half) (more : ℕ) → g.phase ≡ h.phase → length g.out ≤ length h.out + more → alive g ≤ alive h + more
 same_phase h g more phase lists = rw phase (omega (arith, lists))
 
 -- ---- components
 
--- The half behind a component that was sent is that one.
+-- The half after a component was sent equals the half that the step returned.
 out_of : (h x g : Half) (most : ℕ) → length x.out ≤ most → (let r : Result Half EndFault = Ok x in r) ≡ Ok g
     → length g.out ≤ most
 out_of h x g most short is = subst (λ (k : Half). length k.out ≤ most) (ok_same {F = EndFault} x g is) short
@@ -134,14 +131,14 @@ components_out table (component ∷ more) h g is =
     let (next, one, rest) = then_ok (send_component table h component) (λ next. send_components table next more) g is in
     omega (arith, component_out table h next component one, components_out table more next g rest)
 
--- Each component that is sent begins one invocation at most,
+-- Each component that is sent begins at most one invocation.
 pub sent_alive : (table : Table) (components : List Component) (h g : Half) → send_components table h components ≡ Ok g
     → alive g ≤ alive h + length components
 sent_alive table components h g is =
     same_phase h g (length components) ((all_sends table components h g is).follows.phase)
     (components_out table components h g is)
 
--- An answer is for an invocation that is there.
+-- An answer does not begin an invocation.
 answer_keeps : (table : Table) (h : Half) (is_result last : Bool) (id : ℤ) → Rises int_cmp h.out
     → length (receive_answer h is_result last id (answered_operation table h id)).out ≤ length h.out
 answer_keeps table h is_result last id rises = by (own_invocation h id) refl
@@ -189,7 +186,7 @@ components_keep table (component ∷ more) h rises =
           (receive_component table h component) next,
     )
 
--- and none that is received does.
+-- No component that is received begins an own invocation.
 pub received_alive : (table : Table) (components : List Component) (h : Half) → Rises int_cmp h.out
     → alive (receive_components table h components) ≤ alive h
 received_alive table components h rises =
@@ -198,21 +195,21 @@ received_alive table components h rises =
     (omega (arith, components_keep table components h rises)) in
     omega (arith, most)
 
--- ---- unseen
+-- ---- hidden steps
 
--- the end behind a step that puts a half is that one
+-- the end after a step that replaces a half equals the end that the step returned
 load_of : (x next : End) (most : ℕ) → load x ≤ most → (let r : Result End EndFault = Ok x in r) ≡ Ok next
     → load next ≤ most
 load_of x next most low is = subst (λ (e : End). load e ≤ most) (ok_same {F = EndFault} x next is) low
 
--- What ends unseen was there, and is no more.
+-- A half with a smaller load makes the load of the end smaller.
 one_fewer : (e : End) (f : KeptHalf) (h : Half) (next : End) → IsEnd e → Has e f → alive h + 1 ≤ alive f.half
     → (let r : Result End EndFault = Ok (put e f.slot f.key h) in r) ≡ Ok next → load next + 1 ≤ load e
 one_fewer e f h next sound had fewer is =
     subst (λ (x : End). load x + 1 ≤ load e) (ok_same {F = EndFault} (put e f.slot f.key h) next is)
     (omega (arith, half_over alive e f h sound had, fewer))
 
--- An invocation ends,
+-- An expiry makes the load smaller.
 pub expires_load : (table : Table) (e next : End) (name : HalfName) (id : ℤ) → IsEnd e
     → expire table e name id ≡ Ok next
     → load next + 1 ≤ load e
@@ -229,7 +226,7 @@ expires_load table e next name id sound is =
     fewer h None found may = cc
     fewer h (Some own) found may = omega (arith, taken_one (is_at (int_cmp id)) own h.out found)
 
--- or a half closes.
+-- A closing makes the load smaller.
 pub closes_load : (table : Table) (e next : End) (name : HalfName) → IsEnd e → close table e name ≡ Ok next
     → load next + 1 ≤ load e
 closes_load table e next name sound is =
@@ -246,12 +243,12 @@ closes_load table e next name sound is =
 
 -- ---- receiving
 
--- A half that is put over one that is as much alive adds nothing.
+-- If a half is replaced, the load of the end grows at most as that of the half.
 put_over : (e : End) (f : KeptHalf) (h : Half) (more : ℕ) → IsEnd e → Has e f → alive h ≤ alive f.half + more
     → load (put e f.slot f.key h) ≤ load e + more
 put_over e f h more sound had most = omega (arith, half_over alive e f h sound had, most)
 
--- A closed half is not alive.
+-- A half that is closed does not add to the load.
 put_closed : (e : End) (f : KeptHalf) (h : Half) → IsEnd e → Has e f
     → load (put e f.slot f.key (closed_half h)) ≤ load e
 put_closed e f h sound had = omega (arith, half_over alive e f (closed_half h) sound had)
@@ -294,7 +291,7 @@ ended_load e (Some f) had sound = by (is_closed f.half.phase)
     by true = omega arith
     by false = put_closed e f f.half sound (had f refl)
 
--- A message that is received begins one half at most.
+-- A message that is received begins at most one half.
 pub receives_load : (table : Table) (e next : End) (m : Message) → IsEnd e → receive table e m ≡ Ok next
     → load next ≤ load e + 1
 receives_load table e next m sound is = by m is
@@ -409,7 +406,7 @@ uni_load table e next dialogue components is =
     by (Ok done) is = load_of e next (load e) (omega arith) is
     by (Err reason) is = cc
 
--- A message that is sent begins one half at most, and an invocation for each component.
+-- A message that is sent begins at most one half, and one invocation for each component.
 pub sends_load : (table : Table) (e next : End) (m : Message) → IsEnd e → send table e m ≡ Ok next
     → load next ≤ load e + 1 + length (components_in m)
 sends_load table e next m sound is = by m is

@@ -1,4 +1,5 @@
--- The replay of both ends and that of one, side by side: the latter is what the former is for that end.
+-- The replay for both ends and the replay for one, side by side: the second is the view that the one end has of the
+-- first.
 use Rattle.std.proofs.Common.{◌≡◌, ℕ, List, [], ◌∷◌, ◌++◌, map, length, drop, Some, Result, Ok, refl, sym, ap, ap₂, ◌∙◌, append_assoc, append-nil}
 use Rattle.tcap_record.specs.declared.entry.End.{End as Side}
 use Rattle.tcap_record.specs.declared.entry.End.TheVariants.{A, B}
@@ -28,13 +29,11 @@ losses_both side (x ∷ xs) ys =
     ∙ sym (append_assoc (loss_of side x) (losses_from side xs) (losses_from side ys))
     ∙ ap (λ (front : List ℕ). front ++ losses_from side ys) (sym (losses_first side x xs))
 
--- More steps with the same losses lose the same.
 pub more_losses : (side : Side) (xs ys us vs : List Event) → losses_from side xs ≡ losses_from side ys
     → losses_from side us ≡ losses_from side vs → losses_from side (xs ++ us) ≡ losses_from side (ys ++ vs)
 more_losses side xs ys us vs before behind =
     losses_both side xs us ∙ ap₂ (λ (a b : List ℕ). a ++ b) before behind ∙ sym (losses_both side ys vs)
 
--- What one end loses is none of the other's.
 own_lost : (side : Side) (numbers : List ℕ) → losses_from (other side) (map (Loses side) numbers) ≡ []
 own_lost side [] = refl
 own_lost side (n ∷ numbers) = by side (own_lost side numbers)
@@ -46,12 +45,12 @@ own_lost side (n ∷ numbers) = by side (own_lost side numbers)
 
 -- ---- both replays
 
--- The second replay stands as the first does for that end, and of the peer's messages the same were lost.
+-- The second replay is in the state that the end sees of the first, and the same messages of the peer were lost.
 pub record Mirrors (side : Side) (r s : Replay) : Type 0 where
   pub world : s.world ≡ seen_by side r.world
   pub losses : losses_from (other side) s.events ≡ losses_from (other side) r.events
 
--- The same but for what is on its way from that end, which is no matter.
+-- This holds except for the messages on their way from the end, which do not matter.
 pub record MirrorsBut (side : Side) (r s : Replay) : Type 0 where
   pub world : with_channel side [] s.world ≡ seen_by side r.world
   pub losses : losses_from (other side) s.events ≡ losses_from (other side) r.events
@@ -63,7 +62,7 @@ pub same_channel : (side : Side) (r s : Replay) → Mirrors side r s
     → channel_from (other side) s.world ≡ channel_from (other side) r.world
 same_channel side r s is = ap (channel_from (other side)) is.world ∙ seen_channel side r.world
 
--- A step of the peer is not seen.
+-- A step of the peer changes nothing for the end.
 pub unseen_step : (side : Side) (table : Table) (event : Event) (r next s : Replay)
     → losses_from (other side) (event ∷ []) ≡ []
     → stepped table event r ≡ Some next
@@ -78,7 +77,7 @@ unseen_step side table event r next s none is same mirrors =
           ∙ ap (λ (x : Replay). losses_from (other side) x.events) found.2;
     }
 
--- A step of that end is taken by both.
+-- Both replays make a step of the end.
 pub record Steps (side : Side) (table : Table) (event : Event) (next s : Replay) : Type 0 where
   pub made : Replay
   pub is : stepped table event s ≡ Some made
@@ -102,7 +101,7 @@ seen_step side table event r next s is same mirrors =
       };
     }
 
--- What of the peer's is lost at the front is lost in both,
+-- The losses at the front of the peer's channel occur in both replays.
 pub front_mirrors : (side : Side) (c : Certificate) (r s : Replay) → Mirrors side r s
     → Mirrors side (lost_from_front c (other side) r) (lost_from_front c (other side) s)
 front_mirrors side c r s is =
@@ -115,7 +114,7 @@ front_mirrors side c r s is =
           (ap (λ (x : List OnItsWay). losses_from (other side) (map (Loses (other side)) (lost_front c.fates x))) same);
     }
 
--- and what of its own is is not seen.
+-- The losses at the front of the end's own channel change nothing for the end.
 pub own_front_mirrors : (side : Side) (c : Certificate) (r s : Replay) → Mirrors side r s
     → Mirrors side (lost_from_front c side r) s
 own_front_mirrors side c r s is = record {
@@ -131,7 +130,7 @@ both_fronts_mirror A c r s is = front_mirrors A c (lost_from_front c A r) s (own
 both_fronts_mirror B c r s is =
     own_front_mirrors B c (lost_from_front c A r) (lost_from_front c A s) (front_mirrors B c r s is)
 
--- What that end sent is lost at once.
+-- The messages of the end are lost at once.
 pub all_lost_mirrors : (side : Side) (r s : Replay) → MirrorsBut side r s → Mirrors side r (all_lost_from side s)
 all_lost_mirrors side r s is =
     let channel = channel_from side s.world in record {
@@ -141,9 +140,9 @@ all_lost_mirrors side r s is =
           ∙ append-nil (losses_from (other side) s.events) ∙ is.losses;
     }
 
--- ---- answers
+-- ---- results
 
--- The second replay goes on too, and stands as the first does behind it.
+-- The second replay goes on too, and mirrors the first afterwards.
 pub record Reflects (side : Side) (next : Replay) (answer : Result Replay CheckFault) : Type 0 where
   pub made : Replay
   pub is : answer ≡ Ok made

@@ -1,4 +1,4 @@
--- What is replayed for one end is a run of that end, part by part.
+-- The replay for one end is a run of this end, part by part.
 use Rattle.std.proofs.Common.{◌≡◌, ℕ, ◌+◌, ◌==◌, Bool, true, false, cond, List, [], ◌∷◌, map, filter, length, Option, Some, None, Result, Ok, Err, refl, sym, ap₂, subst, ◌∙◌, ap, append-nil}
 use Rattle.std.specs.Prelude.{◌&&◌, not, ok_or, slice_get}
 use Rattle.std.specs.List.{AllByRecursion}
@@ -34,7 +34,7 @@ use Rattle.tcap_model.proofs.ListLaws.{all_weaker}
 
 -- ---- a gap
 
--- What is listed of that end is its own.
+-- The events that are selected for the end are its own.
 all_passed : {X : Type 0} (p : X → Bool) (xs : List X) → AllByRecursion (λ x. p x ≡ true) (filter p xs)
 all_passed p [] = tt
 all_passed {X} p (x ∷ xs) = by (p x) refl (all_passed p xs)
@@ -49,7 +49,7 @@ listed_own : (side : Side) (items : List Item) (x : Listed) (event : Event) → 
 listed_own side items x event of_side =
     let mine = sym (same_side side (side_of x) of_side) in listed_so (IsOwn side) items x (λ name. mine) (λ name id. mine) event
 
--- Where each that is listed is, the events are.
+-- If each listed event is the end's own, all events are.
 all_own : {X : Type 0} (side : Side) (of : X → Option Event) (passes : X → Bool) (xs : List X) (events : List Event)
     → ((x : X) (event : Event) → passes x ≡ true → of x ≡ Some event → IsOwn side event)
     → AllByRecursion (λ x. passes x ≡ true) xs → map Some events ≡ map of xs → AllByRecursion (IsOwn side) events
@@ -68,7 +68,7 @@ listed_lead side table c listed r next is =
     (all_own side (event_listed r.world.sent) (λ x. is_side side (side_of x)) mine found.0 (listed_own side r.world.sent)
     (all_passed (λ x. is_side side (side_of x)) listed) found.1)
 
--- A message is received, or lost.
+-- A message is received or lost.
 pub heard_leads : (side : Side) (table : Table) (c : Certificate) (n : ℕ) (r next : Replay)
     → heard table c side n r ≡ Ok next
     → Leads side table r [] next
@@ -141,7 +141,7 @@ implied_own : (side : Side) (m : Message) (events : List Event) → AllByRecursi
 implied_own side m events all =
     all_weaker (IsImplied (Sent side m)) (IsOwn side) events (implied_so (IsOwn side) side m (λ name id over. refl)) all
 
--- The end sends it, or its provider.
+-- The end, or its provider, sends the message.
 message_leads : (side : Side) (table : Table) (c : Certificate) (m : Message) (o : Option Event) (r next : Replay)
     → message_by table c side m o r ≡ Ok next → Leads side table r (Sent side m ∷ []) next
 message_leads side table c m None r next is = cc
@@ -162,7 +162,7 @@ message_leads side table c m (Some (Closes actor name)) r next is = cc
 message_leads side table c m (Some Quiet) r next is = cc
 message_leads side table c m (Some (Tells teller n)) r next is = cc
 
--- Behind the gap before a message of the end,
+-- A message of the end, after the gap before it.
 pub own_rest : (side : Side) (table : Table) (c : Certificate) (m : Message) (o : Option Event) (r next : Replay)
     → (message_by table c side m o r >>= λ sent. Ok (all_lost_from side sent)) ≡ Ok next
     → Leads side table r (Sent side m ∷ []) next
@@ -172,7 +172,7 @@ own_rest side table c m o r next is =
     (leads_then side table r sent.0 (all_lost_from side sent.0) (Sent side m ∷ []) []
     (message_leads side table c m o r sent.0 sent.1) (all_lost_leads side table sent.0))
 
--- A gap takes no message for the entry behind it.
+-- A gap does not change which messages the entry after it takes.
 pub tied_behind : (side : Side) (table : Table) (c : Certificate) (r behind : Replay) → gap_by (Some side) table c r ≡ Ok behind
     → tied (Some side) c behind ≡ tied (Some side) c r
 tied_behind side table c r behind is =
@@ -187,7 +187,7 @@ own_leads side table c m r next is =
     leads_then side table r gap.0 next [] (Sent side m ∷ []) (gap_leads side table c r gap.0 gap.1)
     (own_rest side table c m (sending_by c (next_entry gap.0) (Sent side m) (tied (Some side) c gap.0)) gap.0 next gap.2)
 
--- or of its peer.
+-- A message of the peer, after the gap before it.
 pub peer_rest : (side : Side) (table : Table) (m : Message) (so : Bool) (fault : CheckFault) (r next : Replay)
     → (needs so fault >> Ok (with_step (Tells (other side) m) r (joined (other side) m r.world))) ≡ Ok next
     → Leads side table r (Sent (other side) m ∷ []) next
@@ -206,7 +206,7 @@ peer_leads side table c fate m r next is =
     leads_then side table r gap.0 next [] (Sent (other side) m ∷ []) (gap_leads side table c r gap.0 gap.1)
     (peer_rest side table m (is_nothing (tied (Some side) c r)) (fault_at BadReply (next_entry r)) gap.0 next gap.2)
 
--- ---- a mark
+-- ---- a quiet mark
 
 pub closed_leads : (side : Side) (table : Table) (mark : ℕ) (halves : List HalfName) (r next : Replay)
     → closed_at_mark table side mark halves r ≡ Ok next → Leads side table r [] next
@@ -220,7 +220,7 @@ closed_leads side table mark (name ∷ more) r next is =
     (step_leads side table (Closes side name) [] r one.0 refl step (λ adds none. none))
     (closed_leads side table mark more one.0 next one.2)
 
--- Behind the gap before a mark.
+-- A quiet mark, after the gap before it.
 pub mark_rest : (side : Side) (table : Table) (c : Certificate) (so : Bool) (fault : CheckFault) (entry : ℕ)
     (r next : Replay)
     → (needs so fault
@@ -262,7 +262,7 @@ item_leads side table c fate (Sent sender m) r next is = by side sender is
     by B A is = peer_leads B table c fate m r next is
     by B B is = own_leads B table c m r next is
 
--- Entries that were replayed are these items.
+-- The entries that were replayed are these items.
 pub record AreHeard (side : Side) (table : Table) (entries : List (Result Item Reason)) (r next : Replay) : Type 0 where
   pub items : List Item
   pub are : map ok_item items ≡ entries

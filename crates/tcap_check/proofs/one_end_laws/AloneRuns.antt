@@ -1,4 +1,4 @@
--- What a certificate gives for one end is a run of that end, which sends the entries.
+-- What a certificate gives for one end is a run of this end that sends the entries.
 use Rattle.std.proofs.Common.{arith, ◌≡◌, List, [], ◌++◌, map, length, Ok, sym, ap, subst, ◌∙◌, append-nil, Some}
 use Rattle.tcap_record.specs.declared.entry.End.{End as Side}
 use Rattle.tcap_record.specs.declared.entry.Entry.{Entry}
@@ -18,7 +18,7 @@ use Rattle.tcap_check.proofs.one_end_laws.AloneCounts.{own_keeps, own_most, unhe
 use Rattle.tcap_check.proofs.one_end_laws.AloneReplays.{entries_lead}
 use Rattle.tcap_check.proofs.one_end_laws.AloneSteps.{Leads, front_leads, leads_then}
 
--- Steps of a run of that end that send these items are such a run.
+-- Steps that lead from nothing to these items are such a run.
 led_from_nothing : (side : Side) (table : Table) (c : Certificate) (entries : List Entry) (items : List Item)
     (next : Replay)
     → AreItems entries items → length items ≡ length entries → Leads side table nothing_replayed items next

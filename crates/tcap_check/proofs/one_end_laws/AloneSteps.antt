@@ -1,4 +1,4 @@
--- Parts of a replay for one end: steps of a run of that end, one after the other.
+-- Parts of a replay for one end: the steps of a run of this end, in order.
 use Rattle.std.proofs.Common.{◌≡◌, ℕ, List, [], ◌∷◌, ◌++◌, map, length, drop, Some, refl, sym, ap, subst, ◌∙◌, append_assoc, append-nil}
 use Rattle.std.specs.List.{AllByRecursion}
 use Rattle.std.proofs.lemmas.Bool.{eq-eqb}
@@ -19,7 +19,7 @@ use Rattle.tcap_model.proofs.WorldLaws.{with_same}
 use Rattle.tcap_model.proofs.WorldLaws.{sent_with_channel}
 use Rattle.tcap_check.proofs.one_end_laws.AloneCounts.{IsOwn}
 
--- Steps of a run of that end lead from the one to the other, and add these items to the sent list.
+-- Steps of a run of the end lead from one replay to the other, and add these items to the sent list.
 pub record Leads (side : Side) (table : Table) (r : Replay) (items : List Item) (next : Replay) : Type 0 where
   pub steps : List Event
   pub extends : Extends table r steps next
@@ -39,9 +39,9 @@ leads_then side table r mid next before behind a b = record {
   sent = b.sent ∙ ap (λ (x : List Item). x ++ behind) a.sent ∙ append_assoc r.world.sent before behind;
 }
 
--- ---- what is replayed as in a run of two ends
+-- ---- parts of a run of two ends
 
--- Losses are such steps.
+-- Losses are allowed in a run of one end.
 with_losses : (side : Side) (events : List Event) → AllByRecursion (IsOwn side) (without_losses events)
     → AllByRecursion (IsOwn side) events
 with_losses side [] all = tt
@@ -54,7 +54,7 @@ with_losses side (Closes actor name ∷ events) all = (all.0, with_losses side e
 with_losses side (Quiet ∷ events) all = (all.0, with_losses side events all.1)
 with_losses side (Tells teller m ∷ events) all = (all.0, with_losses side events all.1)
 
--- So only the others have to be.
+-- So only the other events have to be the end's own.
 pub replays_lead : (side : Side) (table : Table) (r next : Replay) (plain : List Event) (items : List Item)
     → Replays table r plain items next → AllByRecursion (IsOwn side) plain → Leads side table r items next
 replays_lead side table r next plain items a all = record {
@@ -70,7 +70,7 @@ front_leads side table c sender r = replays_lead side table r _ [] [] (losing_re
 
 -- ---- one step
 
--- what a step adds
+-- the items that a step adds
 pub stepped_adds : (table : Table) (event : Event) (r next : Replay) → stepped table event r ≡ Some next
     → (items : List Item) × Adds r.world event items × (next.world.sent ≡ r.world.sent ++ items)
 stepped_adds table event r next is =
@@ -90,19 +90,19 @@ step_leads side table event items r next own is adds =
       sent = s.2 ∙ ap (λ (x : List Item). r.world.sent ++ x) (adds s.0 s.1);
     }
 
--- The peer tells a message.
+-- The peer sends any message.
 pub told_leads : (side : Side) (table : Table) (m : Message) (r : Replay)
     → Leads side table r (Sent (other side) m ∷ []) (with_step (Tells (other side) m) r (joined (other side) m r.world))
 told_leads side table m r = step_leads side table (Tells (other side) m)
     (Sent (other side) m ∷ []) r _ refl refl (λ adds is. is)
 
--- ---- all is lost
+-- ---- all messages are lost
 
 pub drop_all : (messages : List OnItsWay) → drop (length (numbers_of messages)) messages ≡ []
 drop_all [] = refl
 drop_all (m ∷ messages) = drop_all messages
 
--- What is on its way may be lost.
+-- All messages on their way may be lost.
 all_plays : (table : Table) (side : Side) (channel : List OnItsWay) (w : World) → channel_from side w ≡ channel
     → played table (map (Loses side) (numbers_of channel)) w ≡ Some (with_channel side [] w)
 all_plays table side [] w is =

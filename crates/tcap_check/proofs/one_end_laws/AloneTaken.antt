@@ -1,4 +1,4 @@
--- What is replayed for one end takes each of its peer's messages.
+-- The replay for one end takes each of its peer's messages.
 use Rattle.std.proofs.Common.{arith, ◌≡◌, ◌≤◌, ◌<◌, ◌⊎◌, inl, inr, ℕ, zero, suc, ◌+◌, ◌==◌, Bool, true, false, cond, List, [], ◌∷◌, length, Option, Some, None, Result, Ok, Err, refl, sym, ap, ap₂, subst, ◌∙◌}
 use Rattle.std.specs.Prelude.{◌&&◌, not, ok_or, slice_get}
 use Rattle.std.proofs.lemmas.Bool.{eq-eqb, eqb-false, eqb-true}
@@ -36,11 +36,10 @@ use Rattle.tcap_check.proofs.given_run_laws.NothingLeftLaws.{among_filter}
 use Rattle.tcap_check.proofs.replay_laws.ListedEventLaws.{gap_parts}
 use Rattle.tcap_check.proofs.replay_laws.MemberLaws.{IsIn}
 
--- The message of that number was taken from the peer's channel.
+-- The message with this number was taken from the peer's channel.
 abbrev pub Took : Side → ℕ → Replay → Type 0
 Took side n r = IsIn n (numbers_taken (other side) r.events)
 
--- It stays taken.
 pub took_on : (side : Side) (table : Table) (n : ℕ) (r : Replay) (items : List Item) (next : Replay)
     → Leads side table r items next
     → Took side n r → Took side n next
@@ -48,7 +47,7 @@ took_on side table n r items next leads took =
     subst (λ (events : List Event). IsIn n (numbers_taken (other side) events)) (sym leads.extends.events)
     (taken_left (other side) n r.events leads.steps took)
 
--- A step that takes it,
+-- A step takes the message.
 took_by : (side : Side) (table : Table) (n : ℕ) (event : Event) (r next : Replay)
     → takes_from (other side) event ≡ n ∷ []
     → stepped table event r ≡ Some next → Took side n next
@@ -65,7 +64,7 @@ lost_takes : (side : Side) (n : ℕ) → takes_from (other side) (Loses (other s
 lost_takes A n = refl
 lost_takes B n = refl
 
--- as where it is received or discarded.
+-- The message is received or discarded, and so taken.
 heard_takes : (side : Side) (table : Table) (c : Certificate) (n : ℕ) (r next : Replay)
     → heard table c side n r ≡ Ok next
     → Took side n next
@@ -85,7 +84,7 @@ heard_takes side table c n r next is =
         subst (λ (x : List Event). IsIn n (numbers_taken (other side) x)) (sym d.events)
         (took_by side table n (Loses (other side) n) before d.lost (lost_takes side n) d.step)
 
--- In a gap each message of the peer that has it is taken,
+-- A gap takes each message of the peer whose fate it is.
 deliveries_take : (side : Side) (table : Table) (c : Certificate) (m : Message) (gap n i : ℕ) (fates : List Fate)
     (items : List Item)
     (r next : Replay) → deliveries_by (Some side) table c gap n fates items r ≡ Ok next → slice_get fates i ≡ Some (Gap gap)
@@ -122,9 +121,9 @@ gap_takes side table c m n r next is fate item =
     subst (λ (k : ℕ). Took side k next) e
     (deliveries_take side table c m (next_entry r) 0 n c.fates r.world.sent parts.0 next parts.2 fate item)
 
--- ---- ties
+-- ---- messages that an entry takes
 
--- A message of the peer whose fate is the next entry is tied to it.
+-- A message of the peer whose fate is the next entry is taken by this entry.
 is_tied : (side : Side) (c : Certificate) (m : Message) (n : ℕ) (r : Replay) → slice_get c.fates n
     ≡ Some (By (next_entry r))
     → slice_get r.world.sent n ≡ Some (Sent (other side) m) → IsIn n (tied (Some side) c r)
@@ -134,11 +133,10 @@ is_tied side c m n r fate item =
     (rw item (itself (other side)))
     (subst (λ (k : ℕ). IsIn k (taken_by (next_entry r) 0 c.fates)) e (replied_at (next_entry r) 0 n c.fates fate))
 
--- Where nothing is tied none is.
 not_tied : (numbers : List ℕ) (n : ℕ) → is_nothing numbers ≡ true → IsIn n numbers → ⊥
 not_tied numbers n none is = subst (IsIn n) (nothing_is numbers none) is
 
--- The Abort that is a reply takes what is tied to it.
+-- The Abort that is a reply takes its message.
 message_takes : (side : Side) (table : Table) (c : Certificate) (m : Message) (n k : ℕ) (taken : List ℕ)
     (r next : Replay)
     → message_by table c side m (sending_by c k (Sent side m) taken) r ≡ Ok next → IsIn n taken → Took side n next
@@ -167,13 +165,13 @@ message_takes side table c m n k taken r next is tied = by (sending_by c k (Sent
 
 -- ---- entries
 
--- The next gap or the next entry takes what has that fate.
+-- The fate is the next gap or the next entry.
 abbrev pub IsNext : Fate → ℕ → Type 0
 IsNext (Gap gap) k = gap ≡ k
 IsNext (By reply) k = reply ≡ k
 IsNext Lost k = ⊥
 
--- What the gap takes is taken; what is tied is taken where the entry takes it.
+-- The message is taken by the next gap, or by the next entry, if this is its fate.
 by_next : (side : Side) (table : Table) (c : Certificate) (m : Message) (n : ℕ) (f : Fate) (r mid : Replay)
     (items : List Item)
     (next : Replay) → gap_by (Some side) table c r ≡ Ok mid → Leads side table mid items next
@@ -246,13 +244,13 @@ item_takes side table c own (Sent sender sent) m n f r next is fate now item = b
     by B A is item = peer_takes B table c own sent m n f r next is fate now item
     by B B is item = own_takes B table c sent m n f r next is fate now item
 
--- The message of that number has a fate that is still to come.
+-- The fate of the message with this number is still to come.
 abbrev pub IsAhead : Fate → ℕ → ℕ → ℕ → Type 0
 IsAhead (Gap gap) n k count = (n < gap) × (k ≤ gap) × (gap ≤ count)
 IsAhead (By reply) n k count = (n < reply) × (k ≤ reply) × (reply < count)
 IsAhead Lost n k count = ⊥
 
--- It is the next, or is still to come behind the next entry.
+-- The fate is the next, or is still to come after the next entry.
 next_or_ahead : (f : Fate) (n k count : ℕ) → IsAhead f n k count
     → ((n < k) × IsNext f k) ⊎ IsAhead f n (k + 1) count
 next_or_ahead (Gap gap) n k count ahead = by (gap == k) refl
@@ -269,14 +267,14 @@ next_or_ahead (By reply) n k count ahead = by (reply == k) refl
         inr (ahead.0, omega (arith, ahead.1, apart), ahead.2)
 next_or_ahead Lost n k count ahead = absurd ahead
 
--- What was sent before stands where it stood.
+-- An item that was sent before keeps its place.
 sent_before : (side : Side) (table : Table) (n : ℕ) (r : Replay) (items : List Item) (next : Replay) (item : Item)
     → Leads side table r items next → n < next_entry r → slice_get next.world.sent n ≡ Some item
     → slice_get r.world.sent n ≡ Some item
 sent_before side table n r items next item leads before is =
     sym (get_before r.world.sent items n before) ∙ sym (ap (λ (all : List Item). slice_get all n) leads.sent) ∙ is
 
--- So all is taken whose fate is still to come.
+-- So each message whose fate is still to come is taken.
 pub entries_take : (side : Side) (table : Table) (c : Certificate) (entries : List (Result Item Reason))
     (r next : Replay) (m : Message)
     (n : ℕ) (f : Fate) → entries_by (Some side) table c entries r ≡ Ok next → slice_get c.fates n ≡ Some f

@@ -1,5 +1,5 @@
--- A message of both ends' run, for one of them: what it takes is the peer's where that end sends it, and where the peer
--- does, the end's own, which says nothing here.
+-- A message in a run of both ends, seen by one end. A message of the end takes messages of the peer. A message of the
+-- peer takes messages of the end, which do not matter here.
 use Rattle.std.proofs.Common.{◌≡◌, ℕ, ℤ, Bool, true, false, List, [], ◌∷◌, ◌++◌, filter, filter_map, length, Option, Some, None, Result, Ok, Err, option_map, refl, sym, ap, ap₂, subst, ◌∙◌, append-nil}
 use Rattle.std.specs.Prelude.{slice_get}
 use Rattle.std.specs.List.{AllByRecursion}
@@ -35,13 +35,13 @@ use Rattle.tcap_model.proofs.WorldLaws.{itself, sent_joined}
 use Rattle.tcap_check.proofs.one_end_laws.AloneMirrors.{Mirrors, MirrorsBut, front_mirrors, more_losses, own_front_mirrors, same_sent, unseen_step}
 use Rattle.tcap_check.proofs.one_end_laws.AloneViews.{seen_by, seen_end, seen_sent, seen_expiry, seen_reply, seen_sending, seen_told, unseen_channel, unseen_end}
 
--- ---- runs that lead there
+-- ---- worlds that runs lead to
 
--- Some run leads to the world.
+-- Some run leads to this world.
 abbrev pub IsReached : Table → World → Type 0
 IsReached table w = (events : List Event) × Runs table events w
 
--- So does one more part of it.
+-- Some run leads to the world after more events.
 pub reached_on : (table : Table) (events : List Event) (w next : World) → IsReached table w
     → played table events w ≡ Some next
     → IsReached table next
@@ -55,7 +55,7 @@ head_sent table sender w head more n (events, runs) channel is =
     let all = subst (AllByRecursion (WasSent w sender)) channel (were_sent table events w runs sender) in
     sym (ap (slice_get w.sent) is) ∙ all.0.listed
 
--- Where a reply was replayed, the message that it takes was sent by the other end.
+-- The other end sent the message that a reply takes.
 pub reply_takes : (table : Table) (c : Certificate) (side : Side) (abort : Message) (n : ℕ) (r next : Replay)
     → IsReached table r.world → reply_replayed table c side abort n r ≡ Ok next
     → (m : Message) × (slice_get r.world.sent n ≡ Some (Sent (other side) m))
@@ -72,13 +72,13 @@ reply_takes table c side abort n r next reached is =
           ∙ head_sent table (other side) front.world took.head took.more n there took.channel took.number_is,
     )
 
--- whether a number is that of a message of that end
+-- whether a number is that of a message of this end
 abbrev pub is_from : Side → List Item → ℕ → Bool
 is_from side items n = is_sent_by side (slice_get items n)
 
--- ---- the end sends
+-- ---- messages of the end
 
--- Implied expiries happen in both.
+-- The implied expiries occur in both replays.
 implied_mirrors : (side : Side) (table : Table) (name : HalfName) (ids : List ℤ) (r s : Replay) → Mirrors side r s
     → Mirrors side (implied table side name ids r) (implied table side name ids s)
 implied_mirrors side table name [] r s mirrors = mirrors
@@ -106,7 +106,7 @@ over_mirrors side table m None r s mirrors = mirrors
 over_mirrors side table m (Some name) r s mirrors =
     implied_mirrors side table name (filter_map invoke_id (components_in m)) r s mirrors
 
--- The second replay goes on too, and stands as the first does, but for what is on its way from that end.
+-- The second replay goes on too, and mirrors the first afterwards, except for the messages on their way from the end.
 pub record ReflectsBut (side : Side) (next : Replay) (answer : Result Replay CheckFault) : Type 0 where
   pub made : Replay
   pub is : answer ≡ Ok made
@@ -176,7 +176,7 @@ reply_reflects side table c abort n r next s is mirrors =
       };
     }
 
--- What an own message takes is the peer's: no tie is left out.
+-- A message of the end takes only messages of the peer, so none is left out.
 own_ties : (side : Side) (table : Table) (c : Certificate) (m : Message) (n : ℕ) (taken : List ℕ) (r next : Replay)
     → IsReached table r.world → message_by table c side m (sending_by c n (Sent side m) taken) r ≡ Ok next
     → filter (is_from (other side) r.world.sent) taken ≡ taken
@@ -202,7 +202,7 @@ own_ties side table c m n taken r next reached is = by (sending_by c n (Sent sid
     by None at e = cc
     by (Some event) at e = sent event (sender_is c n (Sent side m) taken event at) e
 
--- An own message is sent in both.
+-- A message of the end is sent in both replays.
 message_reflects : (side : Side) (table : Table) (c : Certificate) (m : Message) (o : Option Event) (r next s : Replay)
     → message_by table c side m o r ≡ Ok next → Mirrors side r s → ReflectsBut side next (message_by table c side m o s)
 message_reflects side table c m None r next s is mirrors = cc
@@ -230,13 +230,13 @@ own_reflects side table c m n taken r next s reached is mirrors =
     (sym (own_ties side table c m n taken r next reached is))
     (message_reflects side table c m (sending_by c n (Sent side m) taken) r next s is mirrors)
 
--- ---- its peer does
+-- ---- messages of the peer
 
--- the peer's peer is that end
+-- the peer's peer is this end
 abbrev back : Side → Side
 back side = other (other side)
 
--- What happens to the peer is not seen.
+-- The peer's expiries change nothing for the end.
 implied_away : (side : Side) (table : Table) (name : HalfName) (ids : List ℤ) (r s : Replay) → Mirrors side r s
     → Mirrors side (implied table (other side) name ids r) s
 implied_away side table name [] r s mirrors = mirrors
@@ -258,7 +258,7 @@ over_away side table m None r s mirrors = mirrors
 over_away side table m (Some name) r s mirrors =
     implied_away side table name (filter_map invoke_id (components_in m)) r s mirrors
 
--- the second replay behind a message that the peer tells
+-- the second replay after a message of the peer
 abbrev pub told : Side → Message → Replay → Replay
 told side m s = with_step (Tells (other side) m) s (joined (other side) m s.world)
 
@@ -293,7 +293,6 @@ unseen_back : (side : Side) (more : List OnItsWay) (w : World)
 unseen_back A more w = unseen_channel A more w
 unseen_back B more w = unseen_channel B more w
 
--- A provider's Abort is the message that was replayed.
 same_message : (side : Side) (a b : Message) (items : List Item) → items ++ Sent side a ∷ [] ≡ items ++ Sent side b ∷ []
     → a ≡ b
 same_message side a b items is =
@@ -338,7 +337,7 @@ not_back : (side : Side) → is_side (other side) (back side) ≡ false
 not_back A = refl
 not_back B = refl
 
--- What the peer's message takes is that end's: no tie is left.
+-- A message of the peer takes only messages of the end, so none of the peer's is left.
 pub peer_ties : (side : Side) (table : Table) (c : Certificate) (m : Message) (n : ℕ) (taken : List ℕ) (r next : Replay)
     → IsReached table r.world
     → message_by table c (other side) m (sending_by c n (Sent (other side) m) taken) r ≡ Ok next
@@ -366,7 +365,7 @@ peer_ties side table c m n taken r next reached is = by (sending_by c n (Sent (o
     by None at e = cc
     by (Some event) at e = sent event (sender_is c n (Sent (other side) m) taken event at) e
 
--- A message of the peer is told.
+-- A message of the peer is sent in the second replay by `Tells`.
 pub peer_mirrors : (side : Side) (table : Table) (c : Certificate) (m : Message) (o : Option Event) (r next s : Replay)
     → message_by table c (other side) m o r ≡ Ok next → Mirrors side r s → Mirrors side next (told side m s)
 peer_mirrors side table c m None r next s is mirrors = cc

@@ -1,5 +1,5 @@
--- What a run of two ends is for one of them: its own end, what is on its way to it, and the sent list. Of its peer, and
--- of what is on its way there, nothing is left.
+-- The view that one end has of a run of two: its own state, the messages on their way to it, and the sent list. The
+-- peer's state, and the messages on their way to the peer, are left out.
 use Rattle.std.proofs.Common.{◌≡◌, ℕ, ℤ, ◌==◌, Bool, true, false, List, [], ◌∷◌, ◌++◌, Some, Result, Ok, Err, option_map, refl}
 use Rattle.std.specs.Prelude.{◌&&◌}
 use Rattle.std.specs.Result.{result_ok}
@@ -20,7 +20,7 @@ use Rattle.tcap_model.specs.World.{Item, OnItsWay, World, channel_from, end_at, 
 use Rattle.tcap_model.specs.Run.{Receives, Replies, Expires, Closes, Quiet, after, after_quiet, joined, reply_to, then_so}
 use Rattle.tcap_model.proofs.RunLaws.{closing, delivery, quiet, reply}
 
--- what is left of a world for that end
+-- the end's view of a world
 abbrev pub seen_by : Side → World → World
 seen_by A w = record { a = w.a; b = nothing; from_a = []; from_b = w.from_b; sent = w.sent }
 seen_by B w = record { a = nothing; b = w.b; from_a = w.from_a; from_b = []; sent = w.sent }
@@ -37,15 +37,15 @@ pub seen_sent : (side : Side) (w : World) → (seen_by side w).sent ≡ w.sent
 seen_sent A w = refl
 seen_sent B w = refl
 
--- ---- what the end does is seen
+-- ---- events of the end
 
--- The other channel is no matter for the channel.
+-- The channel of the peer is independent of the other one.
 pub seen_with : (side : Side) (more : List OnItsWay) (w : World)
     → with_channel (other side) more (seen_by side w) ≡ seen_by side (with_channel (other side) more w)
 seen_with A more w = refl
 seen_with B more w = refl
 
--- An invocation ends unseen, or not, in both;
+-- An expiry occurs in both or in neither.
 pub seen_expiry : (table : Table) (side : Side) (name : HalfName) (id : ℤ) (w : World)
     → after table (Expires side name id) (seen_by side w)
     ≡ option_map (seen_by side) (after table (Expires side name id) w)
@@ -64,7 +64,7 @@ seen_expiry table B name id w = by (expire table w.b name id)
     by (Ok e) = refl
     by (Err reason) = refl
 
--- so does a half close;
+-- A closing occurs in the view.
 close_seen : (table : Table) (side : Side) (name : HalfName) (w next : World) (made : End)
     → close table (end_at side w) name ≡ Ok made → next ≡ with_end side made w
     → after table (Closes side name) (seen_by side w) ≡ Some (seen_by side next)
@@ -77,7 +77,7 @@ pub seen_closing : (table : Table) (side : Side) (name : HalfName) (w next : Wor
 seen_closing table side name w next is =
     let h = closing table side name w next is in close_seen table side name w next h.made h.step_is h.next_is
 
--- a message is received;
+-- A delivery occurs in the view.
 receive_seen : (table : Table) (side : Side) (number : ℕ) (w next : World) (head : OnItsWay)
     (more : List OnItsWay) (made : End)
     → channel_from (other side) w ≡ head ∷ more → (head.number == number) ≡ true
@@ -95,7 +95,7 @@ seen_delivery table side number w next is =
     receive_seen table side number w next d.head d.more d.made d.channel (eq-eqb d.head.number number d.number_is)
     d.step d.next_is
 
--- one is answered by the provider, by an Abort that goes nowhere.
+-- A reply of the provider occurs in the view, and its Abort goes nowhere.
 abbrev pub IsSeenReply : Table → Side → ℕ → World → World → Type 0
 IsSeenReply table side number w next =
     (made : World) × (after table (Replies side number) (seen_by side w) ≡ Some made)
@@ -119,20 +119,20 @@ seen_reply table side number w next is =
     reply_seen table side number w next r.head r.more r.abort r.channel (eq-eqb r.head.number number r.number_is)
     r.step r.next_is
 
--- What it sends goes nowhere.
+-- What the end sends goes nowhere.
 pub seen_sending : (side : Side) (m : Message) (e : End) (w : World)
     → with_channel side [] (joined side m (with_end side e (seen_by side w)))
     ≡ seen_by side (joined side m (with_end side e w))
 seen_sending A m e w = refl
 seen_sending B m e w = refl
 
--- What its peer sends comes,
+-- What the peer sends is on its way in the view.
 pub seen_told : (side : Side) (m : Message) (w : World)
     → joined (other side) m (seen_by side w) ≡ seen_by side (joined (other side) m w)
 seen_told A m w = refl
 seen_told B m w = refl
 
--- and what happens to the peer is not seen.
+-- A change of the peer changes nothing in the view.
 pub unseen_end : (side : Side) (e : End) (w : World) → seen_by side (with_end (other side) e w) ≡ seen_by side w
 unseen_end A e w = refl
 unseen_end B e w = refl
@@ -142,9 +142,9 @@ pub unseen_channel : (side : Side) (more : List OnItsWay) (w : World)
 unseen_channel A more w = refl
 unseen_channel B more w = refl
 
--- ---- a mark
+-- ---- a quiet mark
 
--- Each end is quiet where both are.
+-- If both ends are quiet, each is.
 ends_quiet : (a b : Bool) (x : World) (sent : List Item)
     → then_so (result_ok (needs a faults.StillOpen >> Ok nothing))
     (λ p.
@@ -156,7 +156,7 @@ ends_quiet true true x sent is = (refl, refl)
 ends_quiet true false x sent is = cc
 ends_quiet false b x sent is = cc
 
--- Then all halves of both are closed.
+-- All halves of both ends are closed.
 pub record AreClosed (w : World) : Type 0 where
   pub a : (all_closed w.a.begun && all_closed w.a.accepted) ≡ true
   pub b : (all_closed w.b.begun && all_closed w.b.accepted) ≡ true
@@ -173,7 +173,7 @@ quiet_closed table w next is = by w.from_a w.from_b is
     by [] (m ∷ b) is = cc
     by (m ∷ a) b is = cc
 
--- So a mark is seen.
+-- A quiet mark occurs in the view.
 mark_seen : (table : Table) (side : Side) (w next : World) → AreClosed w → w.from_a ≡ [] → w.from_b ≡ []
     → next ≡ record { a = nothing; b = nothing; from_a = []; from_b = []; sent = w.sent ++ Item.Quiet ∷ [] }
     → after table Quiet (seen_by side w) ≡ Some (seen_by side next)

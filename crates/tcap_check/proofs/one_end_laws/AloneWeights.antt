@@ -1,4 +1,5 @@
--- What the halves of an end weigh together, where one is put; how long a list by keys is, where one is put or taken.
+-- The total weight of the halves of an end when one is replaced, and the length of a list by keys when an element is
+-- put or removed.
 use Rattle.std.proofs.Common.{arith, ◌≡◌, ◌≤◌, ◌+◌, ℕ, suc, Bool, true, false, cond, List, [], ◌∷◌, length, Option, Some, None, refl, ap}
 use Rattle.std.specs.declared.cmp.Ordering.{Ordering}
 use Rattle.std.specs.declared.cmp.Ordering.TheVariants.{Less, Equal, Greater}
@@ -18,16 +19,16 @@ use Rattle.tcap_check.proofs.given_run_laws.StepCounts.{total}
 
 -- ---- lists by keys
 
--- what all values weigh together
+-- the total weight of all values
 abbrev pub weight : {K A : Type 0} → (A → ℕ) → List (K × A) → ℕ
 weight weigh es = total (λ e. weigh e.1) es
 
--- what the value that was found weighs
+-- the weight of the value that was found, or 0
 abbrev pub weight_of : {A : Type 0} → (A → ℕ) → Option A → ℕ
 weight_of weigh None = 0
 weight_of weigh (Some v) = weigh v
 
--- A value that is put adds its weight, and takes that of the one that stood there.
+-- Putting a value adds its weight, and subtracts that of the value that it replaces.
 pub put_weighs : {K A : Type 0} {cmp : K → K → Ordering} → IsTotalOrder cmp
     → (weigh : A → ℕ) (k : K) (v : A) (es : List (K × A))
     → Rises cmp es
@@ -46,12 +47,10 @@ put_weighs {A = A} {cmp = cmp} order weigh k v (e ∷ es) rises =
     by Equal is o found rest = omega arith
     by Greater is o found rest = omega (arith, rest)
 
--- Each weighs one.
 ones : {K A : Type 0} (es : List (K × A)) → weight (λ v. 1) es ≡ length es
 ones [] = refl
 ones (e ∷ es) = omega (arith, ones es)
 
--- One more stands there where one is put,
 pub put_most : {K A : Type 0} (cmp : K → K → Ordering) (k : K) (v : A) (es : List (K × A))
     → length (insert_entry cmp es k v) ≤ length es + 1
 put_most cmp k v [] = omega arith
@@ -64,7 +63,6 @@ put_most cmp k v (e ∷ es) = by (cmp k e.0) (put_most cmp k v es)
     by Equal rest = omega arith
     by Greater rest = omega (arith, rest)
 
--- and as many as before where one stood at that key.
 pub put_again : {K A : Type 0} {cmp : K → K → Ordering} → IsTotalOrder cmp → (k : K) (v w : A) (es : List (K × A))
     → Rises cmp es → kept_at cmp es k ≡ Some w → length (insert_entry cmp es k v) ≡ length es
 put_again {cmp = cmp} order k v w es rises found = omega (
@@ -75,7 +73,6 @@ put_again {cmp = cmp} order k v w es rises found = omega (
   ones (insert_entry cmp es k v),
 )
 
--- One fewer is left where one is taken that stood there,
 pub taken_one : {K A : Type 0} (test : K → Bool) (v : A) (es : List (K × A)) → lookup test es ≡ Some v
     → length (remove_entry test es) + 1 ≡ length es
 taken_one test v [] found = cc
@@ -87,7 +84,6 @@ taken_one test v (e ∷ es) found = by (test e.0) found (taken_one test v es)
     by true found rest = omega arith
     by false found rest = omega (arith, rest found)
 
--- and never more.
 pub taken_most : {K A : Type 0} (test : K → Bool) (es : List (K × A)) → length (remove_entry test es) ≤ length es
 taken_most test [] = omega arith
 taken_most test (e ∷ es) = by (test e.0) (taken_most test es)
@@ -99,23 +95,23 @@ taken_most test (e ∷ es) = by (test e.0) (taken_most test es)
 
 -- ---- ends
 
--- what the halves of an end weigh together
+-- the total weight of the halves of an end
 abbrev pub halves_weigh : (Half → ℕ) → End → ℕ
 halves_weigh weigh e = weight weigh e.begun + weight weigh e.accepted
 
--- A half that is put adds its weight, and takes that of the one that stood there:
+-- Putting a half adds its weight, and subtracts that of the half that it replaces.
 half_weighs : (weigh : Half → ℕ) (e : End) (slot : Slot) (key : List ℕ) (h : Half) → IsEnd e
     → halves_weigh weigh (put e slot key h) + weight_of weigh (half_at (halves_of slot e) key)
     ≡ halves_weigh weigh e + weigh h
 half_weighs weigh e Begun key h sound = omega (arith, put_weighs octets_total weigh key h e.begun sound.begun)
 half_weighs weigh e Accepted key h sound = omega (arith, put_weighs octets_total weigh key h e.accepted sound.accepted)
 
--- so no more than its own is added;
+-- So at most its own weight is added.
 pub half_most : (weigh : Half → ℕ) (e : End) (slot : Slot) (key : List ℕ) (h : Half) → IsEnd e
     → halves_weigh weigh (put e slot key h) ≤ halves_weigh weigh e + weigh h
 half_most weigh e slot key h sound = omega (arith, half_weighs weigh e slot key h sound)
 
--- and it is known what stood there where an end has a half.
+-- If an end has a half, this is the half that is replaced.
 pub half_over : (weigh : Half → ℕ) (e : End) (f : KeptHalf) (h : Half) → IsEnd e → Has e f
     → halves_weigh weigh (put e f.slot f.key h) + weigh f.half ≡ halves_weigh weigh e + weigh h
 half_over weigh e f h sound had = omega (arith, half_weighs weigh e f.slot f.key h sound, ap (weight_of weigh) had)

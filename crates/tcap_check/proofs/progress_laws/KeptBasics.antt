@@ -24,9 +24,9 @@ use Rattle.tcap_check.specs.Told.{Told, discard_more, more_told, told_if}
 use Rattle.tcap_check.proofs.checker_laws.ToldStepLaws.{discard_if, more_if}
 use Rattle.tcap_model.proofs.WorldLaws.{itself, with_same}
 
--- ---- what is counted
+-- ---- counts
 
--- One more that passes a test, or does not.
+-- One more element that passes a test, or does not.
 count_more : {A : Type 0} (p : A → Bool) (xs : List A) (x : A) → p x ≡ true → length (filter p (xs ++ x ∷ [])) ≡ length (filter p xs) + 1
 count_more p [] x is = rw is refl
 count_more p (y ∷ ys) x is = by (p y) (count_more p ys x is)
@@ -45,7 +45,7 @@ count_same p (y ∷ ys) x is = by (p y) (count_same p ys x is)
     by true rest = ap suc rest
     by false rest = rest
 
--- what is counted of these events, and what is told
+-- the progress with the counts of these events, and this report
 abbrev pub counted : Option Side → List Event → Option Told → Progress → Progress
 counted judged events told p =
     record p { moves = (reported judged events).moves; unheard = (reported judged events).unheard; steps = told }
@@ -54,7 +54,7 @@ numbered : (p : Progress) (m n k l : ℕ) (told : Option Told) → m ≡ n → k
     → (let x : Progress = record p { moves = m; unheard = k; steps = told } in x) ≡ record p { moves = n; unheard = l; steps = told }
 numbered p m n k l told a b = ap₂ (λ (i j : ℕ). let x : Progress = record p { moves = i; unheard = j; steps = told } in x) a b
 
--- An event more that is no loss is a step more.
+-- One more event that is no loss is one more step.
 pub moved_counts : (listing : Bool) (judged : Option Side) (events : List Event) (discards : List (ℕ × EndFault)) (event : Event) (p : Progress)
     → ((side : Side) → is_lost_from side event ≡ false)
     → counted judged (events ++ event ∷ []) (told_if listing (events ++ event ∷ []) discards) p
@@ -73,7 +73,7 @@ moved_counts listing judged events discards event p none =
         numbered p _ _ _ _ told (count_more (λ (e : Event). not (is_lost_from side e)) events event (rw (none side) refl))
         (count_same (is_lost_from (other side)) events event (none (other side)))
 
--- A loss more is counted,
+-- One more loss is counted.
 loss_counts : (judged : Option Side) (side : Side) (number : ℕ) (events : List Event) (told : Option Told) (p : Progress)
     → counted judged (events ++ Loses side number ∷ []) told p ≡ lost_counted judged side (counted judged events told p)
 loss_counts None side number events told p = numbered p _ _ 0 0 told (length-append events (Loses side number ∷ [])) refl
@@ -90,7 +90,7 @@ loss_counts (Some sides.B) sides.B number events told p =
     numbered p _ _ _ _ told (count_same (λ (e : Event). not (is_lost_from sides.B e)) events (Loses sides.B number) refl)
     (count_same (is_lost_from sides.A) events (Loses sides.B number) refl)
 
--- and told,
+-- One more loss is counted and listed.
 pub lost_counts : (listing : Bool) (judged : Option Side) (side : Side) (number : ℕ) (events : List Event) (discards : List (ℕ × EndFault)) (p : Progress)
     → counted judged (events ++ Loses side number ∷ []) (told_if listing (events ++ Loses side number ∷ []) discards) p
     ≡ lost_told judged side number (counted judged events (told_if listing events discards) p)
@@ -99,7 +99,7 @@ lost_counts listing judged side number events discards p =
     (sym (more_if listing (Loses side number ∷ []) events discards))
     ∙ loss_counts judged side number events (option_map (more_told (Loses side number ∷ [])) (told_if listing events discards)) p
 
--- as a discard, where it is one.
+-- One more discard is counted and listed as such.
 pub discard_counts : (listing : Bool) (judged : Option Side) (side : Side) (number : ℕ) (reason : EndFault) (events : List Event)
     (discards : List (ℕ × EndFault)) (p : Progress)
     → counted judged (events ++ Loses side number ∷ []) (told_if listing (events ++ Loses side number ∷ []) (discards ++ (number, reason) ∷ [])) p
@@ -111,14 +111,14 @@ discard_counts listing judged side number reason events discards p =
 
 -- ---- a step of an end
 
--- A step that changes an end alone.
+-- A step that changes only an end.
 pub end_step_is : (listing : Bool) (judged : Option Side) (c : Certificate) (event : Event) (side : Side) (e : End) (r : Replay)
     → ((at : Side) → is_lost_from at event ≡ false)
     → progress_of listing judged c (with_step event r (with_end side e r.world)) ≡ moved event (with_seat_end side e (progress_of listing judged c r))
 end_step_is listing judged c event sides.A e r none = moved_counts listing judged r.events r.discards event (with_seat_end sides.A e (progress_of listing judged c r)) none
 end_step_is listing judged c event sides.B e r none = moved_counts listing judged r.events r.discards event (with_seat_end sides.B e (progress_of listing judged c r)) none
 
--- The replay behind a discard, which changes nothing else.
+-- The replay after a discard, which changes only the events and the discards.
 abbrev pub discarding : Side → ℕ → EndFault → Replay → Replay
 discarding side number reason r = record {
   events = r.events ++ Loses side number ∷ [];
@@ -132,14 +132,13 @@ pub discard_step_is : (listing : Bool) (judged : Option Side) (c : Certificate) 
 discard_step_is listing judged c side number reason r =
     discard_counts listing judged side number reason r.events r.discards (progress_of listing judged c r)
 
--- An end is put in place of another.
 pub end_put : (listing : Bool) (judged : Option Side) (c : Certificate) (side : Side) (e : End) (r : Replay)
     → (let x : Replay = record { events = r.events; discards = r.discards; world = with_end side e r.world } in progress_of listing judged c x)
     ≡ with_seat_end side e (progress_of listing judged c r)
 end_put listing judged c sides.A e r = refl
 end_put listing judged c sides.B e r = refl
 
--- ---- what is on its way
+-- ---- messages on their way
 
 pub end_kept : (listing : Bool) (judged : Option Side) (c : Certificate) (side : Side) (r : Replay)
     → (seat_at side (progress_of listing judged c r)).end ≡ end_at side r.world
@@ -151,7 +150,7 @@ pub waiting_kept : (listing : Bool) (judged : Option Side) (c : Certificate) (si
 waiting_kept listing judged c sides.A r = refl
 waiting_kept listing judged c sides.B r = refl
 
--- another channel, and what is kept of it
+-- what is kept of a channel that is replaced
 pub channel_put : (listing : Bool) (judged : Option Side) (c : Certificate) (side : Side) (messages : List OnItsWay) (r : Replay)
     → (let x : Replay = record { events = r.events; discards = r.discards; world = with_channel side messages r.world } in progress_of listing judged c x)
     ≡ with_waiting side (waiting_at judged side c.fates messages) (progress_of listing judged c r)
@@ -172,13 +171,13 @@ lost_again listing judged c side number messages events discards w =
     sym (lost_counts listing judged side number events discards
     (let x : Replay = record { events = events; discards = discards; world = with_channel side messages w } in progress_of listing judged c x))
 
--- the numbers at the front of a channel of what will be lost
+-- the numbers of the messages that will be lost at the front of a channel
 abbrev lost_at : Option Side → Side → List Fate → List OnItsWay → List ℕ
 lost_at judged side fates [] = []
 lost_at judged side fates (m ∷ more) =
     if_lost (fate_of judged side (slice_get fates m.number)) (m.number ∷ lost_at judged side fates more)
 
--- They are lost, one after the other.
+-- These messages are lost in order.
 losing_goes : (listing : Bool) (judged : Option Side) (c : Certificate) (side : Side) (channel : List OnItsWay) (events : List Event) (discards : List (ℕ × EndFault)) (w : World)
     → losing_kept judged side (waiting_at judged side c.fates channel)
     (let x : Replay = record { events = events; discards = discards; world = with_channel side channel w } in progress_of listing judged c x)
@@ -228,7 +227,7 @@ front_goes listing judged c side r =
     (let x : Replay = record { events = r.events; discards = r.discards; world = w } in progress_of listing judged c x)) (sym (with_same side r.world))
     ∙ losing_goes listing judged c side (channel_from side r.world) r.events r.discards r.world
 
--- Of what comes to an end that is judged those are lost whose fates say so,
+-- On a channel to a judged end, the messages are lost whose fates are losses.
 pub not_alone : (judged : Option Side) (side : Side) → is_heard judged side ≡ true → is_alone judged side ≡ false
 not_alone None side so = refl
 not_alone (Some sides.A) sides.A so = cc
@@ -249,7 +248,7 @@ front_is listing judged c side r so =
     ∙ ap (λ (numbers : List ℕ). progress_of listing judged c (losing side numbers r))
     (lost_at_front judged side c.fates (channel_from side r.world) (not_alone judged side so))
 
--- and of what an end sends that alone is judged all are.
+-- On the channel from an end that is judged alone, all messages are lost.
 lost_at_all : (side : Side) (fates : List Fate) (channel : List OnItsWay) → lost_at (Some side) side fates channel ≡ numbers_of channel
 lost_at_all side fates [] = refl
 lost_at_all side fates (m ∷ more) = rw (itself side) (ap (λ (x : List ℕ). m.number ∷ x) (lost_at_all side fates more))
@@ -260,7 +259,7 @@ sent_lost_is listing side c r =
     front_goes listing (Some side) c side r
     ∙ ap (λ (numbers : List ℕ). progress_of listing (Some side) c (losing side numbers r)) (lost_at_all side c.fates (channel_from side r.world))
 
--- What is lost last.
+-- The losses at the end of the record.
 pub last_is : (listing : Bool) (judged : Option Side) (c : Certificate) (r : Replay)
     → last_lost judged (progress_of listing judged c r) ≡ progress_of listing judged c (lost_last judged c r)
 last_is listing None c r =
@@ -269,7 +268,7 @@ last_is listing (Some judged) c r = front_is listing (Some judged) c (other judg
 
 -- ---- steps
 
--- One step, and the rest behind it.
+-- One step, and the steps after it.
 pub then_is : {F A : Type 0} (f : Replay → A) (step : Result Replay F) (kept : A → Result A F) (on : Replay → Result Replay F)
     → ((next : Replay) → step ≡ Ok next → kept (f next) ≡ map_ok f (on next))
     → (map_ok f step >>= kept) ≡ map_ok f (step >>= on)
@@ -285,13 +284,11 @@ pub ok_behind : {A F : Type 0} (step : Result A F) → (step >>= λ x. Ok x) ≡
 ok_behind (Ok x) = refl
 ok_behind (Err reason) = refl
 
--- The same goes on behind a step.
 pub then_same : {A B F : Type 0} (step : Result A F) (on more : A → Result B F) → ((x : A) → on x ≡ more x)
     → (step >>= on) ≡ (step >>= more)
 then_same (Ok x) on more same = same x
 then_same (Err reason) on more same = refl
 
--- What is kept of what is kept of a step.
 pub map_both : {A B C F : Type 0} (f : A → B) (g : B → C) (h : A → C) (step : Result A F)
     → ((x : A) → step ≡ Ok x → g (f x) ≡ h x) → map_ok g (map_ok f step) ≡ map_ok h step
 map_both f g h (Ok x) same = ap Ok (same x refl)

@@ -1,4 +1,4 @@
--- How many messages wait for the ends that are judged, and the fates of how many lie behind so many gaps and so many entries.
+-- Two counts: the messages that wait for judged ends, and the fates that come at or after given gaps and entries.
 use Rattle.std.proofs.Common.{◌≡◌, ◌⊎◌, inl, inr, ℕ, suc, ◌+◌, ◌<◌, ◌≤◌, ◌==◌, arith, Bool, true, false, cond, nat_le, List, [], ◌∷◌, ◌++◌, map, filter, drop, length, Option, Some, None, Result, Ok, refl, sym, ap, ap₂, ◌∙◌}
 use Rattle.std.specs.Prelude.{◌&&◌, slice_get}
 use Rattle.std.proofs.lemmas.Bool.{cases_lt, eqb-true, eqb-false, le-leb, lt-leb, ne_eqb}
@@ -19,14 +19,14 @@ use Rattle.tcap_check.specs.Hearing.{is_heard}
 use Rattle.tcap_check.proofs.refusal_laws.PendingLaws.{IsAhead}
 use Rattle.tcap_check.proofs.replay_laws.WaitingLaws.{behind_lost, waiting, waiting_by}
 
--- ---- how many wait
+-- ---- the count of messages that wait
 
--- So many more wait where a message of that fate joins.
+-- 1 if a message with this fate waits, else 0
 abbrev pub new_by : Option Fate → ℕ
 new_by (Some Lost) = 0
 new_by _ = 1
 
--- What stands behind them is one that waits.
+-- The head of a channel after its losses is a message that waits.
 head_waits : (fates : List Fate) (channel : List OnItsWay) (head : OnItsWay) (more : List OnItsWay)
     → drop (length (lost_front fates channel)) channel ≡ head ∷ more
     → length (waiting fates channel) ≡ suc (length (waiting fates more))
@@ -47,7 +47,7 @@ head_waits fates (first ∷ channel) head more is =
     by (Some (By k)) on e = here e
     by (Some Lost) on e = on e
 
--- One more that joins waits, unless it is lost.
+-- A message that joins a channel waits, unless it will be lost.
 one_waits : (fates : List Fate) (channel : List OnItsWay) (m : OnItsWay)
     → length (waiting fates (channel ++ m ∷ [])) ≡ length (waiting fates channel) + new_by (slice_get fates m.number)
 one_waits fates [] m = by (slice_get fates m.number)
@@ -69,12 +69,12 @@ one_waits fates (first ∷ channel) m = by (slice_get fates first.number) (one_w
     by (Some (By k)) rest = omega (arith, rest)
     by (Some Lost) rest = rest
 
--- So many wait for an end that is judged.
+-- The count of messages that wait for a judged end.
 abbrev pub count_for : Option Side → List Fate → World → ℕ
 count_for None fates w = length (waiting fates w.from_a) + length (waiting fates w.from_b)
 count_for (Some judged) fates w = length (waiting fates (channel_from (other judged) w))
 
--- As many do where the same wait on each channel,
+-- The count is the same if the same messages wait on each channel.
 pub counts_same : (judged : Option Side) (fates : List Fate) (w next : World)
     → ((side : Side) → waiting fates (channel_from side next) ≡ waiting fates (channel_from side w))
     → count_for judged fates next ≡ count_for judged fates w
@@ -82,7 +82,7 @@ counts_same None fates w next same =
     ap₂ (λ (x y : List OnItsWay). length x + length y) (same sides.A) (same sides.B)
 counts_same (Some judged) fates w next same = ap length (same (other judged))
 
--- so losses take none that waits;
+-- Losses do not change the count.
 pub losses_wait : (judged : Option Side) (c : Certificate) (side : Side) (r : Replay)
     → count_for judged c.fates (lost_from_front c side r).world ≡ count_for judged c.fates r.world
 losses_wait judged c side r = counts_same judged c.fates r.world (lost_from_front c side r).world (by side)
@@ -93,7 +93,7 @@ losses_wait judged c side r = counts_same judged c.fates r.world (lost_from_fron
     by sides.B sides.A = refl
     by sides.B sides.B = behind_lost c.fates r.world.from_b
 
--- a message that joins waits unless it is lost, or comes to an end that is not judged,
+-- A message that joins is counted, unless it will be lost or is for an end that is not judged.
 pub joined_waits : (judged : Option Side) (fates : List Fate) (side : Side) (message : Message) (w : World)
     → count_for judged fates (joined side message w)
     ≡ count_for judged fates w + cond (is_heard judged side) (new_by (slice_get fates (length w.sent))) 0
@@ -106,7 +106,7 @@ joined_waits (Some sides.A) fates sides.B message w = one_waits fates w.from_b (
 joined_waits (Some sides.B) fates sides.A message w = one_waits fates w.from_a (record { number = length w.sent; message = message })
 joined_waits (Some sides.B) fates sides.B message w = omega arith
 
--- and one that is taken behind them waited.
+-- A message that is taken after the losses was counted.
 pub taken_waits : (judged : Option Side) (c : Certificate) (side : Side) (r : Replay) (head : OnItsWay) (more : List OnItsWay)
     → is_heard judged side ≡ true → channel_from side (lost_from_front c side r).world ≡ head ∷ more
     → count_for judged c.fates (with_channel side more (lost_from_front c side r).world) + 1
@@ -118,15 +118,16 @@ taken_waits (Some sides.A) c sides.B r head more so is = omega (arith, head_wait
 taken_waits (Some sides.B) c sides.A r head more so is = omega (arith, head_waits c.fates r.world.from_a head more is)
 taken_waits (Some sides.B) c sides.B r head more so is = cc
 
--- ---- how many are ahead
+-- ---- the count of fates still to come
 
--- A fate lies behind so many gaps and so many entries.
+-- A fate is a gap with number `gaps` or later, or a reply with number `replies` or later.
 abbrev pub is_behind : ℕ → ℕ → Fate → Bool
 is_behind gaps replies (Gap gap) = nat_le gaps gap
 is_behind gaps replies (By reply) = nat_le replies reply
 is_behind gaps replies Lost = false
 
--- So many of these items are messages to an end that is judged whose fate does; the first of these fates is that of the first item.
+-- The count of messages to judged ends with such a fate (`is_behind`). The first of these fates is that of the first
+-- item.
 abbrev pub count_behind : Option Side → ℕ → ℕ → List Fate → List Item → ℕ
 count_behind judged gaps replies (fate ∷ fates) (Sent side message ∷ items) =
     cond (is_heard judged side && is_behind gaps replies fate) (count_behind judged gaps replies fates items + 1)
@@ -141,7 +142,7 @@ no_items judged gaps replies (fate ∷ fates) = refl
 abbrev pub ok_item : Item → Result Item Reason
 ok_item item = Ok item
 
--- They are those that lie behind so many entries.
+-- This is the count of fates still to come after that many entries.
 pub ahead_is : (judged : Option Side) (count : ℕ) (fates : List Fate) (items : List Item)
     → count_behind judged count count fates items ≡ count_ahead judged count fates (map ok_item items)
 ahead_is judged count [] items = refl
@@ -154,7 +155,7 @@ ahead_is judged count (By k ∷ fates) (Sent side message ∷ items) =
 ahead_is judged count (Lost ∷ fates) (Sent side message ∷ items) =
     ap (λ (n : ℕ). cond (is_heard judged side && false) (n + 1) n) (ahead_is judged count fates items)
 
--- A number that is not the next one is behind it or before both.
+-- A number other than the next is after it, or before both.
 pub not_next : (count n : ℕ) → (n ≡ count → ⊥) → nat_le count n ≡ nat_le (count + 1) n
 not_next count n apart = by (cases_lt n count)
   where
@@ -166,12 +167,11 @@ not_next count n apart = by (cases_lt n count)
         which (inl over) = le-leb count n above ∙ sym (le-leb (count + 1) n (omega (arith, over)))
         which (inr under) = absurd (apart (omega (arith, above, under)))
 
--- The next one is not behind itself.
 pub is_next : (count n : ℕ) → (n == count) ≡ true → (nat_le count n ≡ true) × (nat_le (count + 1) n ≡ false)
 is_next count n same =
     let e = eqb-true n count same in (le-leb count n (omega (arith, e)), lt-leb (count + 1) n (omega (arith, e)))
 
--- A reply is never that of a mark.
+-- No fate of a quiet mark is a reply.
 abbrev pub AreMarks : List Fate → List Item → Type 0
 AreMarks (fate ∷ fates) (Sent side message ∷ items) = AreMarks fates items
 AreMarks (fate ∷ fates) (Item.Quiet ∷ items) = ((k : ℕ) → fate ≡ By k → ⊥) × AreMarks fates items
@@ -186,7 +186,7 @@ none_taken count reply n (By k ∷ fates) fit h =
     let later : (k == reply) ≡ false = ne_eqb k reply (λ e. omega (arith, h, fit.0, e)) in
     rw later (none_taken count reply (n + 1) fates fit.2 (omega (arith, h)))
 
--- the numbers among these of messages to an end that is judged
+-- the numbers, among these, of messages to a judged end
 abbrev pub heard_among : Option Side → List Item → List ℕ → List ℕ
 heard_among None items numbers = numbers
 heard_among (Some judged) items numbers = filter (λ n. is_sent_by (other judged) (slice_get items n)) numbers
@@ -202,7 +202,7 @@ one_among : (judged : Option Side) (items : List Item) (n : ℕ) (sender : Side)
 one_among None items n sender message more at = refl
 one_among (Some judged) items n sender message more at = rw at refl
 
--- These items stand from that number on.
+-- These items are the items from this number on.
 abbrev pub ItemsFrom : List Item → ℕ → List Item → Type 0
 ItemsFrom all n items = (i : ℕ) → slice_get all (n + i) ≡ slice_get items i
 
@@ -212,12 +212,11 @@ items_next all n first items from i = let same : n + suc i ≡ (n + 1) + i = ome
 items_first : (all : List Item) (n : ℕ) (first : Item) (items : List Item) → ItemsFrom all n (first ∷ items) → slice_get all n ≡ Some first
 items_first all n first items from = let same : n ≡ n + 0 = omega arith in ap (slice_get all) same ∙ from 0
 
--- One more on both sides, or none.
 pub still_behind : (b : Bool) (old new took : ℕ) → old ≡ new + took → cond b (old + 1) old ≡ cond b (new + 1) new + took
 still_behind true old new took rest = omega (arith, rest)
 still_behind false old new took rest = rest
 
--- Behind an entry those are not ahead any more that it takes.
+-- After an entry, the messages that it takes are no longer counted.
 pub replies_behind : (judged : Option Side) (all : List Item) (count gaps reply n : ℕ) (fates : List Fate) (items : List Item)
     → FatesFit count n fates → AreMarks fates items → ItemsFrom all n items → reply ≤ n + length items
     → count_behind judged gaps reply fates items
@@ -265,7 +264,7 @@ replies_behind judged all count gaps reply n (Lost ∷ fates) (Item.Quiet ∷ it
     replies_behind judged all count gaps reply (n + 1) fates items fit marks.1 (items_next all n _ items from) (omega (arith, h))
 replies_behind judged all count gaps reply n (By k ∷ fates) (Item.Quiet ∷ items) fit marks from h = absurd (marks.0 k refl)
 
--- One message more lies behind, where its fate does,
+-- One more message is counted if it is for a judged end and has such a fate.
 pub one_behind : (judged : Option Side) (gaps replies : ℕ) (fates : List Fate) (items : List Item) (side : Side) (message : Message)
     (fate : Fate) → slice_get fates (length items) ≡ Some fate
     → count_behind judged gaps replies fates (items ++ Sent side message ∷ [])
@@ -284,7 +283,7 @@ one_behind judged gaps replies (first ∷ fates) (Sent sender m ∷ items) side 
     still_behind (is_heard judged sender && is_behind gaps replies first) _ _ _
     (one_behind judged gaps replies fates items side message fate has)
 
--- which it does unless it is lost,
+-- The fate of a new message is counted, unless it is a loss.
 pub new_behind : (heard : Bool) (number : ℕ) (fate : Fate) → IsAhead number fate
     → (let n : ℕ = cond (heard && is_behind (number + 1) (number + 1) fate) 1 0 in n) ≡ cond heard (new_by (Some fate)) 0
 new_behind false number fate is = refl
@@ -292,7 +291,7 @@ new_behind true number (Gap g) is = rw (le-leb (number + 1) g (omega (arith, is)
 new_behind true number (By k) is = rw (le-leb (number + 1) k (omega (arith, is))) refl
 new_behind true number Lost is = refl
 
--- and a mark does not.
+-- A quiet mark is not counted.
 pub mark_behind : (judged : Option Side) (gaps replies : ℕ) (fates : List Fate) (items : List Item)
     → count_behind judged gaps replies fates (items ++ Item.Quiet ∷ []) ≡ count_behind judged gaps replies fates items
 mark_behind judged gaps replies [] items = refl
@@ -306,7 +305,7 @@ at_end : (b : Bool) (n : ℕ) → n ≡ 0 → cond (b && false) (n + 1) n ≡ 0
 at_end true n rest = rest
 at_end false n rest = rest
 
--- Behind the last gap nothing lies.
+-- After the last gap nothing is counted.
 pub none_behind : (judged : Option Side) (count n : ℕ) (fates : List Fate) (items : List Item) → FatesFit count n fates
     → count_behind judged (count + 1) count fates items ≡ 0
 none_behind judged count n [] items fit = refl
@@ -323,7 +322,7 @@ none_behind judged count n (Gap g ∷ fates) (Item.Quiet ∷ items) fit = none_b
 none_behind judged count n (By k ∷ fates) (Item.Quiet ∷ items) fit = none_behind judged count (n + 1) fates items fit.2
 none_behind judged count n (Lost ∷ fates) (Item.Quiet ∷ items) fit = none_behind judged count (n + 1) fates items fit
 
--- One item more that is a message, or a mark that is none.
+-- `AreMarks` holds after one more message.
 pub marks_sent : (fates : List Fate) (items : List Item) (side : Side) (message : Message) → AreMarks fates items
     → AreMarks fates (items ++ Sent side message ∷ [])
 marks_sent [] items side message marks = tt

@@ -1,4 +1,4 @@
--- The deliveries of a gap, over what is kept, are those of the replay.
+-- The deliveries of a gap over what is kept are those of the replay.
 use Rattle.std.proofs.Common.{◌≡◌, ℕ, suc, ◌+◌, ◌==◌, Bool, true, false, cond, List, [], ◌∷◌, length, drop, Option, Some, None, Result, Ok, Err, refl, sym, ap, ◌∙◌, arith}
 use Rattle.std.specs.Prelude.{◌&&◌, slice_get}
 use Rattle.tcap_record.specs.declared.entry.End.{End as Side}
@@ -36,11 +36,11 @@ kept_whole (Some (Gap g)) m stays = refl
 kept_whole (Some (By k)) m stays = refl
 kept_whole (Some Lost) m stays = absurd (stays refl)
 
--- the head of a channel to an end that is judged, behind what is lost at its front, and what stands behind it
+-- the head of a channel to a judged end after the losses at its front, and the messages after the head
 pub record HasFront (c : Certificate) (sender : Side) (head : OnItsWay) (left : List OnItsWay) (r : Replay) : Type 0 where
   pub channel : channel_from sender (lost_from_front c sender r).world ≡ head ∷ left
 
--- Of the head all is kept.
+-- The head is kept whole.
 pub front_waits : (listing : Bool) (judged : Option Side) (c : Certificate) (sender : Side) (head : OnItsWay) (left : List OnItsWay) (r : Replay)
     → is_heard judged sender ≡ true → HasFront c sender head left r
     → (seat_at sender (progress_of listing judged c (lost_from_front c sender r))).waiting
@@ -63,7 +63,6 @@ without_head sender c left r = record {
   world = with_channel sender left (lost_from_front c sender r).world;
 }
 
--- Losses leave the end as it is.
 pub end_behind : (listing : Bool) (judged : Option Side) (c : Certificate) (sender : Side) (r : Replay)
     → (seat_at (other sender) (progress_of listing judged c (lost_from_front c sender r))).end ≡ end_at (other sender) r.world
 end_behind listing judged c sender r =
@@ -80,14 +79,14 @@ module _ (listing : Bool) (judged : Option Side) (c : Certificate) (sender : Sid
   abbrev kept_behind : Progress
   kept_behind = with_waiting sender (waiting_at judged sender c.fates left) (progress_of listing judged c (lost_from_front c sender r))
 
-  -- An end receives it,
+  -- The end receives the message.
   received_is : (e : End) → kept (moved (Receives (other sender) number) (with_seat_end (other sender) e kept_behind))
       ≡ Ok (progress_of listing judged c (with_step (Receives (other sender) number) behind (with_end (other sender) e behind.world)))
   received_is e =
       ap kept (ap (λ (p : Progress). moved (Receives (other sender) number) (with_seat_end (other sender) e p)) (sym (channel_put listing judged c sender left (lost_from_front c sender r)))
       ∙ sym (end_step_is listing judged c (Receives (other sender) number) (other sender) e behind (λ at. refl)))
 
-  -- or it is discarded, where that end alone is judged.
+  -- The end discards the message, if it is judged alone.
   dropped_is : (reason : EndFault) → kept (lost_counted judged sender (discard_told sender number reason kept_behind))
       ≡ Ok (progress_of listing judged c (discarding sender number reason behind))
   dropped_is reason =
@@ -95,7 +94,7 @@ module _ (listing : Bool) (judged : Option Side) (c : Certificate) (sender : Sid
       (sym (channel_put listing judged c sender left (lost_from_front c sender r)))
       ∙ sym (discard_step_is listing judged c sender number reason behind))
 
--- The head is there, and it is that of the number, or not.
+-- The head has this number, or it does not.
 head_is : (listing : Bool) (judged : Option Side) (table : Table) (c : Certificate) (sender : Side) (number : ℕ) (head : OnItsWay) (left : List OnItsWay) (r : Replay)
     (front : HasFront c sender head left r) (so : Bool) (o : Result End EndFault) → is_heard judged sender ≡ true
     → (head.number == number) ≡ so → receive table (end_at (other sender) r.world) head.message ≡ o
@@ -168,9 +167,9 @@ delivered_is listing judged table c sender number r heard =
         ∙ head_is listing judged table c sender number head left r front (head.number == number)
         (receive table (end_at (other sender) r.world) head.message) heard refl refl
 
--- ---- all that is due
+-- ---- all messages that are due
 
--- What stands from a number on.
+-- The outlines from this number on.
 abbrev pub StandsFrom : List Outline → ℕ → List Outline → Type 0
 StandsFrom entries n rest = (i : ℕ) → slice_get entries (n + i) ≡ slice_get rest i
 
@@ -188,7 +187,7 @@ first_stands entries n first rest stands = let here : n ≡ n + 0 = omega arith 
 pub none_next : (entries : List Outline) (n : ℕ) → StandsFrom entries n [] → StandsFrom entries (n + 1) []
 none_next entries n stands i = ap (slice_get entries) (sym (further n i)) ∙ stands (suc i)
 
--- Of entries that did not come yet nothing is delivered.
+-- Nothing is delivered for entries that have not come yet.
 none_due : (judged : Option Side) (table : Table) (entries : List Outline) (gap n : ℕ) (fates : List Fate) (p : Progress) → StandsFrom entries n []
     → deliveries_kept judged table entries (due_in gap n fates) p ≡ Ok p
 none_due judged table entries gap n [] p stands = refl
@@ -205,7 +204,7 @@ none_due judged table entries gap n (Gap g ∷ fates) p stands =
     by rest true = rw here rest
     by rest false = rest
 
--- A message is due where its gap is this one and it comes to an end that is judged.
+-- A message is due if its fate is this gap and it is for a judged end.
 pub due_is : (judged : Option Side) (gap g : ℕ) (sender : Side) → is_due judged gap g sender ≡ ((g == gap) && is_heard judged sender)
 due_is None gap g sender = by (g == gap)
   where
@@ -259,7 +258,7 @@ deliveries_from listing judged table c entries gap n (Gap g ∷ fates) (Sent sen
         ∙ then_is (progress_of listing judged c) (received judged table c sender n r) (deliveries_kept judged table entries due) more
         (λ next _. rest next))
 
--- Nothing is delivered whose entry did not come yet: the list of what is due may name it.
+-- The list of messages that are due may include entries that have not come yet, but nothing is delivered for these.
 pub deliveries_are : (listing : Bool) (judged : Option Side) (table : Table) (c : Certificate) (r : Replay)
     → deliveries_kept judged table (outlines_from c 0 r.world.sent) (due_in (next_entry r) 0 c.fates) (progress_of listing judged c r)
     ≡ map_ok (progress_of listing judged c) (deliveries_by judged table c (next_entry r) 0 c.fates r.world.sent r)

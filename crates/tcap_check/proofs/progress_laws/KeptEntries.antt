@@ -1,4 +1,4 @@
--- A checker's steps, over what is kept, are those of the replay, entry by entry.
+-- The steps of a checker over what is kept are those of the replay, entry by entry.
 use Rattle.std.proofs.Common.{◌≡◌, ℕ, ◌+◌, Bool, true, false, cond, List, [], ◌∷◌, ◌++◌, filter, length, Option, Some, None, Result, Ok, refl, sym, ap, ap₂, subst, ◌∙◌, arith, append-nil}
 use Rattle.std.specs.Prelude.{not, option_map, slice_get}
 use Rattle.tcap_msg.specs.declared.message.Message.{Message}
@@ -55,15 +55,13 @@ since_more since n (Item.Quiet ∷ items) item =
     since_more (n + 1) (n + 1) items item
     ∙ ap (λ (k : ℕ). since_from (since_from (n + 1) (n + 1) items) k (item ∷ [])) same
 
--- ---- what is sent
+-- ---- items that are sent
 
--- A gap sends nothing,
 pub gap_sends : (judged : Option Side) (table : Table) (c : Certificate) (r next : Replay)
     → gap_by judged table c r ≡ Ok next → next.world.sent ≡ r.world.sent
 gap_sends None table c r next is = (gap_replays table c r next is).2.sent ∙ append-nil r.world.sent
 gap_sends (Some judged) table c r next is = (gap_leads judged table c r next is).sent ∙ append-nil r.world.sent
 
--- and an item is sent.
 pub item_sends : (judged : Option Side) (table : Table) (c : Certificate) (fate : Fate) (item : Item) (r next : Replay)
     → slice_get c.fates (next_entry r) ≡ Some fate
     → item_by judged table c fate item r ≡ Ok next → next.world.sent ≡ r.world.sent ++ item ∷ []
@@ -72,9 +70,9 @@ item_sends None table c fate item r next has is =
     (replays_then table r one.mid next one.here _ [] (item ∷ []) one.gap one.sent.replays).sent
 item_sends (Some judged) table c fate item r next has is = (item_leads judged table c fate item r next is).sent
 
--- ---- what is taken
+-- ---- messages that are taken
 
--- What is kept of an entry tells who sent it.
+-- The outline of an entry shows who sent it.
 told_is_sent : (c : Certificate) (side : Side) (items : List Item) (n : ℕ)
     → is_told side (slice_get (outlines_from c 0 items) n) ≡ is_sent_by side (slice_get items n)
 told_is_sent c side items n =
@@ -97,7 +95,7 @@ tied_is listing (Some judged) c r =
     (λ n. is_sent_by (other judged) (slice_get r.world.sent n)) (taken_by (next_entry r) 0 c.fates)
     (told_is_sent c (other judged) r.world.sent)
 
--- A gap takes no message for the entry behind it.
+-- A gap does not change which messages the entry after it takes.
 pub tied_still : (judged : Option Side) (c : Certificate) (r behind : Replay) → behind.world.sent ≡ r.world.sent
     → tied judged c behind ≡ tied judged c r
 tied_still None c r behind sent = ap (λ (s : List Item). taken_by (length s) 0 c.fates) sent
@@ -122,7 +120,7 @@ module _ (listing : Bool) (judged : Option Side) (table : Table) (c : Certificat
   abbrev count : ℕ
   count = length (outlines_from c 0 r.world.sent)
 
-  -- A step behind the gap that is counted over the outlines, and by what they say of the messages that it takes.
+  -- A step after the gap, with counts and taken messages computed from the outlines.
   behind_gap : (on : ℕ → List ℕ → Progress → Result Progress CheckFault) (more : Replay → Result Replay CheckFault)
       → ((next : Replay) → gap_by judged table c r ≡ Ok next → on n takes (progress_of listing judged c next) ≡ map_ok (progress_of listing judged c) (more next))
       → (gap >>= on count kept_now) ≡ map_ok (progress_of listing judged c) (gap_by judged table c r >>= more)
@@ -131,7 +129,7 @@ module _ (listing : Bool) (judged : Option Side) (table : Table) (c : Certificat
       ∙ ap (λ (x : Result Progress CheckFault). x >>= on n takes) (gap_is listing judged table c r)
       ∙ then_is (progress_of listing judged c) (gap_by judged table c r) (on n takes) more same
 
-  -- A message of an end that is judged,
+  -- A message of a judged end.
   own_entry : (fate : Fate) (side : Side) (message : Message) → is_heard judged (other side) ≡ true → slice_get c.fates n ≡ Some fate
       → (gap >>= own_taken judged table side fate count message kept_now)
       ≡ map_ok (progress_of listing judged c)
@@ -145,7 +143,7 @@ module _ (listing : Bool) (judged : Option Side) (table : Table) (c : Certificat
       (sym same) (sym (tied_still judged c r next sent))
       ∙ own_is listing judged table c fate side message (tied judged c next) next so (ap (slice_get c.fates) same ∙ has))
 
-  -- and a mark.
+  -- A quiet mark.
   mark_entry : (fate : Fate)
       → item_kept judged table c fate Item.Quiet (kept_of listing judged c r) ≡ map_ok (progress_of listing judged c) (mark_judged judged table c fate r)
   mark_entry fate =
@@ -164,7 +162,7 @@ module _ (listing : Bool) (judged : Option Side) (table : Table) (c : Certificat
       by true = gone
       by false = refl
 
-  -- The order of what comes to an end that is judged.
+  -- The order check of messages to a judged end.
   in_order : (fate : Fate) (side : Side) (step : Progress → Result Progress CheckFault) (on : Result Replay CheckFault)
       → is_heard judged side ≡ true → (gap >>= step) ≡ map_ok (progress_of listing judged c) on
       → (needs (not (overtakes fate (seat_at side (progress_of listing judged c r)))) (fault_at OutOfOrder count) >> gap >>= step)
@@ -178,7 +176,7 @@ module _ (listing : Bool) (judged : Option Side) (table : Table) (c : Certificat
       by true = same
       by false = refl
 
--- A message that the peer tells of the end that alone is judged.
+-- A message from the peer of an end that is judged alone.
 told_entry : (listing : Bool) (table : Table) (c : Certificate) (side : Side) (r : Replay) (fate : Fate) (message : Message)
     → is_heard (Some side) (other side) ≡ true → slice_get c.fates (next_entry r) ≡ Some fate
     → (needs (not (overtakes fate (seat_at (other side) (progress_of listing (Some side) c r)))) (fault_at OutOfOrder (count listing (Some side) table c r))

@@ -1,4 +1,4 @@
--- The gap before an entry, over what is kept, is that of the replay.
+-- The gap before an entry over what is kept is that of the replay.
 use Rattle.std.proofs.Common.{◌≡◌, Bool, ℕ, List, length, Option, Result, refl, ap, subst, ◌∙◌, append-nil, sym}
 use Rattle.tcap_record.specs.declared.entry.End.{End as Side}
 use Rattle.tcap_end.specs.Table.{Table}
@@ -46,7 +46,7 @@ module _ (listing : Bool) (judged : Option Side) (table : Table) (c : Certificat
   abbrev delivered : Replay → Result Replay CheckFault
   delivered = deliveries_by judged table c (next_entry r) 0 c.fates items
 
-  -- What is delivered,
+  -- The deliveries of the gap.
   deliveries : (next : Replay) → next.world.sent ≡ items
       → delivered_kept (progress_of listing judged c next) ≡ map_ok (progress_of listing judged c) (delivered next)
   deliveries next sent = subst (λ (xs : List Item).
@@ -54,7 +54,7 @@ module _ (listing : Bool) (judged : Option Side) (table : Table) (c : Certificat
       ≡ map_ok (progress_of listing judged c) (deliveries_by judged table c (length xs) 0 c.fates xs next)) sent
       (deliveries_are listing judged table c next)
 
-  -- behind what is listed.
+  -- The listed events of the gap, and then its deliveries.
   pub gap_is : gap_kept judged table c entries since p ≡ map_ok (progress_of listing judged c) (gap_by judged table c r)
   gap_is =
       ap (λ (n : ℕ). all_kept table entries since (listed_for judged c n) p >>= deliveries_kept judged table entries (due_in n 0 c.fates))

@@ -1,4 +1,4 @@
--- By how much a checker's count of steps grows.
+-- How much a checker's counts grow.
 use Rattle.std.proofs.Common.{◌≡◌, ℕ, ℤ, suc, ◌+◌, ◌≤◌, Bool, true, false, List, [], ◌∷◌, ◌++◌, length, ◌==◌, cond, Option, Some, None, Result, Ok, Err, refl, ap, subst, ◌∙◌, arith}
 use Rattle.std.specs.Prelude.{ok_or, ◌&&◌, OnOk}
 use Rattle.std.proofs.lemmas.List.{length-append}
@@ -30,18 +30,18 @@ use Rattle.tcap_check.specs.Listed.{listed_judged, side_of}
 
 -- ---- one step
 
--- So many steps more, and as many messages on their way.
+-- There are n more steps; the messages on their way and the unheard messages are as many as before.
 abbrev pub IsMoved : ℕ → Progress → Progress → Type 0
 IsMoved n p q = (q.moves ≡ p.moves + n) × (on_way q ≡ on_way p) × (q.unheard ≡ p.unheard)
 
--- A step of an end is one.
+-- A step of an end is one step.
 end_moves : {F : Type 0} (side : Side) (event : Event) (fault : F) (p next : Progress) (answer : Result End EndFault)
     → end_moved side event fault p answer ≡ Ok next → IsMoved 1 p next
 end_moves sides.A event fault p next (Ok e) is = subst (IsMoved 1 p) (ok_same _ next is) (refl, refl, refl)
 end_moves sides.B event fault p next (Ok e) is = subst (IsMoved 1 p) (ok_same _ next is) (refl, refl, refl)
 end_moves side event fault p next (Err reason) is = cc
 
--- What is listed is one, where there is what it names.
+-- A listed event is one step, if what it names exists.
 named_moves : {N : Type 0} (side : Side) (event : N → Event) (answer : N → Result End EndFault) (none refused : CheckFault) (p next : Progress)
     (o : Option N) → (ok_or o none >>= λ name. end_moved side (event name) refused p (answer name)) ≡ Ok next → IsMoved 1 p next
 named_moves side event answer none refused p next None is = cc
@@ -57,7 +57,7 @@ one_listed_grows table entries since (listings.Expires x) p next is =
 
 -- ---- losses
 
--- What was taken from a channel was on its way.
+-- A message that was taken from a channel was on its way.
 pub taken_way : (side : Side) (first : Waiting) (more : List Waiting) (p : Progress) → (seat_at side p).waiting ≡ first ∷ more
     → on_way p ≡ on_way (with_waiting side more p) + 1
 taken_way sides.A first more p is = let count : length p.a.waiting ≡ suc (length more) = ap length is in omega (arith, count)
@@ -118,7 +118,7 @@ losing_grows judged side (first ∷ more) p is =
 pub front_grows : (judged : Option Side) (side : Side) (p : Progress) → HasNoMore p (front_lost judged side p)
 front_grows judged side p = losing_grows judged side (seat_at side p).waiting p refl
 
--- ---- what is received
+-- ---- messages that are received
 
 end_way : (side : Side) (event : Event) (e : End) (p : Progress)
     → (on_way (moved event (with_seat_end side e p)) ≡ on_way p) × ((moved event (with_seat_end side e p)).moves ≡ p.moves + 1)
@@ -126,7 +126,7 @@ end_way : (side : Side) (event : Event) (e : End) (p : Progress)
 end_way sides.A event e p = (refl, refl, refl)
 end_way sides.B event e p = (refl, refl, refl)
 
--- One step at most, and one message that is not received at most.
+-- A delivery adds at most one step and one unheard message.
 received_way : (judged : Option Side) (side : Side) (number : ℕ) (p next : Progress) (o : Result End EndFault)
     → received_or_not judged side number p o ≡ Ok next
     → (on_way next ≡ on_way p) × (next.moves ≤ p.moves + 1) × (next.unheard ≤ p.unheard + 1)
@@ -159,7 +159,7 @@ received_grows judged table sender number p next is =
     no_more p (front_lost judged sender p) next (front_grows judged sender p)
     (first_grows judged table sender number _ (front_lost judged sender p) next refl is)
 
--- What holds behind each step of those that a call yields.
+-- If something holds after each successful step, it holds after a call that makes this step.
 pub yields_so : (P : Progress → Type 0) (step : Result Progress CheckFault) (result : Result (Unit {0}) CheckFault) (left : Progress)
     → YieldsInMemory step result left → ((next : Progress) → step ≡ Ok next → P next) → OnOk result (P left)
 yields_so P step (Ok done) left is so = so left is
@@ -169,9 +169,9 @@ pub on_ok : {P Q : Type 0} (result : Result (Unit {0}) CheckFault) → OnOk resu
 on_ok (Ok done) p f = f p
 on_ok (Err fault) p f = tt
 
--- ---- what is sent
+-- ---- messages that are sent
 
--- A message that joins is on its way, and a step.
+-- A message that joins its channel is on its way, and adds one step.
 pub sent_grows : (event : Event) (side : Side) (fate : Fate) (number : ℕ) (message : Message) (p : Progress)
     → GrewBy 2 1 p (sent_by event side fate number message p)
 sent_grows event sides.A fate number message p =
@@ -217,7 +217,7 @@ listed_grows table entries since (x ∷ xs) p next is =
     let rest = listed_grows table entries since xs found.0 next found.2 in
     let m0 = one.0 in let m1 = rest.0 in (omega (arith, m0, m1), rest.1 ∙ one.1, rest.2 ∙ one.2)
 
--- Halves that close are so many steps.
+-- Each half that closes adds one step.
 pub shut_grows : (side : Side) (table : Table) (number : ℕ) (names : List HalfName) (p next : Progress)
     → halves_shut side table number names p ≡ Ok next → IsMoved (length names) p next
 shut_grows side table number [] p next is = subst (IsMoved 0 p) (ok_same p next is) (omega arith, refl, refl)
@@ -227,7 +227,7 @@ shut_grows side table number (name ∷ more) p next is =
     let rest = shut_grows side table number more found.0 next found.2 in
     let m0 = one.0 in let m1 = rest.0 in (omega (arith, m0, m1), rest.1 ∙ one.1, rest.2 ∙ one.2)
 
--- What is listed of the ends that are judged is no more than all that is listed.
+-- The listed events of judged ends are at most all listed events.
 pub some_listed : (judged : Option Side) (xs : List Listed) → length (listed_judged judged xs) ≤ length xs
 some_listed judged [] = omega arith
 some_listed judged (x ∷ xs) = by (is_judged judged (side_of x)) (some_listed judged xs)

@@ -1,4 +1,4 @@
--- The listed closings and expiries of a gap, over what is kept, are those of the replay.
+-- The listed closings and expiries of a gap over what is kept are those of the replay.
 use Rattle.std.proofs.Common.{◌≡◌, ◌≤◌, ◌<◌, arith, ℕ, ℤ, zero, suc, ◌+◌, ◌==◌, Bool, true, false, cond, List, [], ◌∷◌, map, drop, length, Option, Some, None, Result, Ok, Err, refl, sym, ap, ◌∙◌, append-nil}
 use Rattle.std.specs.Prelude.{◌||◌, filter, nat_lt, ok_or, option_map, slice_get}
 use Rattle.std.specs.List.{AllByRecursion, list_any}
@@ -49,9 +49,9 @@ pub outlines_count : (c : Certificate) (n : ℕ) (items : List Item) → length 
 outlines_count c n [] = refl
 outlines_count c n (item ∷ items) = ap suc (outlines_count c (n + 1) items)
 
--- ---- entries that are named
+-- ---- entries that listed events name
 
--- What is kept of an entry.
+-- The outline of the entry at this index.
 pub outline_at : (c : Certificate) (n i at : ℕ) (items : List Item) → n + i ≡ at
     → slice_get (outlines_from c n items) i ≡ option_map (outline_of (is_named c at)) (slice_get items i)
 outline_at c n i at [] is = refl
@@ -59,14 +59,14 @@ outline_at c n zero at (item ∷ items) is =
     let same : n ≡ at = omega (arith, is) in ap (λ (k : ℕ). Some (outline_of (is_named c k) item)) same
 outline_at c n (suc i) at (item ∷ items) is = outline_at c (n + 1) i at items (omega (arith, is))
 
--- The number behind the last mark does not fall,
+-- The number after the last quiet mark does not fall.
 since_rises : (since n : ℕ) (items : List Item) → since ≤ n → since ≤ since_from since n items
 since_rises since n [] within = omega arith
 since_rises since n (Sent side message ∷ items) within = since_rises since (n + 1) items (omega (arith, within))
 since_rises since n (Item.Quiet ∷ items) within =
     let rest = since_rises (n + 1) (n + 1) items (omega arith) in omega (arith, rest, within)
 
--- and is above an entry before these items where one of them is a mark.
+-- This number is above an entry before these items exactly if one of the items is a quiet mark.
 since_behind : (at since n : ℕ) (items : List Item) → since ≤ at → at < n
     → nat_lt at (since_from since n items) ≡ has_quiet items
 since_behind at since n [] not_above before = le-ltb at since not_above
@@ -76,7 +76,7 @@ since_behind at since n (Item.Quiet ∷ items) not_above before =
     let rest = since_rises (n + 1) (n + 1) items (omega arith) in
     lt-ltb at (since_from (n + 1) (n + 1) items) (omega (arith, rest, before))
 
--- So it is above an entry where a mark stands from there on.
+-- This number is above an entry exactly if a quiet mark comes from there on.
 since_is : (at since n i : ℕ) (items : List Item) → n + i ≡ at → since ≤ n
     → nat_lt at (since_from since n items) ≡ has_quiet (drop i items)
 since_is at since n zero [] is within = le-ltb at since (omega (arith, is, within))
@@ -95,7 +95,6 @@ where_none : {A : Type 0} (b : Bool) → where_so b (let o : Option A = None in 
 where_none true = refl
 where_none false = refl
 
--- An entry that is there stands before the end.
 there_before : (items : List Item) (i : ℕ) → where_so (nat_lt i (length items)) (slice_get items i) ≡ slice_get items i
 there_before items i = by (slice_get items i) refl
   where
@@ -103,7 +102,7 @@ there_before items i = by (slice_get items i) refl
     by None e = where_none (nat_lt i (length items))
     by (Some item) e = rw (lt-ltb i (length items) (slice_get_within items i item e)) refl
 
--- What is kept of an entry that is named in the gap behind the last.
+-- The outline of an entry that is named in the gap after the last entry.
 named_is : (c : Certificate) (items : List Item) (gap entry : ℕ) → gap ≡ length items → is_named c entry ≡ true
     → outline_named (outlines_from c 0 items) (since_from 0 0 items) entry
     ≡ option_map (outline_of true) (named_entry items gap entry)
@@ -125,9 +124,8 @@ named_is c items gap entry last named =
     by true = refl
     by false = found
 
--- ---- what is listed names an entry
+-- ---- a listed event names an entry
 
--- What holds of each holds of each that passes a test, and that it passes.
 each_passing : {A : Type 0} (P : A → Type 0) (p : A → Bool) (xs : List A) → AllByRecursion P xs
     → AllByRecursion (λ x. (p x ≡ true) × P x) (filter p xs)
 each_passing P p [] all = tt
@@ -138,12 +136,10 @@ each_passing P p (x ∷ xs) all = by (p x) refl (each_passing P p xs all.1)
     by true e rest = ((e, all.0), rest)
     by false e rest = rest
 
--- What holds of each holds of those that pass.
 some_hold : {A : Type 0} (P : A → Type 0) (p : A → Bool) (xs : List A) → AllByRecursion P xs → AllByRecursion P (filter p xs)
 some_hold P p xs all =
     all_weaker (λ x. (p x ≡ true) × P x) P (filter p xs) (λ x both. both.1) (each_passing P p xs all)
 
--- One of two that is so is enough.
 so_or : (a b : Bool) → b ≡ true → (a || b) ≡ true
 so_or true b is = refl
 so_or false b is = is
@@ -152,7 +148,6 @@ or_so : (a b : Bool) → a ≡ true → (a || b) ≡ true
 or_so true b is = refl
 or_so false b is = cc
 
--- Each of a list is one of the list.
 each_any : {A : Type 0} (entry : A → ℕ) (xs : List A)
     → AllByRecursion (λ x. list_any (λ y. entry y == entry x) xs ≡ true) xs
 each_any entry [] = tt
@@ -163,16 +158,15 @@ each_any entry (x ∷ xs) = (
       (λ y is. so_or (entry x == entry y) (list_any (λ z. entry z == entry y) xs) is) (each_any entry xs),
 )
 
--- What holds of what each is made from holds of what is made.
 all_made : {A B : Type 0} (P : B → Type 0) (f : A → B) (xs : List A) → AllByRecursion (λ x. P (f x)) xs → AllByRecursion P (map f xs)
 all_made P f [] all = tt
 all_made P f (x ∷ xs) all = (all.0, all_made P f xs all.1)
 
--- in that gap, and of an entry that is named
+-- The listed event is in this gap, and its entry is named.
 abbrev pub IsNamed : Certificate → ℕ → Listed → Type 0
 IsNamed c count x = (gap_of x ≡ count) × (is_named c (entry_of x) ≡ true)
 
--- What is listed for a gap is so.
+-- This holds for each event that is listed for the gap.
 each_named : {X : Type 0} (c : Certificate) (count : ℕ) (of : X → Listed) (entry gap : X → ℕ) (xs : List X)
     → ((x : X) → (gap x ≡ count) → list_any (λ y. entry y == entry x) xs ≡ true → IsNamed c count (of x))
     → AllByRecursion (IsNamed c count) (map of (filter (λ x. gap x == count) xs))
@@ -182,7 +176,7 @@ each_named c count of entry gap xs named =
     (filter (λ x. gap x == count) xs) (λ x both. named x (eqb-true (gap x) count both.0) both.1)
     (each_passing (λ x. list_any (λ y. entry y == entry x) xs ≡ true) (λ x. gap x == count) xs (each_any entry xs)))
 
--- Of those of the ends that are judged, too.
+-- This also holds for the listed events of judged ends.
 pub listed_named : (judged : Option Side) (c : Certificate) (count : ℕ) → AllByRecursion (IsNamed c count) (listed_for judged c count)
 listed_named judged c count =
     some_hold (IsNamed c count) (λ x. is_judged judged (side_of x)) (listed_in c count)
@@ -192,9 +186,9 @@ listed_named judged c count =
     (each_named c count listings.Expires (λ (x : Expiry). x.entry) (λ (x : Expiry). x.gap) c.expire
     (λ x here any. (here, so_or (list_any (λ (y : Closing). y.entry == x.entry) c.close) (list_any (λ (y : Expiry). y.entry == x.entry) c.expire) any))))
 
--- ---- what it names
+-- ---- what a listed event names
 
--- A closing is of the half that what is kept of its entry names.
+-- A closing is of the half that the outline of its entry gives.
 closing_by_is : (x : Closing) (item : Item)
     → closing_by x item ≡ option_map (Closes x.side) (half_closed_by x (outline_of true item))
 closing_by_is x (Sent sender (Unidirectional dialogue components)) = refl
@@ -204,15 +198,15 @@ closing_by_is x (Sent sender (EndMessage dtid dialogue components)) = refl
 closing_by_is x (Sent sender (Abort dtid reason)) = refl
 closing_by_is x Item.Quiet = refl
 
--- the expiry of what is named
+-- the expiry of this invocation
 abbrev expires_by : Expiry → HalfName × ℤ → Event
 expires_by x invocation = Expires x.side invocation.0 invocation.1
 
--- what is noted of a message with that originating ID
+-- the note of a message with this originating ID
 abbrev noted : Message → List ℕ → Noted
 noted message otid = record { begins = begins message; otid = otid; invokes = map invoke_id (components_in message) }
 
--- An expiry is of the invocation that what is kept of its entry names.
+-- An expiry is of the invocation that the outline of its entry gives.
 expiry_by_is : (x : Expiry) (item : Item)
     → expiry_by x item ≡ option_map (expires_by x) (invocation_ended_by x (outline_of true item))
 expiry_by_is x (Sent sender message) = by (originating message)
@@ -246,7 +240,7 @@ expiry_by_is x (Sent sender message) = by (originating message)
         (λ id. id))
 expiry_by_is x Item.Quiet = refl
 
--- What is listed names the same in both.
+-- A listed event names the same in both.
 same_named : {N : Type 0} (c : Certificate) (items : List Item) (gap entry : ℕ) (event : N → Event) (by : Item → Option Event) (kept_by : Outline → Option N)
     → (gap ≡ length items) × (is_named c entry ≡ true) → ((item : Item) → by item ≡ option_map event (kept_by (outline_of true item)))
     → then_so (named_entry items gap entry) by
@@ -260,7 +254,7 @@ same_named c items gap entry event by kept_by is same = of (named_entry items ga
 
 -- ---- steps
 
--- A step of an end alone.
+-- A step of an end.
 pub end_is : (listing : Bool) (judged : Option Side) (c : Certificate) (side : Side) (event : Event) (fault : CheckFault) (r : Replay) (step : Result End EndFault)
     → ((at : Side) → is_lost_from at event ≡ false)
     → end_moved side event fault (progress_of listing judged c r) step
@@ -287,7 +281,7 @@ invocation_ends_is listing judged table c x invocation r =
     (end_kept listing judged c x.side r)
     ∙ end_is listing judged c x.side (expires_by x invocation) fault r (expire table (end_at x.side r.world) invocation.0 invocation.1) (λ at. refl)
 
--- What names the same in both happens in both.
+-- If a listed event names the same in both, it occurs in both.
 happens_same : {N : Type 0} (listing : Bool) (judged : Option Side) (table : Table) (c : Certificate) (x : Listed) (r : Replay)
     (event : N → Event) (kept : N → Result Progress CheckFault) (o : Option N) → event_listed r.world.sent x ≡ option_map event o
     → ((name : N) → kept name ≡ map_ok (progress_of listing judged c) (happens table c (event name) (why_refused x) (entry_of x) r))
@@ -310,12 +304,11 @@ one_is listing judged table c items (listings.Expires x) r is sent =
     (ap (λ s. expiry_event s x) sent ∙ same_named c items x.gap x.entry (expires_by x) (expiry_by x) (invocation_ended_by x) is (expiry_by_is x))
     (λ name. invocation_ends_is listing judged table c x name r)
 
--- It sends nothing.
 pub one_sends : (table : Table) (c : Certificate) (x : Listed) (r next : Replay) → listed_replayed table c x r ≡ Ok next
     → next.world.sent ≡ r.world.sent
 one_sends table c x r next is = (one_replays table c x r next is).2.sent ∙ append-nil r.world.sent
 
--- All that is listed for the gap behind these items.
+-- All events that are listed for the gap after these items.
 pub listed_are : (listing : Bool) (judged : Option Side) (table : Table) (c : Certificate) (items : List Item) (listed : List Listed) (r : Replay)
     → AllByRecursion (IsNamed c (length items)) listed → r.world.sent ≡ items
     → all_kept table (outlines_from c 0 items) (since_from 0 0 items) listed (progress_of listing judged c r)

@@ -1,4 +1,4 @@
--- What is left of what is kept where an entry is refused is what is kept of the replay, as far as it goes.
+-- What a refused entry leaves is what is kept of the replay up to the first step that cannot happen.
 use Rattle.std.proofs.Common.{◌≡◌, arith, ℕ, ◌+◌, ◌==◌, Bool, true, false, cond, List, [], ◌∷◌, length, Option, Some, None, Result, Ok, Err, refl, sym, ap, ap₂, ◌∙◌}
 use Rattle.std.specs.Prelude.{◌||◌, not, ok_or, slice_get}
 use Rattle.std.specs.List.{AllByRecursion}
@@ -41,7 +41,7 @@ use Rattle.tcap_check.proofs.progress_laws.KeptSends.{overtakes_is}
 use Rattle.tcap_check.specs.declared.listed.Listed.{Listed}
 use Rattle.tcap_check.specs.Listed.{all_replayed, listed_for, listed_replayed}
 
--- What follows a step, or is left, over what is kept.
+-- A step and what follows it, over what is kept, for `behind_or`.
 behind_is : {A B F : Type 0} (f : A → B) (o : Result A F) (kept : Result B F) (left : A) (left_kept : B) (on : A → A) (on_kept : B → B)
     → kept ≡ map_ok f o → left_kept ≡ f left → ((next : A) → o ≡ Ok next → on_kept (f next) ≡ f (on next))
     → behind_or kept left_kept on_kept ≡ f (behind_or o left on)
@@ -166,7 +166,7 @@ module _ (judged : Option Side) (table : Table) (c : Certificate) where
           over_is true table judged c side (EndMessage dtid dialogue components) (invoking_half (EndMessage dtid dialogue components)) r
       by (EndMessage dtid dialogue components) (taken ∷ more) = refl
 
--- What comes to the peer of an end that is judged comes to one that is heard.
+-- If this end is judged, messages of the other end are received.
 judged_heard : (judged : Option Side) (side : Side) → is_judged judged side ≡ true → is_heard judged (other side) ≡ true
 judged_heard None side so = refl
 judged_heard (Some sides.A) sides.A so = refl
@@ -186,7 +186,7 @@ sending_far judged table c side message r = by (is_judged judged side) refl
     by true is = message_far judged table c side message (tied judged c r) r (judged_heard judged side is)
     by false is = refl
 
--- ---- a mark
+-- ---- a quiet mark
 
 half_is : (table : Table) (c : Certificate) (side : Side) (mark : ℕ) (name : HalfName) (r : Replay)
     → end_moved side (Closes side name) (fault_at NotQuiet mark) (progress_of true (Some side) c r)

@@ -1,4 +1,4 @@
--- A quiet mark, over what is kept, is that of the replay.
+-- A quiet mark over what is kept is that of the replay.
 use Rattle.std.proofs.Common.{◌≡◌, ℕ, suc, ◌+◌, Bool, true, false, cond, List, [], ◌∷◌, ◌++◌, length, Option, Some, None, Result, Ok, Err, refl, sym, ap, ap₂, subst, ◌∙◌, arith}
 use Rattle.std.proofs.lemmas.Bool.{eqb-true}
 use Rattle.std.specs.Prelude.{◌==◌, ◌&&◌, map, ok_or, option_map}
@@ -35,11 +35,11 @@ use Rattle.tcap_model.proofs.WorldLaws.{end_with}
 
 -- ---- the open halves close
 
--- the end, behind the steps by which halves of these names close
+-- the progress after these halves closed, with this end
 abbrev pub later : Side → End → List HalfName → Progress → Progress
 later side e names p = record (with_told (map (Closes side) names) (with_seat_end side e p)) { moves = p.moves + length names }
 
--- The halves of these names closed.
+-- These halves closed.
 pub record Closed (listing : Bool) (table : Table) (c : Certificate) (side : Side) (mark : ℕ) (names : List HalfName) (r : Replay) (e : End) : Type 0 where
   pub behind : Replay
   pub closes : closed_at_mark table side mark names r ≡ Ok behind
@@ -47,12 +47,11 @@ pub record Closed (listing : Bool) (table : Table) (c : Certificate) (side : Sid
   pub kept : progress_of listing (Some side) c behind ≡ later side e names (progress_of listing (Some side) c r)
   pub stays : Stays r behind
 
--- They close, or one of them may not.
+-- The halves close, or one of them may not.
 abbrev pub Closings : Bool → Table → Certificate → Side → ℕ → List HalfName → Replay → Result End EndFault → Type 0
 Closings listing table c side mark names r (Ok e) = Closed listing table c side mark names r e
 Closings listing table c side mark names r (Err reason) = closed_at_mark table side mark names r ≡ Err (fault_at NotQuiet mark)
 
--- One step more.
 later_more : (side : Side) (first last : End) (name : HalfName) (more : List HalfName) (p : Progress)
     → later side last more (moved (Closes side name) (with_seat_end side first p)) ≡ later side last (name ∷ more) p
 later_more side first last name more p = by side
@@ -68,7 +67,6 @@ later_more side first last name more p = by side
         ap₂ (λ (m : ℕ) (told : Option Told). let x : Progress = record (with_seat_end sides.B last p) { moves = m; steps = told } in x)
         same (told_both (Closes sides.B name) (map (Closes sides.B) more) p.steps)
 
--- No step at all.
 later_none : (side : Side) (p : Progress) → p ≡ later side (seat_at side p).end [] p
 later_none sides.A p =
     let same : p.moves ≡ p.moves + 0 = omega arith in
@@ -128,7 +126,6 @@ closings_are listing table c side mark (name ∷ more) r =
 
 -- ---- all is quiet
 
--- A mark has no time.
 pub latest_with_mark : (side : Side) (fates : List Fate) (items : List Item)
     → latest_of side fates (items ++ Item.Quiet ∷ []) ≡ latest_of side fates items
 latest_with_mark side [] [] = refl
@@ -145,12 +142,12 @@ latest_still : (judged : Option Side) (side : Side) (fates : List Fate) (items :
     → latest_at judged side fates (items ++ Item.Quiet ∷ []) ≡ latest_at judged side fates items
 latest_still judged side fates items = ap (λ (n : ℕ). cond (is_alone judged side) 0 n) (latest_with_mark side fates items)
 
--- The step of a mark: nothing is on its way, and both ends are quiet.
+-- The step of a quiet mark: nothing is on its way, and both ends are quiet.
 pub quiet_step_is : (listing : Bool) (judged : Option Side) (table : Table) (c : Certificate) (mark : ℕ) (r : Replay)
     → quiet_kept mark (progress_of listing judged c r) ≡ map_ok (progress_of listing judged c) (ok_or (stepped table Quiet r) (fault_at NotQuiet mark))
 quiet_step_is listing judged table c mark r = channels r.world.from_a r.world.from_b refl refl
   where
-    -- behind the mark, where both channels are empty
+    -- the replay after the mark, if both channels are empty
     behind : End → End → Replay
     behind a b = record {
       events = r.events ++ Quiet ∷ [];
@@ -192,14 +189,14 @@ quiet_step_is listing judged table c mark r = channels r.world.from_a r.world.fr
     channels (m ∷ more) b is_a is_b = rw is_a refl
     channels [] (m ∷ more) is_a is_b = rw (is_a, is_b) refl
 
--- A quiet end stays as it is where it is quiet again.
+-- A quiet end is unchanged by a quiet mark.
 quiet_again : (e q : End) → quiet e ≡ Ok q → quiet q ≡ Ok q
 quiet_again e q is =
     let so = needs_ok (all_closed e.begun && all_closed e.accepted) faults.StillOpen (Ok nothing) q is in
     let same : nothing ≡ q = ok_same {F = EndFault} nothing q so.1 in
     subst (λ (x : End). quiet x ≡ Ok x) same refl
 
--- An end that was quieted, and one that is quiet, are the same at a mark;
+-- It makes no difference whether an end was quieted before the mark or is quieted by it.
 quieted_is : (side : Side) (number : ℕ) (p : Progress) (q : End) → quiet (seat_at side p).end ≡ Ok q
     → quiet_kept number (with_seat_end side q p) ≡ quiet_kept number p
 quieted_is sides.A number p q is =
@@ -221,7 +218,7 @@ quieted_is sides.B number p q is =
     by true (Ok e) = refl
     by true (Err reason) = refl
 
--- and one that is not quiet is refused.
+-- If an end is not quiet, the mark is refused.
 open_is : (side : Side) (number : ℕ) (p : Progress) (reason : EndFault) → quiet (seat_at side p).end ≡ Err reason
     → quiet_kept number p ≡ Err (fault_at NotQuiet number)
 open_is sides.A number p reason is = rw is (by (is_empty p.a.waiting && is_empty p.b.waiting))
@@ -239,7 +236,7 @@ open_is sides.B number p reason is = rw is (by (is_empty p.a.waiting && is_empty
 
 -- ---- losses before the mark
 
--- What is lost on its way to an end leaves the end as it is.
+-- The loss of a message to an end does not change the end.
 one_lost_puts : (side : Side) (q : End) (number : ℕ) (messages : List Waiting) (p : Progress)
     → lost_told (Some side) (other side) number (with_waiting (other side) messages (with_seat_end side q p))
     ≡ with_seat_end side q (lost_told (Some side) (other side) number (with_waiting (other side) messages p))
@@ -272,7 +269,7 @@ front_puts side q p =
     ap (λ (x : List Waiting). losing_kept (Some side) (other side) x (with_seat_end side q p)) (waits_still side q p)
     ∙ losing_puts side q (seat_at (other side) p).waiting p
 
--- ---- halves that close one after the other
+-- ---- halves that close one by one
 
 put_later : (side : Side) (e q : End) (names : List HalfName) (p : Progress)
     → with_seat_end side q (later side e names p) ≡ later side q names p
@@ -330,7 +327,7 @@ later_end : (side : Side) (e : End) (names : List HalfName) (p : Progress) → (
 later_end sides.A e names p = refl
 later_end sides.B e names p = refl
 
--- It makes no difference whether they close one after the other or all at once.
+-- It makes no difference whether the halves close one by one or all at once.
 pub marks_alike : (side : Side) (table : Table) (number : ℕ) (p : Progress)
     → alone_marked side table number p
     ≡ (halves_closed (Some side) table number p >>= λ closed. quiet_kept number (last_lost (Some side) closed))
@@ -364,7 +361,7 @@ marks_alike side table number p =
     by (Err reason) = refl
     by (Ok e) = then_quiet e (quiet e) refl
 
--- So of a mark, which takes nothing.
+-- This also holds for a whole mark that takes nothing.
 pub listed_is : (judged : Option Side) (side : Side) (table : Table) (number : ℕ) (takes : List ℕ) (p left : Progress) (result : Result (Unit {0}) CheckFault)
     → judged ≡ Some side → (length takes == 0) ≡ true → YieldsInMemory (alone_marked side table number p) result left
     → YieldsInMemory (mark_taken judged table number takes p) result left
@@ -374,9 +371,9 @@ listed_is judged side table number (taken ∷ more) p left result is none yields
     let some : suc (length more) ≡ 0 = eqb-true (suc (length more)) 0 none in
     absurd (omega (arith, some))
 
--- ---- the mark
+-- ---- the quiet mark
 
--- Behind the mark nothing is on its way.
+-- After the mark nothing is on its way.
 pub quiet_empty : (table : Table) (side : Side) (r next : Replay) → stepped table Quiet r ≡ Some next → channel_from side next.world ≡ []
 quiet_empty table side r next is =
     let found = map_some _ (after table Quiet r.world) next is in
@@ -388,7 +385,7 @@ quiet_empty table side r next is =
     by sent sides.A = refl
     by sent sides.B = refl
 
--- The halves of the end that alone is judged close, and the mark takes no message.
+-- The halves of an end that is judged alone close, and the mark takes no message.
 abbrev pub marked_by : Option Side → Table → Certificate → ℕ → List ℕ → Replay → Result Replay CheckFault
 marked_by judged table c mark takes r =
     needs (is_nothing takes) (fault_at NotQuiet mark)
@@ -405,14 +402,14 @@ module _ (listing : Bool) (table : Table) (c : Certificate) (side : Side) (mark 
   abbrev p : Progress
   p = progress_of listing (Some side) c r
 
-  -- what is told of their closings
+  -- the progress with these closings listed
   abbrev told : Progress → Progress
   told = with_told (map (Closes side) (open_halves (seat_at side p).end))
 
   abbrev last_step : Replay → Result Replay CheckFault
   last_step closed = ok_or (stepped table Quiet (lost_from_front c (other side) closed)) fault
 
-  -- What is kept of the end that was quieted, behind the closings.
+  -- What is kept after the closings, with the end that was quieted.
   behind_is : (e q : End) (closed : Closed listing table c side mark halves r e)
       → told (quieted side q p) ≡ with_seat_end side q (progress_of listing (Some side) c closed.behind)
   behind_is e q closed =
@@ -420,7 +417,7 @@ module _ (listing : Bool) (table : Table) (c : Certificate) (side : Side) (mark 
       ∙ sym (put_later side e q halves p)
       ∙ ap (with_seat_end side q) (sym closed.kept)
 
-  -- Then the mark is that behind the closings.
+  -- The mark over this is the mark after the closings.
   quiet_is : (e q : End) (closed : Closed listing table c side mark halves r e) → quiet e ≡ Ok q
       → quiet_kept mark (last_lost (Some side) (told (quieted side q p))) ≡ map_ok (progress_of listing (Some side) c) (last_step closed.behind)
   quiet_is e q closed is =

@@ -1,4 +1,4 @@
--- A message that is sent, or by which a provider answers, over what is kept, is that of the replay.
+-- A message that an end sends, or by which its provider answers, over what is kept is that of the replay.
 use Rattle.std.proofs.Common.{◌≡◌, ℕ, ℤ, ◌==◌, Bool, true, false, List, [], ◌∷◌, length, Option, Some, None, Result, Ok, Err, refl, sym, ap, ap₂, ◌∙◌, is_ok, is_none, not}
 use Rattle.std.specs.Prelude.{filter_map, slice_get, ◌&&◌, ◌||◌}
 use Rattle.std.proofs.lemmas.Bool.{eq-eqb}
@@ -94,7 +94,7 @@ over_sends_nothing table side message (Some name) r =
 
 -- ---- a send
 
--- What becomes of a message of an end that is judged.
+-- The fate of a message of a judged end.
 own_fate_is : (judged : Option Side) (side : Side) (fate : Fate) → is_heard judged (other side) ≡ true → fate_at judged side fate ≡ own_fate judged fate
 own_fate_is None side fate so = refl
 own_fate_is (Some sides.A) sides.A fate so = refl
@@ -102,7 +102,7 @@ own_fate_is (Some sides.A) sides.B fate so = cc
 own_fate_is (Some sides.B) sides.A fate so = cc
 own_fate_is (Some sides.B) sides.B fate so = refl
 
--- It joins what is on its way.
+-- The message joins its channel.
 own_joined : (listing : Bool) (judged : Option Side) (c : Certificate) (side : Side) (event : Event) (message : Message) (fate : Fate) (r : Replay)
     → is_heard judged (other side) ≡ true → ((at : Side) → is_lost_from at event ≡ false) → slice_get c.fates (next_entry r) ≡ Some fate
     → progress_of listing judged c (with_step event r (joined side message r.world))
@@ -139,7 +139,7 @@ send_is listing table judged c fate side message r so has =
 
 -- ---- a reply
 
--- By which cause and ID the provider of an end answers a message, where it is so; and whether it may by this Abort.
+-- The cause and the ID by which a provider answers a message, if it may, and whether it may answer by this Abort.
 record IsAnswerable (e : End) (message abort : Message) : Type 0 where
   cause : ℕ
   id : List ℕ
@@ -194,7 +194,6 @@ answerable e (EndMessage dtid dialogue components) abort =
 answerable e (Abort dtid reason) abort =
     record { cause = 1; id = []; so = false; reply = refl; may = not_both (aborts 1 [] abort) }
 
--- the newest item of a list that an Abort joined
 joined_last : (side : Side) (abort : Message) (w : World) → slice_get (joined side abort w).sent (length w.sent) ≡ Some (Sent side abort)
 joined_last sides.A abort w = get_new w.sent (Sent sides.A abort)
 joined_last sides.B abort w = get_new w.sent (Sent sides.B abort)
@@ -205,12 +204,12 @@ module _ (listing : Bool) (table : Table) (judged : Option Side) (c : Certificat
   abbrev kept_left : Progress
   kept_left = with_waiting (other side) (waiting_at judged (other side) c.fates left) (progress_of listing judged c (lost_from_front c (other side) r))
 
-  -- what is kept of the answer to it, where that is the one that is taken
+  -- what is kept after the answer to the first message, if its number is right
   abbrev answered : Result Progress CheckFault
   answered = needs ((head.number == taken) && may_refuse (end_at side r.world) head.message abort) (fault_at BadReply (next_entry r))
       >> Ok (sent_by (Replies side taken) side (own_fate judged fate) (next_entry r) abort kept_left)
 
-  -- The Abort joins behind it.
+  -- The Abort joins its channel after that.
   abort_joins : (event : Event) (made : Message) → made ≡ abort → is_heard judged (other side) ≡ true → ((at : Side) → is_lost_from at event ≡ false)
       → slice_get c.fates (next_entry (without_head (other side) c left r)) ≡ Some fate
       → next_entry (without_head (other side) c left r) ≡ next_entry r
@@ -224,7 +223,7 @@ module _ (listing : Bool) (table : Table) (judged : Option Side) (c : Certificat
       ∙ ap₂ (λ (m : Message) (p : Progress). sent_by event side (own_fate judged fate) (next_entry r) m p) same
       (channel_put listing judged c (other side) left (lost_from_front c (other side) r))))
 
--- The head is there, and it is that of the number, or not.
+-- The head has this number, or it does not.
 answers_head : (listing : Bool) (table : Table) (judged : Option Side) (c : Certificate) (fate : Fate) (side : Side) (abort : Message) (taken : ℕ) (r : Replay)
     (head : OnItsWay) (left : List OnItsWay) (front : HasFront c (other side) head left r) (b : Bool) → is_heard judged (other side) ≡ true
     → (head.number == taken) ≡ b → slice_get c.fates (next_entry r) ≡ Some fate
@@ -305,7 +304,7 @@ reply_is listing table judged c fate side abort taken r so has =
         sent_so : Progress → Result Progress CheckFault
         sent_so p = Ok p
 
--- A message that takes these.
+-- A message that takes these messages.
 pub message_by_is : (listing : Bool) (table : Table) (judged : Option Side) (c : Certificate) (fate : Fate) (side : Side) (message : Message) (takes : List ℕ)
     (r : Replay) → is_heard judged (other side) ≡ true → slice_get c.fates (next_entry r) ≡ Some fate
     → message_kept judged table side (own_fate judged fate) (next_entry r) message takes (progress_of listing judged c r)
@@ -336,9 +335,9 @@ message_by_is listing table judged c fate side message takes r so has = by messa
     by (EndMessage dtid dialogue components) [] = sends (EndMessage dtid dialogue components)
     by (EndMessage dtid dialogue components) (taken ∷ more) = refl
 
--- ---- whoever is judged
+-- ---- for each choice of judged ends
 
--- What an end sends that alone is judged is lost.
+-- A message of an end that is judged alone is lost.
 pub own_is : (listing : Bool) (judged : Option Side) (table : Table) (c : Certificate) (fate : Fate) (side : Side) (message : Message) (takes : List ℕ) (r : Replay)
     → is_heard judged (other side) ≡ true → slice_get c.fates (next_entry r) ≡ Some fate
     → own_taken judged table side fate (next_entry r) message takes (progress_of listing judged c r)
@@ -355,7 +354,7 @@ own_is listing judged table c fate side message takes r so has =
     by (Some at) (Ok next) = ap (λ (p : Progress). let x : Result Progress CheckFault = Ok p in x) (sent_lost_is listing at c next)
     by (Some at) (Err reason) = refl
 
--- What its peer tells waits behind the others.
+-- A message of the peer waits after the earlier ones.
 pub told_is : (listing : Bool) (c : Certificate) (fate : Fate) (side : Side) (message : Message) (takes : List ℕ) (r : Replay)
     → slice_get c.fates (next_entry r) ≡ Some fate
     → told_taken (other side) fate (next_entry r) message takes (progress_of listing (Some side) c r)

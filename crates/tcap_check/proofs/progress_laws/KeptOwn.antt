@@ -1,4 +1,5 @@
--- Between entries nothing is on its way from the end: what it sends is lost at once, and a gap sends nothing.
+-- Between entries, no message of an end that is judged alone is on its way: each is lost at once, and a gap sends
+-- nothing.
 use Rattle.std.proofs.Common.{◌≡◌, ℕ, ◌+◌, ◌==◌, Bool, true, false, cond, List, [], ◌∷◌, drop, length, Option, Some, None, Result, Ok, Err, refl, sym, ap, ◌∙◌}
 use Rattle.std.specs.Prelude.{◌&&◌, not, ok_or, slice_get}
 use Rattle.tcap_msg.specs.declared.message.Message.{Message}
@@ -28,9 +29,9 @@ use Rattle.tcap_check.specs.Listed.{listed_for}
 use Rattle.tcap_check.proofs.replay_laws.ListedEventLaws.{gap_parts}
 use Rattle.tcap_check.proofs.progress_laws.KeptStays.{listed_stay}
 
--- ---- what is on its way from the end
+-- ---- messages on their way from the end
 
--- Nothing is on its way from the end that is judged alone.
+-- No message is on its way from the end that is judged alone.
 abbrev pub IsHeard : Option Side → Replay → Type 0
 IsHeard None r = Unit {0}
 IsHeard (Some judged) r = channel_from judged r.world ≡ []
@@ -50,7 +51,7 @@ own_told sides.B message w = refl
 
 -- ---- a gap
 
--- A message of its peer that the end hears, or does not.
+-- A message of the peer that the end receives or discards does not change the channel from the end.
 heard_keeps : (side : Side) (table : Table) (c : Certificate) (n : ℕ) (r next : Replay) → heard table c side n r ≡ Ok next
     → channel_from side next.world ≡ channel_from side r.world
 heard_keeps side table c n r next is =
@@ -170,7 +171,7 @@ nothing_sent : (side : Side) → channel_from side nothing_replayed.world ≡ []
 nothing_sent sides.A = refl
 nothing_sent sides.B = refl
 
--- Behind entries.
+-- After these entries, no message is on its way from the end.
 pub heard_empty : (side : Side) (table : Table) (c : Certificate) (entries : List (Result Item Reason)) (r : Replay)
     → taken (Some side) table c entries ≡ Ok r → channel_from side r.world ≡ []
 heard_empty side table c entries r is = by (certificate_fits c) is

@@ -1,4 +1,4 @@
--- What waits behind entries for the ends that are judged is what is delivered to them, or taken, behind them; at the end nothing does.
+-- The messages that wait after some entries are those whose fates are still to come. At the end no message waits.
 use Rattle.std.proofs.Common.{◌≡◌, ℕ, ◌+◌, arith, Bool, true, false, cond, List, [], ◌∷◌, ◌++◌, map, length, Option, Some, None, Result, Ok, Err, refl, sym, ap, ap₂, subst, ◌∙◌, append_assoc, append-nil}
 use Rattle.std.specs.Prelude.{ok_or, not, slice_get}
 use Rattle.std.proofs.lemmas.List.{length-append, length-map, map-append}
@@ -30,26 +30,24 @@ use Rattle.tcap_check.proofs.replay_laws.WaitingLaws.{waiting, waiting_by}
 use Rattle.tcap_check.proofs.progress_laws.KeptSteps.{gap_waits, mark_waits, message_waits, sent_waits}
 use Rattle.tcap_check.proofs.progress_laws.KeptEntries.{gap_sends, item_sends, tied_still}
 
--- ---- a certificate that fits
+-- ---- a certificate in range
 
--- Of two steps that answer Ok the first does, and the second.
 pub both_ok : {B F : Type 0} (step : Result (Unit {0}) F) (rest : Result B F) {x : B} → (step >> rest) ≡ Ok x
     → (step ≡ Ok tt) × (rest ≡ Ok x)
 both_ok (Ok tt) rest is = (refl, is)
 both_ok (Err reason) rest is = cc
 
--- Its fates fit.
 pub fit_by : (c : Certificate) → certificate_fits c ≡ Ok tt → FatesFit (length c.fates) 0 c.fates
 fit_by c is = fates_ok (length c.fates) 0 c.fates (both_ok (fates_fit (length c.fates) 0 c.fates) _ is).0
 
--- ---- entries, one after the other
+-- ---- entries, one by one
 
--- Behind entries those wait that lie behind them, and no mark is taken by a reply.
+-- After some entries, the messages wait whose fates are still to come, and no quiet mark has a reply as its fate.
 record Waits (judged : Option Side) (c : Certificate) (r : Replay) : Type 0 where
   waits : count_for judged c.fates r.world ≡ count_behind judged (next_entry r) (next_entry r) c.fates r.world.sent
   marks : AreMarks c.fates r.world.sent
 
--- What is taken by the next entry of what comes to an end that is judged.
+-- The messages to judged ends that the next entry takes.
 tied_is : (judged : Option Side) (c : Certificate) (r : Replay)
     → tied judged c r ≡ heard_among judged r.world.sent (taken_by (next_entry r) 0 c.fates)
 tied_is None c r = refl
@@ -63,7 +61,7 @@ module _ (judged : Option Side) (table : Table) (c : Certificate) (r next : Repl
   abbrev new : Side → ℕ
   new side = cond (is_heard judged side) (new_by (Some fate)) 0
 
-  -- Behind the gap, without what the entry takes.
+  -- After the gap, not counting what the entry takes.
   behind_gap : (mid : Replay) → gap_by judged table c r ≡ Ok mid
       → count_for judged c.fates mid.world ≡ count_behind judged (n + 1) (n + 1) c.fates r.world.sent + length (tied judged c r)
   behind_gap mid is =
@@ -74,7 +72,7 @@ module _ (judged : Option Side) (table : Table) (c : Certificate) (r next : Repl
       let waits = old.waits in
       omega (arith, gap, replies, waits, takes)
 
-  -- One message more: it waits unless it is lost.
+  -- One more message waits, unless it will be lost.
   one_more : (side : Side) (message : Message) → next.world.sent ≡ r.world.sent ++ Sent side message ∷ []
       → count_for judged c.fates next.world ≡ count_behind judged (n + 1) (n + 1) c.fates r.world.sent + new side → Waits judged c next
   one_more side message sent waits =
@@ -92,7 +90,7 @@ module _ (judged : Option Side) (table : Table) (c : Certificate) (r next : Repl
         marks = subst (AreMarks c.fates) (sym sent) (marks_sent c.fates r.world.sent side message old.marks);
       }
 
-  -- Behind a message of an end that is judged,
+  -- `Waits` holds after a message of a judged end.
   own_waits : (side : Side) (message : Message) → is_heard judged (other side) ≡ true
       → own_judged judged table c fate side message r ≡ Ok next
       → next.world.sent ≡ r.world.sent ++ Sent side message ∷ [] → Waits judged c next
@@ -109,7 +107,7 @@ module _ (judged : Option Side) (table : Table) (c : Certificate) (r next : Repl
       let left = made.2 in
       one_more side message sent (omega (arith, waits, took, takes, fate_is, left))
 
-  -- behind one that the peer tells of the end that alone is,
+  -- `Waits` holds after a message of the peer of an end that is judged alone.
   told_waits : (side : Side) (message : Message) → judged ≡ Some side → told_replayed table c fate side message r ≡ Ok next
       → next.world.sent ≡ r.world.sent ++ Sent (other side) message ∷ [] → Waits judged c next
   told_waits side message one is sent =
@@ -129,7 +127,7 @@ module _ (judged : Option Side) (table : Table) (c : Certificate) (r next : Repl
       ∙ ap (λ (o : Option Fate). count_for judged c.fates gap.0.world + cond (is_heard judged (other side)) (new_by o) 0) number in
       one_more (other side) message sent (omega (arith, waits, none, joins))
 
-  -- and behind a mark.
+  -- `Waits` holds after a quiet mark.
   quiet_waits : mark_judged judged table c fate r ≡ Ok next → next.world.sent ≡ r.world.sent ++ Item.Quiet ∷ [] → Waits judged c next
   quiet_waits is sent =
       let so = needs_ok (is_gap (n + 1) fate) (fault_at FateRange n) _ next is in
@@ -154,7 +152,7 @@ module _ (judged : Option Side) (table : Table) (c : Certificate) (r next : Repl
       no_reply : is_gap (next_entry r + 1) fate ≡ true → (k : ℕ) → fate ≡ By k → ⊥
       no_reply is k e = let here = ap (is_gap (next_entry r + 1)) (sym e) ∙ is in cc
 
--- One item more.
+-- `Waits` holds after one more item.
 item_waits : (judged : Option Side) (table : Table) (c : Certificate) (fate : Fate) (item : Item) (r next : Replay)
     → FatesFit (length c.fates) 0 c.fates → slice_get c.fates (next_entry r) ≡ Some fate → Waits judged c r
     → item_by judged table c fate item r ≡ Ok next → next.world.sent ≡ r.world.sent ++ item ∷ [] → Waits judged c next
@@ -170,7 +168,7 @@ item_waits (Some judged) table c fate (Sent sender message) r next fit has old i
     by sides.B sides.A old is sent = told_waits (Some sides.B) table c r next fate fit has old sides.B message refl is sent
     by sides.B sides.B old is sent = own_waits (Some sides.B) table c r next fate fit has old sides.B message refl is sent
 
--- Behind entries.
+-- `Waits` holds after these entries.
 entries_wait : (judged : Option Side) (table : Table) (c : Certificate) (entries : List (Result Item Reason)) (r next : Replay)
     → FatesFit (length c.fates) 0 c.fates → Waits judged c r → taken_from judged table c entries r ≡ Ok next
     → Waits judged c next × (map ok_item next.world.sent ≡ map ok_item r.world.sent ++ entries)
@@ -199,7 +197,6 @@ entries_wait judged table c (entry ∷ entries) r next fit old is =
         )
     by (Err reason) fate mid has goes = cc
 
--- In the beginning nothing waits.
 none_yet : (judged : Option Side) (c : Certificate) → Waits judged c nothing_replayed
 none_yet judged c = record { waits = none judged c.fates; marks = no_marks c.fates }
   where
@@ -215,7 +212,7 @@ none_yet judged c = record { waits = none judged c.fates; marks = no_marks c.fat
     no_marks [] = tt
     no_marks (fate ∷ fates) = tt
 
--- As many of what is on its way are kept whole as will not be lost.
+-- As many messages on a channel are kept whole as will not be lost.
 kept_whole : (judged : Option Side) (side : Side) (fates : List Fate) (channel : List OnItsWay) → is_alone judged side ≡ false
     → count_kept (waiting_at judged side fates channel) ≡ length (waiting fates channel)
 kept_whole judged side fates [] so = refl
@@ -228,7 +225,7 @@ kept_whole judged side fates (m ∷ more) so = rw so (by (slice_get fates m.numb
     by (Some (By k)) rest = omega (arith, rest)
     by (Some Lost) rest = rest
 
--- So of all that waits for the ends that are judged.
+-- This also holds for all messages that wait for judged ends.
 all_kept : (listing : Bool) (judged : Option Side) (c : Certificate) (r : Replay)
     → count_waiting judged (progress_of listing judged c r) ≡ count_for judged c.fates r.world
 all_kept listing None c r =
@@ -236,7 +233,7 @@ all_kept listing None c r =
 all_kept listing (Some sides.A) c r = kept_whole (Some sides.A) sides.B c.fates r.world.from_b refl
 all_kept listing (Some sides.B) c r = kept_whole (Some sides.B) sides.A c.fates r.world.from_a refl
 
--- What waits behind entries is what is delivered, or taken, behind them.
+-- The messages that wait are as many as the fates still to come.
 pub pending_is : (listing : Bool) (judged : Option Side) (table : Table) (c : Certificate) (entries : List (Result Item Reason)) (r : Replay)
     → taken judged table c entries ≡ Ok r
     → count_waiting judged (progress_of listing judged c r) ≡ count_ahead judged (length entries) c.fates entries

@@ -1,4 +1,4 @@
--- A message joins what is on its way: what is kept of that.
+-- What is kept after a message joins its channel.
 use Rattle.std.proofs.Common.{◌≡◌, ℕ, ◌+◌, ◌*◌, ◌≤◌, ◌<◌, Bool, true, false, cond, List, [], ◌∷◌, ◌++◌, length, Option, Some, None, refl, sym, ap, ap₂, ◌∙◌, arith}
 use Rattle.std.specs.Prelude.{slice_get, ◌&&◌, ◌||◌, nat_lt}
 use Rattle.std.proofs.lemmas.Bool.{ltb-true, ltb-false, lt-ltb, le-ltb}
@@ -19,7 +19,7 @@ use Rattle.tcap_check.specs.Checking.{fate_of, is_alone, kept_by, latest_at, lat
 use Rattle.tcap_check.proofs.progress_laws.KeptBasics.{moved_counts}
 use Rattle.tcap_model.proofs.WorldLaws.{itself}
 
--- ---- the greatest time
+-- ---- the latest time
 
 none_before : (n : ℕ) → nat_lt n 0 ≡ false
 none_before n = le-ltb n 0 (omega arith)
@@ -38,7 +38,6 @@ greater_right m n = by (nat_lt m n) refl
     by true is = omega arith
     by false is = ltb-false m n is
 
--- it is one of the two
 greater_most : (m n k : ℕ) → m ≤ k → n ≤ k → greater m n ≤ k
 greater_most m n k p q = by (nat_lt m n)
   where
@@ -86,7 +85,6 @@ before_greater t a b = by (nat_lt t a) (nat_lt t b) refl refl
         let two : b ≤ t = ltb-false t b at in
         le-ltb t (greater a b) (greater_most a b t one two)
 
--- A time that is later, by the fate that has it.
 later_is : (t : ℕ) (fate : Fate) → is_later (Some t) (time_of fate) ≡ nat_lt t (time_or_zero fate)
 later_is t (Gap g) = refl
 later_is t (By k) = refl
@@ -121,7 +119,7 @@ nothing_lost side (first ∷ fates) (Sent sender message ∷ items) = by (is_sid
     by true rest = rest
     by false rest = rest
 
--- Whether it overtakes is told by the greatest time.
+-- Whether a message overtakes an earlier one depends only on the latest time.
 pub overtakes_is : (listing : Bool) (judged : Option Side) (c : Certificate) (side : Side) (fate : Fate) (r : Replay) → is_alone judged side ≡ false
     → overtakes fate (seat_at side (progress_of listing judged c r)) ≡ is_overtaking side fate c.fates r.world.sent
 overtakes_is listing judged c side Lost r so = sym (nothing_lost side c.fates r.world.sent)
@@ -130,7 +128,7 @@ overtakes_is listing judged c sides.B (Gap g) r so = rw so (overtaking sides.B (
 overtakes_is listing judged c sides.A (By k) r so = rw so (overtaking sides.A (By k) (2 * k + 1) c.fates r.world.sent refl)
 overtakes_is listing judged c sides.B (By k) r so = rw so (overtaking sides.B (By k) (2 * k + 1) c.fates r.world.sent refl)
 
--- ---- one message more
+-- ---- one more message
 
 kept_with_fate : (fate : Fate) (m : OnItsWay) → kept_by (Some fate) m ≡ record { number = m.number; message = unless_lost fate m.message }
 kept_with_fate (Gap g) m = refl
@@ -180,7 +178,7 @@ latest_more side sender message (first ∷ fates) (Sent other m ∷ items) fate 
     by true true rest =
         ap (greater (time_or_zero first)) rest ∙ greater_assoc (time_or_zero first) (latest_of side fates items) (time_or_zero fate)
 
--- what becomes of a message of an end, whoever is judged
+-- the fate of a message of an end, for each choice of judged ends
 abbrev pub fate_at : Option Side → Side → Fate → Fate
 fate_at judged side fate = cond (is_alone judged side) Lost fate
 
@@ -214,7 +212,7 @@ latest_peer judged side message fates items fate is =
     differ sides.A = refl
     differ sides.B = refl
 
--- A step by which a message joins what is on its way from an end.
+-- A step by which a message joins its channel.
 pub joined_is : (listing : Bool) (judged : Option Side) (c : Certificate) (side : Side) (event : Event) (message : Message) (fate : Fate) (r : Replay)
     → ((at : Side) → is_lost_from at event ≡ false) → slice_get c.fates (next_entry r) ≡ Some fate
     → progress_of listing judged c (with_step event r (joined side message r.world))

@@ -1,4 +1,4 @@
--- What happens unseen in a replay: nothing is lost, sent or taken, and each channel stays as it is.
+-- Hidden steps of a replay lose, send and take nothing, and leave each channel as it is.
 use Rattle.std.proofs.Common.{◌≡◌, ℕ, ℤ, ◌+◌, Bool, true, false, cond, List, [], ◌∷◌, ◌++◌, filter, length, Option, Some, None, Ok, refl, sym, ap, ◌∙◌, arith}
 use Rattle.std.specs.Prelude.{filter_map, ok_or}
 use Rattle.tcap_msg.specs.declared.message.Message.{Message}
@@ -25,11 +25,10 @@ use Rattle.tcap_check.proofs.replay_laws.ListedEventLaws.{listed_so}
 
 -- ---- losses
 
--- how many of an end's messages are lost in these events
+-- the count of losses of an end's messages
 abbrev pub count_losses : Side → List Event → ℕ
 count_losses side events = length (filter (is_lost_from side) events)
 
--- The losses in events, one behind the other.
 pub losses_both : (side : Side) (xs ys : List Event) → count_losses side (xs ++ ys) ≡ count_losses side xs + count_losses side ys
 losses_both side [] ys = omega arith
 losses_both side (x ∷ xs) ys = by (is_lost_from side x) (losses_both side xs ys)
@@ -42,7 +41,6 @@ losses_both side (x ∷ xs) ys = by (is_lost_from side x) (losses_both side xs y
     by true rest = omega (arith, rest)
     by false rest = rest
 
--- An event more that is no loss of the end's.
 pub no_loss : (side : Side) (events : List Event) (event : Event) → is_lost_from side event ≡ false
     → count_losses side (events ++ event ∷ []) ≡ count_losses side events
 no_loss side events event is =
@@ -80,7 +78,7 @@ sent_with_end : (at : Side) (e : End) (w : World) → (with_end at e w).sent ≡
 sent_with_end sides.A e w = refl
 sent_with_end sides.B e w = refl
 
--- A step that changes an end alone.
+-- A step that changes only an end.
 pub end_step_stays : (event : Event) (at : Side) (e : End) (r next : Replay) (w : World)
     → ((side : Side) → is_lost_from side event ≡ false) → w ≡ with_end at e r.world → with_step event r w ≡ next → Stays r next
 end_step_stays event at e r next w none w_is is = record {
@@ -90,7 +88,7 @@ end_step_stays event at e r next w none w_is is = record {
   sent = ap (λ (x : Replay). x.world.sent) (sym is) ∙ ap (λ (x : World). x.sent) w_is ∙ sent_with_end at e r.world;
 }
 
--- ---- what is listed
+-- ---- listed events
 
 abbrev IsUnseen : Event → Type 0
 IsUnseen event = (table : Table) (c : Certificate) (reason : Reason) (entry : ℕ) (r next : Replay)
@@ -131,7 +129,7 @@ listed_stay table c (x ∷ more) r next is =
     (listed_so IsUnseen r.world.sent x (closes_unseen (side_of x)) (expires_unseen (side_of x)) found.0 named table c (why_refused x) (entry_of x) r then.0
     found.2) (listed_stay table c more then.0 next then.2)
 
--- ---- what a message implies
+-- ---- expiries that a message implies
 
 implied_stays : (table : Table) (side : Side) (name : HalfName) (ids : List ℤ) (r : Replay)
     → Stays r (implied table side name ids r)

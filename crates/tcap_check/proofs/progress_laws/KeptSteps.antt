@@ -1,4 +1,4 @@
--- How many messages wait for the ends that are judged behind each step of a replay, behind a gap, and behind what an item is.
+-- How each step of a replay, a gap, and an item change the count of messages that wait for judged ends.
 use Rattle.std.proofs.Common.{◌≡◌, ℕ, ◌+◌, ◌==◌, arith, Bool, true, false, cond, nat_le, List, [], ◌∷◌, length, Option, Some, None, Result, Ok, Err, refl, sym, ap, ap₂, ◌∙◌}
 use Rattle.std.specs.Prelude.{◌&&◌, ok_or, slice_get}
 use Rattle.std.proofs.lemmas.Bool.{eqb-false}
@@ -39,12 +39,12 @@ use Rattle.tcap_check.proofs.replay_laws.ListedEventLaws.{gap_parts}
 
 -- ---- steps
 
--- As many wait where nothing is lost, sent or taken,
+-- If nothing is lost, sent or taken, as many messages wait.
 stays_wait : (judged : Option Side) (c : Certificate) (r next : Replay) → Stays r next
     → count_for judged c.fates next.world ≡ count_for judged c.fates r.world
 stays_wait judged c r next stays = counts_same judged c.fates r.world next.world (λ side. ap (waiting c.fates) (stays.channels side))
 
--- and where an end changes.
+-- If only an end changes, as many messages wait.
 end_waits : (judged : Option Side) (fates : List Fate) (side : Side) (e : End) (w : World)
     → count_for judged fates (with_end side e w) ≡ count_for judged fates w
 end_waits judged fates side e w = counts_same judged fates w (with_end side e w) (by side)
@@ -56,7 +56,7 @@ end_waits judged fates side e w = counts_same judged fates w (with_end side e w)
     by sides.B sides.B = refl
 
 module _ (judged : Option Side) (table : Table) (c : Certificate) where
-  -- What is received waited,
+  -- A message that is received was waiting.
   receives_wait : (side : Side) (number : ℕ) (before next : Replay) (r : Replay) → is_heard judged (other side) ≡ true
       → before ≡ lost_from_front c (other side) r → stepped table (Receives side number) before ≡ Some next
       → count_for judged c.fates next.world + 1 ≡ count_for judged c.fates r.world
@@ -69,7 +69,7 @@ module _ (judged : Option Side) (table : Table) (c : Certificate) where
       ∙ ap (λ (x : Replay). count_for judged c.fates (with_channel (other side) d.more x.world) + 1) same
       ∙ taken_waits judged c (other side) r d.head d.more so (ap (λ (x : Replay). channel_from (other side) x.world) (sym same) ∙ d.channel)
 
-  -- and so did what is answered; the answer joins.
+  -- A message that is answered was waiting, and the answer joins.
   replies_wait : (side : Side) (message : Message) (number : ℕ) (r next : Replay) → is_heard judged (other side) ≡ true
       → message_by table c side message (Some (Replies side number)) r ≡ Ok next
       → count_for judged c.fates next.world + 1
@@ -95,7 +95,7 @@ module _ (judged : Option Side) (table : Table) (c : Certificate) where
       let was = taken_waits judged c (other side) r a.head a.more so a.channel in
       omega (arith, next_is, was)
 
-  -- Before a quiet mark nothing waits, nor behind it.
+  -- Neither before nor after a quiet mark does a message wait.
   quiet_waits : (r next : Replay) → stepped table Quiet r ≡ Some next
       → (count_for judged c.fates r.world ≡ 0) × (count_for judged c.fates next.world ≡ 0)
   quiet_waits r next is =
@@ -111,7 +111,7 @@ module _ (judged : Option Side) (table : Table) (c : Certificate) where
       none (Some sides.A) w a b = ap (λ (x : List OnItsWay). length (waiting c.fates x)) b
       none (Some sides.B) w a b = ap (λ (x : List OnItsWay). length (waiting c.fates x)) a
 
--- What an end that is judged receives waited, and where it alone is judged, what it can't receive.
+-- A message that an end receives, or discards if it is judged alone, was waiting.
 heard_waits : (table : Table) (c : Certificate) (side : Side) (n : ℕ) (r next : Replay) → heard table c side n r ≡ Ok next
     → count_for (Some side) c.fates next.world + 1 ≡ count_for (Some side) c.fates r.world
 heard_waits table c side n r next is =
@@ -146,7 +146,7 @@ received_waits (Some judged) table c sender n r next is = heard_waits table c ju
 
 -- ---- a gap
 
--- What is delivered in a gap does not lie behind it any more.
+-- What a gap delivers is no longer counted after it.
 deliveries_wait : (judged : Option Side) (table : Table) (c : Certificate) (gap n : ℕ) (fates : List Fate) (items : List Item)
     (r next : Replay) → deliveries_by judged table c gap n fates items r ≡ Ok next
     → count_for judged c.fates next.world + count_behind judged gap gap fates items
@@ -220,7 +220,7 @@ gap_waits judged table c r next is =
 
 -- ---- an item
 
--- What is sent joins.
+-- A message that is sent joins.
 sends_wait : (judged : Option Side) (table : Table) (c : Certificate) (side : Side) (message : Message) (r next : Replay)
     → send_replayed table side message (implied_over table side message (invoking_half message) r) ≡ Ok next
     → count_for judged c.fates next.world
@@ -246,7 +246,7 @@ sends_wait judged table c side message r next is = by (send table (end_at side m
         (end_waits judged c.fates side made mid.world ∙ stays_wait judged c r mid stays)
         (sent_with_end side made mid.world ∙ stays.sent)
 
--- A message of an end that is judged joins, and what it takes waited.
+-- A message of a judged end joins, and what it takes was waiting.
 pub message_waits : (judged : Option Side) (table : Table) (c : Certificate) (side : Side) (message : Message) (takes : List ℕ)
     (r next : Replay) → is_heard judged (other side) ≡ true
     → message_by table c side message (sending_by c (next_entry r) (Sent side message) takes) r ≡ Ok next
@@ -281,7 +281,7 @@ message_waits judged table c side message takes r next so is = by message takes 
     by (EndMessage dtid dialogue components) [] e = sends (EndMessage dtid dialogue components) e
     by (EndMessage dtid dialogue components) (taken ∷ more) e = cc
 
--- What the end sent that alone is judged comes to nobody: as many wait where it is lost.
+-- A message of an end that is judged alone does not count, so its loss changes nothing.
 pub sent_waits : (judged : Option Side) (c : Certificate) (step : Result Replay CheckFault) (next : Replay)
     → behind_sending judged step ≡ Ok next
     → (made : Replay) × (step ≡ Ok made) × (count_for judged c.fates next.world ≡ count_for judged c.fates made.world)
@@ -294,7 +294,7 @@ sent_waits (Some judged) c step next is =
           ∙ ap (λ (x : List OnItsWay). length (waiting c.fates x)) (peer_stays judged _ made.0.world),
     )
 
--- ---- a mark
+-- ---- a quiet mark
 
 closed_stay : (table : Table) (side : Side) (mark : ℕ) (names : List HalfName) (r next : Replay)
     → closed_at_mark table side mark names r ≡ Ok next → Stays r next
@@ -313,7 +313,7 @@ last_waits : (judged : Option Side) (c : Certificate) (r : Replay)
 last_waits None c r = losses_wait None c sides.B (lost_from_front c sides.A r) ∙ losses_wait None c sides.A r
 last_waits (Some judged) c r = losses_wait (Some judged) c (other judged) r
 
--- Behind the gap before a mark nothing waits, nor behind the mark.
+-- After the gap before a quiet mark no message waits, nor after the mark.
 pub mark_waits : (judged : Option Side) (table : Table) (c : Certificate) (mark : ℕ) (r next : Replay)
     → (closed_before judged table mark r >>= λ closed. ok_or (stepped table Quiet (lost_last judged c closed)) (fault_at NotQuiet mark)) ≡ Ok next
     → (count_for judged c.fates r.world ≡ 0) × (count_for judged c.fates next.world ≡ 0)

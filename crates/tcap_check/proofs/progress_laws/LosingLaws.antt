@@ -1,4 +1,4 @@
--- What is lost at the front of a channel is lost one after the other.
+-- Messages at the front of a channel are lost one by one.
 use Rattle.std.proofs.Common.{◌≡◌, ℕ, Bor, ◌+◌, ◌≤◌, Bool, true, false, cond, List, [], ◌∷◌, ◌++◌, drop, map, length, Option, Some, None, refl, sym, ap, subst, ◌∙◌, arith}
 use Rattle.tcap_record.specs.declared.entry.End.{End as Side}
 use Rattle.tcap_record.specs.declared.entry.End.TheVariants as sides
@@ -7,7 +7,7 @@ use Rattle.tcap_check.specs.declared.progress.Waiting.{Waiting}
 use Rattle.tcap_check.specs.Progress.{HasNoMore, count_kept, front_lost, first_lost, is_none_kept, losing_kept, lost_told, on_way, seat_at, with_waiting}
 use Rattle.tcap_check.proofs.progress_laws.KeptGrowth.{lost_waits, one_lost_grows}
 
--- Where the first is not lost, none is.
+-- If the first message is not lost, none is.
 none_in : (judged : Option Side) (side : Side) (messages : List Waiting) (p : Progress) → first_lost messages ≡ None
     → losing_kept judged side messages p ≡ p
 none_in judged side [] p is = refl
@@ -18,7 +18,7 @@ none_in judged side (first ∷ more) p is = by (is_none_kept first.message) refl
     by true at e = cc
     by false at e = rw at refl
 
--- the first, where it is lost
+-- the first message, if it is lost
 first_is : (first : Waiting) (more : List Waiting) (number : ℕ) → first_lost (first ∷ more) ≡ Some number
     → (is_none_kept first.message ≡ true) × (first.number ≡ number)
 first_is first more number is = by (is_none_kept first.message) refl is
@@ -32,7 +32,7 @@ pub none_lost : (judged : Option Side) (side : Side) (p : Progress) → first_lo
     → front_lost judged side p ≡ p
 none_lost judged side p is = none_in judged side (seat_at side p).waiting p is
 
--- Nor where nothing is on its way.
+-- If nothing is on its way, nothing is lost.
 pub none_left : (judged : Option Side) (side : Side) (p : Progress) → length (seat_at side p).waiting ≡ 0 → front_lost judged side p ≡ p
 none_left judged side p is = by (seat_at side p).waiting is
   where
@@ -40,11 +40,11 @@ none_left judged side p is = by (seat_at side p).waiting is
     by [] e = refl
     by (first ∷ more) e = cc
 
--- the replay behind the loss of the first
+-- the progress after the loss of the first message
 abbrev pub behind_first : Option Side → Side → ℕ → Progress → Progress
 behind_first judged side number p = lost_told judged side number (with_waiting side (drop 1 (seat_at side p).waiting) p)
 
--- One is lost, and then the others;
+-- The first message is lost, and then the others.
 pub one_lost : (judged : Option Side) (side : Side) (number : ℕ) (p : Progress) → first_lost (seat_at side p).waiting ≡ Some number
     → front_lost judged side (behind_first judged side number p) ≡ front_lost judged side p
 one_lost judged side number p is = by (seat_at side p).waiting is
@@ -59,7 +59,7 @@ one_lost judged side number p is = by (seat_at side p).waiting is
         rw so.0 (ap (λ (n : ℕ). losing_kept judged side more (lost_told judged side n (with_waiting side more p))) so.1) in
         ap (λ (x : List Waiting). losing_kept judged side x next) (lost_waits judged side number more p) ∙ sym one
 
--- one message less is on its way,
+-- One message fewer is on its way.
 pub one_left : (judged : Option Side) (side : Side) (number : ℕ) (p : Progress) → first_lost (seat_at side p).waiting ≡ Some number
     → length (seat_at side p).waiting ≡ length (seat_at side (behind_first judged side number p)).waiting + 1
 one_left judged side number p is = by (seat_at side p).waiting is
@@ -72,7 +72,7 @@ one_left judged side number p is = by (seat_at side p).waiting is
         ap length (lost_waits judged side number more p) in
         omega (arith, left)
 
--- and no more is counted than may be lost.
+-- The loads do not grow.
 pub one_grows : (judged : Option Side) (side : Side) (number : ℕ) (p : Progress) → first_lost (seat_at side p).waiting ≡ Some number
     → HasNoMore p (behind_first judged side number p)
 one_grows judged side number p is = by (seat_at side p).waiting refl is
@@ -88,9 +88,9 @@ pub seat_way : (side : Side) (p : Progress) → length (seat_at side p).waiting 
 seat_way sides.A p = omega arith
 seat_way sides.B p = omega arith
 
--- ---- how many will not be lost
+-- ---- the count of messages that will not be lost
 
--- One more that will not be lost, or that will.
+-- One more message that will not be lost, or will be.
 pub kept_more : (seen : List (Bor Waiting)) (w : Bor Waiting) → is_none_kept w.now.message ≡ false
     → count_kept (map (λ (x : Bor Waiting). x.now) (seen ++ w ∷ [])) ≡ count_kept (map (λ (x : Bor Waiting). x.now) seen) + 1
 kept_more [] w is = rw is refl

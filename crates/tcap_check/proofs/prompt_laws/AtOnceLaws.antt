@@ -1,4 +1,4 @@
--- Prompt certificates, and runs that deliver each message before another is sent.
+-- Prompt certificates, and runs that deliver each message before the next is sent.
 use Rattle.std.proofs.Common.{◌≡◌, ◌⊎◌, inl, inr, ℕ, ◌+◌, true, false, List, [], ◌∷◌, ◌++◌, length, Option, Some, None, Ok, arith, refl, sym, ap, subst, ◌∙◌, append_assoc, append-nil}
 use Rattle.std.specs.List.{AllByRecursion}
 use Rattle.std.proofs.lemmas.List.{length-append}
@@ -26,24 +26,20 @@ use Rattle.tcap_check.proofs.prompt_laws.PromptLaws.{none_lost}
 
 -- ---- lists
 
--- What holds of each of two lists together holds of each of the first.
 all_front : {A : Type 0} (P : A → Type 0) (xs ys : List A) → AllByRecursion P (xs ++ ys) → AllByRecursion P xs
 all_front P [] ys all = tt
 all_front P (x ∷ xs) ys all = (all.0, all_front P xs ys all.1)
 
--- A list with nothing more has nothing behind it.
 nothing_more : {A : Type 0} (xs ys : List A) → xs ++ ys ≡ xs → ys ≡ []
 nothing_more [] ys is = is
 nothing_more (x ∷ xs) ys is = nothing_more xs ys cc
 
--- A channel with no number has no message.
 no_numbers : (messages : List OnItsWay) → numbers_of messages ≡ [] → messages ≡ []
 no_numbers [] is = refl
 no_numbers (m ∷ messages) is = cc
 
 -- ---- events
 
--- A plain event is no loss.
 plain_stays : (event : Event) → IsPlain event → is_loss event ≡ false
 plain_stays (Loses side number) plain = absurd plain
 plain_stays (Sends side m) plain = refl
@@ -54,13 +50,12 @@ plain_stays (Closes side name) plain = refl
 plain_stays Quiet plain = refl
 plain_stays (Tells side m) plain = refl
 
--- Where none of the events is a loss, all are those that are none.
 none_left_out : (events : List Event) → AllByRecursion (λ event. is_loss event ≡ false) events
     → without_losses events ≡ events
 none_left_out [] all = refl
 none_left_out (event ∷ events) all = rw (all.0, none_left_out events all.1) refl
 
--- What a plain step adds to the sent list,
+-- What a plain step adds to the sent list.
 step_sent : (table : Table) (event : Event) (w next : World) → after table event w ≡ Some next → IsPlain event
     → next.sent ≡ w.sent ++ sent_in (event ∷ [])
 step_sent table (Sends side m) w next is plain =
@@ -76,7 +71,7 @@ step_sent table Quiet w next is plain =
     let g = grows table Quiet w next is in g.2 ∙ ap (λ (items : List Item). w.sent ++ items) g.1
 step_sent table (Tells side m) w next is plain = absurd plain
 
--- and a run of them.
+-- What plain steps add to the sent list.
 plays_sent : (table : Table) (events : List Event) (w final : World) → played table events w ≡ Some final
     → AllByRecursion IsPlain events
     → final.sent ≡ w.sent ++ sent_in events
@@ -93,9 +88,9 @@ plays_sent table (event ∷ events) w final is plain =
         ∙ append_assoc w.sent (sent_in (event ∷ [])) (sent_in events)
         ∙ ap (λ (items : List Item). w.sent ++ items) (sym (sent_both (event ∷ []) events))
 
--- ---- what a prompt certificate describes
+-- ---- runs that a prompt certificate describes
 
--- What a prompt certificate describes delivers at once.
+-- A run that follows a prompt certificate delivers at once.
 pub followed_at_once : (table : Table) (c : Certificate) (items : List Item) (events : List Event) → IsPrompt c
     → IsRunOf items table events
     → Follows c items events → DeliversAtOnce table events
@@ -127,7 +122,7 @@ followed_at_once table c items events is_prompt run follows before behind w spli
 
 -- ---- runs that deliver at once
 
--- Nothing is on its way, or one message whose delivery is here.
+-- Nothing is on its way, or one message, whose delivery comes next.
 abbrev Waits : World → List Event → Type 0
 Waits w here = ((w.from_a ≡ []) × (w.from_b ≡ []) × (here ≡ []))
     ⊎ ((side : Side) × (on : OnItsWay) × (channel_from side w ≡ on ∷ []) × (channel_from (other side) w ≡ [])
@@ -137,22 +132,21 @@ Waits w here = ((w.from_a ≡ []) × (w.from_b ≡ []) × (here ≡ []))
 abbrev IsFree : World → Type 0
 IsFree w = (w.from_a ≡ []) × (w.from_b ≡ [])
 
--- What is left from this world on is prompt.
+-- The rest of the run from this world on is prompt.
 abbrev IsLeft : World → World → List Event → List Event → Type 0
 IsLeft w final here events =
     (left : List Item) × (final.sent ≡ w.sent ++ left) × Prompt (length w.sent) here left events
 
--- Where nothing is on its way, none of both channels has a message,
 free_at : (side : Side) (w : World) → IsFree w → channel_from side w ≡ []
 free_at sides.A w free = free.0
 free_at sides.B w free = free.1
 
--- and no delivery waits.
+-- If nothing is on its way, no delivery comes next.
 none_waits : (w : World) (here : List Event) → IsFree w → Waits w here → here ≡ []
 none_waits w here free (inl (from_a, from_b, none)) = none
 none_waits w here free (inr (side, on, full, other_free, is)) = let none = free_at side w free in cc
 
--- What an end sends is no Abort with a cause.
+-- A message that an end sends is no Abort with a cause.
 sends_no_cause : (table : Table) (e made : End) (side : Side) (m : Message) → send table e m ≡ Ok made
     → has_no_cause (Sent side m) ≡ true
 sends_no_cause table e made side (Unidirectional dialogue components) is = refl
@@ -183,7 +177,7 @@ adds_item w next final here item events none so sent (left, final_is, on) =
       ),
     )
 
--- A message that was sent waits alone,
+-- A message that was sent is alone on its way.
 sent_waits : (side : Side) (m : Message) (made : End) (w : World) → IsFree w
     → Waits (joined side m (with_end side made w)) (delivery_of (length w.sent) (Sent side m))
 sent_waits sides.A m made w free =
@@ -193,11 +187,10 @@ sent_waits sides.B m made w free =
     let on : OnItsWay = record { number = length w.sent; message = m } in
     inr (sides.B, on, ap (λ (more : List OnItsWay). more ++ on ∷ []) free.1, free.0, refl)
 
--- It is the head, with nothing behind it.
 alone : (on head : OnItsWay) (more : List OnItsWay) → on ∷ [] ≡ head ∷ more → (on.number ≡ head.number) × (more ≡ [])
 alone on head more is = let same : on ≡ head = cc in (ap (λ (m : OnItsWay). m.number) same, cc)
 
--- and where it is received, nothing does, and nothing was sent.
+-- After the message is received, nothing is on its way, and nothing was sent.
 received_free : (table : Table) (side receiver : Side) (on : OnItsWay) (number : ℕ) (w next : World)
     → channel_from side w ≡ on ∷ []
     → channel_from (other side) w ≡ [] → IsDelivery table receiver number w next
@@ -217,7 +210,7 @@ received_free table sides.B sides.A on number w next full free d =
       ap (Receives sides.A) (same.0 ∙ d.number_is),
     )
 
--- One step of such a run, and what is left behind it.
+-- One step of such a run, and the rest after it.
 one_step : (table : Table) (event : Event) (events : List Event) (w next final : World) (here : List Event)
     → (is_over_or_sends (event ∷ events) ≡ true → IsFree w) → IsSeen event → after table event w ≡ Some next
     → Waits w here
@@ -264,7 +257,7 @@ one_step table (Expires side name id) events w next final here free seen is wait
 one_step table (Closes side name) events w next final here free seen is waits on = absurd seen
 one_step table (Tells side m) events w next final here free seen is waits on = absurd seen
 
--- What is left of a run that delivers at once is prompt.
+-- The rest of a run that delivers at once is prompt.
 walked : (table : Table) (events before : List Event) (w final : World) (here : List Event) → Runs table before w
     → played table events w ≡ Some final → AllByRecursion IsSeen events → DeliversAtOnce table (before ++ events)
     → Waits w here
@@ -293,7 +286,6 @@ walked table (event ∷ events) before w final here ran is seen at_once waits =
         one_step table event events w next final here (λ over. at_once before (event ∷ events) w refl over ran)
         seen.0 at waits (λ later waits_on. on next later ran_on is waits_on)
 
--- A step that is seen is no loss.
 seen_stays : (event : Event) → IsSeen event → is_loss event ≡ false
 seen_stays (Loses side number) seen = absurd seen
 seen_stays (Sends side m) seen = refl
@@ -304,7 +296,6 @@ seen_stays (Closes side name) seen = refl
 seen_stays Quiet seen = refl
 seen_stays (Tells side m) seen = refl
 
--- Where all steps are seen, nothing is lost.
 no_losses : (side : Side) (events : List Event) → AllByRecursion IsSeen events → losses_from side events ≡ []
 no_losses side [] seen = refl
 no_losses side (Loses sender number ∷ events) seen = absurd seen.0
@@ -316,7 +307,7 @@ no_losses side (Closes place name ∷ events) seen = no_losses side events seen.
 no_losses side (Quiet ∷ events) seen = no_losses side events seen.1
 no_losses side (Tells sender m ∷ events) seen = no_losses side events seen.1
 
--- A prompt certificate describes a run that delivers at once and has no hidden step.
+-- A prompt certificate describes each run that delivers at once and has no hidden step.
 pub at_once_follows : (table : Table) (items : List Item) (events : List Event) → IsRunOf items table events
     → AllByRecursion IsSeen events
     → DeliversAtOnce table events → Follows (prompt (length items)) items events

@@ -1,4 +1,4 @@
--- What happens by a prompt certificate: each item, and right behind it the delivery of its message.
+-- The events of a prompt certificate: each item, and just after it the delivery of its message.
 use Rattle.std.proofs.Common.{◌≡◌, ◌≤◌, ◌<◌, ℕ, zero, suc, ◌+◌, ◌==◌, arith, Bool, true, false, List, [], ◌∷◌, ◌++◌, map, length, Option, Some, None, refl, sym, ap, ap₂, subst, ◌∙◌, append_assoc, append-nil}
 use Rattle.std.specs.Prelude.{slice_get}
 use Rattle.std.specs.List.{AllByRecursion}
@@ -34,17 +34,14 @@ fate_at n (suc i) (fate ∷ fates) prompt below =
     let place : n + suc i ≡ (n + 1) + i = omega arith in
     rw place (fate_at (n + 1) i fates prompt.1 (omega (arith, below)))
 
--- The prompt fates are prompt,
 pub fates_prompt : (n count : ℕ) → prompt_from n (prompt_fates n count)
 fates_prompt n zero = tt
 fates_prompt n (suc count) = (refl, fates_prompt (n + 1) count)
 
--- and so many;
 pub fates_count : (n count : ℕ) → length (prompt_fates n count) ≡ count
 fates_count n zero = refl
 fates_count n (suc count) = ap suc (fates_count (n + 1) count)
 
--- they fit.
 pub fates_in : (all n count : ℕ) → n + count ≤ all → FatesFit all n (prompt_fates n count)
 fates_in all n zero within = tt
 fates_in all n (suc count) within =
@@ -52,7 +49,7 @@ fates_in all n (suc count) within =
 
 -- ---- gaps
 
--- the delivery of an item that has this number
+-- the delivery of the item with this number
 abbrev pub delivery_of : ℕ → Item → List Event
 delivery_of n (Sent side message) = Receives (other side) n ∷ []
 delivery_of n Item.Quiet = []
@@ -71,7 +68,7 @@ none_before gap n (Gap g ∷ fates) (Item.Quiet ∷ items) prompt below =
 none_before gap n (Lost ∷ fates) (item ∷ items) prompt below = let bad = prompt.0 in cc
 none_before gap n (By k ∷ fates) (item ∷ items) prompt below = let bad = prompt.0 in cc
 
--- In the gap behind an item, it alone is delivered.
+-- The gap after an item delivers only this item.
 deliveries_behind : (gap n : ℕ) (fates : List Fate) (front : List Item) (item : Item) (more : List Item)
     → prompt_from n fates
     → length fates ≡ length (front ++ item ∷ more) → gap ≡ n + length front
@@ -101,31 +98,30 @@ abbrev pub event_of : Item → Event
 event_of (Sent side message) = Sends side message
 event_of Item.Quiet = Quiet
 
--- whether it is no Abort with a cause, which only a provider sends
+-- whether an item is no Abort with a cause, which only a provider sends
 abbrev pub has_no_cause : Item → Bool
 has_no_cause (Sent side (Abort dtid (Some (Cause cause)))) = false
 has_no_cause _ = true
 
--- The events are first these, and then each of the items, with expiries that it implies right before it and its
--- delivery right behind it; the first of the items has number n.
+-- The events are first these, and then each item, with the expiries that it implies just before it and its delivery
+-- just after it. The first of the items has number n.
 abbrev pub Prompt : ℕ → List Event → List Item → List Event → Type 0
 Prompt n here [] events = events ≡ here
 Prompt n here (item ∷ more) events =
     (implied rest : List Event) × AllByRecursion (IsImplied item) implied × (has_no_cause item ≡ true)
     × (events ≡ here ++ implied ++ event_of item ∷ rest) × Prompt (n + 1) (delivery_of n item) more rest
 
--- A delivery more stands at the front.
+-- One more delivery comes first.
 pub prompt_behind : (n : ℕ) (event : Event) (left : List Item) (events : List Event) → Prompt n [] left events
     → Prompt n (event ∷ []) left (event ∷ events)
 prompt_behind n event [] events is = ap (λ (more : List Event). event ∷ more) is
 prompt_behind n event (item ∷ more) events (implied, rest, all, so, events_are, on) =
     (implied, rest, all, so, ap (λ (others : List Event). event ∷ others) events_are, on)
 
--- It is that event.
 a_send : (sends event : Event) → Some sends ≡ Some event → event ≡ sends
 a_send sends event is = cc
 
--- What sends an item, where no message is taken by it.
+-- The event that sends an item, if the item takes no message.
 sends_is : (c : Certificate) (n : ℕ) (item : Item) (event : Event) → taken_by n 0 c.fates ≡ []
     → sending c n item ≡ Some event
     → (event ≡ event_of item) × (has_no_cause item ≡ true)
@@ -150,7 +146,7 @@ sends_is c n Item.Quiet event none is = (by (slice_get c.fates n) (rw none at is
     by (Some Lost) is = cc
     by (Some (By k)) is = cc
 
--- The other way.
+-- An item that takes no message is sent by this event.
 sends_so : (c : Certificate) (n : ℕ) (item : Item) → taken_by n 0 c.fates ≡ []
     → slice_get c.fates n ≡ Some (Gap (n + 1))
     → has_no_cause item ≡ true → sending c n item ≡ Some (event_of item)
@@ -163,7 +159,7 @@ sends_so c n (Sent side (Abort dtid (Some (ByDialogue dialogue)))) none at so = 
 sends_so c n (Sent side (Abort dtid (Some (Cause cause)))) none at so = cc
 sends_so c n Item.Quiet none at so = rw (none, at, eq-eqb (n + 1) (n + 1) refl) refl
 
--- Where nothing unseen is listed, a gap has deliveries alone.
+-- If no hidden event is listed, a gap has only deliveries.
 gap_is : (c : Certificate) (items : List Item) (gap : ℕ) (here : List Event) → IsPrompt c
     → map Some here ≡ gap_events c items gap
     → here ≡ deliveries gap 0 c.fates items
@@ -174,7 +170,6 @@ gap_so : (c : Certificate) (items : List Item) (gap : ℕ) (here : List Event) �
     → map Some here ≡ gap_events c items gap
 gap_so c items gap here prompt is = rw (prompt.1, prompt.2) (ap (map Some) is)
 
--- One item further.
 next_front : (items front : List Item) (item : Item) (more : List Item) → items ≡ front ++ item ∷ more
     → items ≡ (front ++ item ∷ []) ++ more
 next_front items front item more joined = joined ∙ sym (append_assoc front (item ∷ []) more)
@@ -191,7 +186,7 @@ delivered_next c items gap front item more prompt counted joined at =
     ap (λ (x : List Item). deliveries (gap + 1) 0 c.fates x) joined
     ∙ deliveries_behind gap 0 c.fates front item more prompt.0 (counted ∙ ap length joined) place
 
--- What follows a prompt certificate is so.
+-- Events that follow a prompt certificate are of this form.
 pub follows_prompt : (c : Certificate) (items : List Item) (gap : ℕ) (front left : List Item) (events : List Event)
     → IsPrompt c
     → length c.fates ≡ length items → items ≡ front ++ left → gap ≡ length front → FollowsFrom c items gap left events
@@ -213,7 +208,7 @@ follows_prompt c items gap front (item ∷ more) events prompt counted joined at
           (delivered_next c items gap front item more prompt counted joined at) behind,
     )
 
--- The other way.
+-- Events of this form follow a prompt certificate.
 pub prompt_follows : (c : Certificate) (items : List Item) (gap : ℕ) (here : List Event) (front left : List Item)
     (events : List Event) → IsPrompt c
     → length c.fates ≡ length items → items ≡ front ++ left → gap ≡ length front → here ≡ deliveries gap 0 c.fates items
@@ -239,20 +234,19 @@ prompt_follows c items gap here front (item ∷ more) events prompt counted join
           (sym (delivered_next c items gap front item more prompt counted joined at)) on,
     )
 
--- ---- what is sent and what is taken
+-- ---- sent and taken messages
 
--- what the events add to the sent list
+-- the items that events add to the sent list
 abbrev pub sent_in : List Event → List Item
 sent_in [] = []
 sent_in (Sends side message ∷ events) = Sent side message ∷ sent_in events
 sent_in (Quiet ∷ events) = Item.Quiet ∷ sent_in events
 sent_in (_ ∷ events) = sent_in events
 
--- It sends nothing.
+-- The event sends nothing.
 abbrev IsSilent : Event → Type 0
 IsSilent event = (events : List Event) → is_over_or_sends (event ∷ events) ≡ false
 
--- Two lists of events add what the first adds, and then what the second does,
 pub sent_both : (xs ys : List Event) → sent_in (xs ++ ys) ≡ sent_in xs ++ sent_in ys
 sent_both [] ys = refl
 sent_both (Sends side m ∷ xs) ys = ap (λ (items : List Item). Sent side m ∷ items) (sent_both xs ys)
@@ -264,12 +258,11 @@ sent_both (Expires side name id ∷ xs) ys = sent_both xs ys
 sent_both (Closes side name ∷ xs) ys = sent_both xs ys
 sent_both (Tells side m ∷ xs) ys = sent_both xs ys
 
--- Nothing is before nothing.
 nothing_before : {A : Type 0} (xs ys : List A) → xs ++ ys ≡ [] → xs ≡ []
 nothing_before [] ys is = refl
 nothing_before (x ∷ xs) ys is = cc
 
--- Behind events that send nothing a send comes, or the end.
+-- After events that send nothing comes a send, or the end.
 skips : (front tail before behind : List Event) → AllByRecursion IsSilent front → front ++ tail ≡ before ++ behind
     → is_over_or_sends behind ≡ true → (later : List Event) × (before ≡ front ++ later) × (tail ≡ later ++ behind)
 skips [] tail before behind silent split over = (before, refl, split)
@@ -282,7 +275,7 @@ skips (event ∷ front) tail (first ∷ before) behind silent split over =
     let (later, before_is, tail_is) = skips front tail before behind silent.1 rest over in
     (later, ap₂ (λ (e : Event) (events : List Event). e ∷ events) same before_is, tail_is)
 
--- Expiries that an item implies send nothing,
+-- Expiries that an item implies send nothing.
 implied_silent : (item : Item) (events : List Event) → AllByRecursion (IsImplied item) events
     → AllByRecursion IsSilent events × (sent_in events ≡ []) × ((side : Side) → numbers_taken side events ≡ [])
 implied_silent item [] all = (tt, refl, λ side. refl)
@@ -291,18 +284,17 @@ implied_silent item (event ∷ events) all =
     let more = implied_silent item events all.1 in
     let first = one.0 events in ((first.0, more.0), first.1 ∙ more.1, λ side. first.2 side ∙ more.2 side)
   where
-    -- It sends nothing, and takes nothing.
+    -- The event sends nothing and takes nothing.
     Adds : Event → Type 0
     Adds event = (more : List Event) → IsSilent event × (sent_in (event ∷ more) ≡ sent_in more)
         × ((side : Side) → numbers_taken side (event ∷ more) ≡ numbers_taken side more)
 
--- nor does a delivery.
 delivery_silent : (n : ℕ) (item : Item)
     → AllByRecursion IsSilent (delivery_of n item) × (sent_in (delivery_of n item) ≡ [])
 delivery_silent n (Sent side message) = ((λ more. refl, tt), refl)
 delivery_silent n Item.Quiet = (tt, refl)
 
--- What an item sends is what its delivery takes.
+-- The delivery of an item takes what the item sends.
 delivery_takes : (side : Side) (n : ℕ) (item : Item) (items : List Item)
     → numbers_taken side (delivery_of n item) ++ numbers_sent side (n + 1) items ≡ numbers_sent side n (item ∷ items)
 delivery_takes sides.A n (Sent sides.A message) items = refl
@@ -311,14 +303,14 @@ delivery_takes sides.B n (Sent sides.A message) items = refl
 delivery_takes sides.B n (Sent sides.B message) items = refl
 delivery_takes side n Item.Quiet items = refl
 
--- A send takes nothing, and adds its item.
+-- A send takes nothing and adds its item.
 event_adds : (side : Side) (item : Item) (events : List Event)
     → (numbers_taken side (event_of item ∷ events) ≡ numbers_taken side events)
     × (sent_in (event_of item ∷ events) ≡ item ∷ sent_in events)
 event_adds side (Sent sender message) events = (refl, refl)
 event_adds side Item.Quiet events = (refl, refl)
 
--- Where a send comes next, or the end, what was sent was taken.
+-- If a send or the end comes next, all messages that were sent were taken.
 pub balanced : (side : Side) (n : ℕ) (here : List Event) (left : List Item) (events before behind : List Event)
     → Prompt n here left events
     → AllByRecursion IsSilent here → sent_in here ≡ [] → events ≡ before ++ behind → is_over_or_sends behind ≡ true

@@ -24,14 +24,12 @@ AllPlain events = AllByRecursion IsPlain events
 
 -- ---- fates
 
--- No message is taken by a reply,
 pub none_taken : (entry reply n : ℕ) (fates : List Fate) → prompt_from entry fates → taken_by reply n fates ≡ []
 none_taken entry reply n [] prompt = refl
 none_taken entry reply n (Gap g ∷ fates) prompt = none_taken (entry + 1) reply (n + 1) fates prompt.1
 none_taken entry reply n (Lost ∷ fates) prompt = let bad = prompt.0 in cc
 none_taken entry reply n (By k ∷ fates) prompt = let bad = prompt.0 in cc
 
--- nor lost.
 pub none_lost : (side : Side) (entry n : ℕ) (fates : List Fate) (items : List Item) → prompt_from entry fates
     → lost_from side n fates items ≡ []
 none_lost side entry n [] items prompt = refl
@@ -42,7 +40,7 @@ none_lost side entry n (By k ∷ fates) items prompt = let bad = prompt.0 in cc
 
 -- ---- gaps
 
--- Where nothing unseen is listed, a gap has deliveries alone.
+-- If no hidden event is listed, a gap has only deliveries.
 gap_plain : (certificate : Certificate) (items : List Item) (gap : ℕ) (here : List Event) → IsPrompt certificate
     → map Some here ≡ gap_events certificate items gap → AllPlain here
 gap_plain certificate items gap here prompt is =
@@ -51,11 +49,10 @@ gap_plain certificate items gap here prompt is =
 
 -- ---- between gaps
 
--- A send is plain.
 a_send : (side : Side) (m : Message) (event : Event) → Some (Sends side m) ≡ Some event → IsPlain event
 a_send side m event is = let same : Sends side m ≡ event = cc in rw (← same) tt
 
--- An item for which no message is taken is sent, or is a mark.
+-- An item that takes no message is sent, or is a quiet mark.
 sending_plain : (certificate : Certificate) (number : ℕ) (item : Item) (event : Event) → taken_by number 0 certificate.fates ≡ []
     → sending certificate number item ≡ Some event → IsPlain event
 sending_plain certificate number (Sent side (Unidirectional dialogue components)) event none is =
@@ -81,7 +78,7 @@ sending_plain certificate number Item.Quiet event none is = by (slice_get certif
 
 -- ---- losses
 
--- Where no event is a loss of either end, all are as those that are none.
+-- If no event is a loss of either end, all events are plain if those without losses are.
 no_losses : (events : List Event) → losses_from sides.A events ≡ [] → losses_from sides.B events ≡ [] → AllPlain (without_losses events)
     → AllPlain events
 no_losses [] from_a from_b plain = tt
@@ -97,7 +94,7 @@ no_losses (Quiet ∷ events) from_a from_b plain = (plain.0, no_losses events fr
 
 -- ---- runs
 
--- From each gap on all events are plain, losses left out.
+-- From each gap on, all events are plain, losses left out.
 from_plain : (certificate : Certificate) (items : List Item) (gap : ℕ) (left : List Item) (events : List Event) → IsPrompt certificate
     → FollowsFrom certificate items gap left events → AllPlain events
 from_plain certificate items gap [] events prompt follows = gap_plain certificate items gap events prompt follows
@@ -108,7 +105,7 @@ from_plain certificate items gap (item ∷ more) events prompt (here, implied, r
     let behind = from_plain certificate items (gap + 1) more rest prompt on in
     rw events_are (all_both IsPlain (here ++ implied) (sends ∷ rest) before (first, behind))
 
--- In a run that follows a prompt certificate all are.
+-- All events of a run that follows a prompt certificate are plain.
 pub prompt_plain : (certificate : Certificate) (items : List Item) (events : List Event) → IsPrompt certificate
     → Follows certificate items events → AllByRecursion IsPlain events
 prompt_plain certificate items events prompt follows = no_losses events (none sides.A) (none sides.B)

@@ -1,4 +1,4 @@
--- A beginning of a run that follows the certificate gap by gap, and grows at its end.
+-- A beginning of a run that follows a certificate gap by gap, and grows at its end.
 use Rattle.std.proofs.Common.{◌≡◌, ℕ, ◌+◌, List, [], ◌∷◌, ◌++◌, map, length, Some, refl, sym, ap, subst, ◌∙◌, append_assoc, append-nil}
 use Rattle.std.specs.List.{AllByRecursion}
 use Rattle.std.proofs.lemmas.List.{length-append}
@@ -11,13 +11,13 @@ use Rattle.tcap_certificate.specs.Replayed.{Replay}
 use Rattle.tcap_check.proofs.replay_laws.ReplayGaps.{gap_events_before}
 use Rattle.tcap_check.proofs.replay_laws.ReplaySteps.{Replays, without_both}
 
--- Events up to the last of these items: whatever goes on behind them as the certificate says makes with them a whole
--- that is what it says.
+-- Events up to the last of these items. If any further events follow the certificate after them, all of these events
+-- together follow it.
 abbrev pub FollowsSo : Certificate → List Item → List Event → Type 0
 FollowsSo c items plain = (rest : List Item) (tail : List Event) → FollowsFrom c (items ++ rest) (length items) rest tail
     → FollowsFrom c (items ++ rest) 0 (items ++ rest) (plain ++ tail)
 
--- Events up to the last of these items, and then the gap behind it.
+-- Events up to the last of these items, and the gap after it.
 pub record FollowsBehind (c : Certificate) (items : List Item) (plain : List Event) : Type 0 where
   pub before : List Event
   pub here : List Event
@@ -25,16 +25,15 @@ pub record FollowsBehind (c : Certificate) (items : List Item) (plain : List Eve
   pub so : FollowsSo c items before
   pub here_is : map Some here ≡ gap_events c items (length items)
 
--- In the beginning nothing happened.
 pub follows_nothing : (c : Certificate) → FollowsSo c [] []
 follows_nothing c rest tail on = on
 
--- The gap behind is what the certificate says.
+-- The gap after the items is as the certificate says.
 pub follows_gap : (c : Certificate) (items : List Item) (plain here : List Event) → FollowsSo c items plain
     → map Some here ≡ gap_events c items (length items) → FollowsBehind c items (plain ++ here)
 follows_gap c items plain here so here_is = record { before = plain; here = here; are = refl; so = so; here_is = here_is }
 
--- Then all that happened up to and with this gap follows.
+-- All events up to the end of this gap follow the certificate.
 pub follows_all : (c : Certificate) (items : List Item) (plain : List Event) → FollowsBehind c items plain
     → FollowsFrom c items 0 items plain
 follows_all c items plain behind =
@@ -44,7 +43,7 @@ follows_all c items plain behind =
     subst (FollowsFrom c items 0 items) (sym behind.are)
     (subst (λ (x : List Item). FollowsFrom c x 0 x (behind.before ++ behind.here)) all whole)
 
--- What goes on behind one item more.
+-- The events after one more item.
 one_behind : (before here implied tail : List Event) (sends : Event)
     → before ++ (here ++ implied ++ sends ∷ tail) ≡ (before ++ here) ++ (implied ++ sends ∷ []) ++ tail
 one_behind before here implied tail sends =
@@ -53,7 +52,7 @@ one_behind before here implied tail sends =
     ∙ ap (λ (x : List Event). (before ++ here) ++ x) (sym (append_assoc implied (sends ∷ []) tail))
     ∙ sym (append_assoc (before ++ here) (implied ++ sends ∷ []) tail)
 
--- Behind a gap, one item more is sent: implied expiries, and then what sends it.
+-- After a gap, one more item is sent: implied expiries, and then the event that sends it.
 pub follows_more : (c : Certificate) (count : ℕ) (items : List Item) (item : Item) (plain implied : List Event) (sends : Event)
     → FatesFit count 0 c.fates → FollowsBehind c items plain → AllByRecursion (IsImplied item) implied
     → sending c (length items) item ≡ Some sends → FollowsSo c (items ++ item ∷ []) (plain ++ (implied ++ sends ∷ []))
@@ -73,12 +72,12 @@ follows_more c count items item plain implied sends fit behind are_implied sends
     subst (λ (x : List Item). FollowsFrom c x 0 x (plain ++ (implied ++ sends ∷ []) ++ tail)) (sym joined)
     (subst (FollowsFrom c all 0 all) events whole)
 
--- Behind so many gaps, the last of which is before or behind the last of these items.
+-- Events up to this many gaps. The last gap is before or after the last of these items.
 pub record IsUpTo (c : Certificate) (gaps : ℕ) (items : List Item) (plain : List Event) : Type 0 where
   pub before : gaps ≡ length items → FollowsSo c items plain
   pub behind : gaps ≡ length items + 1 → FollowsBehind c items plain
 
--- Without the losses, what was replayed goes on by these events.
+-- Without losses, the replay goes on by these events.
 pub plain_on : (table : Table) (r next : Replay) (plain : List Event) (items : List Item) → Replays table r plain items next
     → without_losses next.events ≡ without_losses r.events ++ plain
 plain_on table r next plain items on =

@@ -1,4 +1,4 @@
--- Which steps are refused for another reason than that a message may not be sent.
+-- The steps that are refused for another reason than that an end may not send a message.
 use Rattle.std.proofs.Common.{◌≡◌, ◌⊎◌, inl, inr, ℕ, ℤ, ◌==◌, Bool, true, false, List, [], ◌∷◌, drop, length, map, Option, Some, None, Result, Ok, Err, refl, sym, ap, ◌∙◌}
 use Rattle.std.specs.Prelude.{◌&&◌, ok_or, slice_get}
 use Rattle.tcap_msg.specs.declared.message.Message.{Message}
@@ -29,7 +29,7 @@ use Rattle.tcap_check.specs.declared.listed.Listed.{Listed}
 use Rattle.tcap_check.specs.declared.listed.Listed.TheVariants as listings
 use Rattle.tcap_check.specs.Listed.{listed_for}
 
--- This fault is not that a message may not be sent.
+-- The fault is not that an end may not send a message.
 abbrev pub NoSend : CheckFault → Type 0
 NoSend fault = refusal_to_send fault.reason ≡ None
 
@@ -43,7 +43,7 @@ moved_no : (side : Side) (event : Event) (one fault : CheckFault) (p : Progress)
 moved_no side event one fault p (Ok e) is never = cc
 moved_no side event one fault p (Err reason) is never = let same : one ≡ fault = cc in same_no one fault same never
 
--- What is listed, where there is what it names or not,
+-- A listed event is refused for another reason, whether or not what it names exists.
 named_no : {N : Type 0} (side : Side) (event : N → Event) (answer : N → Result End EndFault) (none refused fault : CheckFault) (p : Progress)
     (o : Option N) → (ok_or o none >>= λ name. end_moved side (event name) refused p (answer name)) ≡ Err fault → NoSend none → NoSend refused → NoSend fault
 named_no side event answer none refused fault p None is never_none never = same_no none fault (cc) never_none
@@ -149,7 +149,7 @@ gap_no judged table c entries since p fault is =
     by (inl none) = listed_no table entries since listed p fault none
     by (inr (q, hidden, none)) = deliveries_no judged table entries due q fault none
 
--- ---- a reply, a mark
+-- ---- a reply, and a quiet mark
 
 pub answered_no : (side : Side) (fate : Fate) (number : ℕ) (abort : Message) (taken : ℕ) (messages : List Waiting) (p : Progress) (fault : CheckFault)
     → first_answered side fate number abort taken messages p ≡ Err fault → NoSend fault

@@ -1,4 +1,5 @@
--- What was taken so far where one end is judged: of its peer's messages, gap by gap and entry by entry; and the peer stays as it was.
+-- The messages of the peer that were taken so far, gap by gap and entry by entry, if one end is judged alone. The peer
+-- stays as it was.
 use Rattle.std.proofs.Common.{arith, ◌≡◌, ◌⊎◌, inl, inr, ◌<◌, ◌≤◌, ℕ, ◌+◌, true, List, [], ◌∷◌, ◌++◌, length, Some, Ok, refl, sym, ap, subst, ◌∙◌, append-nil}
 use Rattle.std.specs.Prelude.{slice_get}
 use Rattle.std.specs.List.{AllByRecursion}
@@ -30,13 +31,13 @@ use Rattle.tcap_check.proofs.replay_laws.MemberLaws.{IsIn}
 
 -- ---- steps
 
--- That end acts, and goes on so.
+-- The steps so far, and those after them, are the end's own.
 own_on : (side : Side) (table : Table) (r : Replay) (items : List Item) (next : Replay) → AllByRecursion (IsOwn side) r.events
     → Leads side table r items next → AllByRecursion (IsOwn side) next.events
 own_on side table r items next own leads =
     subst (AllByRecursion (IsOwn side)) (sym leads.extends.events) (all_both (IsOwn side) r.events leads.steps own leads.own)
 
--- Steps that send nothing keep what was replayed.
+-- Steps that send nothing keep `SendsSoFar`.
 pub leads_still : (side : Side) (table : Table) (c : Certificate) (front : List Entry) (gaps : ℕ) (r next : Replay)
     → SendsSoFar (Some side) table c front gaps r → Leads side table r [] next → SendsSoFar (Some side) table c front gaps next
 leads_still side table c front gaps r next old leads =
@@ -45,19 +46,17 @@ leads_still side table c front gaps r next old leads =
 
 -- ---- a gap
 
--- What the peer sent that the end has taken.
 peer_taken : (side sender : Side) (n : ℕ) (next : Replay) → is_side (other side) sender ≡ true
     → IsIn n (numbers_taken (other side) next.events) → IsIn n (numbers_taken sender next.events)
 peer_taken side sender n next of_peer took =
     subst (λ (s : Side). IsIn n (numbers_taken s next.events)) (same_side (other side) sender of_peer) took
 
--- The peer sent it.
 by_peer : (side sender : Side) (message : Message) (n : ℕ) (items : List Item) → is_side (other side) sender ≡ true
     → slice_get items n ≡ Some (Sent sender message) → slice_get items n ≡ Some (Sent (other side) message)
 by_peer side sender message n items of_peer is =
     is ∙ ap (λ (s : Side). Some (Sent s message)) (sym (same_side (other side) sender of_peer))
 
--- Behind a gap, what is delivered in it was taken.
+-- After a gap, the messages that it delivers were taken.
 pub alone_behind : (side : Side) (table : Table) (c : Certificate) (front : List Entry) (r next : Replay)
     → SendsSoFar (Some side) table c front (next_entry r) r → gap_by (Some side) table c r ≡ Ok next
     → SendsSoFar (Some side) table c front (next_entry r + 1) next
@@ -93,7 +92,7 @@ alone_behind side table c front r next old goes =
 
 -- ---- an entry
 
--- What is over behind an entry was so before it, or is its gap or its own.
+-- A fate that is over after an entry was over before it, or is its gap or the entry.
 over_or_next : (fate : Fate) (k : ℕ) → IsOver (k + 1) (k + 1) fate → IsOver k k fate ⊎ IsNext fate k
 over_or_next Lost k over = absurd over
 over_or_next (Gap g) k over = by (cases_lt g k)
@@ -107,7 +106,7 @@ over_or_next (By g) k over = by (cases_lt g k)
     by (inl before) = inl before
     by (inr not_before) = inr (omega (arith, over, not_before))
 
--- Behind an entry, what is delivered before it, and what it takes, was taken.
+-- After an entry, the messages that its gap delivers, or that it takes, were taken.
 pub alone_next : (side : Side) (table : Table) (c : Certificate) (front : List Entry) (entry : Entry) (item : Item) (fate : Fate)
     (r next : Replay) → FatesFit (length c.fates) 0 c.fates → SendsSoFar (Some side) table c front (next_entry r) r → IsItem entry item
     → slice_get c.fates (next_entry r) ≡ Some fate → item_by (Some side) table c fate item r ≡ Ok next
@@ -139,7 +138,7 @@ both_nothing : (side : Side) (sent : List Item)
 both_nothing sides.A sent = refl
 both_nothing sides.B sent = refl
 
--- A step of the end, or what its peer tells, leaves the peer as it was at the start.
+-- A step of the end, or a message of its peer, leaves the peer as it was at the start.
 peer_step : (side : Side) (table : Table) (event : Event) (w next : World) → IsOwn side event → after table event w ≡ Some next
     → end_at (other side) w ≡ nothing → end_at (other side) next ≡ nothing
 peer_step side table (Sends sender m) w next own is was =
@@ -178,7 +177,7 @@ peer_on side table (event ∷ events) w next own is was =
     let one = then_some (after table event w) (played table events) next is in
     peer_on side table events one.0 next own.1 one.2 (peer_step side table event w one.0 own.0 one.1 was)
 
--- So it is behind a run of the end.
+-- After a run of the end, the peer is as it was at the start.
 pub peer_is_nothing : (side : Side) (table : Table) (events : List Event) (w : World) → Runs table events w
     → AllByRecursion (IsOwn side) events → end_at (other side) w ≡ nothing
 peer_is_nothing side table events w runs own = peer_on side table events empty w own runs (both_nothing (other side) [])

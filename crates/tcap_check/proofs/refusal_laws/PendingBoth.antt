@@ -1,5 +1,5 @@
--- What was taken so far where both ends are judged: behind a gap, each message that is delivered in it; behind an entry, each
--- that it takes.
+-- The messages that were taken so far, if both ends are judged: after a gap, those that it delivers, and after an
+-- entry, those that it takes.
 use Rattle.std.proofs.Common.{◌≡◌, ◌⊎◌, inl, inr, ℕ, zero, suc, ◌+◌, ◌<◌, ◌≤◌, ◌==◌, arith, Bool, true, false, cond, List, [], ◌∷◌, ◌++◌, map, length, Option, Some, None, refl, sym, ap, subst, ◌∙◌, append-nil}
 use Rattle.std.specs.Prelude.{slice_get}
 use Rattle.std.proofs.lemmas.Bool.{cases_lt, eq-eqb}
@@ -30,7 +30,7 @@ use Rattle.tcap_check.proofs.given_run_laws.NumberLaws.{taken_right}
 
 -- ---- fates
 
--- The messages with that gap are delivered in it.
+-- A message whose fate is this gap is delivered in it.
 delivered_in : (gap k i : ℕ) (fates : List Fate) (items : List Item) (side : Side) (message : Message)
     → slice_get fates i ≡ Some (Gap gap) → slice_get items i ≡ Some (Sent side message)
     → IsIn (Receives (other side) (k + i)) (deliveries gap k fates items)
@@ -61,7 +61,7 @@ delivered_in gap k (suc i) (first ∷ fates) (one ∷ items) side message fate i
     by (By r) (Sent sender m) is = is
     by (By r) Item.Quiet is = is
 
--- Those with that reply are taken by it,
+-- A message whose fate is this reply is taken by it.
 taken_in : (reply k i : ℕ) (fates : List Fate) → slice_get fates i ≡ Some (By reply) → IsIn (k + i) (taken_by reply k fates)
 taken_in reply k i [] is = cc
 taken_in reply k zero (first ∷ fates) is =
@@ -81,7 +81,7 @@ taken_in reply k (suc i) (first ∷ fates) is =
     by Lost there = there
     by (By r) there = or_not (r == reply) there
 
--- and what sends the item that takes one is the reply to it.
+-- If an item takes a message, the event that sends the item is the reply to this message.
 replied : (c : Certificate) (number n : ℕ) (item : Item) (sends : Event) (taken : List ℕ) → sending_by c number item taken ≡ Some sends
     → IsIn n taken → (side : Side) × (sends ≡ Replies side n)
 replied c number n item sends [] is there = absurd there
@@ -99,7 +99,7 @@ replied c number n Item.Quiet sends (t ∷ more) is there = cc
 
 -- ---- a gap
 
--- Losses leave it as the certificate says.
+-- After losses, the events still follow the certificate.
 pub losses_said : (table : Table) (c : Certificate) (gaps : ℕ) (r next : Replay) → IsAsSaid c gaps r → Replays table r [] [] next
     → IsAsSaid c gaps next
 losses_said table c gaps r next old on =
@@ -112,7 +112,7 @@ losses_said table c gaps r next old on =
           (subst (IsUpTo c gaps r.world.sent) (sym plain) old.follows);
     }
 
--- Behind a gap, what is delivered in it was taken.
+-- After a gap, the messages that it delivers were taken.
 pub stands_behind : (table : Table) (c : Certificate) (front : List Entry) (r next : Replay) (here : List Event)
     → SendsSoFar None table c front (next_entry r) r → map Some here ≡ gap_events c r.world.sent (next_entry r)
     → Replays table r here [] next → SendsSoFar None table c front (next_entry r + 1) next
@@ -169,11 +169,10 @@ stands_behind table c front r next here old here_is on =
 
 -- ---- an entry
 
--- A message has one sender.
 same_sender : (s t : Side) (m n : Message) → Some (Sent s m) ≡ Some (Sent t n) → s ≡ t
 same_sender s t m n is = cc
 
--- Where both ends are judged, what the next entry takes was taken behind it.
+-- After an entry, the messages that it takes were taken.
 pub stands_next : (table : Table) (c : Certificate) (count : ℕ) (front : List Entry) (entry : Entry) (item : Item) (fate : Fate)
     (r next : Replay) → FatesFit count 0 c.fates → SendsSoFar None table c front (next_entry r + 1) r → IsItem entry item
     → slice_get c.fates (next_entry r) ≡ Some fate → (item ≡ Item.Quiet → fate ≡ Gap (next_entry r + 1))
@@ -209,7 +208,7 @@ stands_next table c count front entry item fate r next fit old is has mark sent 
     mark_more n (inr new) =
         ap (slice_get c.fates) new.0 ∙ has ∙ ap Some (mark new.1) ∙ ap (λ (k : ℕ). Some (Gap (k + 1))) (sym new.0)
 
-    -- the reply that takes it is the one of this item
+    -- the reply that takes the message is this item
     taken_here : (n : ℕ) (side : Side) (message : Message) → slice_get next.world.sent n ≡ Some (Sent side message)
         → slice_get c.fates n ≡ Some (By (next_entry r)) → IsIn n (numbers_taken side next.events)
     taken_here n side message at has_n =

@@ -1,5 +1,5 @@
--- What was taken so far, whoever is judged: behind a gap, each message whose fate is that gap or an earlier one; behind an entry,
--- each that it takes.
+-- The messages that were taken so far, for each choice of judged ends: after a gap, those whose fate is this gap or an
+-- earlier one, and after an entry, those that it takes.
 use Rattle.std.proofs.Common.{◌≡◌, ◌⊎◌, inl, inr, ℕ, zero, suc, ◌+◌, ◌<◌, ◌≤◌, arith, true, List, [], ◌∷◌, ◌++◌, length, Option, Some, None, refl, sym, ap, subst, ◌∙◌}
 use Rattle.std.specs.Prelude.{slice_get}
 use Rattle.std.specs.List.{AllByRecursion}
@@ -26,21 +26,19 @@ use Rattle.tcap_check.proofs.given_run_laws.NumberLaws.{taken_left}
 
 -- ---- fates
 
--- A fate that fits is behind its entry.
+-- A fate in range comes after its entry.
 abbrev pub IsAhead : ℕ → Fate → Type 0
 IsAhead number (Gap gap) = number < gap
 IsAhead number (By reply) = number < reply
 IsAhead number Lost = Unit {0}
 
--- The next number is that of the next item.
 pub further_on : (k i : ℕ) → (k + 1) + i ≡ k + suc i
 further_on k i = omega arith
 
--- one number further
 further : (k i : ℕ) (fate : Fate) → IsAhead ((k + 1) + i) fate → IsAhead (k + suc i) fate
 further k i fate is = subst (λ (n : ℕ). IsAhead n fate) (further_on k i) is
 
--- In fates that fit each is behind its entry.
+-- Among fates in range, each comes after its entry.
 pub ahead : (count k i : ℕ) (fates : List Fate) (fate : Fate) → FatesFit count k fates → slice_get fates i ≡ Some fate → IsAhead (k + i) fate
 ahead count k i [] fate fit is = cc
 ahead count k zero (Gap g ∷ fates) fate fit is =
@@ -54,29 +52,32 @@ ahead count k (suc i) (Lost ∷ fates) fate fit is = further k i fate (ahead cou
 
 -- ---- what was taken so far
 
--- It is over behind so many gaps and so many entries.
+-- The fate is over after this many gaps and entries.
 abbrev pub IsOver : ℕ → ℕ → Fate → Type 0
 IsOver gaps replies (Gap gap) = gap < gaps
 IsOver gaps replies (By reply) = reply < replies
 IsOver gaps replies Lost = ⊥
 
--- Each message to an end that is judged was taken whose fate is over.
+-- Each message to a judged end whose fate is over was taken.
 abbrev pub AreTaken : Option Side → Certificate → ℕ → ℕ → List Item → List Event → Type 0
 AreTaken judged c gaps replies items events = (n : ℕ) (side : Side) (message : Message) (fate : Fate) → is_heard judged side ≡ true
     → slice_get items n ≡ Some (Sent side message) → slice_get c.fates n ≡ Some fate → IsOver gaps replies fate
     → IsIn n (numbers_taken side events)
 
--- Where both ends are judged, a mark's fate is the next gap, and the run is but for losses what the certificate says.
+-- If both ends are judged, the fate of a quiet mark is the next gap, and the run follows the certificate apart from
+-- losses.
 pub record IsAsSaid (c : Certificate) (gaps : ℕ) (r : Replay) : Type 0 where
   pub marks : (n : ℕ) → slice_get r.world.sent n ≡ Some Item.Quiet → slice_get c.fates n ≡ Some (Gap (n + 1))
   pub follows : IsUpTo c gaps r.world.sent (without_losses r.events)
 
--- Where one end is, only that end acts, and its peer tells.
+-- If both ends are judged, `IsAsSaid` holds. If one end is judged alone, the run has only events that are its own
+-- (`IsOwn`).
 abbrev pub IsSo : Option Side → Certificate → ℕ → Replay → Type 0
 IsSo None c gaps r = IsAsSaid c gaps r
 IsSo (Some judged) c gaps r = AllByRecursion (IsOwn judged) r.events
 
--- What was replayed so far, behind so many gaps: a run that sends the entries so far; there is a fate for each entry, and what is over was taken.
+-- The replay so far, after this many gaps: a run that sends the entries so far. Each entry has a fate, and the messages
+-- whose fates are over were taken.
 pub record SendsSoFar (judged : Option Side) (table : Table) (c : Certificate) (front : List Entry) (gaps : ℕ) (r : Replay) : Type 0 where
   pub runs : Runs table r.events r.world
   pub are : AreItems front r.world.sent
@@ -84,18 +85,16 @@ pub record SendsSoFar (judged : Option Side) (table : Table) (c : Certificate) (
   pub taken : AreTaken judged c gaps (next_entry r) r.world.sent r.events
   pub so : IsSo judged c gaps r
 
--- Steps that go on from a run make a run.
 pub runs_on : (table : Table) (r next : Replay) (more : List Event) → Runs table r.events r.world → Extends table r more next
     → Runs table next.events next.world
 runs_on table r next more runs on = rw on.events (played_on table r.events more empty r.world runs ∙ on.plays)
 
--- What was taken stays so.
 pub taken_on : (table : Table) (n : ℕ) (side : Side) (r next : Replay) (steps : List Event) → Extends table r steps next
     → IsIn n (numbers_taken side r.events) → IsIn n (numbers_taken side next.events)
 taken_on table n side r next steps on was =
     subst (λ (x : List Event). IsIn n (numbers_taken side x)) (sym on.events) (taken_left side n r.events steps was)
 
--- Steps that send nothing leave taken what was taken,
+-- After steps that send nothing, the taken messages are still taken.
 pub taken_still : (judged : Option Side) (table : Table) (c : Certificate) (gaps : ℕ) (r next : Replay) (steps : List Event)
     → AreTaken judged c gaps (next_entry r) r.world.sent r.events → Extends table r steps next → next.world.sent ≡ r.world.sent
     → AreTaken judged c gaps (next_entry next) next.world.sent next.events
@@ -104,7 +103,7 @@ taken_still judged table c gaps r next steps old on same n side message fate hea
     (old n side message fate heard (ap (λ (x : List Item). slice_get x n) (sym same) ∙ is) has
     (subst (λ (k : ℕ). IsOver gaps k fate) (ap length same) over))
 
--- and keep the rest.
+-- Steps that send nothing keep `SendsSoFar`, also for a later gap whose messages were taken.
 pub stands_on : (judged : Option Side) (table : Table) (c : Certificate) (front : List Entry) (gaps more : ℕ) (r next : Replay)
     (steps : List Event) → SendsSoFar judged table c front gaps r → Extends table r steps next → next.world.sent ≡ r.world.sent
     → AreTaken judged c more (next_entry next) next.world.sent next.events → IsSo judged c more next
@@ -127,7 +126,6 @@ stands_still judged table c front gaps r next steps old on same so =
 
 -- ---- an entry
 
--- One entry more is one item more.
 one_more : (front : List Entry) (items : List Item) (entry : Entry) (item : Item) → AreItems front items → IsItem entry item
     → AreItems (front ++ entry ∷ []) (items ++ item ∷ [])
 one_more [] [] entry item are is = (is, tt)
@@ -135,7 +133,7 @@ one_more [] (i ∷ items) entry item are is = absurd are
 one_more (e ∷ front) [] entry item are is = absurd are
 one_more (e ∷ front) (i ∷ items) entry item are is = (are.0, one_more front items entry item are.1 is)
 
--- What is found among one item more was there, or is that item.
+-- An item that is found after one more was there before, or is the new one.
 pub old_or_new : (items : List Item) (item found : Item) (n : ℕ) → slice_get (items ++ item ∷ []) n ≡ Some found
     → (slice_get items n ≡ Some found) ⊎ ((n ≡ length items) × (item ≡ found))
 old_or_new [] item found zero is = inr (refl, cc)
@@ -154,7 +152,7 @@ not_yet number n (Gap g) ahead same over = omega (arith, ahead, same, over)
 not_yet number n (By k) ahead same over = omega (arith, ahead, same, over)
 not_yet number n Lost ahead same over = over
 
--- Behind the next item, what was sent before and is over was taken: then all is.
+-- After the next item, each message whose fate is over was taken, if this holds for the messages before the item.
 pub taken_next : (judged : Option Side) (c : Certificate) (count : ℕ) (item : Item) (r next : Replay) → FatesFit count 0 c.fates
     → next.world.sent ≡ r.world.sent ++ item ∷ []
     → ((n : ℕ) (side : Side) (message : Message) (fate : Fate) → is_heard judged side ≡ true
@@ -170,7 +168,7 @@ taken_next judged c count item r next fit grown before n side message fate heard
     by (inl was) over = before n side message fate heard was has over
     by (inr new) over = absurd (not_yet (next_entry r) n fate (ahead count 0 n c.fates fate fit has) new.0 over)
 
--- One entry more.
+-- `SendsSoFar` holds after one more entry.
 pub stands_more : (judged : Option Side) (table : Table) (c : Certificate) (front : List Entry) (gaps : ℕ) (entry : Entry) (item : Item)
     (fate : Fate) (r next : Replay) (steps : List Event) → SendsSoFar judged table c front gaps r → IsItem entry item
     → slice_get c.fates (next_entry r) ≡ Some fate → Extends table r steps next → next.world.sent ≡ r.world.sent ++ item ∷ []

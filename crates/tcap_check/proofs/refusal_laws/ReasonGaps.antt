@@ -1,4 +1,5 @@
--- What a refusal says where a number of the certificate lies outside, and what one in a gap does, whoever is judged.
+-- What a refusal shows if a number of the certificate is out of range, or if it is for a step in a gap, for each choice
+-- of judged ends.
 use Rattle.std.proofs.Common.{◌≡◌, ◌⊎◌, inl, inr, ℕ, zero, suc, ◌+◌, ◌==◌, nat_lt, nat_le, arith, Bool, true, false, cond, List, [], ◌∷◌, ◌++◌, map, filter, take, length, Option, Some, None, Result, Ok, Err, refl, sym, ap, subst, ◌∙◌, append-nil}
 use Rattle.std.specs.Prelude.{◌&&◌, ok_or, slice_get}
 use Rattle.std.proofs.lemmas.Bool.{and_cases, eqb-true, leb-false, ltb-false}
@@ -28,43 +29,42 @@ use Rattle.tcap_check.proofs.replay_laws.ListedEventLaws.{gap_is_listed}
 use Rattle.tcap_check.proofs.replay_laws.ReplayLaws.{one_replays}
 use Rattle.tcap_check.proofs.replay_laws.MemberLaws.{IsIn, contained, in_either}
 
--- ---- answers that are reasons
+-- ---- results that are reasons
 
--- A step that needs something is refused where it is not so, or where the rest is.
+-- A step with a condition is refused if the condition fails, or if the rest is refused.
 pub needs_err : {A F : Type 0} (so : Bool) (reason : F) (rest : Result A F) (f : F) → (needs so reason >> rest) ≡ Err f
     → ((so ≡ false) × (reason ≡ f)) ⊎ ((so ≡ true) × (rest ≡ Err f))
 needs_err true reason rest f is = inr (refl, is)
 needs_err false reason rest f is = inl (refl, cc)
 
--- Of two steps the first is refused, or it is Ok and the second is.
+-- Of two steps the first is refused, or the first is Ok and the second is refused.
 pub then_err : {A B F : Type 0} (step : Result A F) (rest : A → Result B F) (f : F) → (step >>= rest) ≡ Err f
     → (step ≡ Err f) ⊎ ((x : A) × (step ≡ Ok x) × (rest x ≡ Err f))
 then_err (Ok x) rest f is = inr (x, refl, is)
 then_err (Err reason) rest f is = inl cc
 
--- the same, where the second needs nothing of the first
+-- of two steps without a value the first is refused, or the first is Ok and the second is refused
 pub both_err : {B F : Type 0} (step : Result (Unit {0}) F) (rest : Result B F) (f : F) → (step >> rest) ≡ Err f
     → (step ≡ Err f) ⊎ ((step ≡ Ok tt) × (rest ≡ Err f))
 both_err (Ok tt) rest f is = inr (refl, is)
 both_err (Err reason) rest f is = inl cc
 
--- What is not there is refused for that reason.
 pub none_err : {A F : Type 0} (o : Option A) (reason f : F) → ok_or o reason ≡ Err f → (o ≡ None) × (reason ≡ f)
 none_err None reason f is = (refl, cc)
 none_err (Some x) reason f is = cc
 
--- what a refusal says
+-- what a refusal shows
 abbrev pub Says : Option Side → Table → Certificate → List Entry → CheckFault → Type 0
 Says judged table c entries fault = IsReason judged table c entries fault.entry fault.reason
 
--- It is that refusal, and so says this.
+-- An equal refusal shows the same.
 pub says : (judged : Option Side) (table : Table) (c : Certificate) (entries : List Entry) (reason : Reason) (number : ℕ) (fault : CheckFault)
     → fault_at reason number ≡ fault → IsReason judged table c entries number reason → Says judged table c entries fault
 says judged table c entries reason number fault same is = subst (Says judged table c entries) same is
 
 -- ---- ranges
 
--- A number below the gap, and the gap not behind the end; else it lies outside.
+-- If this test fails, a listed event is out of range.
 outside : (count entry gap : ℕ) → (nat_lt entry gap && nat_le gap count) ≡ false → IsOutside count entry gap
 outside count entry gap is = by (and_cases (nat_lt entry gap) (nat_le gap count) is)
   where
@@ -72,7 +72,7 @@ outside count entry gap is = by (and_cases (nat_lt entry gap) (nat_le gap count)
     by (inl before) = inl (ltb-false entry gap before)
     by (inr behind) = inr (leb-false gap count behind)
 
--- A fate that lies outside,
+-- A fate is out of range.
 fates_say : (judged : Option Side) (table : Table) (c : Certificate) (entries : List Entry) (n : ℕ) (fates : List Fate) (fault : CheckFault)
     → ((i : ℕ) (fate : Fate) → slice_get fates i ≡ Some fate → slice_get c.fates (n + i) ≡ Some fate)
     → fates_fit (length c.fates) n fates ≡ Err fault → Says judged table c entries fault
@@ -98,7 +98,7 @@ fates_say judged table c entries n (fate ∷ fates) fault there is =
         (inl (fate, ap (slice_get c.fates) (sym here) ∙ there 0 fate refl, inl outside))
     by (inr (fits, rest)) on = on rest
 
--- and something listed that does.
+-- A listed event is out of range.
 listed_say : {X : Type 0} (judged : Option Side) (table : Table) (c : Certificate) (entries : List Entry) (entry gap : X → ℕ) (listed : List X)
     (fault : CheckFault)
     → ((x : X) → IsIn x listed → IsOutside (length c.fates) (entry x) (gap x) → IsReason judged table c entries (entry x) reasons.FateRange)
@@ -119,7 +119,7 @@ listed_say judged table c entries entry gap (x ∷ listed) fault outsides is =
         (outsides x (inl refl) (outside (length c.fates) (entry x) (gap x) no_fit))
     by (inr (fits, rest)) on = on rest
 
--- What a certificate that does not fit says.
+-- What a certificate that is out of range shows.
 pub certificate_says : (judged : Option Side) (table : Table) (c : Certificate) (entries : List Entry) (fault : CheckFault)
     → certificate_fits c ≡ Err fault → Says judged table c entries fault
 certificate_says judged table c entries fault is = by (both_err fates _ fault is)
@@ -154,7 +154,7 @@ certificate_says judged table c entries fault is = by (both_err fates _ fault is
 
 -- ---- entries
 
--- The items so far are at their entries,
+-- The items so far are at their entries.
 pub at_front : (front rest : List Entry) (items : List Item) (item : Item) (n : ℕ) → AreItems front items → slice_get items n ≡ Some item
     → IsAt (front ++ rest) n item
 at_front [] rest [] item n are is = cc
@@ -164,14 +164,12 @@ at_front (e ∷ front) rest (i ∷ items) item zero are is =
     let same : i ≡ item = cc in (e, refl, subst (IsItem e) same are.0)
 at_front (e ∷ front) rest (i ∷ items) item (suc n) are is = at_front front rest items item n are.1 is
 
--- as many,
 pub as_many : (front : List Entry) (items : List Item) → AreItems front items → length front ≡ length items
 as_many [] [] are = refl
 as_many [] (i ∷ items) are = absurd are
 as_many (e ∷ front) [] are = absurd are
 as_many (e ∷ front) (i ∷ items) are = ap suc (as_many front items are.1)
 
--- and the next entry is behind them.
 pub next_at : (front rest : List Entry) (entry : Entry) (n : ℕ) → n ≡ length front → slice_get (front ++ entry ∷ rest) n ≡ Some entry
 next_at front rest entry n is = ap (slice_get (front ++ entry ∷ rest)) is ∙ at_end front
   where
@@ -179,13 +177,11 @@ next_at front rest entry n is = ap (slice_get (front ++ entry ∷ rest)) is ∙ 
     at_end [] = refl
     at_end (e ∷ before) = at_end before
 
--- Those before the next are these.
 pub taken_front : (front rest : List Entry) (n : ℕ) → n ≡ length front → take n (front ++ rest) ≡ front
 taken_front front rest n is = ap (λ (k : ℕ). take k (front ++ rest)) is ∙ take-append_seam front rest
 
 -- ---- a gap
 
--- What is left by a test was there, and passed it.
 pub in_filter : {A : Type 0} (p : A → Bool) (x : A) (xs : List A) → IsIn x (filter p xs) → IsIn x xs × (p x ≡ true)
 in_filter p x [] is = absurd is
 in_filter p x (y ∷ ys) is = by (p y) refl (in_filter p x ys) is
@@ -196,13 +192,12 @@ in_filter p x (y ∷ ys) is = by (p y) refl (in_filter p x ys) is
     by true passes on (inr more) = let found = on more in (inr found.0, found.1)
     by false passes on more = let found = on more in (inr found.0, found.1)
 
--- What is made from some is made from one of them.
 in_made : {A B : Type 0} (f : A → B) (y : B) (xs : List A) → IsIn y (map f xs) → (x : A) × IsIn x xs × (y ≡ f x)
 in_made f y [] is = absurd is
 in_made f y (x ∷ xs) (inl same) = (x, inl refl, same)
 in_made f y (x ∷ xs) (inr more) = let found = in_made f y xs more in (found.0, inr found.1, found.2)
 
--- Something listed for a gap that names nothing, for the items before it, of an end that is judged, lies outside.
+-- A listed event of a judged end that names nothing, after the items before its gap, is out of range.
 names_none : (judged : Option Side) (table : Table) (c : Certificate) (front rest : List Entry) (items : List Item) (x : Listed)
     → AreItems front items → IsIn x (listed_for judged c (length front)) → event_listed items x ≡ None
     → IsReason judged table c (front ++ rest) (entry_of x) reasons.FateRange
@@ -252,13 +247,13 @@ names_none judged table c front rest items x are is none =
           ),
         )))
 
--- Of what is refused nothing is said.
+-- The refusal of a listed event that cannot happen shows nothing.
 refused_says : (judged : Option Side) (table : Table) (c : Certificate) (entries : List Entry) (number : ℕ) (x : Listed)
     → IsReason judged table c entries number (why_refused x)
 refused_says judged table c entries number (listings.Closes x) = tt
 refused_says judged table c entries number (listings.Expires x) = tt
 
--- What is listed for a gap says so.
+-- What the refusal of the listed events of a gap shows.
 listed_gap_say : (judged : Option Side) (table : Table) (c : Certificate) (entries : List Entry) (items : List Item)
     (listed : List Listed) (r : Replay) (fault : CheckFault)
     → ((x : Listed) → IsIn x listed → event_listed items x ≡ None → IsReason judged table c entries (entry_of x) reasons.FateRange)
@@ -287,7 +282,7 @@ listed_gap_say judged table c entries items (x ∷ listed) r fault nones so is =
     by (inl refuses) on = one (then_err (ok_or (event_listed r.world.sent x) (fault_at reasons.FateRange (entry_of x))) _ fault refuses)
     by (inr (next, goes, refuses)) on = on next ((one_replays table c x r next goes).2.sent ∙ append-nil r.world.sent ∙ so) refuses
 
--- A message that is not received, nor lost where one end may fail to receive it.
+-- A message cannot be received, and is not discarded.
 received_refused : (judged : Option Side) (table : Table) (c : Certificate) (sender : Side) (number : ℕ) (r : Replay) (fault : CheckFault)
     → received judged table c sender number r ≡ Err fault → fault_at reasons.BadReply number ≡ fault
 received_refused None table c sender number r fault is =
@@ -298,7 +293,7 @@ received_refused (Some side) table c sender number r fault is =
     (none_err (or_else (stepped table (Receives side number) before) (discarded table side number before))
     (fault_at reasons.BadReply number) fault is).1
 
--- A delivery that may not happen.
+-- A delivery cannot happen.
 deliveries_refused : (judged : Option Side) (table : Table) (c : Certificate) (gap number : ℕ) (fates : List Fate) (items : List Item)
     (r : Replay) (fault : CheckFault) → deliveries_by judged table c gap number fates items r ≡ Err fault
     → (n : ℕ) × (fault_at reasons.BadReply n ≡ fault)
@@ -328,7 +323,7 @@ deliveries_refused judged table c gap number (fate ∷ fates) (item ∷ items) r
     by (inl refuses) on = (number, one fate item refuses)
     by (inr (mid, goes, refuses)) on = on mid refuses
 
--- What the gap before the next entry says.
+-- What the refusal of the gap before the next entry shows.
 pub gap_says : (judged : Option Side) (table : Table) (c : Certificate) (front rest : List Entry) (r : Replay) (fault : CheckFault)
     → AreItems front r.world.sent → gap_by judged table c r ≡ Err fault → Says judged table c (front ++ rest) fault
 gap_says judged table c front rest r fault are is =

@@ -1,4 +1,4 @@
--- What a refusal says of a message, whoever is judged.
+-- What the refusal of a message shows, for each choice of judged ends.
 use Rattle.std.proofs.Common.{◌≡◌, ◌⊎◌, inl, inr, ℕ, suc, Bool, true, false, List, [], ◌∷◌, ◌++◌, Option, Some, None, Result, Ok, Err, refl, sym, ap}
 use Rattle.std.specs.Prelude.{◌&&◌, not, slice_get}
 use Rattle.std.proofs.lemmas.Bool.{and_parts, not-false, or_cases}
@@ -30,7 +30,7 @@ use Rattle.tcap_check.proofs.refusal_laws.ReasonGaps.{Says, as_many, at_front, b
 
 -- ---- a message
 
--- What the refusal of a message says: nothing.
+-- The refusal of a send or a reply shows nothing.
 message_says : (judged : Option Side) (table : Table) (c : Certificate) (entries : List Entry) (side : Side) (message : Message) (r : Replay)
     (fault : CheckFault) → own_message judged table c side message r ≡ Err fault → Says judged table c entries fault
 message_says judged table c entries side message r fault is =
@@ -79,7 +79,7 @@ message_says judged table c entries side message r fault is =
     by (Some Quiet) refuses = bad refuses
     by (Some (Tells sender m)) refuses = bad refuses
 
--- A message that overtakes one comes before an earlier one of its end.
+-- A message that overtakes has a fate before that of an earlier message of its end.
 overtaking : (side : Side) (fate : Fate) (fates : List Fate) (items : List Item) → is_overtaking side fate fates items ≡ true
     → (n : ℕ) × (later : Fate) × (message : Message) × (slice_get fates n ≡ Some later)
     × (slice_get items n ≡ Some (Sent side message)) × (is_later (time_of fate) (time_of later) ≡ true)
@@ -102,7 +102,7 @@ overtaking side fate (first ∷ fates) (Sent sender message ∷ items) is =
         (0, first, message, refl, ap (λ (s : Side). Some (Sent s message)) (sym (same_side side sender both.0)), both.1)
     by (inr rest) on = let found = on rest in (suc found.0, found.1, found.2, found.3, found.4, found.5)
 
--- What overtakes a message that comes to an end which is judged comes before an earlier one.
+-- A message to a judged end that overtakes an earlier one shows this.
 overtakes_says : (judged : Option Side) (table : Table) (c : Certificate) (front rest : List Entry) (entry : Entry) (fate : Fate)
     (side : Side) (message : Message) (r : Replay) (fault : CheckFault) → SendsSoFar judged table c front (next_entry r) r
     → IsItem entry (Sent side message) → slice_get c.fates (next_entry r) ≡ Some fate → is_heard judged side ≡ true
@@ -118,7 +118,7 @@ overtakes_says judged table c front rest entry fate side message r fault old is 
     says judged table c all reasons.OutOfOrder (next_entry r) fault same
     (side, message, found.2, found.0, fate, found.1, heard, here, earlier, before, has, found.3, found.5)
 
--- What the end that alone is judged sends comes to nobody: it overtakes nothing.
+-- The order of messages of an end that is judged alone is not checked.
 comes_refused : (judged : Option Side) (side : Side) (fate : Fate) (c : Certificate) (r : Replay) (fault : CheckFault)
     → comes_in_order judged side fate c r ≡ Err fault
     → (not (is_overtaking side fate c.fates r.world.sent) ≡ false) × (fault_at reasons.OutOfOrder (next_entry r) ≡ fault)
@@ -131,14 +131,14 @@ comes_refused None side fate c r fault is = by (not (is_overtaking side fate c.f
     by false e = (refl, cc, refl)
 comes_refused (Some judged) side fate c r fault is = cc
 
--- Where it is lost at once, its message was refused.
+-- If the loss just after a send is refused, the send is.
 unsent : (judged : Option Side) (sent : Result Replay CheckFault) (fault : CheckFault) → behind_sending judged sent ≡ Err fault
     → sent ≡ Err fault
 unsent None sent fault is = is
 unsent (Some judged) (Ok next) fault is = cc
 unsent (Some judged) (Err reason) fault is = is
 
--- A message that an end which is judged sends.
+-- A message of a judged end.
 own_says : (judged : Option Side) (table : Table) (c : Certificate) (front rest : List Entry) (entry : Entry) (fate : Fate) (side : Side)
     (message : Message) (r : Replay) (fault : CheckFault) → SendsSoFar judged table c front (next_entry r) r
     → IsItem entry (Sent side message) → slice_get c.fates (next_entry r) ≡ Some fate
@@ -167,7 +167,7 @@ own_says judged table c front rest entry fate side message r fault old is has re
         overtakes_says judged table c front rest entry fate side message r fault old is has why.2 why.0 why.1
     by (inr (keeps, rest_refuses)) = behind (then_err (gap_by judged table c r) sent fault rest_refuses)
 
--- A message that the peer tells of the end that alone is judged.
+-- A message of the peer of an end that is judged alone.
 told_says : (side : Side) (table : Table) (c : Certificate) (front rest : List Entry) (entry : Entry) (fate : Fate) (message : Message)
     (r : Replay) (fault : CheckFault) → SendsSoFar (Some side) table c front (next_entry r) r → IsItem entry (Sent (other side) message)
     → slice_get c.fates (next_entry r) ≡ Some fate → told_replayed table c fate side message r ≡ Err fault
@@ -208,7 +208,7 @@ told_says side table c front rest entry fate message r fault old is has refuses 
         overtakes_says (Some side) table c front rest entry fate (other side) message r fault old is has (itself (other side)) overtakes same
     by (inr (keeps, rest_refuses)) = behind (then_err (gap_by (Some side) table c r) told fault rest_refuses)
 
--- What the refusal of an entry says that is a message.
+-- What the refusal of a message shows.
 pub sent_says : (judged : Option Side) (table : Table) (c : Certificate) (front rest : List Entry) (entry : Entry) (fate : Fate)
     (side : Side) (message : Message) (r : Replay) (fault : CheckFault) → SendsSoFar judged table c front (next_entry r) r
     → IsItem entry (Sent side message) → slice_get c.fates (next_entry r) ≡ Some fate

@@ -1,4 +1,4 @@
--- What a refusal says of the certificate and the entries, whoever is judged.
+-- What a refusal shows of the certificate and the entries, for each choice of judged ends.
 use Rattle.std.proofs.Common.{◌≡◌, ◌⊎◌, inl, inr, ℕ, ◌+◌, ◌<◌, ◌≤◌, ◌==◌, arith, true, false, List, [], ◌∷◌, ◌++◌, map, length, Option, Some, None, Result, Ok, Err, refl, sym, ap, subst, ◌∙◌, append-nil, append_assoc}
 use Rattle.std.specs.Prelude.{not, ok_or, slice_get}
 use Rattle.std.proofs.lemmas.Bool.{cases_lt, eq-eqb, eqb-false, eqb-true}
@@ -38,9 +38,9 @@ use Rattle.tcap_check.proofs.refusal_laws.ReasonItems.{sent_says}
 use Rattle.tcap_check.proofs.refusal_laws.ReasonMarks.{gap_sent, gap_stands, quiet_says}
 use Rattle.tcap_check.proofs.replay_laws.ReplayEntries.{item_is, nothing_is, quiet_happens}
 
--- ---- entries, one after the other
+-- ---- entries, one by one
 
--- An entry that is no item says why.
+-- An entry that is no item shows the reason.
 no_item_says : (judged : Option Side) (table : Table) (c : Certificate) (entries : List Entry) (entry : Entry) (number : ℕ) (reason : Reason)
     → slice_get entries number ≡ Some entry → item_of entry ≡ Err reason → IsReason judged table c entries number reason
 no_item_says judged table c entries entry number reason there is = by entry.side entry.body refl refl is
@@ -60,7 +60,7 @@ no_item_says judged table c entries entry number reason there is = by entry.side
     by None (Bad fault) of at refuses = bad fault at cc
     by None QuietMark of at refuses = cc
 
--- What the refusal of an entry says.
+-- What the refusal of an entry shows.
 entry_says : (judged : Option Side) (table : Table) (c : Certificate) (front rest : List Entry) (entry : Entry) (fate : Fate) (r : Replay) (fault : CheckFault)
     → FatesFit (length c.fates) 0 c.fates → SendsSoFar judged table c front (next_entry r) r → taken judged table c (map item_of front) ≡ Ok r
     → slice_get c.fates (next_entry r) ≡ Some fate → entry_by judged table c fate (item_of entry) r ≡ Err fault
@@ -78,7 +78,7 @@ entry_says judged table c front rest entry fate r fault fit old took has is = by
         says judged table c (front ++ entry ∷ rest) reason (next_entry r) fault (cc)
         (no_item_says judged table c (front ++ entry ∷ rest) entry (next_entry r) reason there at)
 
--- Where both ends are judged: steps that answer what is behind a gap and then an item.
+-- If both ends are judged, `SendsSoFar` holds after a gap and then an item.
 item_stands : (table : Table) (c : Certificate) (front : List Entry) (entry : Entry) (item : Item) (fate : Fate) (r mid next : Replay)
     → FatesFit (length c.fates) 0 c.fates → SendsSoFar None table c front (next_entry r) r → IsItem entry item
     → slice_get c.fates (next_entry r) ≡ Some fate → (item ≡ Item.Quiet → fate ≡ Gap (next_entry r + 1))
@@ -90,13 +90,13 @@ item_stands table c front entry item fate r mid next fit old is has mark goes se
     stands_next table c (length c.fates) front entry item fate mid next fit stands is (ap (slice_get c.fates) number ∙ has)
     (λ e. mark e ∙ ap (λ (n : ℕ). Gap (n + 1)) (sym number)) sent
 
--- A mark's fate is the next gap.
+-- The fate of a quiet mark is the next gap.
 gap_of : (gap : ℕ) (fate : Fate) → is_gap gap fate ≡ true → fate ≡ Gap gap
 gap_of gap (Gap g) is = ap Gap (eqb-true g gap is)
 gap_of gap Lost is = cc
 gap_of gap (By k) is = cc
 
--- Behind a mark,
+-- `SendsSoFar` holds after a quiet mark.
 quiet_stands : (table : Table) (c : Certificate) (front : List Entry) (entry : Entry) (fate : Fate) (r next : Replay)
     → FatesFit (length c.fates) 0 c.fates → SendsSoFar None table c front (next_entry r) r → IsItem entry Item.Quiet
     → slice_get c.fates (next_entry r) ≡ Some fate → mark_judged None table c fate r ≡ Ok next
@@ -121,7 +121,7 @@ quiet_stands table c front entry fate r next fit old is has goes =
       replays = quiet_happens table c number gap.0 next free.1;
     })
 
--- and behind a message, what was replayed stands.
+-- `SendsSoFar` holds after a message.
 sent_stands : (table : Table) (c : Certificate) (front : List Entry) (entry : Entry) (fate : Fate) (side : Side) (message : Message)
     (r next : Replay) → FatesFit (length c.fates) 0 c.fates → SendsSoFar None table c front (next_entry r) r → IsItem entry (Sent side message)
     → slice_get c.fates (next_entry r) ≡ Some fate → own_judged None table c fate side message r ≡ Ok next
@@ -132,7 +132,7 @@ sent_stands table c front entry fate side message r next fit old is has goes =
     item_stands table c front entry (Sent side message) fate r gap.0 next fit old is has (λ e. cc) gap.1
     (message_replays table c side message gap.0 next gap.2)
 
--- So it does behind an entry, whoever is judged.
+-- `SendsSoFar` holds after an entry, for each choice of judged ends.
 pub entry_stands : (judged : Option Side) (table : Table) (c : Certificate) (front : List Entry) (entry : Entry) (fate : Fate) (r next : Replay)
     → FatesFit (length c.fates) 0 c.fates → SendsSoFar judged table c front (next_entry r) r
     → slice_get c.fates (next_entry r) ≡ Some fate → entry_by judged table c fate (item_of entry) r ≡ Ok next
@@ -147,7 +147,6 @@ entry_stands judged table c front entry fate r next fit old has is = by judged o
     by (Some side) old (Ok item) at goes = alone_next side table c front entry item fate r next fit old (item_is entry item at) has goes
     by judged old (Err reason) at goes = cc
 
--- As many at most, and not as many: fewer.
 more_left : (n count : ℕ) → n ≤ count → (n ≡ count → ⊥) → n < count
 more_left n count within apart = by (cases_lt n count)
   where
@@ -155,7 +154,7 @@ more_left n count within apart = by (cases_lt n count)
     by (inl below) = below
     by (inr above) = absurd (apart (omega (arith, within, above)))
 
--- One entry more was taken.
+-- One more entry was taken.
 took_one : (judged : Option Side) (table : Table) (c : Certificate) (front : List Entry) (entry : Entry) (fate : Fate) (r next : Replay)
     → taken judged table c (map item_of front) ≡ Ok r → slice_get c.fates (next_entry r) ≡ Some fate
     → entry_by judged table c fate (item_of entry) r ≡ Ok next → taken judged table c (map item_of (front ++ entry ∷ [])) ≡ Ok next
@@ -166,7 +165,7 @@ took_one judged table c front entry fate r next took has goes =
     ∙ ap (λ (o : Option Fate). ok_or o (fault_at reasons.FateCount (next_entry r)) >>= λ f. entry_by judged table c f (item_of entry) r) has
     ∙ goes
 
--- What the refusal of entries says, one behind the other.
+-- What the refusal of these entries shows.
 entries_say : (judged : Option Side) (table : Table) (c : Certificate) (front rest : List Entry) (r : Replay) (fault : CheckFault)
     → FatesFit (length c.fates) 0 c.fates → SendsSoFar judged table c front (next_entry r) r → taken judged table c (map item_of front) ≡ Ok r
     → entries_by judged table c (map item_of rest) r ≡ Err fault → Says judged table c (front ++ rest) fault
@@ -219,7 +218,7 @@ entries_say judged table c front (entry ∷ rest) r fault fit old took is =
         let has = some_ok (slice_get c.fates (next_entry r)) (fault_at reasons.FateCount (next_entry r)) fate found in
         behind fate has (then_err (entry_by judged table c fate (item_of entry) r) _ fault refuses) on
 
--- In the beginning it stands.
+-- `SendsSoFar` holds at the start.
 pub nothing_stands : (judged : Option Side) (table : Table) (c : Certificate)
     → SendsSoFar judged table c [] (next_entry nothing_replayed) nothing_replayed
 nothing_stands judged table c = record {
@@ -237,12 +236,11 @@ nothing_stands judged table c = record {
     }
     by (Some side) = tt
 
--- Of two steps that answer Ok the first does.
 pub first_ok : {B F : Type 0} (step : Result (Unit {0}) F) (rest : Result B F) {x : B} → (step >> rest) ≡ Ok x → step ≡ Ok tt
 first_ok (Ok tt) rest is = refl
 first_ok (Err reason) rest is = cc
 
--- What a refusal says.
+-- What a refusal shows.
 pub refusal_says : (judged : Option Side) (table : Table) (c : Certificate) (entries : List Entry) (fault : CheckFault)
     → replayed_by judged table c entries ≡ Err fault → IsReason judged table c entries fault.entry fault.reason
 refusal_says judged table c entries fault is = by (both_err (certificate_fits c) _ fault is)

@@ -1,4 +1,4 @@
--- What a refusal says of a quiet mark, whoever is judged.
+-- What the refusal of a quiet mark shows, for each choice of judged ends.
 use Rattle.std.proofs.Common.{◌≡◌, ◌⊎◌, inl, inr, ℕ, ◌+◌, true, false, List, ◌∷◌, ◌++◌, map, take, length, Option, Some, None, Result, Ok, Err, refl, sym, ap, subst, ◌∙◌, append-nil}
 use Rattle.std.specs.Prelude.{ok_or, slice_get}
 use Rattle.std.proofs.lemmas.Bool.{eq-eqb}
@@ -40,9 +40,9 @@ use Rattle.tcap_check.proofs.refusal_laws.PendingBoth.{stands_behind}
 use Rattle.tcap_model.proofs.WorldLaws.{end_with_channel}
 use Rattle.tcap_check.proofs.refusal_laws.ReasonPending.{busy_pends, closed_heard, closed_stands, last_sent, last_stands, not_quiet, not_there, taken_pends}
 
--- ---- what is open
+-- ---- open halves
 
--- A half of the end that may not close unseen is the reason against a mark.
+-- If a half of the end may not close without a message, the mark is refused for it.
 closed_refused : (judged : Option Side) (table : Table) (c : Certificate) (front rest : List Entry) (r mid : Replay) (fault : CheckFault)
     → taken judged table c (map item_of (take (next_entry r) (front ++ rest))) ≡ Ok r → gap_by judged table c r ≡ Ok mid
     → closed_before judged table (next_entry r) mid ≡ Err fault
@@ -61,7 +61,7 @@ closed_refused (Some side) table c front rest r mid fault took goes refuses =
         let same : fault_at reasons.NotQuiet (next_entry r) ≡ fault = let both = sym none ∙ refuses in cc in
         (same, (r, mid, took, goes, reason, ap (λ (x : Result End EndFault). x >>= quiet) at))
 
--- The end that is judged, whose open halves closed, is not quiet.
+-- If the judged end is not quiet after its halves closed, one may not close.
 alone_open : (side : Side) (table : Table) (c : Certificate) (mark : ℕ) (r closed : Replay)
     → closed_before (Some side) table mark r ≡ Ok closed
     → quiet (end_at side (lost_last (Some side) c closed).world) ≡ Err faults.StillOpen
@@ -81,13 +81,13 @@ alone_open side table c mark r closed is not_closed =
         end_with_channel side (other side) _ closed.world ∙ ap (λ (x : Replay). end_at side x.world) (sym same) ∙ made.end in
         ap (λ (x : Result End EndFault). x >>= quiet) at ∙ ap quiet (sym end_is) ∙ not_closed
 
--- Its peer is quiet.
+-- The peer is quiet.
 peer_quiet : (side : Side) (table : Table) (c : Certificate) (front : List Entry) (gaps : ℕ) (r : Replay)
     → SendsSoFar (Some side) table c front gaps r → quiet (end_at (other side) r.world) ≡ Err faults.StillOpen → ⊥
 peer_quiet side table c front gaps r old is =
     let none = sym (ap quiet (peer_is_nothing side table r.events r.world old.runs old.so)) ∙ is in cc
 
--- So an end that is not quiet is still open.
+-- If an end is not quiet, one of its halves is still open.
 still_open : (judged : Option Side) (table : Table) (c : Certificate) (front rest : List Entry) (r mid closed : Replay) (side : Side)
     → taken judged table c (map item_of (take (next_entry r) (front ++ rest))) ≡ Ok r → gap_by judged table c r ≡ Ok mid
     → closed_before judged table (next_entry r) mid ≡ Ok closed
@@ -113,9 +113,9 @@ still_open (Some one) table c front rest r mid closed side took goes closes old 
     by sides.B sides.A old closes e = absurd (peer_quiet sides.B table c front (next_entry r + 1) (lost_last (Some sides.B) c closed) old e)
     by sides.B sides.B old closes e = alone_open sides.B table c (next_entry r) mid closed closes e
 
--- ---- a mark
+-- ---- a quiet mark
 
--- Behind a gap what was replayed stands,
+-- `SendsSoFar` holds after a gap.
 pub gap_stands : (judged : Option Side) (table : Table) (c : Certificate) (front : List Entry) (r mid : Replay)
     → SendsSoFar judged table c front (next_entry r) r → gap_by judged table c r ≡ Ok mid
     → SendsSoFar judged table c front (next_entry r + 1) mid
@@ -123,13 +123,12 @@ gap_stands None table c front r mid old goes =
     let here = gap_replays table c r mid goes in stands_behind table c front r mid here.0 old here.1 here.2
 gap_stands (Some side) table c front r mid old goes = alone_behind side table c front r mid old goes
 
--- and nothing more was sent.
 pub gap_sent : (judged : Option Side) (table : Table) (c : Certificate) (r mid : Replay) → gap_by judged table c r ≡ Ok mid
     → mid.world.sent ≡ r.world.sent
 gap_sent None table c r mid goes = (gap_replays table c r mid goes).2.sent ∙ append-nil r.world.sent
 gap_sent (Some side) table c r mid goes = (gap_leads side table c r mid goes).sent ∙ append-nil r.world.sent
 
--- A mark that is refused behind its gap: a message is pending, or a half is open.
+-- If a mark is refused after its gap, a message is pending, or a half is open.
 mark_refused : (judged : Option Side) (table : Table) (c : Certificate) (front rest : List Entry) (r mid : Replay) (fault : CheckFault)
     → SendsSoFar judged table c front (next_entry r) r → taken judged table c (map item_of front) ≡ Ok r → gap_by judged table c r ≡ Ok mid
     → (closed_before judged table (next_entry r) mid
@@ -182,7 +181,7 @@ mark_refused judged table c front rest r mid fault old took goes refuses =
         let none = none_err (stepped table Quiet last) (fault_at reasons.NotQuiet (next_entry r)) fault no_mark in
         (none.1, behind closed closes (not_there (with_step Quiet last) (after table Quiet last.world) none.0))
 
--- What the refusal of an entry says that is a mark.
+-- What the refusal of a quiet mark shows.
 pub quiet_says : (judged : Option Side) (table : Table) (c : Certificate) (front rest : List Entry) (entry : Entry) (fate : Fate) (r : Replay)
     (fault : CheckFault) → FatesFit (length c.fates) 0 c.fates → SendsSoFar judged table c front (next_entry r) r
     → taken judged table c (map item_of front) ≡ Ok r → IsItem entry Item.Quiet → slice_get c.fates (next_entry r) ≡ Some fate

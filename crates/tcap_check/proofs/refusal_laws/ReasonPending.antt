@@ -1,4 +1,4 @@
--- What is pending where a quiet mark is refused, whoever is judged: a message that the mark takes, or one that is still on its way.
+-- If a quiet mark is refused, a message is pending: one that the mark takes, or one that is still on its way.
 use Rattle.std.proofs.Common.{get_or, ◌≡◌, ◌⊎◌, inl, inr, ℕ, suc, ◌+◌, ◌<◌, ◌≤◌, ◌==◌, arith, Bool, true, false, cond, List, [], ◌∷◌, ◌++◌, drop, length, Option, Some, None, option_map, Result, Ok, Err, refl, sym, ap, subst, ◌∙◌, append-nil}
 use Rattle.std.specs.Prelude.{◌&&◌, slice_get}
 use Rattle.std.specs.List.{AllByRecursion}
@@ -43,9 +43,9 @@ use Rattle.tcap_check.proofs.refusal_laws.PendingBoth.{losses_said}
 use Rattle.tcap_model.proofs.WorldLaws.{itself, sent_with_channel}
 use Rattle.tcap_check.proofs.replay_laws.MemberLaws.{IsIn}
 
--- ---- what a mark takes
+-- ---- messages that a mark takes
 
--- What is taken by a reply has it as its fate,
+-- A message that a reply takes has this reply as its fate.
 fate_of : (reply k n : ℕ) (fates : List Fate) → IsIn n (taken_by reply k fates) → (i : ℕ) × (n ≡ k + i) × (slice_get fates i ≡ Some (By reply))
 fate_of reply k n [] is = absurd is
 fate_of reply k n (Gap g ∷ fates) is =
@@ -62,24 +62,24 @@ fate_of reply k n (By r ∷ fates) is = by (r == reply) refl (fate_of reply (k +
     by true same on (inr more) = let found = on more in (suc found.0, omega (arith, found.1), found.2)
     by false differ on more = let found = on more in (suc found.0, omega (arith, found.1), found.2)
 
--- and something is taken where that is not nothing.
+-- If some messages are taken, there is one.
 first_of : (numbers : List ℕ) → is_nothing numbers ≡ false → (n : ℕ) × IsIn n numbers
 first_of [] is = cc
 first_of (n ∷ numbers) is = (n, inl refl)
 
--- It is by an end.
+-- The message is from this end.
 sent_by : (side : Side) (o : Option Item) → is_sent_by side o ≡ true → (message : Message) × (o ≡ Some (Sent side message))
 sent_by side None is = cc
 sent_by side (Some Item.Quiet) is = cc
 sent_by side (Some (Sent sender message)) is =
     (message, ap (λ (s : Side). Some (Sent s message)) (sym (same_side side sender is)))
 
--- A message to an end that is judged, which the next entry takes.
+-- The next entry takes a message to a judged end.
 abbrev IsTied : Option Side → Certificate → Replay → Type 0
 IsTied judged c r = (side : Side) × (message : Message) × (n : ℕ) × (is_heard judged side ≡ true)
     × (slice_get r.world.sent n ≡ Some (Sent side message)) × (slice_get c.fates n ≡ Some (By (next_entry r)))
 
--- Where something is tied there is one.
+-- If the next entry takes messages, there is one.
 one_tied : (judged : Option Side) (table : Table) (c : Certificate) (front : List Entry) (r : Replay) → FatesFit (length c.fates) 0 c.fates
     → SendsSoFar judged table c front (next_entry r) r → is_nothing (tied judged c r) ≡ false → IsTied judged c r
 one_tied (Some judged) table c front r fit old is =
@@ -108,7 +108,7 @@ one_tied None table c front r fit old is =
     by n has before (inl (item, within, at, same)) = one n item has at
     by n has before (inr (past, none)) = absurd (omega (arith, before, past))
 
--- So a mark that takes a message stands before it.
+-- So a message is pending before a mark that takes one.
 pub taken_pends : (judged : Option Side) (table : Table) (c : Certificate) (front rest : List Entry) (r : Replay)
     → FatesFit (length c.fates) 0 c.fates → SendsSoFar judged table c front (next_entry r) r → is_nothing (tied judged c r) ≡ false
     → IsPending judged c (front ++ rest) (next_entry r)
@@ -130,9 +130,9 @@ taken_pends judged table c front rest r fit old is = by (one_tied judged table c
       same,
     )
 
--- ---- what is not quiet
+-- ---- ends that are not quiet
 
--- A mark that is refused where nothing is on its way is refused by one of the ends,
+-- If nothing is on its way, a mark is refused because of one of the ends.
 one_open : (a b : Bool) (sent : List Item)
     → then_so (result_ok (needs a faults.StillOpen >> Ok nothing))
     (λ p.
@@ -144,11 +144,11 @@ one_open false b sent is = inl refl
 one_open true false sent is = inr refl
 one_open true true sent is = cc
 
--- for a half that is open.
+-- The end has an open half.
 refused_open : {b : Bool} → b ≡ false → (let o : Result End EndFault = needs b faults.StillOpen >> Ok nothing in o) ≡ Err faults.StillOpen
 refused_open is = ap (λ (t : Bool). let o : Result End EndFault = needs t faults.StillOpen >> Ok nothing in o) is
 
--- Where it is not quiet, something is on its way, or a half is open.
+-- If a mark cannot come, a message is on its way, or a half is open.
 pub not_quiet : (w : World) → after_quiet w ≡ None
     → ((side : Side) × (head : OnItsWay) × (more : List OnItsWay) × (channel_from side w ≡ head ∷ more))
     ⊎ ((side : Side) × (quiet (end_at side w) ≡ Err faults.StillOpen))
@@ -169,14 +169,13 @@ not_quiet w is = by w.from_a w.from_b is
         opened (inl of_a) = inr (sides.A, refused_open of_a)
         opened (inr of_b) = inr (sides.B, refused_open of_b)
 
--- What is made of nothing is nothing.
 pub not_there : {A B : Type 0} (f : A → B) (o : Option A) → option_map f o ≡ None → o ≡ None
 not_there f None is = refl
 not_there f (Some x) is = cc
 
--- ---- what is on its way
+-- ---- messages on their way
 
--- On the channel to an end that is judged is left what is behind the lost ones,
+-- On the channel to a judged end, the messages after the losses at the front are left.
 left_behind : (judged : Option Side) (c : Certificate) (side : Side) (r : Replay) → is_heard judged side ≡ true
     → channel_from side (lost_last judged c r).world
     ≡ drop (length (lost_front c.fates (channel_from side r.world))) (channel_from side r.world)
@@ -187,7 +186,7 @@ left_behind (Some sides.A) c sides.B r heard = refl
 left_behind (Some sides.B) c sides.A r heard = refl
 left_behind (Some sides.B) c sides.B r heard = cc
 
--- and on another nothing.
+-- On the channel to an end that is not judged, nothing is left.
 none_behind : (judged : Option Side) (c : Certificate) (side : Side) (r : Replay) → IsHeard judged r → is_heard judged side ≡ false
     → channel_from side (lost_last judged c r).world ≡ []
 none_behind None c side r empty unheard = cc
@@ -196,7 +195,7 @@ none_behind (Some sides.A) c sides.B r empty unheard = cc
 none_behind (Some sides.B) c sides.A r empty unheard = cc
 none_behind (Some sides.B) c sides.B r empty unheard = empty
 
--- The losses before a mark keep what was replayed,
+-- The losses before a mark keep `SendsSoFar`.
 pub last_stands : (judged : Option Side) (table : Table) (c : Certificate) (front : List Entry) (gaps : ℕ) (r : Replay)
     → SendsSoFar judged table c front gaps r → SendsSoFar judged table c front gaps (lost_last judged c r)
 last_stands None table c front gaps r old =
@@ -206,7 +205,7 @@ last_stands None table c front gaps r old =
 last_stands (Some side) table c front gaps r old =
     leads_still side table c front gaps r (lost_from_front c (other side) r) old (front_leads side table c (other side) r)
 
--- and so do the closings.
+-- The closings before a mark keep `SendsSoFar`.
 pub closed_stands : (judged : Option Side) (table : Table) (c : Certificate) (front : List Entry) (gaps mark : ℕ) (r closed : Replay)
     → closed_before judged table mark r ≡ Ok closed → SendsSoFar judged table c front gaps r → SendsSoFar judged table c front gaps closed
 closed_stands None table c front gaps mark r closed is old = subst (SendsSoFar None table c front gaps) (ok_same {F = CheckFault} r closed is) old
@@ -218,12 +217,11 @@ pub closed_heard : (judged : Option Side) (table : Table) (mark : ℕ) (r closed
 closed_heard None table mark r closed is heard = tt
 closed_heard (Some side) table mark r closed is heard = (before_stays (Some side) table mark r closed is).channels side ∙ heard
 
--- The losses send nothing.
 pub last_sent : (judged : Option Side) (table : Table) (c : Certificate) (r : Replay) → (lost_last judged c r).world.sent ≡ r.world.sent
 last_sent None table c r = (both_replay table c r).sent ∙ append-nil r.world.sent
 last_sent (Some side) table c r = sent_with_channel (other side) _ r.world
 
--- What is on its way to an end that is judged, and not lost, is pending.
+-- A message to a judged end that is on its way, and is not lost by its fate, is pending.
 head_pends : (judged : Option Side) (table : Table) (c : Certificate) (front rest : List Entry) (number : ℕ) (r : Replay) (side : Side)
     (head : OnItsWay) (more : List OnItsWay) → SendsSoFar judged table c front (number + 1) r → next_entry r ≡ number
     → is_heard judged side ≡ true → channel_from side r.world ≡ head ∷ more → (slice_get c.fates head.number ≡ Some Lost → ⊥)
@@ -268,7 +266,7 @@ head_pends judged table c front rest number r side head more old same heard chan
     by (inl (fate, within, has, same)) = pends fate has
     by (inr (past, none)) = absurd (omega (arith, within, past, old.counted))
 
--- So it is where a mark is refused.
+-- So a message is pending if a mark is refused because of it.
 pub busy_pends : (judged : Option Side) (table : Table) (c : Certificate) (front rest : List Entry) (number : ℕ) (r : Replay) (side : Side)
     (head : OnItsWay) (more : List OnItsWay) → SendsSoFar judged table c front (number + 1) (lost_last judged c r)
     → next_entry (lost_last judged c r) ≡ number → IsHeard judged r → channel_from side (lost_last judged c r).world ≡ head ∷ more

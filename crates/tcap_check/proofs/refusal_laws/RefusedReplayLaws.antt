@@ -1,4 +1,4 @@
--- A replay goes on as far as it goes where it is refused: by steps that send nothing.
+-- A refused replay is extended up to the first step that cannot happen, by steps that send nothing.
 use Rattle.std.proofs.Common.{◌≡◌, ℕ, ◌+◌, ◌==◌, Bool, true, false, cond, List, [], ◌∷◌, ◌++◌, length, Option, Some, None, Result, Ok, Err, refl, ap, subst, ◌∙◌, append-nil}
 use Rattle.std.specs.Prelude.{◌||◌, not, slice_get}
 use Rattle.tcap_msg.specs.declared.message.Message.{Message}
@@ -31,9 +31,9 @@ use Rattle.tcap_check.proofs.replay_laws.ReplaySteps.{Extends, extends_nothing, 
 use Rattle.tcap_check.specs.declared.listed.Listed.{Listed}
 use Rattle.tcap_check.specs.Listed.{all_replayed, listed_for, listed_replayed}
 
--- ---- replays that go on
+-- ---- extended replays
 
--- Steps lead from the one to the other, and send nothing; what is told of losses stays so.
+-- Steps lead from one replay to the other and send nothing. The discards still account for the losses.
 abbrev pub GoesOn : Option Side → Table → Certificate → Replay → Replay → Type 0
 GoesOn judged table c r next = (more : List Event) × Extends table r more next × (next.world.sent ≡ r.world.sent)
     × (TellsSo judged table c r → TellsSo judged table c next)
@@ -66,7 +66,7 @@ module _ (judged : Option Side) (table : Table) (c : Certificate) where
   same_on : (r next : Replay) → (let x : Result Replay CheckFault = Ok r in x) ≡ Ok next → Goes r next
   same_on r next is = subst (Goes r) (ok_same {F = CheckFault} r next is) (same_goes r)
 
-  -- It goes on from each step that is Ok.
+  -- A replay is extended by each step that is Ok.
   or_goes : (r left : Replay) (o : Result Replay CheckFault) (on : Replay → Replay) → Goes r left
       → ((next : Replay) → o ≡ Ok next → Goes r (on next)) → Goes r (behind_or o left on)
   or_goes r left (Ok next) on here more = more next refl
@@ -233,7 +233,7 @@ mark_far table c judged r = by judged (is_nothing (tied judged c r))
     by who true = quiet who
     by who false = same_goes who table c r
 
--- Behind the gap it goes on.
+-- A replay is extended after its gap.
 behind_goes : (table : Table) (c : Certificate) (judged : Option Side) (so : Bool) (on : Replay → Replay) (r : Replay)
     → ((next : Replay) → GoesOn judged table c next (on next))
     → GoesOn judged table c r (cond so (behind_or (gap_by judged table c r) (gap_so_far judged table c r) on) r)
@@ -242,7 +242,7 @@ behind_goes table c judged true on r then =
     or_goes judged table c r (gap_so_far judged table c r) (gap_by judged table c r) on (gap_far table c judged r)
     (λ next is. goes_then judged table c r next (on next) (gap_goes table c judged r next is) (then next))
 
--- A replay that is refused is one that goes on, as far as it goes.
+-- A refused replay is extended up to the first step that cannot happen.
 pub next_goes : (table : Table) (c : Certificate) (judged : Option Side) (entries : List (Result Item Reason)) (r : Replay)
     → GoesOn judged table c r (next_so_far judged table c entries r)
 next_goes table c judged [] r = behind_goes table c judged (next_entry r == length c.fates) (lost_last judged c) r (last_goes table c judged)

@@ -1,4 +1,5 @@
--- Where an entry is refused since its message can't be sent, the end that is left refuses to send it; no other step is refused so.
+-- If an entry is refused since its end may not send it, the end that is left refuses to send it. No other step is
+-- refused for this reason.
 use Rattle.std.proofs.Common.{◌≡◌, ◌⊎◌, inl, inr, ℕ, ◌==◌, ◌+◌, ◌≤◌, ◌<◌, arith, get_or, true, false, List, [], ◌∷◌, length, map, take, Option, Some, None, Result, Ok, Err, refl, sym, ap, subst, ◌∙◌, IfSome}
 use Rattle.std.specs.Prelude.{◌&&◌, nat_le, nat_lt, ok_or, slice_get}
 use Rattle.std.proofs.lemmas.List.{length-take-le}
@@ -39,7 +40,8 @@ use Rattle.tcap_check.proofs.refusal_laws.NoSends.{NoSend, answered_no, gap_no, 
 
 -- ---- calls
 
--- If a step refuses no send, neither does the call that makes it; memory is no send.
+-- If a step is refused for another reason than a send, so is the call that makes it. A lack of memory is another
+-- reason.
 in_memory_no : {A : Type 0} (step : Result A CheckFault) (fault : CheckFault) (left : A) → ((f : CheckFault) → step ≡ Err f → NoSend f)
     → YieldsInMemory step (Err fault) left → NoSend fault
 in_memory_no step fault left never yields = by (refusal_to_send fault.reason) refl
@@ -50,7 +52,7 @@ in_memory_no step fault left never yields = by (refusal_to_send fault.reason) re
         sym at ∙ never fault (yields (λ memory. let none : NoSend fault = same_no (fault_at Memory 0) fault (sym memory) refl in
         let so : Some reason ≡ None = sym at ∙ none in cc))
 
--- Of such a refusal nothing needs to be shown.
+-- For such a refusal nothing has to be shown.
 none_shows : (table : Table) (side : Side) (number : ℕ) (message : Message) (fault : CheckFault) (left : Progress) → NoSend fault
     → (let x : Result (Unit {0}) CheckFault = Err fault in ShowsSend table side number message x left)
 none_shows table side number message fault left never = rw never tt
@@ -155,7 +157,7 @@ refused_shows judged table c k reason fault never is =
     by (inl none) = same_no (fault_at FateCount number) fault (none_err (slice_get c.fates number) (fault_at FateCount number) fault none).1 refl
     by (inr (fate, found, none)) = same_no (fault_at reason number) fault (cc) never
 
--- What is shown of that entry, in terms of the record.
+-- What is shown of this entry, stated for the record.
 pub entry_shows : (table : Table) (entries : List Entry) (entry : Entry) (number : ℕ) (fault : CheckFault) (left : Progress)
     → slice_get entries number ≡ Some entry
     → (let x : Result (Unit {0}) CheckFault = Err fault in ShowsItem table number (item_of entry) x left)
@@ -191,9 +193,9 @@ entry_shows table entries entry number fault left there shows = by (item_of entr
     by (Ok Item.Quiet) at o is shows = none o is shows
     by (Err reason) at o is shows = none o is shows
 
--- ---- the whole
+-- ---- the whole record
 
--- As many entries are kept as were taken.
+-- As many outlines are kept as entries were taken.
 pub count_taken : (x : Replaying) (entries : List Entry) → TookListed true (checking_of x) (map item_of entries)
     → length x.entries.items ≡ length entries
 count_taken x entries took = by (taken x.judged x.table.now x.certificate.now (map item_of entries)) refl took
@@ -207,7 +209,7 @@ count_taken x entries took = by (taken x.judged x.table.now x.certificate.now (m
         ap (λ (k : Kept). length k.entries) is ∙ outlines_count x.certificate.now 0 r.world.sent
         ∙ sym (as_many entries r.world.sent (taken_stands x.judged x.table.now x.certificate.now entries r at).are)
 
--- Where all entries before one were taken and that one is refused, it is refused there.
+-- If all entries before this one were taken, and it is refused, then it is refused at its number.
 pub next_shows : (table : Table) (all lent : List Entry) (place : ℕ) (entry : Entry) (x : Replaying) (fault : CheckFault) (left : Progress)
     → lent ≡ all → place < length lent → entry ≡ get_or lent place entry → TookListed true (checking_of x) (map item_of (take place all))
     → (let o : Result (Unit {0}) CheckFault = Err fault in ShowsItem table (length x.entries.items) (item_of entry) o left)
@@ -243,7 +245,7 @@ end_shows judged table c k entries left (Err fault) yields = rw (in_memory_no (k
     never : (f : CheckFault) → kept_ended judged table c k ≡ Err f → NoSend f
     never f is = by f (needs_err (number == length c.fates) (fault_at FateCount number) rest f is)
 
--- numbers that are out of their ranges
+-- numbers out of range
 listed_no : (count : ℕ) (listed : List (ℕ × ℕ)) (fault : CheckFault) → all_fit count listed ≡ Err fault → NoSend fault
 listed_no count [] fault is = cc
 listed_no count ((entry, gap) ∷ listed) fault is =

@@ -1,4 +1,4 @@
--- What is kept of entries that were taken stands for them.
+-- What is kept of entries that were taken is what is kept of their replay.
 use Rattle.std.proofs.Common.{◌≡◌, arith, ◌<◌, ◌+◌, ℕ, true, List, [], ◌∷◌, ◌++◌, map, length, drop, take, Some, None, Result, Ok, Err, IfSome, refl, sym, ap, ap₂, subst, ◌∙◌, append-nil, append_assoc}
 use Rattle.std.proofs.lemmas.List.{take_all}
 use Rattle.std.specs.Prelude.{◌≢◌, Option, ok_or, slice_get}
@@ -38,7 +38,7 @@ use Rattle.tcap_check.proofs.refusal_laws.ReasonLaws.{entry_stands, first_ok, no
 use Rattle.tcap_check.proofs.replay_laws.ReplayGaps.{fates_ok}
 use Rattle.tcap_check.proofs.refusal_laws.RefusedReplayLaws.{next_goes}
 
--- Behind entries more what was replayed stands for these too.
+-- `SendsSoFar` holds after more entries.
 more_stand : (judged : Option Side) (table : Table) (c : Certificate) (front entries : List Entry) (r next : Replay)
     → FatesFit (length c.fates) 0 c.fates → SendsSoFar judged table c front (next_entry r) r
     → taken_from judged table c (map item_of entries) r ≡ Ok next → SendsSoFar judged table c (front ++ entries) (next_entry next) next
@@ -56,7 +56,7 @@ more_stand judged table c front (entry ∷ entries) r next fit old is =
     (more_stand judged table c (front ++ entry ∷ []) entries found.0 next fit
     (entry_stands judged table c front entry fate.0 r found.0 fit old has fate.2) found.2)
 
--- What is replayed of entries is a run that sends them.
+-- `SendsSoFar` holds for the replay of entries.
 pub taken_stands : (judged : Option Side) (table : Table) (c : Certificate) (entries : List Entry) (r : Replay)
     → taken judged table c (map item_of entries) ≡ Ok r → SendsSoFar judged table c entries (next_entry r) r
 taken_stands judged table c entries r is =
@@ -66,7 +66,7 @@ taken_stands judged table c entries r is =
     (fates_ok (length c.fates) 0 c.fates (first_ok (fates_fit (length c.fates) 0 c.fates) _ fits)) (nothing_stands judged table c)
     (ap (λ (o : Result (Unit {0}) CheckFault). o >> goes) (sym fits) ∙ is)
 
--- What is kept of them is what is kept of their replay.
+-- What is kept of entries is what is kept of their replay.
 took_replay : (judged : Option Side) (table : Table) (c : Certificate) (k : Kept) (entries : List Entry)
     → TookListed true (checking judged table c None k) (map item_of entries)
     → (r : Replay) × (taken judged table c (map item_of entries) ≡ Ok r) × (kept_of true judged c r ≡ k)
@@ -97,7 +97,7 @@ listed_behind x q (r, same) is =
     by (Err fault) e = cc
     by (Ok next) e = let at : q ≡ progress_of true x.judged x.certificate.now next = cc in listed_kept x.judged x.certificate.now next q at
 
--- The messages that the next entry takes depend on the entries alone.
+-- The messages that the next entry takes depend only on the entries.
 tied_alike : (judged : Option Side) (c : Certificate) (k l : Kept) → k.entries ≡ l.entries → tied_now judged c k ≡ tied_now judged c l
 tied_alike None c k l same = ap (λ (es : List Outline). taken_by (length es) 0 c.fates) same
 tied_alike (Some judged) c k l same = ap (λ (es : List Outline). told_among (other judged) es (taken_by (length es) 0 c.fates)) same
@@ -129,17 +129,17 @@ refused_next x entry fault is before took =
     by (Ok r) at same = cc
     by (Err other) at same = cc
 
--- A replay as it was made, and as it is now: what is kept now stands for the first of the entries.
+-- The progress is what is kept of these entries' replay, for the ends, table and certificate of x.
 abbrev pub Among : Replaying → List Entry → Progress → Type 0
 Among x entries p = StandsAmong x.table.now x.certificate.now x.judged entries p
 
--- It goes by the same.
+-- Both replays have the same judged ends, table and certificate.
 pub record GoesAlike (x y : Replaying) : Type 0 where
   pub judged : y.judged ≡ x.judged
   pub table : y.table ≡ x.table
   pub certificate : y.certificate ≡ x.certificate
 
--- So it is where the next entry is refused,
+-- The progress if the next entry is refused.
 pub among_refused : (x y : Replaying) (entries : List Entry) (count : ℕ) (entry : Entry) (fault : CheckFault) (left : Progress) → GoesAlike x y
     → count < length entries → drop count entries ≡ entry ∷ drop (count + 1) entries
     → TookListed true (checking_of y) (map item_of (take count entries))
@@ -163,7 +163,7 @@ none_behind : (entries : List Entry) → drop (length entries) entries ≡ []
 none_behind [] = refl
 none_behind (entry ∷ entries) = none_behind entries
 
--- and behind the last of them.
+-- The progress after the last entry.
 pub among_ends : (x y : Replaying) (entries : List Entry) (o : Result (Unit {0}) CheckFault) (left : Progress) → GoesAlike x y
     → TookListed true (checking_of y) (map item_of entries)
     → UnlessMemory o (left ≡ end_left y.judged y.table.now y.certificate.now (kept_in y)) → UnlessMemory o (Among x entries left)
@@ -196,14 +196,14 @@ among_ends x y entries o left alike took leaves = by o leaves
     by (Ok done) is = here is
     by (Err fault) is = λ other. here (is other)
 
--- What does not run out of memory.
+-- If the call does not run out of memory, P holds.
 pub in_memory : (o : Result (Unit {0}) CheckFault) (P : Type 0) → UnlessMemory o P → o ≢ Err (fault_at Memory 0) → P
 in_memory (Ok done) P so other = so
 in_memory (Err fault) P so other = so (λ is. other (ap (λ (f : CheckFault). let x : Result (Unit {0}) CheckFault = Err f in x) is))
 
 -- ---- a run so far
 
--- What is kept of entries as far as their replay goes is of a run that sends the first of them, and its ends are those behind it.
+-- What is kept of a replay up to a refusal is a run that sends the first entries, with the ends after it.
 stands_so_far : (table : Table) (c : Certificate) (judged : Option Side) (entries : List Entry) (p : Progress) (steps : List Step)
     → StandsAmong table c judged entries p → IfSome p.steps (λ told. told_of steps ≡ told)
     → IsSoFar judged table c entries steps p.a.end p.b.end
@@ -227,7 +227,7 @@ stands_so_far table c judged entries p steps among tell =
       b_is = sym (ap (λ (x : Progress). x.b.end) among.stands);
     }
 
--- A replay of a certificate for a table, from its making on: what is kept of it is a run so far.
+-- What is kept of a replay since its creation is a run so far.
 pub replay_so_far : (x : Replaying) (judged : Option Side) (table : Table) (c : Certificate) (entries : List Entry) (kept left : Progress)
     (steps : List Step) → x.judged ≡ judged → x.table.now ≡ table → x.certificate.now ≡ c
     → left ≡ kept → Among x entries kept → IfSome left.steps (λ told. told_of steps ≡ told)

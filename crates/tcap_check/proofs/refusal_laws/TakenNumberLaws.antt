@@ -1,4 +1,4 @@
--- What is in a list, and numbers that were taken.
+-- Elements of lists, and numbers that were taken.
 use Rattle.std.proofs.Common.{◌≡◌, inl, inr, ℕ, suc, ◌+◌, arith, Bool, true, false, cond, List, [], ◌∷◌, ◌++◌, map, Some, refl, sym, ap, subst, ◌∙◌}
 use Rattle.std.specs.Prelude.{slice_get}
 use Rattle.std.specs.List.Sorted.{IsStrictlySortedBy}
@@ -16,21 +16,18 @@ use Rattle.tcap_model.proofs.RunLaws.{same_side}
 use Rattle.tcap_check.proofs.replay_laws.MemberLaws.{IsIn, in_left, in_right}
 use Rattle.tcap_check.proofs.given_run_laws.NumberLaws.{parts_apart}
 
--- ---- what is in a list
+-- ---- elements of lists
 
--- An event is one of some where it is one of them as options,
 pub in_some : (x : Event) (ys : List Event) → IsIn x ys → IsIn (Some x) (map Some ys)
 in_some x [] is = absurd is
 in_some x (y ∷ ys) (inl same) = inl (ap Some same)
 in_some x (y ∷ ys) (inr more) = inr (in_some x ys more)
 
--- and the other way.
 pub in_events : (x : Event) (ys : List Event) → IsIn (Some x) (map Some ys) → IsIn x ys
 in_events x [] is = absurd is
 in_events x (y ∷ ys) (inl same) = inl cc
 in_events x (y ∷ ys) (inr more) = inr (in_events x ys more)
 
--- What is left without losses was there.
 pub in_all : (x : Event) (events : List Event) → IsIn x (without_losses events) → IsIn x events
 in_all x [] is = absurd is
 in_all x (event ∷ events) is = by (is_loss event) (in_all x events) is
@@ -43,7 +40,7 @@ in_all x (event ∷ events) is = by (is_loss event) (in_all x events) is
 
 -- ---- numbers that were taken
 
--- A number is taken by an event that takes it.
+-- A number is taken if an event takes it.
 pub in_taken : (side : Side) (n : ℕ) (event : Event) (events : List Event) → takes_from side event ≡ n ∷ [] → IsIn event events
     → IsIn n (numbers_taken side events)
 in_taken side n event [] takes is = absurd is
@@ -53,7 +50,7 @@ in_taken side n event (first ∷ events) takes (inl same) =
 in_taken side n event (first ∷ events) takes (inr more) =
     in_right n (takes_from side first) (numbers_taken side events) (in_taken side n event events takes more)
 
--- The item of a number that an end sent is a message of this end.
+-- The item with a number that an end sent is a message of this end.
 number_at : (side : Side) (n k : ℕ) (items : List Item) → IsIn n (numbers_sent side k items)
     → (message : Message) × (i : ℕ) × (n ≡ k + i) × (slice_get items i ≡ Some (Sent side message))
 number_at side n k [] is = absurd is
@@ -73,7 +70,7 @@ number_at side n k (Sent sender message ∷ items) is =
     by true so further (inr found) = further found
     by false so further found = further found
 
--- What was taken from an end's channel is a message that this end sent,
+-- What was taken from an end's channel is a message that this end sent.
 pub taken_sent : (table : Table) (events : List Event) (w : World) (side : Side) (n : ℕ) → Runs table events w
     → IsIn n (numbers_taken side events) → (message : Message) × (slice_get w.sent n ≡ Some (Sent side message))
 taken_sent table events w side n runs is =
@@ -83,7 +80,7 @@ taken_sent table events w side n runs is =
     let same : n ≡ found.1 = omega (arith, found.2) in
     (found.0, ap (slice_get w.sent) same ∙ found.3)
 
--- and is not on it any more.
+-- What was taken from a channel is no longer on it.
 pub taken_is_gone : (table : Table) (events : List Event) (w : World) (side : Side) (head : OnItsWay) (more : List OnItsWay)
     → Runs table events w → channel_from side w ≡ head ∷ more → IsIn head.number (numbers_taken side events) → ⊥
 taken_is_gone table events w side head more runs channel is =
@@ -91,12 +88,10 @@ taken_is_gone table events w side head more runs channel is =
     (subst (λ (x : List OnItsWay). IsStrictlySortedBy nat_cmp (numbers_taken side events ++ numbers_of x)) channel
     (in_order table events w runs side)) is (inl refl)
 
--- What is received is taken from the other end's channel,
 pub takes_received : (side : Side) (n : ℕ) → takes_from side (Receives (other side) n) ≡ n ∷ []
 takes_received sides.A n = refl
 takes_received sides.B n = refl
 
--- and so is what is answered.
 pub takes_replied : (side : Side) (n : ℕ) → takes_from (other side) (Replies side n) ≡ n ∷ []
 takes_replied sides.A n = refl
 takes_replied sides.B n = refl

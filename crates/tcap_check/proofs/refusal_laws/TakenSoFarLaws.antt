@@ -1,4 +1,4 @@
--- What a checker took so far was sent by a run in which those who are judged keep the rules.
+-- What a checker took so far may have been sent by a run in which the judged ends keep the rules.
 use Rattle.std.proofs.Common.{◌≡◌, List, [], ◌∷◌, ◌++◌, map, length, Option, Some, None, Result, Ok, Err, refl, sym, ap, ap₂, subst, ◌∙◌, IsTrue, is_ok, false}
 use Rattle.std.specs.Prelude.{ok_or, slice_get}
 use Rattle.std.specs.List.{AllByRecursion}
@@ -31,13 +31,13 @@ use Rattle.tcap_check.proofs.replay_laws.ReplayEntries.{item_replays, ok_item}
 use Rattle.tcap_check.proofs.replay_laws.ReplaySteps.{replays_then}
 use Rattle.tcap_check.proofs.refusal_laws.TakenEntriesLaws.{taken_stands}
 
--- ---- where both ends are judged
+-- ---- if both ends are judged
 
--- But for losses, the steps so far fit the fates.
+-- Apart from losses, the steps so far fit the fates.
 abbrev AreFated : Certificate → Replay → Type 0
 AreFated c r = AllByRecursion (IsFated c.fates) (without_losses r.events)
 
--- The gap before an item, and what sends it, do.
+-- After an item and the gap before it, the steps fit the fates.
 item_fated : (table : Table) (c : Certificate) (fate : Fate) (item : Item) (r next : Replay) → slice_get c.fates (next_entry r) ≡ Some fate
     → item_by None table c fate item r ≡ Ok next → AreFated c r → AreFated c next
 item_fated table c fate item r next has is so =
@@ -65,9 +65,9 @@ taken_is_fated table c (item ∷ items) r next is so =
     let has = some_ok (slice_get c.fates number) (fault_at FateCount number) fate.0 fate.1 in
     taken_is_fated table c items one.0 next one.2 (item_fated table c fate.0 item r one.0 has fate.2 so)
 
--- ---- whoever is judged
+-- ---- for each choice of judged ends
 
--- What is taken is items.
+-- Entries that were taken are items.
 taken_items : (judged : Option Side) (table : Table) (c : Certificate) (entries : List (Result Item Reason)) (r next : Replay)
     → taken_from judged table c entries r ≡ Ok next → (items : List Item) × (map ok_item items ≡ entries)
 taken_items judged table c [] r next is = ([], refl)
@@ -106,7 +106,7 @@ never_kept : (o : Result Kept CheckFault) (fault : CheckFault) → o ≡ Err fau
 never_kept (Ok k) fault is so = cc
 never_kept (Err other) fault is so = cc
 
--- What a checker took, and did not refuse, was replayed.
+-- Entries that a checker took, and did not refuse, were replayed.
 pub took_may_be_sent : (s : Checking) (entries : List (Result Item Reason)) → Took s entries → IsTrue (is_ok s.so_far)
     → (items : List Item) × (map ok_item items ≡ entries) × MayBeSent s.judged items s.table
 took_may_be_sent s entries took passed = by (taken s.judged s.table s.certificate entries) refl took

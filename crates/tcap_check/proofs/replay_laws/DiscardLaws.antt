@@ -1,5 +1,5 @@
--- What is discarded in a replay: where both ends are judged nothing is; where one alone is, only messages that the
--- certificate says are delivered in a gap.
+-- The discards of a replay. If both ends are judged there is none; if one end is judged alone, only messages whose
+-- fates are gaps are discarded.
 use Rattle.std.proofs.Common.{◌≡◌, ℕ, List, [], ◌∷◌, map, Option, Some, None, Result, Ok, refl, sym, subst, ◌∙◌}
 use Rattle.tcap_record.specs.declared.entry.End.{End as Side}
 use Rattle.tcap_record.specs.Ends.{other}
@@ -20,7 +20,7 @@ use Rattle.tcap_check.proofs.given_run_laws.GivenRuns.{both_ok}
 use Rattle.tcap_check.proofs.replay_laws.ReplayInvariants.{IsKept, entries_keep, last_keeps}
 
 module _ (judged : Option Side) (table : Table) (c : Certificate) where
-  -- All that was discarded so far may be.
+  -- All discards so far are allowed.
   abbrev AllMay : Replay → Type 0
   AllMay r = MayAllBeDiscarded judged c r.discards
 
@@ -32,7 +32,7 @@ module _ (judged : Option Side) (table : Table) (c : Certificate) where
   each_may number [] this = tt
   each_may number (reason ∷ reasons) this = (this, each_may number reasons this)
 
-  -- A message is discarded that may be,
+  -- A message is discarded, and this is allowed.
   discarded_may : (side : Side) (number : ℕ) (r next : Replay) → MayBeDiscarded judged c number
       → discarded table side number r ≡ Some next → AllMay r → AllMay next
   discarded_may side number r next this is may =
@@ -42,7 +42,7 @@ module _ (judged : Option Side) (table : Table) (c : Certificate) where
       (all_both (λ (x : ℕ × EndFault). MayBeDiscarded judged c x.0) found.0.discards (map (λ reason. (number, reason)) reasons)
       (step_may (Loses (other side) number) r found.0 found.1 may) (each_may number reasons this))
 
-  -- or it is received.
+  -- A message is received or discarded.
   heard_may : (side : Side) (number : ℕ) (r next : Replay) → MayBeDiscarded judged c number
       → heard table c side number r ≡ Ok next → AllMay r → AllMay next
   heard_may side number r next this is may =
@@ -66,7 +66,7 @@ module _ (judged : Option Side) (table : Table) (c : Certificate) where
         heard_may side number r next (subst (λ (x : Option Side). MayBeDiscarded x c number) (sym who) (gap, at));
   }
 
--- What is discarded of a record may be.
+-- All discards of a record are allowed.
 pub all_may : (judged : Option Side) (table : Table) (c : Certificate) (entries : List (Result Item Reason)) (discards : List (ℕ × EndFault))
     → discards_by judged table c entries ≡ Ok discards → MayAllBeDiscarded judged c discards
 all_may judged table c entries discards is =

@@ -1,5 +1,5 @@
--- Each discard is told with the reason that the end itself answers there, and each loss of a message of its peer is so told, or one
--- whose fate says so.
+-- Each discard has the reason that the end gives when it cannot receive the message. Each other loss of a message to a
+-- judged end has a loss as its fate.
 use Rattle.std.proofs.Common.{◌≡◌, ◌⊎◌, inl, inr, ℕ, suc, zero, true, false, List, [], ◌∷◌, ◌++◌, map, Option, Some, None, Result, Ok, Err, arith, refl, sym, ap, subst, ◌∙◌, append_assoc}
 use Rattle.std.specs.Prelude.{Contains, ◌+◌, Bool, cond, slice_get}
 use Rattle.std.specs.List.{AllByRecursion}
@@ -40,7 +40,6 @@ use Rattle.tcap_model.proofs.WorldLaws.{apart, itself}
 pub none_in : {A : Type 0} (x : A) → Contains [] x → ⊥
 none_in x h = let less = h.1 in absurd (omega (arith, less))
 
--- Behind more steps a discard still is one.
 discarded_before : (judged : Option Side) (table : Table) (c : Certificate) (events more all : List Event) (number : ℕ) (reason : EndFault)
     → all ≡ events ++ more → IsDiscardOf judged table c events number reason → IsDiscardOf judged table c all number reason
 discarded_before None table c events more all number reason are d = d
@@ -60,7 +59,7 @@ discarded_before (Some side) table c events more all number reason are (d, meant
   meant,
 )
 
--- What is lost at the front of a channel is what the fates say is.
+-- The losses at the front of a channel are of messages whose fates are losses.
 front_lost : (fates : List Fate) (sender peer : Side) (channel : List OnItsWay) (number : ℕ)
     → Contains (map (Loses sender) (lost_front fates channel)) (Loses peer number) → slice_get fates number ≡ Some Lost
 front_lost fates sender peer [] number there = absurd (none_in (Loses peer number) there)
@@ -80,7 +79,7 @@ front_lost fates sender peer (first ∷ more) number there =
         of (inl same) = let n : first.number ≡ number = cc in ap (slice_get fates) (sym n) ∙ at
         of (inr later) = rest later
 
--- What an end sent is not what its peer did.
+-- A loss of one end's message is not a loss of the other's.
 not_peers : (side : Side) (numbers : List ℕ) (number : ℕ) → Contains (map (Loses side) numbers) (Loses (other side) number) → ⊥
 not_peers side [] number there = none_in (Loses (other side) number) there
 not_peers side (n ∷ numbers) number there =
@@ -94,16 +93,15 @@ not_peers side (n ∷ numbers) number there =
         let yes = itself side in let no = apart side in cc
     by rest (inr later) = rest later
 
--- What is left at the front of a channel, behind what is lost there, has another fate.
+-- The head of a channel after its losses has another fate.
 front_stays : (c : Certificate) (sender : Side) (r : Replay) (head : OnItsWay) (more : List OnItsWay)
     → channel_from sender (lost_from_front c sender r).world ≡ head ∷ more → slice_get c.fates head.number ≡ Some Lost → ⊥
 front_stays c sides.A r head more is = head_stays c.fates r.world.from_a head more is
 front_stays c sides.B r head more is = head_stays c.fates r.world.from_b head more is
 
--- ---- steps, whoever is judged
+-- ---- steps, for each choice of judged ends
 
 module _ (judged : Option Side) (table : Table) (c : Certificate) where
-  -- The steps from the one to the other go on with its run.
   runs_on : (steps : List Event) (r next : Replay) → Extends table r steps next → Runs table r.events r.world → Runs table next.events next.world
   runs_on steps r next extends runs =
       ap (λ (x : List Event). played table x empty) extends.events ∙ played_on table r.events steps empty r.world runs ∙ extends.plays
@@ -117,7 +115,7 @@ module _ (judged : Option Side) (table : Table) (c : Certificate) where
       all_weaker (λ (x : ℕ × EndFault). IsDiscardOf judged table c events x.0 x.1) (λ (x : ℕ × EndFault). IsDiscardOf judged table c all x.0 x.1)
       discards (λ x. discarded_before judged table c events more all x.0 x.1 are)
 
-  -- More steps tell so of which each loss of a message to an end that is judged is one whose fate says so.
+  -- More steps keep `TellsSo` if each of their losses of a message to a judged end has a loss as its fate.
   more_tells : (steps : List Event) (r next : Replay) → Runs table next.events next.world → next.events ≡ r.events ++ steps → next.discards ≡ r.discards
       → ((sender : Side) (number : ℕ) → is_heard judged sender ≡ true → Contains steps (Loses sender number) → slice_get c.fates number ≡ Some Lost)
       → TellsSo judged table c r → TellsSo judged table c next
@@ -155,7 +153,7 @@ module _ (judged : Option Side) (table : Table) (c : Certificate) where
       (runs_on losses.steps r (lost_from_front c sender r) losses.extends so.0) refl refl
       (λ peer number heard. front_lost c.fates sender peer (channel_from sender r.world) number) so
 
--- ---- steps of one end alone
+-- ---- steps if one end is judged alone
 
 module _ (side : Side) (table : Table) (c : Certificate) where
   abbrev Tells : Replay → Type 0
@@ -170,7 +168,7 @@ module _ (side : Side) (table : Table) (c : Certificate) where
       (subst (λ (x : Side). Contains (map (Loses side) (numbers_of (channel_from side r.world))) (Loses x number))
       (sym (same_side (other side) sender heard)) there))) so
 
-  -- What is not received, though it is the oldest on its way, is refused.
+  -- If the oldest message on its way is not received, the end gives a reason.
   refused_for : (number : ℕ) (head : OnItsWay) (more : List OnItsWay) (r : Replay) → channel_from (other side) r.world ≡ head ∷ more
       → head.number ≡ number → stepped table (Receives side number) r ≡ None
       → (reason : EndFault) × (receive table (end_at side r.world) head.message ≡ Err reason)
@@ -187,7 +185,7 @@ module _ (side : Side) (table : Table) (c : Certificate) where
           cc
       by (Err reason) at = (reason, at, rw (channel, at) refl)
 
-  -- So is a discard, with the reason.
+  -- A discard with its reason keeps `TellsSo`.
   noted_tells : (number : ℕ) (reason : EndFault) (r next : Replay) → Runs table next.events next.world
       → next.events ≡ r.events ++ Loses (other side) number ∷ [] → next.discards ≡ r.discards ++ (number, reason) ∷ []
       → IsDiscardOf (Some side) table c next.events number reason → Tells r → Tells next
@@ -224,7 +222,7 @@ module _ (side : Side) (table : Table) (c : Certificate) where
       by sender n heard (inl first) = old n (told sender n heard first)
       by sender n heard (inr last) = new sender n (contains_first (Loses (other side) number) [] (Loses sender n) last)
 
-  -- What is noted of one that is lost,
+  -- The discards after one more.
   discards_are : (number : ℕ) (reasons : List EndFault) (reason : EndFault) (r lost next : Replay) (w : World)
       → with_step (Loses (other side) number) r w ≡ lost → with_discards (map (λ x. (number, x)) reasons) lost ≡ next → reasons ≡ reason ∷ []
       → next.discards ≡ r.discards ++ (number, reason) ∷ []
@@ -232,7 +230,7 @@ module _ (side : Side) (table : Table) (c : Certificate) where
       ap (λ (x : Replay). x.discards) (sym is) ∙ ap (λ (x : Replay). x.discards ++ map (λ y. (number, y)) reasons) (sym step)
       ∙ ap (λ (x : List EndFault). r.discards ++ map (λ y. (number, y)) x) are
 
-  -- since it was refused.
+  -- The discard of a message that the end cannot receive keeps `TellsSo`.
   discarded_tells : (number : ℕ) (r next : Replay) → stepped table (Receives side number) r ≡ None
       → ((head : OnItsWay) (more : List OnItsWay) → channel_from (other side) r.world ≡ head ∷ more → slice_get c.fates head.number ≡ Some Lost → ⊥)
       → discarded table side number r ≡ Some next → Tells r → Tells next
@@ -278,7 +276,7 @@ module _ (side : Side) (table : Table) (c : Certificate) where
       by (Some x) at found = tells_step (Some side) table c (Receives side number) before next refl (at ∙ found) front
       by None at found = discarded_tells number before next at (front_stays c (other side) r) found front
 
--- ---- the whole
+-- ---- the whole replay
 
 pub tells_kept : (judged : Option Side) (table : Table) (c : Certificate) → IsKept judged table c (TellsSo judged table c)
 tells_kept None table c = record {
@@ -298,14 +296,14 @@ tells_kept (Some alone) table c = record {
 nothing_tells : (judged : Option Side) (table : Table) (c : Certificate) → TellsSo judged table c nothing_replayed
 nothing_tells judged table c = (refl, (tt, λ sender number heard there. absurd (none_in (Loses sender number) there)))
 
--- So it is of entries that were taken,
+-- `TellsSo` holds for entries that were taken.
 pub taken_tells : (judged : Option Side) (table : Table) (c : Certificate) (entries : List (Result Item Reason)) (r : Replay)
     → taken judged table c entries ≡ Ok r → TellsSo judged table c r
 taken_tells judged table c entries r is =
     let fits = both_ok (certificate_fits c) (taken_from judged table c entries nothing_replayed) r is in
     taken_keeps judged table c (TellsSo judged table c) (tells_kept judged table c) entries nothing_replayed r fits.2 (nothing_tells judged table c)
 
--- and of the whole replay.
+-- The discards of the whole replay account for its losses.
 run_tells : (judged : Option Side) (table : Table) (c : Certificate) (entries : List (Result Item Reason)) (events : List Event)
     (discards : List (ℕ × EndFault)) → run_by judged table c entries ≡ Ok events → discards_by judged table c entries ≡ Ok discards
     → DiscardsSo judged table c events discards
@@ -325,7 +323,7 @@ run_tells judged table c entries events discards run noted =
     subst (λ (x : List (ℕ × EndFault)). DiscardsSo judged table c events x) discards_are
     (subst (λ (x : List Event). DiscardsSo judged table c x last.discards) events_are so.1)
 
--- Each message that is discarded in the run for an end is one that the end can't receive there, for the reason that is told.
+-- Each discard in the run for an end is of a message that the end cannot receive then, for this reason.
 pub all_refused : (side : Side) (table : Table) (c : Certificate) (entries : List (Result Item Reason)) (events : List Event)
     (discards : List (ℕ × EndFault)) → run_by (Some side) table c entries ≡ Ok events → discards_by (Some side) table c entries ≡ Ok discards
     → AllByRecursion (λ x. IsDiscarded side table events x.0 x.1) discards
@@ -333,16 +331,16 @@ all_refused side table c entries events discards run noted =
     all_weaker (λ (x : ℕ × EndFault). IsDiscardOf (Some side) table c events x.0 x.1) (λ (x : ℕ × EndFault). IsDiscarded side table events x.0 x.1)
     discards (λ x is. is.0) (run_tells (Some side) table c entries events discards run noted).0
 
--- Each message of its peer that is lost in it is so told, or its fate says that it is lost.
+-- Each lost message of the peer is among the discards, or has a loss as its fate.
 pub all_told : (side : Side) (table : Table) (c : Certificate) (entries : List (Result Item Reason)) (events : List Event)
     (discards : List (ℕ × EndFault)) → run_by (Some side) table c entries ≡ Ok events → discards_by (Some side) table c entries ≡ Ok discards
     → (number : ℕ) → Contains events (Loses (other side) number) → IsTold c discards number
 all_told side table c entries events discards run noted number there =
     (run_tells (Some side) table c entries events discards run noted).1 (other side) number (itself (other side)) there
 
--- ---- where each loss is one whose fate says so
+-- ---- if each loss is by fate
 
--- A number among those of the messages whose fates say that they are lost has that fate; the first of these has this number.
+-- A number among those of messages whose fates are losses has such a fate. The first of these fates has number n.
 lost_at : (side : Side) (n : ℕ) (fates : List Fate) (items : List Item) (number : ℕ) → Contains (lost_from side n fates items) number
     → (k : ℕ) × (number ≡ n + k) × (slice_get fates k ≡ Some Lost)
 lost_at side n [] items number there = absurd (none_in number there)
@@ -377,7 +375,7 @@ lost_at side n (fate ∷ fates) (item ∷ items) number there = by (lost_at side
     by go (Gap g) item there = later go (Gap g) there
     by go (By k) item there = later go (By k) there
 
--- A loss between other steps is among the losses.
+-- A loss between other events is among the losses.
 loss_is_one : (side : Side) (before behind : List Event) (number : ℕ)
     → Contains (losses_from side (before ++ Loses side number ∷ behind)) number
 loss_is_one side before behind number =
@@ -388,7 +386,7 @@ loss_is_one side before behind number =
     (Contains-append_right (losses_from side before) (losses_from side (Loses side number ∷ behind)) number
     (subst (λ (x : List ℕ). Contains x number) (sym this) here))
 
--- Where of the messages of its peer no other is lost, none is discarded.
+-- If no other message of the peer is lost, none is discarded.
 pub none_discarded : (side : Side) (table : Table) (c : Certificate) (entries : List (Result Item Reason)) (items : List Item) (events : List Event)
     (discards : List (ℕ × EndFault)) → run_by (Some side) table c entries ≡ Ok events → discards_by (Some side) table c entries ≡ Ok discards
     → losses_from (other side) events ≡ lost_from (other side) 0 c.fates items → discards ≡ []

@@ -1,4 +1,4 @@
--- The fates from a number on; what is delivered by them, and what a reply takes.
+-- The fates from a number on: the deliveries by them, and the messages that a reply takes.
 use Rattle.std.proofs.Common.{◌≡◌, ℕ, suc, ◌+◌, ◌==◌, Bool, true, false, cond, List, [], ◌∷◌, arith, Some, refl, sym, ap, ◌∙◌}
 use Rattle.std.specs.Prelude.{slice_get}
 use Rattle.std.specs.List.{AllByRecursion}
@@ -11,7 +11,7 @@ use Rattle.tcap_certificate.specs.declared.certificate.Fate.{Fate}
 use Rattle.tcap_certificate.specs.declared.certificate.Fate.TheVariants.{Gap, Lost, By}
 use Rattle.tcap_certificate.specs.Follows.{deliveries, taken_by}
 
--- these are the fates of a certificate from a number on
+-- these are the fates of the certificate from number n on
 abbrev pub AreFrom : List Fate → ℕ → List Fate → Type 0
 AreFrom all n fates = (i : ℕ) → slice_get fates i ≡ slice_get all (n + i)
 
@@ -26,7 +26,7 @@ first_from all fates n fate are =
 pub from_start : (all : List Fate) → AreFrom all 0 all
 from_start all i = let same : i ≡ 0 + i = omega arith in ap (slice_get all) same
 
--- What holds of each message that has this gap holds of each delivery in it.
+-- What holds for each message with this gap holds for each delivery in it.
 pub all_delivered : (P : Event → Type 0) (all : List Fate) (gap n : ℕ) (fates : List Fate) (items : List Item) → AreFrom all n fates
     → ((side : Side) (number : ℕ) → slice_get all number ≡ Some (Gap gap) → P (Receives (other side) number))
     → AllByRecursion P (deliveries gap n fates items)
@@ -50,7 +50,7 @@ all_delivered P all gap n (fate ∷ fates) (item ∷ items) are each =
     by (Sent side message) Lost here rest = rest
     by Item.Quiet fate here rest = rest
 
--- What a reply takes has that reply as its fate.
+-- The messages that a reply takes have this reply as their fate.
 pub taken_are : (all fates : List Fate) (reply n : ℕ) → AreFrom all n fates
     → AllByRecursion (λ k. slice_get all k ≡ Some (By reply)) (taken_by reply n fates)
 taken_are all [] reply n are = tt

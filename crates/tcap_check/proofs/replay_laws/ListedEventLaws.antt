@@ -1,4 +1,4 @@
--- A gap is what is listed for it, closings and expiries alike, and then what is delivered.
+-- A gap is its listed events, closings and expiries alike, and then its deliveries.
 use Rattle.std.proofs.Common.{◌≡◌, ℕ, ℤ, ◌==◌, Bool, true, false, cond, List, [], ◌∷◌, ◌++◌, map, filter, Option, Some, None, Result, Ok, refl, sym, ap, ap₂, subst, ◌∙◌}
 use Rattle.std.specs.Prelude.{ok_or, slice_get}
 use Rattle.std.specs.List.{AllByRecursion}
@@ -62,9 +62,9 @@ filter_all : {A : Type 0} (xs : List A) → filter (λ x. true) xs ≡ xs
 filter_all [] = refl
 filter_all (x ∷ xs) = ap (λ ys. x ∷ ys) (filter_all xs)
 
--- ---- the replay of what is listed
+-- ---- the replay of listed events
 
--- Closings are replayed as they are listed,
+-- Closings are replayed as listed events.
 closings_all : (table : Table) (c : Certificate) (xs : List Closing) (r : Replay)
     → closings_replayed table c xs r ≡ all_replayed table c (map listings.Closes xs) r
 closings_all table c [] r = refl
@@ -74,7 +74,7 @@ closings_all table c (x ∷ more) r =
     ∙ then_same (listed_replayed table c (listings.Closes x) r) (closings_replayed table c more) (all_replayed table c (map listings.Closes more))
     (closings_all table c more)
 
--- and expiries.
+-- Expiries are replayed as listed events.
 expiries_all : (table : Table) (c : Certificate) (xs : List Expiry) (r : Replay)
     → expiries_replayed table c xs r ≡ all_replayed table c (map listings.Expires xs) r
 expiries_all table c [] r = refl
@@ -84,7 +84,7 @@ expiries_all table c (x ∷ more) r =
     ∙ then_same (listed_replayed table c (listings.Expires x) r) (expiries_replayed table c more) (all_replayed table c (map listings.Expires more))
     (expiries_all table c more)
 
--- One list after the other is both.
+-- Joined lists are replayed one after the other.
 all_then : (table : Table) (c : Certificate) (xs ys : List Listed) (r : Replay)
     → (all_replayed table c xs r >>= all_replayed table c ys) ≡ all_replayed table c (xs ++ ys) r
 all_then table c [] ys r = refl
@@ -93,7 +93,7 @@ all_then table c (x ∷ xs) ys r =
     ∙ then_same (listed_replayed table c x r) (λ next. all_replayed table c xs next >>= all_replayed table c ys) (all_replayed table c (xs ++ ys))
     (all_then table c xs ys)
 
--- What is listed of the ends that are judged is the closings of these, then their expiries.
+-- The listed events of judged ends are the closings of these, then their expiries.
 judged_is : (judged : Option Side) (xs : List Closing) (ys : List Expiry)
     → listed_judged judged (map listings.Closes xs ++ map listings.Expires ys)
     ≡ map listings.Closes (closings_judged judged xs) ++ map listings.Expires (expiries_judged judged ys)
@@ -103,11 +103,11 @@ judged_is (Some side) xs ys =
     ∙ ap₂ (λ (us vs : List Listed). us ++ vs) (filter_map (λ (x : Listed). is_side side (side_of x)) listings.Closes xs)
     (filter_map (λ (x : Listed). is_side side (side_of x)) listings.Expires ys)
 
--- Of both ends it is all.
+-- If both ends are judged, these are all listed events.
 pub judged_all : (c : Certificate) (gap : ℕ) → listed_for None c gap ≡ listed_in c gap
 judged_all c gap = filter_all (listed_in c gap)
 
--- A gap is what is listed, and then what is delivered.
+-- A gap is its listed events, and then its deliveries.
 pub gap_is_listed : (judged : Option Side) (table : Table) (c : Certificate) (r : Replay)
     → gap_by judged table c r
     ≡ (all_replayed table c (listed_for judged c (next_entry r)) r >>= deliveries_by judged table c (next_entry r) 0 c.fates r.world.sent)
@@ -136,7 +136,7 @@ gap_is_listed judged table c r =
     delivered : Replay → Result Replay CheckFault
     delivered = deliveries_by judged table c (next_entry r) 0 c.fates r.world.sent
 
--- One that is replayed is so in two parts.
+-- A gap that is replayed is replayed in these two parts.
 pub gap_parts : (judged : Option Side) (table : Table) (c : Certificate) (r next : Replay) → gap_by judged table c r ≡ Ok next
     → (mid : Replay) × (all_replayed table c (listed_for judged c (next_entry r)) r ≡ Ok mid)
     × (deliveries_by judged table c (next_entry r) 0 c.fates r.world.sent mid ≡ Ok next)
@@ -144,7 +144,7 @@ gap_parts judged table c r next is =
     then_ok (all_replayed table c (listed_for judged c (next_entry r)) r) (deliveries_by judged table c (next_entry r) 0 c.fates r.world.sent) next
     (sym (gap_is_listed judged table c r) ∙ is)
 
--- The same of its events.
+-- The events of a gap are those of these two parts.
 pub gap_events_are : (c : Certificate) (items : List Item) (gap : ℕ)
     → gap_events c items gap ≡ map (event_listed items) (listed_in c gap) ++ map Some (deliveries gap 0 c.fates items)
 gap_events_are c items gap =
@@ -155,7 +155,7 @@ gap_events_are c items gap =
     ∙ ap₂ (λ (us vs : List (Option Event)). us ++ vs) (map_twice (event_listed items) listings.Closes closings)
     (map_twice (event_listed items) listings.Expires expiries)))
 
--- ---- events that are listed
+-- ---- listed events
 
 closing_so : (P : Event → Type 0) (items : List Item) (x : Closing) → ((name : HalfName) → P (Closes x.side name))
     → (event : Event) → closing_event items x ≡ Some event → P event
@@ -181,13 +181,13 @@ expiry_so P items x expires event is = let found = then_some (named_entry items 
         subst P (some_is id.2) (expires (names.Own named.0) id.0)
     by Item.Quiet e = cc
 
--- What holds of the closings and the expiries of its end holds of the event that is listed.
+-- What holds for the closings and the expiries of its end holds for a listed event.
 pub listed_so : (P : Event → Type 0) (items : List Item) (x : Listed) → ((name : HalfName) → P (Closes (side_of x) name))
     → ((name : HalfName) (id : ℤ) → P (Expires (side_of x) name id)) → (event : Event) → event_listed items x ≡ Some event → P event
 listed_so P items (listings.Closes x) closes expires = closing_so P items x closes
 listed_so P items (listings.Expires x) closes expires = expiry_so P items x expires
 
--- Events that are some options and then others are parts.
+-- Events that equal joined options can be split.
 some_parts : (here : List Event) (options : List (Option Event)) (behind : List Event)
     → map Some here ≡ options ++ map Some behind
     → (before : List Event) × (map Some before ≡ options) × (here ≡ before ++ behind)
@@ -199,7 +199,7 @@ some_parts (first ∷ here) (o ∷ options) behind is =
     let rest = more.1 in
     (first ∷ more.0, cc, ap (λ (x : List Event). first ∷ x) more.2)
 
--- What happens in a gap is what is listed, of which this holds, and then what is delivered.
+-- The events of a gap are listed events, for which P holds, and then deliveries.
 pub gap_split : (P : Event → Type 0) (c : Certificate) (items : List Item) (gap : ℕ) (here : List Event)
     → ((side : Side) (name : HalfName) → P (Closes side name)) → ((side : Side) (name : HalfName) (id : ℤ) → P (Expires side name id))
     → map Some here ≡ gap_events c items gap
@@ -216,7 +216,8 @@ gap_split P c items gap here closes expires is =
 
 -- ---- events that an item implies
 
--- What holds of the expiries of its end, in the half over which the message invokes, holds of what a message implies.
+-- What holds for the expiries of its end on the half over which a message invokes holds for the expiries that the
+-- message implies.
 pub implied_so : (P : Event → Type 0) (side : Side) (message : Message)
     → ((name : HalfName) (id : ℤ) → invoking_half message ≡ Some name → P (Expires side name id))
     → (event : Event) → IsImplied (Sent side message) event → P event
@@ -229,7 +230,7 @@ implied_so P side message expires (Closes at name) is = absurd is
 implied_so P side message expires Quiet is = absurd is
 implied_so P side message expires (Tells at m) is = absurd is
 
--- What holds of each expiry holds of all that an item implies.
+-- What holds for each expiry holds for all events that an item implies.
 pub all_implied : (P : Event → Type 0) (item : Item) (events : List Event)
     → ((side : Side) (name : HalfName) (id : ℤ) → P (Expires side name id)) → AllByRecursion (IsImplied item) events → AllByRecursion P events
 all_implied P item events expires all = all_weaker (IsImplied item) P events (of item) all

@@ -1,4 +1,4 @@
--- Entries that are replayed, one after the other, follow the certificate but for losses.
+-- Entries that are replayed one by one follow the certificate apart from losses.
 use Rattle.std.proofs.Common.{◌≡◌, ℕ, ◌+◌, ◌==◌, true, List, [], ◌∷◌, ◌++◌, map, length, Option, Some, None, Result, Ok, Err, refl, sym, ap, ap₂, subst, ◌∙◌, append_assoc, append-nil}
 use Rattle.std.specs.Prelude.{not, ok_or, slice_get}
 use Rattle.std.proofs.lemmas.Bool.{eqb-true}
@@ -98,7 +98,6 @@ item_replays table c fate Item.Quiet r next has is = quiet_replays table c fate 
 abbrev pub ok_item : Item → Result Item Reason
 ok_item item = Ok item
 
--- An entry that is an item is that item.
 pub item_is : (entry : Entry) (item : Item) → item_of entry ≡ Ok item → IsItem entry item
 item_is entry item is = by entry.side entry.body refl refl is
   where
@@ -110,7 +109,7 @@ item_is entry item is = by entry.side entry.body refl refl is
     by None (Bad fault) of at is = cc
     by None QuietMark of at is = let same : Item.Quiet ≡ item = cc in subst (IsItem entry) same (of, at)
 
--- Entries that were replayed are these items, and the steps follow the certificate but for losses.
+-- The replayed entries are these items, and the steps follow the certificate apart from losses.
 pub record AreReplayed (table : Table) (c : Certificate) (entries : List (Result Item Reason)) (r next : Replay) : Type 0 where
   pub items : List Item
   pub are : map ok_item items ≡ entries

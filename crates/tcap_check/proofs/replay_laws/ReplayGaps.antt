@@ -1,4 +1,4 @@
--- What is listed for a gap is the same for the items before it and for all; and a certificate whose numbers fit.
+-- The events of a gap depend only on the items before it, if the certificate is in range.
 use Rattle.std.proofs.Common.{◌≡◌, ◌≤◌, ◌<◌, ℕ, zero, suc, ◌+◌, ◌==◌, arith, Bool, true, false, cond, nat_lt, nat_le, List, [], ◌∷◌, ◌++◌, map, filter, length, drop, Option, Some, None, Ok, refl, sym, ap, ap₂, ◌∙◌}
 use Rattle.std.specs.Prelude.{◌&&◌, slice_get}
 use Rattle.std.specs.List.{AllByRecursion}
@@ -18,7 +18,7 @@ use Rattle.tcap_certificate.specs.Follows.{FatesFit, closing_by, closing_event, 
 use Rattle.tcap_model.specs.declared.reason.Reason.TheVariants.{FateRange}
 use Rattle.tcap_certificate.specs.Replayed.{all_fit, fate_fits, fates_fit, fault_at}
 
--- ---- what is listed
+-- ---- listed events
 
 pub get_before : {A : Type 0} (xs ys : List A) (i : ℕ) → i < length xs → slice_get (xs ++ ys) i ≡ slice_get xs i
 get_before [] ys i h = absurd (omega (arith, h))
@@ -79,7 +79,7 @@ deliveries_before count gap n (By k ∷ fates) (Sent side message ∷ items) res
 deliveries_before count gap n (By k ∷ fates) (Item.Quiet ∷ items) rest h fit =
     deliveries_before count gap (n + 1) fates items rest (omega (arith, h)) fit.2
 
--- What happens in a gap is said by the items before it.
+-- The events of a gap depend only on the items before it.
 pub gap_events_before : (c : Certificate) (count : ℕ) (items rest : List Item) → FatesFit count 0 c.fates
     → gap_events c (items ++ rest) (length items) ≡ gap_events c items (length items)
 gap_events_before c count items rest fit =
@@ -91,7 +91,7 @@ gap_events_before c count items rest fit =
     let listed = ap₂ (λ (xs ys : List (Option Event)). xs ++ ys) closings expiries in
     ap₂ (λ (xs : List (Option Event)) (ys : List Event). xs ++ map Some ys) listed (deliveries_before count gap 0 c.fates items rest (omega arith) fit)
 
--- ---- numbers that fit
+-- ---- ranges
 
 pub fates_ok : (count n : ℕ) (fates : List Fate) → fates_fit count n fates ≡ Ok tt → FatesFit count n fates
 fates_ok count n [] is = tt

@@ -1,4 +1,4 @@
--- What holds of what was replayed so far, and is kept by each step, holds of the whole replay.
+-- What each step of a replay keeps holds for the whole replay.
 use Rattle.std.proofs.Common.{◌≡◌, ℕ, ℤ, ◌+◌, ◌==◌, Bool, true, false, cond, List, [], ◌∷◌, length, Option, Some, None, Result, Ok, Err, refl, ap, subst, ◌∙◌}
 use Rattle.std.specs.Prelude.{filter_map, not, ok_or, slice_get}
 use Rattle.tcap_msg.specs.declared.message.Message.{Message}
@@ -30,8 +30,8 @@ use Rattle.tcap_check.specs.Listed.{all_replayed, entry_of, event_listed, listed
 use Rattle.tcap_check.proofs.replay_laws.ListedEventLaws.{gap_parts, listed_so}
 use Rattle.tcap_check.proofs.replay_laws.FateLaws.{AreFrom, from_next, first_from, from_start}
 
--- It is kept by a step that is no loss; by the losses at the front of a channel; and, where one end alone is judged, by the
--- loss of all that it sent, and by what is delivered to it in a gap.
+-- `Holds` is kept by each step that is no loss, by the losses at the front of a channel, and, if one end is judged
+-- alone, by the loss of all its messages and by the deliveries to it.
 pub record IsKept (judged : Option Side) (table : Table) (c : Certificate) (Holds : Replay → Type 0) : Type 0 where
   pub step : (event : Event) (r next : Replay) → is_loss event ≡ false → stepped table event r ≡ Some next → Holds r → Holds next
   pub front : (sender : Side) (r : Replay) → Holds r → Holds (lost_from_front c sender r)
@@ -40,7 +40,7 @@ pub record IsKept (judged : Option Side) (table : Table) (c : Certificate) (Hold
       → heard table c side number r ≡ Ok next → Holds r → Holds next
 
 module _ (judged : Option Side) (table : Table) (c : Certificate) (Holds : Replay → Type 0) (kept : IsKept judged table c Holds) where
-  -- It holds behind the second of these, where it holds behind the first.
+  -- If `Holds` is true of the first replay, it is true of the second.
   abbrev Keeps : Replay → Replay → Type 0
   Keeps r next = Holds r → Holds next
 
@@ -87,7 +87,7 @@ module _ (judged : Option Side) (table : Table) (c : Certificate) (Holds : Repla
       let then = then_ok (listed_replayed table c x r) _ next is in
       listed_keep more then.0 next then.2 (one_keeps x r then.0 then.1 holds)
 
-  -- A message that is delivered in a gap.
+  -- A message that a gap delivers.
   received_keeps : (sender : Side) (number gap : ℕ) (r next : Replay) → slice_get c.fates number ≡ Some (Gap gap)
       → received judged table c sender number r ≡ Ok next → Keeps r next
   received_keeps sender number gap r next at is holds = by judged refl is
@@ -176,7 +176,7 @@ module _ (judged : Option Side) (table : Table) (c : Certificate) (Holds : Repla
       by (Some end) same sent e holds =
           let made = then_ok sent _ next e in same_keeps _ next made.2 (kept.all end made.0 same (holds made.0 made.1))
 
-  -- ---- a mark
+  -- ---- a quiet mark
 
   pub closed_keeps : (side : Side) (mark : ℕ) (names : List HalfName) (r next : Replay) → closed_at_mark table side mark names r ≡ Ok next → Keeps r next
   closed_keeps side mark [] r next is holds = same_keeps r next is holds
@@ -237,7 +237,7 @@ module _ (judged : Option Side) (table : Table) (c : Certificate) (Holds : Repla
       let one = then_ok (entry_by judged table c fate.0 entry r) _ next fate.2 in
       entries_keep entries one.0 next one.2 (entry_keeps entry fate.0 r one.0 one.1 holds)
 
-  -- the same of entries behind which more may come
+  -- entries that are followed by more
   pub taken_keeps : (entries : List (Result Item Reason)) (r next : Replay) → taken_from judged table c entries r ≡ Ok next → Keeps r next
   taken_keeps [] r next is holds = same_keeps r next is holds
   taken_keeps (entry ∷ entries) r next is holds =

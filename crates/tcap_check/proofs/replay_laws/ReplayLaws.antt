@@ -1,4 +1,4 @@
--- What is replayed is a run, step by step.
+-- A replay is a run, step by step.
 use Rattle.std.proofs.Common.{◌≡◌, ℕ, ℤ, ◌+◌, ◌==◌, Bool, true, false, cond, List, [], ◌∷◌, ◌++◌, map, filter_map, length, arith, Option, Some, None, Result, Ok, Err, refl, sym, ap, ap₂, subst, ◌∙◌, append-nil}
 use Rattle.std.specs.Prelude.{Contains, ok_or, slice_get}
 use Rattle.std.specs.Str.{bytes_eq}
@@ -39,7 +39,7 @@ use Rattle.tcap_check.proofs.replay_laws.ListedEventLaws.{gap_events_are, gap_pa
 
 -- ---- a gap
 
--- What happens in a gap adds nothing to the sent list.
+-- An event of a gap is no loss, and adds nothing to the sent list.
 pub record IsGapEvent (event : Event) : Type 0 where
   pub plain : is_loss event ≡ false
   pub adds : (table : Table) (w next : World) → after table event w ≡ Some next → next.sent ≡ w.sent ++ []
@@ -72,7 +72,7 @@ gap_event table c event reason entry r next in_gap is =
     let sent : next.world.sent ≡ before.world.sent ++ [] = ap (λ (x : Replay). x.world.sent) (sym found.2) ∙ in_gap.adds table before.world found.0 found.1 in
     replays_then table r before next [] (event ∷ []) [] [] (before_replays table c event r) (stepped_replays table event [] before next in_gap.plain step sent)
 
--- One that is listed, for the items that were sent so far,
+-- One listed event, after the items sent so far.
 pub one_replays : (table : Table) (c : Certificate) (x : Listed) (r next : Replay) → listed_replayed table c x r ≡ Ok next
     → (event : Event) × (event_listed r.world.sent x ≡ Some event) × Replays table r (event ∷ []) [] next
 one_replays table c x r next is =
@@ -81,7 +81,7 @@ one_replays table c x r next is =
     let in_gap = listed_so IsGapEvent r.world.sent x (closes_in_gap (side_of x)) (expires_in_gap (side_of x)) found.0 named in
     (found.0, named, gap_event table c found.0 (why_refused x) (entry_of x) r next in_gap found.2)
 
--- and all that are.
+-- All listed events.
 pub listed_replay : (table : Table) (c : Certificate) (listed : List Listed) (items : List Item) (r next : Replay) → r.world.sent ≡ items
     → all_replayed table c listed r ≡ Ok next
     → (events : List Event) × (map Some events ≡ map (event_listed items) listed) × Replays table r events [] next
@@ -144,7 +144,7 @@ gap_replays table c r next is =
 
 -- ---- an item
 
--- Expiries that a message implies.
+-- The expiries that a message implies.
 pub implied_replay : (table : Table) (side : Side) (message : Message) (name : HalfName) (ids : List ℤ) (r : Replay)
     → invoking_half message ≡ Some name
     → ((id : ℤ) → Contains ids id → Contains (filter_map invoke_id (components_in message)) id)
@@ -187,7 +187,7 @@ send_replays table side message r next is = by (send table (end_at side r.world)
         stepped_replays table (Sends side message) (Sent side message ∷ []) r next refl step
         (ap (λ (x : Replay). x.world.sent) (sym found.2) ∙ g.2 ∙ ap (λ (x : List Item). r.world.sent ++ x) g.1)
 
--- A provider's Abort is the one that answers.
+-- A provider's Abort is the Abort that answers the message.
 pub abort_is : (cause : ℕ) (id : List ℕ) (abort : Message) → aborts cause id abort ≡ true → abort ≡ Abort id (Some (Cause cause))
 abort_is cause id (Abort dtid (Some (Cause n))) is =
     let both = and_parts (n == cause) (bytes_eq id dtid) is in
@@ -199,7 +199,7 @@ abort_is cause id (Begin otid dialogue components) is = cc
 abort_is cause id (Continue otid dtid dialogue components) is = cc
 abort_is cause id (EndMessage dtid dialogue components) is = cc
 
--- An item that is an Abort with a cause is that message.
+-- An item that matches an Abort with a cause is this message.
 pub abort_of : (abort made : Message) (side : Side) → is_abort abort (Some (Sent side made)) ≡ true → made ≡ abort
 abort_of abort (Abort dtid (Some (Cause cause))) side is = sym (abort_is cause dtid abort is)
 abort_of abort (Abort dtid (Some (ByDialogue d))) side is = cc
@@ -239,7 +239,7 @@ reply_replays table c side abort number r next is =
     replays_then table r before next [] (event ∷ []) [] (Sent side abort ∷ []) lost
     (stepped_replays table event (Sent side abort ∷ []) before next refl (made ∙ ap Some last) sent)
 
--- What sends an item is a send of it, or a reply of its end, or a quiet mark.
+-- If a send or a reply sends an item, the send is of this item, or the reply is by its end.
 sends_itself : (c : Certificate) (number : ℕ) (side sender : Side) (message sent : Message) (taken : List ℕ)
     → sending_by c number (Sent side message) taken ≡ Some (Sends sender sent) → Sends sender sent ≡ Sends side message
 sends_itself c number side sender (Abort dtid (Some (Cause cause))) sent [] is = cc

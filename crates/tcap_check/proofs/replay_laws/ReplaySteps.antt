@@ -1,4 +1,4 @@
--- Steps of a replay, one behind the other, with the losses that they need.
+-- The steps of a replay in order, with the losses before them.
 use Rattle.std.proofs.Common.{◌≡◌, ℕ, Bool, true, false, cond, List, [], ◌∷◌, ◌++◌, map, length, drop, Option, Some, None, refl, sym, ap, ◌∙◌, append_assoc, append-nil}
 use Rattle.std.specs.Prelude.{slice_get}
 use Rattle.std.proofs.lemmas.Bool.{eq-eqb}
@@ -16,9 +16,9 @@ use Rattle.tcap_model.proofs.RunLaws.{map_some, played_on}
 use Rattle.tcap_certificate.specs.Replayed.{Replay, discarded, lost_before, lost_from_both, lost_from_front, if_lost, lost_front, stepped}
 use Rattle.tcap_model.proofs.WorldLaws.{sent_with_channel, with_same}
 
--- ---- runs, one behind the other
+-- ---- extended runs
 
--- These steps lead from the one to the other.
+-- These events lead from one replay to the other.
 pub record Extends (table : Table) (r : Replay) (more : List Event) (next : Replay) : Type 0 where
   pub events : next.events ≡ r.events ++ more
   pub plays : played table more r.world ≡ Some next.world
@@ -44,7 +44,7 @@ stepped_extends table event r next is =
 
 -- ---- losses
 
--- A discard is the loss of the message, and is noted.
+-- A discard is a loss of the message, with a note of its reason.
 pub record IsDiscard (table : Table) (side : Side) (number : ℕ) (r next : Replay) : Type 0 where
   pub lost : Replay
   pub step : stepped table (Loses (other side) number) r ≡ Some lost
@@ -72,7 +72,7 @@ channel_with sides.B a w = refl
 stays : (side : Side) (channel : List OnItsWay) (w : World) → channel_from side w ≡ channel → Some w ≡ Some (with_channel side channel w)
 stays side channel w is = ap Some (sym (ap (λ (x : List OnItsWay). with_channel side x w) (sym is) ∙ with_same side w))
 
--- Those at the front that are lost may be lost.
+-- The losses at the front of a channel can happen.
 pub front_plays : (table : Table) (fates : List Fate) (side : Side) (channel : List OnItsWay) (w : World) → channel_from side w ≡ channel
     → played table (map (Loses side) (lost_front fates channel)) w ≡ Some (with_channel side (drop (length (lost_front fates channel)) channel) w)
 front_plays table fates side [] w is = stays side [] w is
@@ -111,7 +111,8 @@ without_all : (side : Side) (numbers : List ℕ) → without_losses (map (Loses 
 without_all side [] = refl
 without_all side (n ∷ numbers) = without_all side numbers
 
--- Steps lead from the one to the other that are these but for losses, and add these items to the sent list.
+-- Steps lead from one replay to the other. Apart from losses they are these events, and they add these items to the
+-- sent list.
 pub record Replays (table : Table) (r : Replay) (plain : List Event) (items : List Item) (next : Replay) : Type 0 where
   pub steps : List Event
   pub extends : Extends table r steps next
@@ -154,7 +155,6 @@ before_replays table c (Closes side name) r = replays_nothing table r
 before_replays table c Quiet r = both_replay table c r
 before_replays table c (Tells side m) r = replays_nothing table r
 
--- A step that is no loss.
 pub stepped_replays : (table : Table) (event : Event) (items : List Item) (r next : Replay) → is_loss event ≡ false → stepped table event r ≡ Some next
     → next.world.sent ≡ r.world.sent ++ items → Replays table r (event ∷ []) items next
 stepped_replays table event items r next plain is sent = record {

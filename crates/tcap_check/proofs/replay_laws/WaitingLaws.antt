@@ -1,4 +1,4 @@
--- What is on a channel and will not be lost by its fate.
+-- The messages on a channel whose fates are not losses.
 use Rattle.std.proofs.Common.{◌≡◌, List, [], ◌∷◌, drop, length, Option, Some, None, refl, sym, ap, ◌∙◌}
 use Rattle.std.specs.Prelude.{slice_get}
 use Rattle.tcap_record.specs.declared.entry.End.{End as Side}
@@ -9,17 +9,17 @@ use Rattle.tcap_certificate.specs.declared.certificate.Fate.TheVariants.{Gap, Lo
 use Rattle.tcap_certificate.specs.Certificate.{Certificate}
 use Rattle.tcap_certificate.specs.Replayed.{Replay, if_lost, lost_front, lost_from_front}
 
--- a message on its way, unless it is lost
+-- the messages with this one, unless it is lost
 abbrev pub waiting_by : Option Fate → OnItsWay → List OnItsWay → List OnItsWay
 waiting_by (Some Lost) m messages = messages
 waiting_by _ m messages = m ∷ messages
 
--- those of a channel that are not lost, from the oldest on
+-- the messages of a channel that are not lost, oldest first
 abbrev pub waiting : List Fate → List OnItsWay → List OnItsWay
 waiting fates [] = []
 waiting fates (m ∷ more) = waiting_by (slice_get fates m.number) m (waiting fates more)
 
--- Without the lost ones at its front, as many of a channel wait.
+-- The losses at the front do not change which messages of a channel wait.
 pub behind_lost : (fates : List Fate) (channel : List OnItsWay)
     → waiting fates (drop (length (lost_front fates channel)) channel) ≡ waiting fates channel
 behind_lost fates [] = refl
@@ -34,7 +34,7 @@ behind_lost fates (first ∷ more) = by (slice_get fates first.number) refl (beh
     by (Some (By k)) at rest = rw at refl
     by (Some Lost) at rest = rest
 
--- What stands behind the lost ones at the front of a channel is not lost.
+-- The head of a channel after the losses at its front is not lost.
 pub head_stays : (fates : List Fate) (channel : List OnItsWay) (head : OnItsWay) (more : List OnItsWay)
     → drop (length (lost_front fates channel)) channel ≡ head ∷ more → slice_get fates head.number ≡ Some Lost → ⊥
 head_stays fates [] head more is lost = cc
@@ -52,7 +52,6 @@ head_stays fates (first ∷ channel) head more is lost = by (slice_get fates fir
     by (Some (By k)) at on is = stays (Some (By k)) at (λ e. cc) is
     by (Some Lost) at on is = on is lost
 
--- Losses change no end.
 pub same_end : (c : Certificate) (sender at : Side) (r : Replay) → end_at at (lost_from_front c sender r).world ≡ end_at at r.world
 same_end c sides.A sides.A r = refl
 same_end c sides.A sides.B r = refl

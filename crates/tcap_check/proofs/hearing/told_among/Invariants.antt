@@ -1,4 +1,4 @@
--- those of the numbers so far
+-- The list has those of the numbers so far that the end sent.
 use Rattle.std.proofs.Common.{◌≡◌, take}
 use Rattle.tcap_check.specs.Hearing.{told_among}
 use Rattle.tcap_check.proofs.hearing.told_among.Given as goal

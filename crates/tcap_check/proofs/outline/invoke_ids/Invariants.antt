@@ -1,4 +1,4 @@
--- the IDs so far, and those of what is left
+-- The IDs so far, and those of the components that are left, are all IDs.
 use Rattle.std.proofs.Common.{◌≡◌, ◌++◌, map}
 use Rattle.tcap_parts.specs.Meaning.{components_left}
 use Rattle.tcap_certificate.specs.Follows.{invoke_id}

@@ -1,4 +1,4 @@
--- what is left decides
+-- The closings that are left decide.
 use Rattle.std.proofs.Common.{◌≡◌, map, drop}
 use Rattle.tcap_certificate.specs.Replayed.{all_fit}
 use Rattle.tcap_check.proofs.plan.check_closings.Given as goal

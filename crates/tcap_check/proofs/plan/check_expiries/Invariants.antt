@@ -1,4 +1,4 @@
--- what is left decides
+-- The expiries that are left decide.
 use Rattle.std.proofs.Common.{◌≡◌, map, drop}
 use Rattle.tcap_certificate.specs.Replayed.{all_fit}
 use Rattle.tcap_check.proofs.plan.check_expiries.Given as goal

@@ -1,4 +1,4 @@
--- what is left decides
+-- The fates that are left decide.
 use Rattle.std.proofs.Common.{◌≡◌, length, drop}
 use Rattle.tcap_certificate.specs.Replayed.{fates_fit}
 use Rattle.tcap_check.proofs.plan.check_fates.Given as goal

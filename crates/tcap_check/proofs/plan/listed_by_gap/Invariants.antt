@@ -1,4 +1,4 @@
--- the lists so far
+-- These are the lists so far.
 use Rattle.std.proofs.Common.{◌≡◌, ◌<◌, ◌==◌, ◌++◌, ℕ, filter, map, take}
 use Rattle.tcap_check.specs.declared.listed.Listed.TheVariants as listings
 use Rattle.tcap_check.specs.Buckets.{count_lists, list_at}

@@ -1,4 +1,4 @@
--- the flags of what the lists name so far
+-- These are the flags of the entries named so far.
 use Rattle.std.proofs.Common.{◌≡◌, ◌<◌, ◌==◌, ◌||◌, ℕ, length, take}
 use Rattle.std.specs.Prelude.{slice_get}
 use Rattle.std.specs.List.{list_any}

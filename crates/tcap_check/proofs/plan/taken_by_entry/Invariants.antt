@@ -1,4 +1,4 @@
--- the lists so far, and those of what is left
+-- The lists so far, and those of the fates that are left, are all lists.
 use Rattle.std.proofs.Common.{◌≡◌, ◌<◌, ◌++◌, ℕ, drop}
 use Rattle.tcap_check.specs.Buckets.{count_lists, list_at}
 use Rattle.tcap_certificate.specs.Follows.{taken_by}

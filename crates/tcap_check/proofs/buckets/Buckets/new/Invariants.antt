@@ -1,4 +1,4 @@
--- so many empty lists
+-- So far there are this many empty lists.
 use Rattle.std.proofs.Common.{◌≡◌, ℕ, [], length}
 use Rattle.std.specs.Prelude.{slice_get}
 use Rattle.tcap_check.specs.Buckets.{items_of}

@@ -1,4 +1,4 @@
--- what is left closes over what is kept now as all do over what was kept first
+-- The closings that are left have the same result from here as all closings from the start.
 use Rattle.std.proofs.Common.{◌≡◌, drop}
 use Rattle.tcap_check.specs.Hearing.{halves_shut}
 use Rattle.tcap_check.specs.Left.{halves_left}

@@ -1,4 +1,4 @@
--- what is left does to what is kept now what all do to what was kept first
+-- The deliveries that are left have the same result from here as all deliveries from the start.
 use Rattle.std.proofs.Common.{◌≡◌, drop}
 use Rattle.tcap_check.specs.Left.{deliveries_left}
 use Rattle.tcap_check.proofs.progress_laws.HearingLaws.{Listening}

@@ -1,4 +1,4 @@
--- what is left of the components does to the ends as they are what all do to what they were
+-- The components that are left have the same result from here as all components from the start.
 use Rattle.tcap_parts.specs.Meaning.{components_left}
 use Rattle.tcap_msg.specs.Parts.{components_in}
 use Rattle.tcap_certificate.specs.Follows.{invoking_half}

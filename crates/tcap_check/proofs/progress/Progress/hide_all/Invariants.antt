@@ -1,4 +1,4 @@
--- what is left does to what is kept now as all does to what was kept first
+-- The listed events that are left have the same result from here as all of them from the start.
 use Rattle.std.proofs.Common.{◌≡◌, drop}
 use Rattle.tcap_check.specs.Progress.{all_kept}
 use Rattle.tcap_check.specs.Listed.{listed_judged}

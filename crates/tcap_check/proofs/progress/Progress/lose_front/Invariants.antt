@@ -1,4 +1,4 @@
--- What is lost at the front now, and what was lost of it before, is all; so many messages less are on their way.
+-- The losses so far, and those that are left at the front, are all losses. Each makes one message fewer on its way.
 use Rattle.std.proofs.Common.{◌≡◌, ◌+◌, length}
 use Rattle.tcap_check.specs.Progress.{HasNoMore, front_lost, seat_at}
 use Rattle.tcap_check.proofs.progress.Progress.lose_front.Given as goal

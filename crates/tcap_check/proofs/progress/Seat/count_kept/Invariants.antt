@@ -1,4 +1,4 @@
--- So many of those so far are lost; the others are not.
+-- Of the messages so far this many will be lost, and the others will not.
 use Rattle.std.proofs.Common.{◌≡◌, ◌+◌, length, map}
 use Rattle.tcap_check.specs.Progress.{count_kept}
 use Rattle.tcap_check.proofs.progress.Seat.count_kept.Given as goal

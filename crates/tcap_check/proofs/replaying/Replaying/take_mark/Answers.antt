@@ -28,7 +28,7 @@ returns-in_err-be_quiet-clause-left c =
     (some_ok (slice_get x.certificate.now.fates (length x.entries.items)) (fault_at FateCount (length x.entries.items)) c.in_ok-fate.fate (sym c.in_ok-fate.ensures))
     (ap (λ n. is_gap (n + 1) c.in_ok-fate.fate) (sym (c.len-entry.ensures ∙ count)) ∙ sym c.is_gap_behind.ensures ∙ c.if-not-is_gap_behind.false) passed)
 
--- With an entry more the replay is ready for the next.
+-- After one more entry the replay is ready for the next.
 ready_after : (x y z w : Replaying) (mark : Outline) (fate : Fate) → IsReady x → IsSameBesideProgress x y → IsSameBesideProgress y z
     → GrewBy (2 ^ 66) 0 x.progress y.progress → GrewBy (2 ^ 66) 0 y.progress z.progress
     → slice_get x.certificate.now.fates (length x.entries.items) ≡ Some fate
