@@ -1,4 +1,4 @@
--- What is counted of components is what the definitions count, if there are few.
+-- The counts of components are those of the definitions, if the components are few.
 pub mod SumLaws
 pub mod CodeListLaws
 pub mod FirstCodeLaws

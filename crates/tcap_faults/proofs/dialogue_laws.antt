@@ -1,4 +1,4 @@
--- The half that is read off what is kept is the one that the definitions name.
+-- The half that is read from what is kept is the half of the definitions.
 pub mod OpenHalvesLaws
 pub mod HalfLookupLaws
 pub mod WhichHalf

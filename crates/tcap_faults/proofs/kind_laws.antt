@@ -1,4 +1,5 @@
--- No message of an end that keeps the rules has a kind, and no quiet mark has one; so what is blamed on an end is at fault.
+-- No message of an end that keeps the rules has a kind, and no quiet mark has one; so what is blamed on an end is at
+-- fault.
 pub mod QuietMarkLaws
 pub mod HalfFacts
 pub mod OwnHalfLaws

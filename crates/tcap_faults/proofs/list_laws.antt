@@ -1,4 +1,4 @@
--- Lists: what a test finds, keeps and counts in them.
+-- What a test finds, keeps and counts in lists.
 pub mod FindLaws
 pub mod CountLaws
 pub mod TwoTests

@@ -1,4 +1,4 @@
--- What it says of all runs that an entry is blamed on an end.
+-- What does blaming an entry on an end imply for all runs?
 use Rattle.std.specs.Prelude.{◌≡◌, ◌⊎◌, ℕ, ◌+◌, true, false, List, ◌∷◌, ◌++◌, length, map, slice_get, Some, Result, Ok}
 use Rattle.tcap_ber.specs.declared.fault.Fault.{Fault}
 use Rattle.tcap_ber.specs.Element.{IsRaw}
@@ -20,7 +20,7 @@ use Rattle.tcap_refute.specs.Kind.{is_limit}
 use Rattle.tcap_refute.specs.Unsendable.{IsUnsendable}
 use Rattle.tcap_faults.specs.Fault.{is_fault, is_open_at_mark}
 
--- an entry of this end whose octets are no message, by a fault that is no limit of this profile
+-- An entry of this end whose octets are no message, by a fault that is no limit of this profile.
 pub record IsBadEntryOf (side : Side) (entries : List Entry) (number : ℕ) : Type 0 where
   pub entry : Entry
   pub fault : Fault
@@ -29,7 +29,7 @@ pub record IsBadEntryOf (side : Side) (entries : List Entry) (number : ℕ) : Ty
   pub body_is : entry.body ≡ Bad fault
   pub no_limit : is_limit fault.reason ≡ false
 
--- a message that this end sends in no run in which it keeps the rules, behind the items before it: it has that kind
+-- A message with this kind. No run in which this end keeps the rules has it there.
 pub record IsFaultOf (table : Table) (side : Side) (entries : List (Result Item Reason)) (r : Refutation) : Type 0 where
   pub before : List Item
   pub message : Message
@@ -39,13 +39,14 @@ pub record IsFaultOf (table : Table) (side : Side) (entries : List (Result Item 
   pub has_kind : is_fault table side (since_quiet before) message r.kind ≡ true
   pub unsendable : IsUnsendable table before side message
 
--- at a quiet mark behind these items an end that keeps the rules has a half that is open: so no run has the mark there
+-- No run in which the end keeps the rules has a quiet mark directly after these items, because the end has an open
+-- half then.
 abbrev pub HasNoMark : Table → List Item → Side → Type 0
 HasNoMark table before side =
     (events : List Event) (w : World) (behind : List Item) → Runs table events w → KeepsRules side events
     → w.sent ≡ before ++ Item.Quiet ∷ behind → ⊥
 
--- a quiet mark that stands in no such run: it has that kind
+-- A quiet mark with F15. No run in which the end keeps the rules has it there.
 pub record IsFalseMark (table : Table) (side : Side) (entries : List (Result Item Reason)) (r : Refutation) : Type 0 where
   pub before : List Item
   pub more : List (Result Item Reason)
@@ -54,16 +55,17 @@ pub record IsFalseMark (table : Table) (side : Side) (entries : List (Result Ite
   pub has_kind : (r.kind ≡ kinds.OpenAtMark) × (is_open_at_mark table side (since_quiet before) ≡ true)
   pub none : HasNoMark table before side
 
--- The entry is of this end and its octets are no message, by a fault that is no limit of this profile; or it is a message that
--- this end sends in no run in which it keeps the rules, behind the items before it; or a quiet mark that stands in no such run.
--- It has the kind that is named.
+-- An entry is at fault if one of these holds:
+-- - it is of this end, its octets are no message, and the kind is F1;
+-- - it is a message with this kind, and no run in which the end keeps the rules has it there;
+-- - it is a quiet mark with F15, and no run in which the end keeps the rules has it there.
 abbrev pub IsAtFaultOf : Table → Side → List Entry → Refutation → Type 0
 IsAtFaultOf table side entries r =
     ((r.kind ≡ kinds.BadMessage) × IsBadEntryOf side entries r.entry)
     ⊎ IsFaultOf table side (map item_of entries) r ⊎ IsFalseMark table side (map item_of entries) r
 
--- At that place of these octets, counted from 0, stands an element that spells no message of this profile; before it the octet of
--- this end.
+-- At this place of the octets, counted from 0, is an element that spells no message of this profile. The octet of
+-- this end comes before it.
 pub record HasNoMessage (side : Side) (place : ℕ) (octets : List ℕ) : Type 0 where
   pub front : List ℕ
   pub element : List ℕ

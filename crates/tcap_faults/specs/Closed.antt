@@ -1,4 +1,4 @@
--- Halves that an end answered as closed, and halves that are surely open (Q.774 3.3).
+-- Which halves did an end answer as closed, and which are surely open (Q.774 3.3)?
 use Rattle.std.specs.Prelude.{ℕ, Bool, false, List, [], Option, Some, None, ◌&&◌, not}
 use Rattle.std.specs.List.{find, list_any}
 use Rattle.tcap_msg.specs.declared.kind.Kind.TheVariants as forms
@@ -14,13 +14,13 @@ use Rattle.tcap_faults.specs.Told.{goes_on_from, goes_on_to, has_ended, has_used
 
 -- ---- answered as closed
 
--- whether of these messages there is a Continue, and all of them go to that ID
+-- Whether these messages have a Continue, and all their Continues go to this ID.
 abbrev pub all_go_on_to : List ℕ → List Message → Bool
 all_go_on_to own messages =
     has_a forms.Continue messages && not (list_any (λ m. is_a forms.Continue m && not (goes_on_to own m)) messages)
 
--- An Abort with cause 1 behind these items which can answer nothing but a Continue to an own ID that the end had used: so
--- the half with that ID was closed.
+-- An Abort with cause 1 that shows, after these items, that the half with this own ID was closed. The end had used
+-- the ID, and the Abort can only answer a Continue to it.
 abbrev pub shows_closed : Side → List ℕ → List Item → Item → Bool
 shows_closed side own seen (Sent sender message) =
     is_side side sender && is_cause 1 (cause_in message) && by (dtid_in message)
@@ -31,15 +31,16 @@ shows_closed side own seen (Sent sender message) =
     by (Some id) = all_go_on_to own (asked side id seen)
 shows_closed side own seen Item.Quiet = false
 
--- whether the half was answered as closed
+-- Whether the end answered the half with this own ID as closed.
 abbrev pub was_closed : Side → List Item → Option (List ℕ) → Bool
 was_closed side items None = false
 was_closed side items (Some own) = one_passes (shows_closed side own) [] items
 
 -- ---- surely open
 
--- Whether a half is open for certain: the end sent a Continue from its own ID, the first of them to some ID; it ended
--- nothing there, and the peer sent no End and no Abort to the own ID; and no half closes by prearrangement.
+-- Whether the half with this own ID is surely open. The end sent a Continue from the ID, and no user's end to the
+-- destination of the first such Continue. The peer sent no End and no Abort to the ID. The table has no
+-- `prearranged`.
 abbrev pub is_surely_open : Table → Side → List Item → List ℕ → Bool
 is_surely_open table side items own =
     not table.prearranged
@@ -50,7 +51,7 @@ is_surely_open table side items own =
     by None = false
     by (Some to) = not (has_ended side items to)
 
--- whether of these messages there is a Continue, and all of them go to halves that are surely open
+-- Whether these messages have a Continue, and all their Continues go to halves that are surely open.
 abbrev pub all_go_to_open : Table → Side → List Item → List Message → Bool
 all_go_to_open table side items messages =
     has_a forms.Continue messages && not (list_any (λ m. is_a forms.Continue m && not (by (dtid_in m))) messages)

@@ -1,5 +1,5 @@
--- Components that the half with their destination ID does not allow, by what it heard, told and invoked (Q.774 3.2, Q.771
--- 3.1). Each fact is a count: more was sent than what was heard could allow.
+-- Which components does the half with their destination ID not allow (Q.774 3.2, Q.771 3.1)? Each fact is a count:
+-- the end sent more than what it heard allows.
 use Rattle.std.specs.Prelude.{ℕ, ℤ, ◌+◌, Bool, true, false, List, [], ◌∷◌, ◌++◌, Option, Some, None, ◌==◌, ◌&&◌, ◌||◌, not, nat_lt, nat_le, cond}
 use Rattle.std.specs.List.{list_any}
 use Rattle.tcap_parts.specs.declared.code.Code.{Code}
@@ -15,27 +15,28 @@ use Rattle.tcap_faults.specs.Components.{is_linked_to, is_of_link, is_problem, l
 use Rattle.tcap_faults.specs.Counts.{any_problem, count, count_class, count_lasting, count_suited, has_class, invokes_linked, invokes_so, is_error, is_last_result, is_not_last, is_result, is_result_of, rejects_error, rejects_invoke, rejects_result, takes}
 use Rattle.tcap_faults.specs.HalfOf.{HalfOf}
 
--- A component stands behind those of its message, `own`, and behind all that the end told that ID, `before`: those of earlier
--- messages, and `own`.
+-- For each component, `own` are those before it in its message. `before` are all that the end sent to the destination
+-- ID so far: those of earlier messages, and `own`.
 
 -- ---- F10: an invoke ID that is in use
 
--- a Reject of that ID with a general problem
+-- A Reject with this ID and a general problem.
 abbrev pub rejects_generally : ℤ → Component → Bool
 rejects_generally id (Reject (Some other) (problems.General n)) = is_invoke_id id other
 rejects_generally id c = false
 
--- a Reject of an Invoke: with an invoke problem, or a general one
+-- A Reject that may reject an Invoke: one with an invoke problem or a general problem.
 abbrev pub may_reject_invoke : ℤ → Component → Bool
 may_reject_invoke id c = rejects_invoke id any_problem c || rejects_generally id c
 
--- a Reject of an answer: with a result problem, or a general one
+-- A Reject that may reject an answer: one with a result problem or a general problem.
 abbrev pub may_reject_answer : ℤ → Component → Bool
 may_reject_answer id c = rejects_result id any_problem c || rejects_generally id c
 
--- More own invocations of an ID do not expire than can have ended: of class 1 and 3 more than last Return Results, Return Errors
--- and Rejects were heard, and own Rejects of answers sent, this message counted whole; or of all more than answers, last or
--- not, and Rejects were heard.
+-- Some own invocations of the ID do not expire and cannot all have ended, by one of two counts. Of class 1 and 3,
+-- they are more than the Return Results Last, Return Errors and Rejects of Invokes that were heard, and the Rejects
+-- of answers in `all`. Of any class, they are more than the answers, last or not, and the Rejects of Invokes that
+-- were heard.
 abbrev pub is_busy : Table → HalfOf → List Component → ℤ → Bool
 is_busy table h all id =
     nat_lt (ends + count (may_reject_answer id) all) (of_class 1 + of_class 3)
@@ -47,27 +48,31 @@ is_busy table h all id =
     ends : ℕ
     ends = count (is_last_result id) h.heard + count (is_error id) h.heard + count (may_reject_invoke id) h.heard
 
+-- F10: An Invoke has the ID of an Invoke before it in the message, or an ID that is in use. `all` are the components
+-- that the end sent to the destination ID, with the whole message.
 abbrev pub invokes_busy : Table → HalfOf → List Component → List Component → List Component → Component → Bool
 invokes_busy table h all own before (Invoke id linked code parameter) =
     list_any (invokes id) own || is_busy table h all id
 invokes_busy table h all own before c = false
 
--- ---- F11: a linked ID of no invocation that is there
+-- ---- F11: a linked ID without an invocation
 
--- All invocations of the ID that were heard are taken, or none of them lists the operation.
+-- At least as many invocations of the linked ID were taken as were heard, or none that was heard has an operation
+-- that lists this one.
 abbrev pub is_badly_linked : Table → HalfOf → List Component → ℤ → Code → Bool
 is_badly_linked table h before id code =
     nat_le (count (invokes id) h.heard) (count (takes id) before)
     || not (list_any (invokes_so id (λ to. links table to code)) h.heard)
 
+-- F11: An Invoke is linked to an ID that does not allow it.
 abbrev pub links_badly : Table → HalfOf → List Component → List Component → Component → Bool
 links_badly table h own before (Invoke id (Some linked) code parameter) = is_badly_linked table h before linked code
 links_badly table h own before c = false
 
 -- ---- F12: an invocation that was answered already
 
--- More was answered of an ID than invocations of it were heard that allow it: so many Return Results, Return Errors and
--- Rejects.
+-- More is answered than was heard: so many Return Results, Return Errors and Rejects with an invoke problem, for too
+-- few Invokes of the ID whose classes allow them.
 abbrev pub more_answered : Table → HalfOf → ℤ → ℕ → ℕ → ℕ → Bool
 more_answered table h id results errors rejects =
     nat_lt (of_class 1 + of_class 3) results || nat_lt (of_class 1 + of_class 2) errors
@@ -77,18 +82,20 @@ more_answered table h id results errors rejects =
     of_class : ℕ → ℕ
     of_class class = count_class table id class h.heard
 
--- the same, where what was answered is counted among these components, and so many Return Results besides
+-- The components answer more than was heard, if they have so many Return Results besides.
 abbrev pub is_overspent : Table → HalfOf → ℤ → List Component → ℕ → Bool
 is_overspent table h id components besides =
     more_answered table h id (count (is_last_result id) components + besides) (count (is_error id) components)
     (count (rejects_invoke id any_problem) components)
 
--- A Return Result names an operation, and as many last ones of that operation were sent before as invocations of it heard.
+-- A Return Result names an operation, and at least as many Return Results Last before it name that operation as
+-- Invokes of the operation were heard.
 abbrev pub is_operation_overspent : HalfOf → List Component → ℤ → Option ResultBody → Bool
 is_operation_overspent h before id None = false
 is_operation_overspent h before id (Some body) =
     nat_le (count (invokes_so id (is_code body.code)) h.heard) (count (is_result_of id body.code) before)
 
+-- F12: With this component, more is answered than was heard.
 abbrev pub answers_again : Table → HalfOf → List Component → List Component → Component → Bool
 answers_again table h own before (ReturnResult true id body) =
     is_overspent table h id (before ++ ReturnResult true id body ∷ []) 0 || is_operation_overspent h before id body
@@ -100,10 +107,10 @@ answers_again table h own before (Reject (Some id) (problems.Invoke n)) =
     is_overspent table h id (before ++ Reject (Some id) (problems.Invoke n) ∷ []) 0
 answers_again table h own before c = false
 
--- ---- F13: a Reject with a problem that nothing has; the components are those up to it
+-- ---- F13: a Reject that nothing heard allows; `components` end with it
 
--- by problem 6: no Invoke of the ID names an own invocation of an operation that lists nothing; by 7: none names one of an
--- operation that lists something, but not the Invoke's
+-- No link has this problem. With 6, no heard Invoke of the ID is linked to an own invocation of an operation that
+-- lists none. With 7, none is linked to an own invocation of an operation that lists others, but not this one.
 abbrev pub is_link_fine : Table → HalfOf → ℤ → ℕ → Bool
 is_link_fine table h id problem =
     (problem == 6 && not (list_any (is_linked_to (λ to code. lists_nothing table to) h.invoked id) h.heard))
@@ -112,8 +119,12 @@ is_link_fine table h id problem =
     lists_others : Code → Code → Bool
     lists_others to code = not (lists_nothing table to) && not (links table to code)
 
--- duplicateInvokeID (0) as often as Invokes of the ID were heard, of which the first is none; problems of a link (5 to 7) more
--- often than linked Invokes of it; a problem of a link that none has; a problem over 7
+-- A Reject of an Invoke is wrong if one of these holds:
+-- - its problem is duplicateInvokeID (0), and there are at least as many such Rejects as heard Invokes of the ID,
+--   since the first is no duplicate;
+-- - its problem concerns a link (5 to 7), and there are more such Rejects than heard linked Invokes of the ID;
+-- - no link has its problem;
+-- - its problem is over 7 (Q.773 4.2.2).
 abbrev pub is_invoke_reject_wrong : Table → HalfOf → List Component → ℤ → ℕ → Bool
 is_invoke_reject_wrong table h components id problem =
     (problem == 0 && nat_le (count (invokes id) h.heard) (count (rejects_invoke id (is_problem 0)) components))
@@ -121,23 +132,26 @@ is_invoke_reject_wrong table h components id problem =
     || is_link_fine table h id problem
     || nat_lt 7 problem
 
--- a Return Result of that ID and of an operation that no own invocation of it has
+-- A Return Result with this ID that names an operation that no own invocation of the ID has.
 abbrev pub is_of_no_operation : HalfOf → ℤ → Component → Bool
 is_of_no_operation h id (ReturnResult last other (Some body)) =
     is_invoke_id id other && not (list_any (invokes_so id (is_code body.code)) h.invoked)
 is_of_no_operation h id c = false
 
--- returnResultUnexpected, returnErrorUnexpected (1) of what none can be unexpected of: each own invocation of the ID suits such
--- an answer by its class; fewer than two answers were heard, of which the second may be unexpected; and none is of an
--- operation that none of the invocations has.
+-- Whether no answer can be unexpected (problem 1, returnResultUnexpected or returnErrorUnexpected). The class of each
+-- own invocation of the ID allows such an answer. Fewer than two answers were heard, since a second one may be
+-- unexpected. None names an operation that no own invocation has.
 abbrev pub is_expected : Table → HalfOf → Bool → ℤ → Bool
 is_expected table h of_result id =
     (count_suited table of_result id h.invoked == count (invokes id) h.invoked)
     && nat_lt (count (is_result id) h.heard + count (is_error id) h.heard) 2
     && not (list_any (is_of_no_operation h id) h.heard)
 
--- A Reject of an answer, where so many of the ID were sent, and so many answers were heard: there are more than answers; or
--- the problem is no answer's; or all answers are expected; or, by a problem from 2 on, no own invocation suits the answer.
+-- A Reject of an answer is wrong if one of these holds:
+-- - there are more such Rejects than answers that were heard;
+-- - its problem is over 2, of a result, or over 4, of an error;
+-- - its problem is 1, and no answer can be unexpected;
+-- - its problem is 2 or more, and no own invocation has a class that allows such an answer.
 abbrev pub is_answer_reject_wrong : Table → HalfOf → Bool → ℤ → ℕ → ℕ → ℕ → Bool
 is_answer_reject_wrong table h of_result id problem rejects answers =
     nat_lt answers rejects
@@ -145,6 +159,7 @@ is_answer_reject_wrong table h of_result id problem rejects answers =
     || (problem == 1 && is_expected table h of_result id)
     || (nat_le 2 problem && (count_suited table of_result id h.invoked == 0))
 
+-- Whether a Reject with this problem is wrong; one with a general problem never is.
 abbrev pub is_reject_wrong : Table → HalfOf → List Component → ℤ → Problem → Bool
 is_reject_wrong table h components id (problems.General n) = false
 is_reject_wrong table h components id (problems.Invoke n) = is_invoke_reject_wrong table h components id n
@@ -155,6 +170,7 @@ is_reject_wrong table h components id (problems.ReturnError n) =
     is_answer_reject_wrong table h false id n (count (rejects_error id any_problem) components)
     (count (is_error id) h.heard)
 
+-- F13: A Reject with an invoke ID is wrong.
 abbrev pub rejects_wrongly : Table → HalfOf → List Component → List Component → Component → Bool
 rejects_wrongly table h own before (Reject (Some id) problem) =
     is_reject_wrong table h (before ++ Reject (Some id) problem ∷ []) id problem

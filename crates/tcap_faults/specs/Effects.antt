@@ -1,4 +1,4 @@
--- What a message does to what is kept of transaction IDs, by what was sent before.
+-- How does a message change what is kept of transaction IDs?
 use Rattle.std.specs.Prelude.{◌≡◌, ℕ, List, Some, ◌&&◌, not}
 use Rattle.tcap_msg.specs.declared.message.Message.{Message}
 use Rattle.tcap_msg.specs.Parts.{dtid_in, otid_in}
@@ -10,7 +10,7 @@ use Rattle.tcap_faults.specs.declared.transaction.message_effects.Effects.{Effec
 use Rattle.tcap_faults.specs.Told.{began, has_ended, has_used}
 use Rattle.tcap_faults.specs.UsedAgain.{uses_again}
 
--- These are what that message does which an end sends behind these items.
+-- These are the effects of a message that the end sends after these items.
 pub record AreEffects (table : Table) (side : Side) (items : List Item) (m : Message) (effects : Effects) : Type 0 where
   pub again : effects.again ≡ uses_again table side items m
   pub used : (from : List ℕ) → otid_in m ≡ Some from → effects.used ≡ has_used side items from

@@ -1,5 +1,5 @@
--- What an end did wrong, whatever its peer did: all kinds of a message, by what stood before it since the last quiet mark
--- (Q.771, Q.773, Q.774), and what is blamed on an end of a record.
+-- What did an end do wrong, no matter what its peer did (Q.771, Q.773, Q.774)? A message has its kinds by the items
+-- before it since the last quiet mark, and the first entry with a kind is blamed on its end.
 use Rattle.std.specs.Prelude.{ℕ, ◌+◌, Bool, false, List, [], ◌∷◌, ◌++◌, map, Option, Some, None, Result, Ok, Err, ◌==◌, ◌&&◌, ◌||◌, not, nat_lt, cond}
 use Rattle.std.specs.List.{find, list_any}
 use Rattle.tcap_msg.specs.declared.kind.Kind.TheVariants as forms
@@ -29,13 +29,14 @@ use Rattle.tcap_faults.specs.UsedAgain.{has_used_again}
 
 -- ---- F14: an Abort of the provider that answers nothing that is left (Q.774 3.3)
 
--- how many Continues from that ID were surely received, and not answered by an Abort with cause 1: one, where something was
--- told there and no Begin from there was accepted
+-- The number of Continues from this ID that the end surely received and did not answer with cause 1. It is 1 if the
+-- end sent something to the ID and its half is not accepted, else 0.
 abbrev pub count_received : Side → List ℕ → List Item → HalfOf → ℕ
 count_received side id items h = cond (is_nothing (told side id items) || is_accepted h.how) 0 1
 
--- Cause 1: more Continues would be answered or received than were sent, or all of them go to halves that are open. Cause 4: no
--- Begin was sent, or it was refused already, or something was told there.
+-- Whether an Abort with this cause is a wrong reply. Cause 1: the Aborts with cause 1, this one included, and the
+-- received Continues are more than the Continues from the ID; or all these Continues go to halves that are surely
+-- open. Cause 4: the half is not accepted, or the end sent something to the ID before.
 abbrev pub is_wrong_reply : Table → Side → List ℕ → List Item → HalfOf → ℕ → Bool
 is_wrong_reply table side id items h cause =
     (cause == 1
@@ -46,7 +47,7 @@ is_wrong_reply table side id items h cause =
 
 -- ---- F15: a half that is open at a quiet mark (this profile's choice)
 
--- whether a message is a Continue over no tangled IDs, from an own ID whose half is surely open
+-- Whether a message is a Continue over no tangled IDs, from an ID whose half is surely open.
 abbrev pub is_left_open : Table → Side → List Item → Message → Bool
 is_left_open table side items m =
     is_a forms.Continue m && by (otid_in m) && not (goes_over_tangled side items m)
@@ -55,12 +56,13 @@ is_left_open table side items m =
     by None = false
     by (Some own) = is_surely_open table side items own
 
+-- F15: After these items, a half of the end is surely open.
 abbrev pub is_open_at_mark : Table → Side → List Item → Bool
 is_open_at_mark table side items = list_any (is_left_open table side items) (sent_by side items)
 
 -- ---- all kinds of a message
 
--- F8 to F13, of a message to that ID that is no Abort of the provider. Where F8 stands, the others are not asked.
+-- F8 to F13, for a message to this ID that is no Abort of the provider. F9 to F13 hold only if F8 does not.
 abbrev pub is_of_half_kind : Table → Side → List ℕ → List Item → Message → HalfOf → Kind → Bool
 is_of_half_kind table side id items m h kinds.WrongHalf = is_wrong_half side items m h
 is_of_half_kind table side id items m h kinds.WrongDialogue =
@@ -76,52 +78,54 @@ is_of_half_kind table side id items m h kinds.RejectNotAllowed =
     not (is_wrong_half side items m h) && has_component (rejects_wrongly table h) [] h.told (components_in m)
 is_of_half_kind table side id items m h kind = false
 
--- F14, of an Abort of the provider, with that cause
+-- F14, for an Abort of the provider with this cause.
 abbrev pub is_of_reply_kind : Table → Side → List ℕ → List Item → HalfOf → ℕ → Kind → Bool
 is_of_reply_kind table side id items h cause kinds.WrongReply = is_wrong_reply table side id items h cause
 is_of_reply_kind table side id items h cause kind = false
 
--- of a message without destination ID: two Invokes of one ID, or a linked one
+-- F10 and F11, for a message without destination ID: two of its Invokes have one ID, or one of them is linked.
 abbrev pub is_of_alone_kind : Message → Kind → Bool
 is_of_alone_kind m kinds.InvokeIdBusy = has_component invokes_again [] [] (components_in m)
 is_of_alone_kind m kinds.BadLink = list_any is_linked (components_in m)
 is_of_alone_kind m kind = false
 
--- by the cause of an Abort
+-- F8 to F14, for a message to this ID; an Abort of the provider has a cause.
 abbrev pub is_of_kind_to : Table → Side → List ℕ → List Item → Message → Option ℕ → Kind → Bool
 is_of_kind_to table side id items m None kind =
     is_of_half_kind table side id items m (half_of side items id) kind
 is_of_kind_to table side id items m (Some cause) kind =
     is_of_reply_kind table side id items (half_of side items id) cause kind
 
--- F8 to F14, by the destination ID
+-- F8 to F14, by the destination ID.
 abbrev pub is_of_further_kind : Table → Side → List Item → Message → Option (List ℕ) → Kind → Bool
 is_of_further_kind table side items m None kind = is_of_alone_kind m kind
 is_of_further_kind table side items m (Some id) kind = is_of_kind_to table side id items m (cause_in m) kind
 
--- whether a message that an end sends has a kind, behind these items since the last quiet mark
+-- Whether a message of this end has this kind, of F2 to F14, after these items since the last quiet mark. A message
+-- that goes over tangled IDs has none.
 abbrev pub is_fault : Table → Side → List Item → Message → Kind → Bool
 is_fault table side items m kind =
     not (goes_over_tangled side items m)
     && (is_of_first_kind table side items m kind || is_of_further_kind table side items m (dtid_in m) kind)
 
--- F8 to F14, the lowest first
+-- F8 to F14, the lowest first.
 abbrev pub further_kinds : List Kind
 further_kinds = kinds.WrongHalf ∷ kinds.WrongDialogue ∷ kinds.InvokeIdBusy ∷ kinds.BadLink ∷ kinds.AnsweredAlready
     ∷ kinds.RejectNotAllowed ∷ kinds.WrongReply ∷ []
 
 -- ---- a record
 
+-- Whether an entry has a sender, and it is this end.
 abbrev pub is_entry_of : Side → Option Side → Bool
 is_entry_of side None = false
 is_entry_of side (Some sender) = is_side side sender
 
--- the kind of an entry that is no item, where that end sent it
+-- The kind of an entry that is no item, if this end sent it.
 abbrev pub bad_entry_of : Side → Option Side → Reason → Option Kind
 bad_entry_of side sender reason = cond (is_entry_of side sender) (kind_of_reason reason) None
 
--- The lowest kind of an item of that end, or of a quiet mark for it, behind these since the last quiet mark. Where the end has
--- used an own ID again, by this item too, there is none up to the next mark, and none at that.
+-- The lowest kind of an item for this end, after these items since the last quiet mark. If the end used an own ID
+-- again, by this item or before, there is no kind up to the next mark, nor at that mark.
 abbrev pub fault_since : Table → Side → List Item → Item → Option Kind
 fault_since table side items (Sent sender m) =
     cond (is_side side sender && not (has_used_again table side (items ++ Sent sender m ∷ [])))
@@ -129,8 +133,8 @@ fault_since table side items (Sent sender m) =
 fault_since table side items Item.Quiet =
     cond (not (has_used_again table side items) && is_open_at_mark table side items) (Some kinds.OpenAtMark) None
 
--- The lowest of these entries that is a fault of that end, with its lowest kind; what stands before them is known, and they
--- are so many. What stands behind the first entry that is no item, of either end, is not looked at.
+-- The first of these entries that is a fault of the end, with its lowest kind. `number` is the count of the `items`
+-- before them. Nothing after the first entry of either end that is no item is looked at.
 abbrev pub blamed_behind : Table → Side → List Item → ℕ → List (Option Side × Result Item Reason) → Option Refutation
 blamed_behind table side items number [] = None
 blamed_behind table side items number ((sender, Err reason) ∷ more) =
@@ -139,6 +143,6 @@ blamed_behind table side items number ((sender, Ok item) ∷ more) =
     or_else (refutation_at number (fault_since table side (since_quiet items) item))
     (blamed_behind table side (items ++ item ∷ []) (number + 1) more)
 
--- the lowest entry of that end, or quiet mark, that has a kind, with its lowest kind
+-- The first entry of this end, or quiet mark, that has a kind for it, with its lowest kind.
 abbrev pub blamed : Table → Side → List Entry → Option Refutation
 blamed table side entries = blamed_behind table side [] 0 (map (λ e. (e.side, item_of e)) entries)

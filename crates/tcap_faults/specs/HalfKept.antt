@@ -1,4 +1,4 @@
--- The half with an ID of the peer, as it is kept.
+-- How is the half with an ID of the peer kept?
 use Rattle.std.specs.Prelude.{◌≡◌, List, map}
 use Rattle.tcap_parts.specs.declared.component.Component.{Component}
 use Rattle.tcap_end.specs.Table.{Table}
@@ -9,11 +9,11 @@ use Rattle.tcap_faults.specs.HalfOf.{HalfOf}
 use Rattle.tcap_faults.specs.Tallied.{AreFew, tallied}
 use Rattle.tcap_faults.specs.Tallies.{tallies_of}
 
--- Tallies are of these components together: where they are few they say what is counted of them.
+-- The tallies together count these components, if the components are few.
 abbrev pub AreTallies : Table → List Component → List Tally → Type 0
 AreTallies table cs tallies = AreFew cs → tallies_of tallies ≡ tallied table cs
 
--- The half that is kept so is that one.
+-- `kept` represents the half `h`.
 pub record IsHalf (table : Table) (h : HalfOf) (kept : Half) : Type 0 where
   pub how : kept.how ≡ h.how
   pub own : kept.own ≡ h.own

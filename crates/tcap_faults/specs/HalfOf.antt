@@ -1,5 +1,5 @@
--- The half of an end with an ID of the peer, as the list tells of it since the last quiet mark: how it began, its own ID, its
--- Begin, what it heard, what it told and what it invoked (Q.774 3.2, 3.3). There is one at the most where no ID is tangled.
+-- Which half of an end goes with an ID of the peer, since the last quiet mark (Q.774 3.2, 3.3)? If no ID is tangled,
+-- at most one does.
 use Rattle.std.specs.Prelude.{ℕ, Bool, true, false, List, [], ◌∷◌, ◌++◌, filter, Option, Some, None, cond}
 use Rattle.std.specs.List.{find}
 use Rattle.std.specs.Option.{option_to_list}
@@ -18,27 +18,30 @@ use Rattle.tcap_faults.specs.declared.dialogue.half_origin.How.{How}
 use Rattle.tcap_faults.specs.declared.dialogue.half_origin.How.TheVariants.{Accepted, Refused, Begun, Unanswered, Nowhere}
 use Rattle.tcap_faults.specs.Tangled.{goes_to_begun}
 
+-- The half of an end with an ID of its peer.
 pub record HalfOf : Type 0 where
   pub how : How
   pub own : Option (List ℕ)
-  -- the Begin by which it began, the peer's or its own
+  -- The Begin that began the half, of the peer or of the end.
   pub begin : Option Message
-  -- the components that it heard, those that it told the peer before, and those among which its own invocations are
+  -- The components that the half heard, those that it sent to the peer before, and those that contain its own
+  -- invocations.
   pub heard : List Component
   pub told : List Component
   pub invoked : List Component
 
--- ---- a half that began by the peer's Begin
+-- ---- a half that the peer's Begin began
 
--- the Continues from an ID to an own one, if that is known
+-- The Continues from this ID to an own ID, if the own ID is known.
 abbrev pub continued_to : Side → List Item → List ℕ → Option (List ℕ) → List Message
 continued_to side items id None = []
 continued_to side items id (Some own) = filter (goes_on_to own) (asked side id items)
 
--- the originating ID of the first Continue to that ID
+-- The originating ID of the end's first Continue to this ID.
 abbrev pub answered_from : Side → List Item → List ℕ → Option (List ℕ)
 answered_from side items id = then_so (find (is_a forms.Continue) (told side id items)) otid_in
 
+-- The half that the peer's Begin from this ID began.
 abbrev pub accepted_half : Side → List Item → List ℕ → HalfOf
 accepted_half side items id = record {
   how = cond (was_refused side id items) Refused Accepted;
@@ -50,22 +53,23 @@ accepted_half side items id = record {
   invoked = components_of (told side id items);
 }
 
--- ---- a half that began by its own Begin
+-- ---- a half that the end's Begin began
 
--- whether a message answers a dialogue request
+-- Whether a message answers a dialogue request.
 abbrev pub responds : Message → Bool
 responds m = is_response (dialogue_in m)
 
--- these messages from the first on that passes
+-- These messages, from the first that passes on.
 abbrev pub from_first : (Message → Bool) → List Message → List Message
 from_first passes [] = []
 from_first passes (m ∷ more) = cond (passes m) (m ∷ more) (from_first passes more)
 
--- What it heard of these Continues: all, or, where its Begin asks for a dialogue, those from the first on that answers the
--- request; what comes sooner can't be received.
+-- The Continues that the half heard. If its Begin has an AARQ, they start at the first with an AARE, because earlier
+-- ones cannot be received.
 abbrev pub heard_of : Option Message → List Message → List Message
 heard_of begin continues = cond (is_request_of begin) (from_first responds continues) continues
 
+-- The half that the end's Begin from `own` began.
 abbrev pub begun_half : Side → List Item → List ℕ → List ℕ → HalfOf
 begun_half side items id own = record {
   how = cond (is_nothing heard) Unanswered Begun;
@@ -81,18 +85,20 @@ begun_half side items id own = record {
 
 -- ---- the half
 
+-- The value for no half.
 abbrev pub no_half : HalfOf
 no_half = record { how = Nowhere; own = None; begin = None; heard = []; told = []; invoked = [] }
 
--- the ID that the end began to which the peer first sent a Continue from that ID
+-- The ID that the end began to which the peer first sent a Continue from this ID.
 abbrev pub begun_from : Side → List Item → List ℕ → Option (List ℕ)
 begun_from side items id = then_so (find (goes_to_begun side items) (asked side id items)) dtid_in
 
--- by whether the peer began that ID, and by that ID of the end
+-- The half, by whether the peer began the ID, and by the own ID to which the peer went on.
 abbrev pub half_by : Side → List Item → List ℕ → Bool → Option (List ℕ) → HalfOf
 half_by side items id true own = accepted_half side items id
 half_by side items id false None = no_half
 half_by side items id false (Some own) = begun_half side items id own
 
+-- The half of the end that goes with this ID of the peer.
 abbrev pub half_of : Side → List Item → List ℕ → HalfOf
 half_of side items id = half_by side items id (has_a forms.Begin (asked side id items)) (begun_from side items id)

@@ -1,4 +1,4 @@
--- What a message more does to what is kept of IDs that are joined.
+-- How does one more message change which IDs are kept as joined?
 use Rattle.std.specs.Prelude.{◌≡◌, ℕ, Bool, List, [], ◌∷◌, ◌++◌, filter, ◌||◌, cond}
 use Rattle.std.specs.List.{list_any}
 use Rattle.std.specs.Map.{lookup}
@@ -17,21 +17,21 @@ use Rattle.tcap_faults.specs.Kept.{dtids_of, sent_from}
 use Rattle.tcap_faults.specs.Tangled.{peers_of}
 use Rattle.tcap_faults.specs.Told.{has_ended, has_used}
 
--- An ID more where that is so.
+-- This ID, if the condition holds.
 abbrev pub id_if : Bool → List ℕ → List (List ℕ)
 id_if so id = cond so (id ∷ []) []
 
--- In a map of IDs, those of each key got this one more where that is so.
+-- In a map of IDs, each key that passes gets this ID besides.
 abbrev pub GetsMore : (List ℕ → Bool) → List ℕ → BTreeMap (List ℕ) Ids → BTreeMap (List ℕ) Ids → Type 0
 GetsMore so id old new =
     (key : List ℕ) (ids : List (List ℕ)) → AreAmong ids (lookup (is_at (octets_cmp key)) old.entries)
     → AreAmong (ids ++ id_if (so key) id) (lookup (is_at (octets_cmp key)) new.entries)
 
--- In a set of IDs, those that pass a test are there too.
+-- A set of IDs that also has the IDs that pass a test.
 abbrev pub HasMore : (List ℕ → Bool) → BTreeSet (List ℕ) → BTreeSet (List ℕ) → Type 0
 HasMore so old new = (id : List ℕ) → set.contains octets_cmp new id ≡ set.contains octets_cmp old id || so id
 
--- Behind a message more that an end sent, what is kept of joined IDs is of it too; nothing else became another.
+-- After one more message of the end, its joined and ended IDs are kept too, and the rest is unchanged.
 pub record IsJoined (side : Side) (items : List Item) (m : Message) (own own_now peer peer_now : SideFacts) : Type 0 where
   pub own_joined : (id : List ℕ)
       → AreAmong (filter (has_used (other side) items) (dtids_of (sent_from side (items ++ Sent side m ∷ []) id)))

@@ -1,5 +1,4 @@
--- What is kept of what an end sent since the last quiet mark, by the transaction IDs from which and to which it sent: of which
--- messages each part is.
+-- What is kept of the messages that an end sent since the last quiet mark, for each transaction ID?
 use Rattle.std.specs.Prelude.{◌≡◌, ⊤, ◌≤◌, ℕ, ◌^◌, Bool, false, List, [], ◌∷◌, length, filter, filter_map, Option, Some, None, is_some, is_none, ◌||◌, not, nat_le, cond}
 use Rattle.std.specs.Map.{lookup}
 use Rattle.std.specs.BTreeMap.{is_at}
@@ -36,32 +35,35 @@ use Rattle.tcap_faults.specs.UsedAgain.{has_used_again}
 
 -- ---- by transaction IDs
 
--- the messages of an end from that ID, and those to that ID
+-- The messages of an end from this ID.
 abbrev pub sent_from : Side → List Item → List ℕ → List Message
 sent_from side items id = filter (λ m. is_id id (otid_in m)) (sent_by side items)
 
+-- The messages of an end to this ID.
 abbrev pub sent_to : Side → List Item → List ℕ → List Message
 sent_to side items id = filter (λ m. is_id id (dtid_in m)) (sent_by side items)
 
--- the destination IDs of the Continues among these, and their originating IDs
+-- The destination IDs of the Continues among these messages.
 abbrev pub dtids_of : List Message → List (List ℕ)
 dtids_of ms = filter_map dtid_in (filter (is_a forms.Continue) ms)
 
+-- The originating IDs of the Continues among these messages.
 abbrev pub otids_of : List Message → List (List ℕ)
 otids_of ms = filter_map otid_in (filter (is_a forms.Continue) ms)
 
--- what is kept of these messages, if there are any
+-- `kept` summarizes these messages; None summarizes none.
 abbrev pub IsAt : {X : Type 0} → (List Message → X → Type 0) → List Message → Option X → Type 0
 IsAt of ms None = ms ≡ []
 IsAt of ms (Some kept) = (is_nothing ms ≡ false) × of ms kept
 
--- ---- Continues to an ID, apart by the first that answers a dialogue request
+-- ---- Continues to an ID, divided at the first that answers a dialogue request
 
+-- The messages before the first that answers a dialogue request.
 abbrev pub before_response : List Message → List Message
 before_response [] = []
 before_response (m ∷ ms) = cond (responds m) [] (m ∷ before_response ms)
 
--- Of these Continues.
+-- `kept` summarizes these Continues.
 pub record IsCame (table : Table) (ms : List Message) (kept : Came) : Type 0 where
   pub answered : kept.answered ≡ list_any responds ms
   pub sooner : IsTally table (components_of (before_response ms)) kept.sooner
@@ -72,14 +74,14 @@ IsCameAt table ms kept = IsAt (IsCame table) ms kept
 
 -- ---- what was sent from an ID
 
--- Of the first Begin, if there is one.
+-- `kept` summarizes the first Begin, if there is one.
 abbrev pub IsFirstBegin : Table → Option Message → Option FirstBegin → Type 0
 IsFirstBegin table None None = ⊤
 IsFirstBegin table (Some begin) (Some kept) =
     (kept.requests ≡ is_begin_with_request begin) × IsTally table (components_in begin) kept.components
 IsFirstBegin table _ _ = ⊥
 
--- Of these messages from one ID, but for what F2 to F7 ask of them.
+-- `kept` summarizes these messages from one ID, without the notes for F2 to F7.
 pub record IsFrom (table : Table) (ms : List Message) (kept : SentFrom) : Type 0 where
   pub begin : IsFirstBegin table (find (is_a forms.Begin) ms) kept.begin
   pub twice : kept.begun_twice ≡ nat_le 2 (count (is_a forms.Begin) ms)
@@ -87,7 +89,7 @@ pub record IsFrom (table : Table) (ms : List Message) (kept : SentFrom) : Type 0
   pub to : AreIds (dtids_of ms) kept.to
   pub came : (own : List ℕ) → IsCameAt table (filter (goes_on_to own) ms) (lookup (is_at (octets_cmp own)) kept.came.entries)
 
--- The same with what F2 to F7 ask of them.
+-- `kept` summarizes these messages from one ID, with the notes for F2 to F7.
 pub record IsFromWhole (table : Table) (ms : List Message) (kept : SentFrom) : Type 0 where
   pub from : IsFrom table ms kept
   pub first : (fact : FromFact) → tells_from fact kept.first ≡ list_any (shows_from table fact) ms
@@ -97,18 +99,19 @@ IsFromAt table ms kept = IsAt (IsFromWhole table) ms kept
 
 -- ---- what was sent to an ID
 
--- those that are no Aborts of the provider
+-- The messages that are no Aborts of the provider.
 abbrev pub of_user : List Message → List Message
 of_user ms = filter (λ m. is_none (cause_in m)) ms
 
--- an End, or an Abort without cause; an End or an Abort
+-- A user's end: an End, or an Abort without cause.
 abbrev pub ends : Message → Bool
 ends m = is_some (ended_by m)
 
+-- An End or an Abort.
 abbrev pub silences : Message → Bool
 silences m = is_a forms.End m || is_a forms.Abort m
 
--- Of these messages to one ID.
+-- `kept` summarizes these messages to one ID.
 pub record IsTo (table : Table) (ms : List Message) (kept : SentTo) : Type 0 where
   pub spoke : kept.spoke ≡ not (is_nothing (of_user ms))
   pub from : AreIds (otids_of ms) kept.from
@@ -121,26 +124,26 @@ pub record IsTo (table : Table) (ms : List Message) (kept : SentTo) : Type 0 whe
 abbrev pub IsToAt : Table → List Message → Option SentTo → Type 0
 IsToAt table ms kept = IsAt (IsTo table) ms kept
 
--- ---- all of an end
+-- ---- all messages of an end
 
--- Of what that end sent in these items, and what its peer did.
+-- `kept` is the history of what this end sent in these items. Some of it also depends on what its peer sent.
 pub record IsSide (table : Table) (side : Side) (items : List Item) (kept : SideFacts) : Type 0 where
   pub from : (id : List ℕ) → IsFromAt table (sent_from side items id) (lookup (is_at (octets_cmp id)) kept.from.entries)
   pub to : (id : List ℕ) → IsToAt table (sent_to side items id) (lookup (is_at (octets_cmp id)) kept.to.entries)
-  -- of the destination IDs of its Continues from an ID those that the other end used
+  -- The destination IDs of its Continues from an ID, if the other end used them.
   pub joined : (id : List ℕ)
       → AreAmong (filter (has_used (other side) items) (dtids_of (sent_from side items id)))
       (lookup (is_at (octets_cmp id)) kept.joined.entries)
-  -- its IDs from which it guessed one of the other end
+  -- Its IDs from which it guessed an ID of the other end (`Tangled`).
   pub guessed : (id : List ℕ) → set.contains octets_cmp kept.guessed id ≡ one_passes (guesses (other side) id) [] items
-  -- its IDs that it answered as closed
+  -- Its IDs that it answered as closed.
   pub closed : (id : List ℕ) → set.contains octets_cmp kept.closed id ≡ one_passes (shows_closed side id) [] items
-  -- its IDs whose peers it ended
+  -- Its IDs that are joined with an ID that it ended.
   pub over : (id : List ℕ)
       → set.contains octets_cmp kept.over id ≡ list_any (has_ended side items) (peers_of side items id)
   pub again : kept.again ≡ has_used_again table side items
 
--- Of both ends.
+-- `kept` is the history of both ends.
 pub record AreFacts (table : Table) (items : List Item) (kept : Facts) : Type 0 where
   pub a : IsSide table A items kept.a
   pub b : IsSide table B items kept.b

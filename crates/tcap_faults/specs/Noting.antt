@@ -1,4 +1,4 @@
--- What is kept behind a message more.
+-- What is kept after one more message?
 use Rattle.std.specs.Prelude.{◌≡◌, ℕ, true, List, [], ◌∷◌, ◌++◌, Option, ◌==◌, ◌||◌, cond}
 use Rattle.std.specs.Map.{lookup}
 use Rattle.std.specs.BTreeMap.{BTreeMap, is_at}
@@ -16,11 +16,11 @@ use Rattle.tcap_faults.specs.Tallies.{IsTally}
 
 -- ---- messages by transaction IDs
 
--- these lists, with a message more at that ID of it
+-- The lists with one more message, at the ID that `id_in` reads from it.
 abbrev pub with_more : (Message → Option (List ℕ)) → Message → (List ℕ → List Message) → List ℕ → List Message
 with_more id_in m lists id = lists id ++ cond (is_id id (id_in m)) (m ∷ []) []
 
--- what is kept of them at each ID
+-- `kept` has a summary of the list of messages at each ID.
 abbrev pub AreAt : {X : Type 0} → (List Message → X → Type 0) → (List ℕ → List Message) → BTreeMap (List ℕ) X → Type 0
 AreAt of lists kept = (id : List ℕ) → IsAt of (lists id) (lookup (is_at (octets_cmp id)) kept.entries)
 
@@ -35,7 +35,7 @@ AreTo table lists kept = AreAt (IsTo table) lists kept
 
 -- ---- parts of what is kept of an ID
 
--- the cause of an Abort of the provider more
+-- `new` is `old` with one more Abort of the provider, of this cause.
 pub record IsCaused (cause : ℕ) (old new : SentTo) : Type 0 where
   pub refused : new.refused ≡ old.refused || (cause == 4)
   pub unknown : new.unknown ≡ more_if (cause == 1) old.unknown
@@ -45,7 +45,7 @@ pub record IsCaused (cause : ℕ) (old new : SentTo) : Type 0 where
   pub silenced : new.silenced ≡ old.silenced
   pub components : new.components ≡ old.components
 
--- what is no such Abort more: what it tells, but not whether it ends anything
+-- `new` is `old` with one more message that is no Abort of the provider, but without whether it ends anything.
 pub record IsTold (table : Table) (ms : List Message) (m : Message) (old new : SentTo) : Type 0 where
   pub spoke : new.spoke ≡ true
   pub from : AreIds (otids_of (ms ++ m ∷ [])) new.from

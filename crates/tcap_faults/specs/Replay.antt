@@ -1,4 +1,4 @@
--- What is kept of the entries of a record before one of them, and in which of them an end used an own ID again.
+-- What is kept of the entries before one entry of a record, and in which of them did an end use an own ID again?
 use Rattle.std.specs.Prelude.{◌≡◌, ℕ, List, map, take}
 use Rattle.tcap_record.specs.declared.entry.End.{End as Side}
 use Rattle.tcap_record.specs.declared.entry.Entry.{Entry}
@@ -10,11 +10,11 @@ use Rattle.tcap_faults.specs.Searching.{AreCounted, IsKept}
 use Rattle.tcap_faults.specs.Subject.{items_among}
 use Rattle.tcap_faults.specs.Unblamed.{again_among}
 
--- the items among so many entries
+-- The items among the first `number` entries.
 abbrev pub items_up_to : List Entry → ℕ → List Item
 items_up_to entries number = items_among (map item_of (take number entries))
 
--- It is that of so many entries, and of the end.
+-- The replay is of the first `number` entries, for this end.
 pub record IsReplayed (table : Table) (side : Side) (entries : List Entry) (number : ℕ) (replay : Replay) : Type 0 where
   pub are : IsKept table (items_up_to entries number) replay.kept
   pub counted : AreCounted (items_up_to entries number) number

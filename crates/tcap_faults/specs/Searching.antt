@@ -1,4 +1,4 @@
--- What is kept of the entries of a record while faults of its ends are looked for, and what was found.
+-- What is kept and found while the entries of a record are searched for faults?
 use Rattle.std.specs.Prelude.{◌≡◌, ◌≤◌, ℕ, ◌+◌, ◌*◌, ◌^◌, Bool, true, false, List, [], ◌∷◌, ◌++◌, drop, length, map, Option, Some, None, Result, Ok, Err, ◌||◌, cond, not}
 use Rattle.tcap_msg.specs.Parts.{components_in}
 use Rattle.tcap_record.specs.declared.entry.End.{End as Side}
@@ -17,7 +17,7 @@ use Rattle.tcap_faults.specs.declared.verdict.first_fault.SearchState.{SearchSta
 use Rattle.tcap_faults.specs.Fault.{bad_entry_of, blamed, blamed_behind, fault_since}
 use Rattle.tcap_faults.specs.Kept.{AreFacts}
 
--- by whether one is busy, badly linked, answered already, or wrongly rejected
+-- The lowest of F10 to F13 that components have.
 abbrev pub kind_of_components : Bool → Bool → Bool → Bool → Option Kind
 kind_of_components busy linked answered rejected =
     cond busy (Some kinds.InvokeIdBusy)
@@ -25,66 +25,69 @@ kind_of_components busy linked answered rejected =
     (cond answered (Some kinds.AnsweredAlready)
     (cond rejected (Some kinds.RejectNotAllowed) None)))
 
--- What is kept is of these items since the last quiet mark.
+-- `kept` is the history of these items since the last quiet mark.
 abbrev pub IsKept : Table → List Item → Facts → Type 0
 IsKept table items kept = AreFacts table (since_quiet items) kept
 
--- how many components these items have
+-- The number of components in these items.
 abbrev pub components_in_all : List Item → ℕ
 components_in_all [] = 0
 components_in_all (Sent side m ∷ items) = length (components_in m) + components_in_all items
 components_in_all (Item.Quiet ∷ items) = components_in_all items
 
--- there are so few items, with so few components, that no count of them is above the greatest
+-- The items and their components are so few that no count exceeds the greatest.
 pub record AreRoomy (items : List Item) : Type 0 where
   pub few : length items ≤ 2 ^ 63
   pub components : components_in_all items ≤ 2 ^ 126
 
--- They are so many at the most, each with few components.
+-- There are at most `number` items, with few components.
 pub record AreCounted (items : List Item) (number : ℕ) : Type 0 where
   pub few : length items ≤ number
   pub components : components_in_all items ≤ number * 2 ^ 63
 
--- ---- what was found of an end
+-- ---- what was found for an end
 
+-- The search for an end before the first entry; it is over if the end is not asked for.
 abbrev pub looking_first : Bool → Looking
 looking_first is_asked = record { is_over = not is_asked; found = None }
 
--- with what was found in an entry, if anything was
+-- The search after an entry with this kind, if it has one.
 abbrev pub looking_with : ℕ → Option Kind → Looking → Looking
 looking_with number None looking = looking
 looking_with number (Some kind) looking =
     record { is_over = true; found = Some (record { entry = number; kind = kind }) }
 
--- where it is not over
+-- The search after an entry with this kind, unless it was over before.
 abbrev pub looking_on : ℕ → Option Kind → Looking → Looking
 looking_on number kind looking = cond looking.is_over looking (looking_with number kind looking)
 
--- behind an item of that number, behind these
+-- The search after an item with this number, which comes after these items.
 abbrev pub looking_behind : Table → List Item → ℕ → Item → Side → Looking → Looking
 looking_behind table items number item side looking =
     looking_on number (fault_since table side (since_quiet items) item) looking
 
--- behind an entry that is no item
+-- The search after an entry that is no item.
 abbrev pub looking_bad : ℕ → Option Side → Reason → Side → Looking → Looking
 looking_bad number sender reason side looking = looking_on number (bad_entry_of side sender reason) looking
 
+-- The state of the search for an end.
 abbrev pub looking_at : Side → SearchState → Looking
 looking_at A search = search.a
 looking_at B search = search.b
 
+-- The search with this state for an end.
 abbrev pub looking_put : Side → Looking → SearchState → SearchState
 looking_put A looking search = record search { a = looking }
 looking_put B looking search = record search { b = looking }
 
--- An item of that number is kept, and looked at.
+-- `new` is `old` after an item with this number: the item is kept, and judged for both ends.
 pub record IsTaken (table : Table) (items : List Item) (number : ℕ) (item : Item) (old new : SearchState) : Type 0 where
   pub are : IsKept table (items ++ item ∷ []) new.kept
   pub looking : (side : Side)
       → looking_at side new ≡ looking_behind table items number item side (looking_at side old)
 
--- An entry of that number was taken: an item is kept and looked at, and one behind it is looked at where the search for an end is
--- not over; what is no item is looked at, and nothing behind it is.
+-- `new` is `old` after an entry with this number. An item is kept and judged, and the search goes on if it is not
+-- over for both ends. An entry that is no item is judged, and the search stops.
 abbrev pub Takes : Table → List Item → ℕ → Entry → Bool → SearchState → SearchState → Type 0
 Takes table items number entry more old new = by (item_of entry)
   where
@@ -94,8 +97,8 @@ Takes table items number entry more old new = by (item_of entry)
         (more ≡ false)
         × ((side : Side) → looking_at side new ≡ looking_bad number entry.side reason side (looking_at side old))
 
--- What is known of an end behind these items, which are so many: where its search is over, what is blamed on it was found; else
--- nothing was yet, and what is left of the entries decides.
+-- What is known of an end after these items, the first `number` entries. If its search is over, the result is what is
+-- blamed on it. Else nothing was found yet, and the remaining entries decide.
 abbrev pub IsFound : Table → Side → List Entry → List Item → ℕ → Looking → Type 0
 IsFound table side entries items number looking = by looking.is_over
   where

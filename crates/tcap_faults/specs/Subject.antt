@@ -1,5 +1,5 @@
--- What a fault of an end is about: the half over which its message would go, and the component which has the kind (Q.774 3.2,
--- 3.3).
+-- What is a fault of an end about: over which half does the message go, and which component has the kind (Q.774 3.2,
+-- 3.3)?
 use Rattle.std.specs.Prelude.{ℕ, ◌+◌, Bool, List, [], ◌∷◌, ◌++◌, map, slice_get, take, Option, Some, None, Result, Ok, Err, cond}
 use Rattle.tcap_parts.specs.declared.component.Component.{Component}
 use Rattle.tcap_msg.specs.declared.message.Message.{Message}
@@ -24,15 +24,15 @@ use Rattle.tcap_faults.specs.HalfOf.{HalfOf, half_of}
 
 -- ---- the component
 
--- the number of the first component that is so, behind those of the message and those that were told before, counted from that
--- number
+-- The number of the first component that passes a test, counted from `number`. The test gets the components before it
+-- in the message, and all that were sent before it.
 abbrev pub component_so : (List Component → List Component → Component → Bool) → ℕ → List Component → List Component
     → List Component → Option ℕ
 component_so is_so number own before [] = None
 component_so is_so number own before (c ∷ more) =
     cond (is_so own before c) (Some number) (component_so is_so (number + 1) (own ++ c ∷ []) (before ++ c ∷ []) more)
 
--- of a message over a half
+-- The component that gives a message over a half this kind.
 abbrev pub half_component : Table → HalfOf → List Component → Kind → Option ℕ
 half_component table h cs kinds.InvokeIdBusy = component_so (invokes_busy table h (h.told ++ cs)) 0 [] h.told cs
 half_component table h cs kinds.BadLink = component_so (links_badly table h) 0 [] h.told cs
@@ -40,13 +40,14 @@ half_component table h cs kinds.AnsweredAlready = component_so (answers_again ta
 half_component table h cs kinds.RejectNotAllowed = component_so (rejects_wrongly table h) 0 [] h.told cs
 half_component table h cs kind = None
 
--- of a message without destination ID
+-- The component that gives a message without destination ID this kind.
 abbrev pub alone_component : List Component → Kind → Option ℕ
 alone_component cs kinds.InvokeIdBusy = component_so invokes_again 0 [] [] cs
 alone_component cs kinds.BadLink = first_so is_linked 0 cs
 alone_component cs kind = None
 
--- The component of a message that has a kind: of F5 and F6, which are asked of one end or of both, or of a further kind.
+-- The component that gives a message this kind: F5, F6, or one of F10 to F13. `of_one` is whether F5 was asked of one
+-- end alone.
 abbrev pub component_of : Bool → Table → Side → List Item → Message → Kind → Option ℕ
 component_of of_one table side items m kind =
     or_else (first_component of_one table side items m kind) (by (dtid_in m))
@@ -57,10 +58,11 @@ component_of of_one table side items m kind =
 
 -- ---- the subject
 
+-- The subject of an entry that is no message.
 abbrev pub no_subject : Subject
 no_subject = record { how = Nowhere; own = None; component = None }
 
--- of a message behind these items since the last quiet mark
+-- The subject of a message after these items since the last quiet mark.
 abbrev pub subject : Bool → Table → Side → List Item → Message → Kind → Subject
 subject of_one table side items m kind = by (dtid_in m)
   where
@@ -72,18 +74,19 @@ subject of_one table side items m kind = by (dtid_in m)
       component = component_of of_one table side items m kind;
     }
 
--- the items among these
+-- The items among these entries.
 abbrev pub items_among : List (Result Item Reason) → List Item
 items_among [] = []
 items_among (Ok item ∷ more) = item ∷ items_among more
 items_among (Err reason ∷ more) = items_among more
 
--- of an entry behind these items; what is no message has none
+-- The subject of an entry after these items; only a message has one.
 abbrev pub subject_by : Bool → Table → Side → List Item → Option (Result Item Reason) → Kind → Subject
 subject_by of_one table side items (Some (Ok (Sent sender m))) kind = subject of_one table side items m kind
 subject_by of_one table side items entry kind = no_subject
 
--- of the entry of a record that is named for an end; it is given whether its kind was asked of one end
+-- The subject of the entry that a refutation reports for an end. `of_one` is whether its kind was asked of one end
+-- alone.
 abbrev pub subject_of : Bool → Table → Side → List Entry → Refutation → Subject
 subject_of of_one table side entries r =
     subject_by of_one table side (since_quiet (items_among (map item_of (take r.entry entries))))

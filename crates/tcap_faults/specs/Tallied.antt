@@ -1,5 +1,5 @@
--- Components as they are counted, by their invoke IDs (Q.773 4.2.2). No count is kept above the greatest; where there
--- are few components, each count is how many there are.
+-- What is counted of components, by their invoke IDs (Q.773 4.2.2)? No count exceeds the greatest. If there are few
+-- components, each count is exact.
 use Rattle.std.specs.Prelude.{ℕ, ℤ, ◌+◌, ◌^◌, ◌≤◌, Bool, true, false, List, length, Some, ◌&&◌, ◌||◌, not, nat_lt, cond}
 use Rattle.std.specs.List.{list_any}
 use Rattle.tcap_parts.specs.declared.code.Code.{Code}
@@ -18,32 +18,32 @@ use Rattle.tcap_faults.specs.declared.component.component_sort.Sort.TheVariants 
 
 -- ---- counts
 
--- the greatest count that is kept
+-- The greatest count, 2^128 - 1.
 abbrev pub greatest : ℕ
 greatest = 340282366920938463463374607431768211455
 
--- the sum of two counts, or the greatest
+-- The sum of two counts, or the greatest count if the sum exceeds it.
 abbrev pub sum : ℕ → ℕ → ℕ
 sum a b = cond (nat_lt (a + b) (2 ^ 128)) (a + b) greatest
 
--- one more, where that is so
+-- One more, if the condition holds.
 abbrev pub more_if : Bool → ℕ → ℕ
 more_if so n = cond so (sum n 1) n
 
 -- ---- sorts of components
 
--- whether an operation is of that class, or of any
+-- Whether an operation is of this class; all are of class `Any`.
 abbrev pub is_of_class : Table → Class → Code → Bool
 is_of_class table classes.Any code = true
 is_of_class table classes.One code = has_class table 1 code
 is_of_class table classes.Two code = has_class table 2 code
 is_of_class table classes.Three code = has_class table 3 code
 
--- whether one is, and does not expire
+-- Whether an operation is of this class and does not expire.
 abbrev pub not_expiring : Table → Class → Code → Bool
 not_expiring table class code = not (expires_of table code) && is_of_class table class code
 
--- whether a component of that invoke ID is of that sort
+-- Whether a component has this invoke ID and is of this sort.
 abbrev pub is_sort : Table → ℤ → Sort → Component → Bool
 is_sort table id (sorts.Invokes class) = invokes_so id (is_of_class table class)
 is_sort table id (sorts.Lasting class) = invokes_so id (not_expiring table class)
@@ -59,34 +59,34 @@ is_sort table id sorts.LinkRejects = rejects_invoke id is_of_link
 is_sort table id sorts.ResultRejects = rejects_result id any_problem
 is_sort table id sorts.ErrorRejects = rejects_error id any_problem
 
--- an Invoke of that ID whose linked ID, with its operation, passes a test
+-- A linked Invoke with this ID whose linked ID passes a test with its operation.
 abbrev pub invokes_link : ℤ → (ℤ → Code → Bool) → Component → Bool
 invokes_link id passes (Invoke other (Some linked) code parameter) = is_invoke_id id other && passes linked code
 invokes_link id passes _ = false
 
--- a Return Result of that ID, last or not, that names an operation that passes a test
+-- A Return Result with this ID, last or not, that names an operation that passes a test.
 abbrev pub results_so : ℤ → (Code → Bool) → Component → Bool
 results_so id passes (ReturnResult last other (Some body)) = is_invoke_id id other && passes body.code
 results_so id passes _ = false
 
 -- ---- components that are counted
 
--- What is counted of components.
+-- The counts of components.
 pub record Tallied : Type 0 where
-  -- how many of an ID are of a sort
+  -- The number of components with an ID, of a sort.
   pub count : ℤ → Sort → ℕ
-  -- how many Invokes of an ID are of an operation
+  -- The number of Invokes with an ID, of an operation.
   pub invokes_of : ℤ → Code → ℕ
-  -- how many last Return Results of an ID name an operation
+  -- The number of Return Results Last with an ID that name an operation.
   pub results_of : ℤ → Code → ℕ
-  -- whether an Invoke of an ID is of an operation that passes a test
+  -- Whether an Invoke with an ID is of an operation that passes a test.
   pub has_operation : ℤ → (Code → Bool) → Bool
-  -- whether a linked one is, by its linked ID and its operation
+  -- Whether a linked Invoke with an ID has a linked ID that passes a test with its operation.
   pub has_link : ℤ → (ℤ → Code → Bool) → Bool
-  -- whether a Return Result of an ID names an operation that passes a test
+  -- Whether a Return Result with an ID names an operation that passes a test.
   pub has_result : ℤ → (Code → Bool) → Bool
 
--- what is counted of these components
+-- The exact counts of these components.
 abbrev pub tallied : Table → List Component → Tallied
 tallied table cs = record {
   count = λ id sort. count (is_sort table id sort) cs;
@@ -97,7 +97,7 @@ tallied table cs = record {
   has_result = λ id passes. list_any (results_so id passes) cs;
 }
 
--- nothing
+-- The counts of no components.
 abbrev pub nothing_tallied : Tallied
 nothing_tallied = record {
   count = λ id sort. 0;
@@ -108,7 +108,7 @@ nothing_tallied = record {
   has_result = λ id passes. false;
 }
 
--- of both
+-- The counts of two lists of components together.
 abbrev pub both_tallied : Tallied → Tallied → Tallied
 both_tallied a b = record {
   count = λ id sort. sum (a.count id sort) (b.count id sort);
@@ -119,6 +119,6 @@ both_tallied a b = record {
   has_result = λ id passes. a.has_result id passes || b.has_result id passes;
 }
 
--- so few components that no sum of three counts of them is above the greatest
+-- The components are so few that no sum of three of their counts exceeds the greatest.
 abbrev pub AreFew : List Component → Type 0
 AreFew cs = length cs ≤ 2 ^ 126

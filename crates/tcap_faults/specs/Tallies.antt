@@ -1,4 +1,4 @@
--- What tallies say of components.
+-- Which counts does a tally represent?
 use Rattle.std.specs.Prelude.{◌≡◌, ℕ, ℤ, Bool, false, List, [], ◌∷◌, Option, Some, None, ◌||◌, cond, option_map}
 use Rattle.std.specs.Global.{Box}
 use Rattle.std.specs.Ordering.{int_cmp}
@@ -22,42 +22,46 @@ use Rattle.tcap_faults.specs.declared.component.tally.Tally.{Tally}
 use Rattle.tcap_faults.specs.Listed.{counted}
 use Rattle.tcap_faults.specs.Tallied.{AreFew, Tallied, both_tallied, nothing_tallied, tallied}
 
--- a count that is kept, or 0
+-- The count, or 0 if there is none.
 abbrev pub or_zero : Option ℕ → ℕ
 or_zero None = 0
 or_zero (Some n) = n
 
--- how often a code was counted among many, and among the others, where there are such
+-- The count of a code among many codes.
 abbrev pub count_among : Code → ManyCodes → ℕ
 count_among code kept = or_zero (counted kept.locals.entries kept.globals.entries code)
 
+-- The count of a code among the other codes, if there are any.
 abbrev pub count_others : Code → Option (Box ManyCodes) → ℕ
 count_others code None = 0
 count_others code (Some others) = count_among code others.value
 
--- how often a code was counted, the first or one of the others
+-- The count of a code, which is the first or one of the others.
 abbrev pub count_of : Code → CodeCounts → ℕ
 count_of code kept = cond (is_first code kept.first) kept.times (count_others code kept.others)
 
--- whether the first of the codes that were counted passes a test, where there is one, and whether one of the others does
+-- Whether there is a first code, and it passes a test.
 abbrev pub first_passes : (Code → Bool) → Option ℤ → Bool
 first_passes passes first = holds (λ n. passes (Local n)) first
 
+-- Whether one of the other codes passes a test.
 abbrev pub others_any : (Code → Bool) → Option (Box ManyCodes) → Bool
 others_any passes others = holds (λ kept. list_any passes kept.value.codes.items) others
 
--- whether one of them does
+-- Whether a counted code passes a test.
 abbrev pub codes_any : (Code → Bool) → CodeCounts → Bool
 codes_any passes kept = first_passes passes kept.first || others_any passes kept.others
 
+-- The count for a class.
 abbrev pub count_of_class : Class → ByClass → ℕ
 count_of_class classes.Any kept = kept.all
 count_of_class classes.One kept = kept.one
 count_of_class classes.Two kept = kept.two
 count_of_class classes.Three kept = kept.three
 
--- ---- of an invoke ID
+-- ---- for one invoke ID
 
+-- The number of components of a sort with this invoke ID.
 abbrev pub count_in : Sort → OfId → ℕ
 count_in (sorts.Invokes class) kept = count_of_class class kept.invokes
 count_in (sorts.Lasting class) kept = count_of_class class kept.lasting
@@ -73,34 +77,34 @@ count_in sorts.LinkRejects kept = kept.link_rejects
 count_in sorts.ResultRejects kept = kept.result_rejects
 count_in sorts.ErrorRejects kept = kept.error_rejects
 
--- whether one of the operations of a linked ID passes a test with it
+-- Whether an operation that was counted for a linked ID passes a test with that ID.
 abbrev pub links_at : (ℤ → Code → Bool) → ℤ × CodeCounts → Bool
 links_at passes (linked, kept) = codes_any (passes linked) kept
 
--- whether the operation of an Invoke passes a test
+-- Whether an Invoke's operation passes a test.
 abbrev pub invokes_in : (Code → Bool) → OfId → Bool
 invokes_in passes kept = codes_any passes kept.operations
 
--- whether the linked ID of a linked one does, with its operation
+-- Whether a linked Invoke's linked ID passes a test with its operation.
 abbrev pub links_in : (ℤ → Code → Bool) → OfId → Bool
 links_in passes kept = list_any (links_at passes) kept.by_link.entries
 
--- whether the operation that a Return Result names does
+-- Whether the operation that a Return Result names passes a test.
 abbrev pub answers_in : (Code → Bool) → OfId → Bool
 answers_in passes kept = codes_any passes kept.answered
 
--- ---- of all of them
+-- ---- for all invoke IDs
 
--- what is kept of that ID
+-- What is kept of this ID.
 abbrev pub kept_of : ℤ → Tally → Option OfId
 kept_of id tally = option_map (λ kept. kept.value) (lookup (is_at (int_cmp id)) tally.ids.entries)
 
--- something of what is kept, or what there is of nothing
+-- A part of what is kept, or `nothing` if nothing is kept.
 abbrev pub of_kept : {A : Type 0} → A → (OfId → A) → Option OfId → A
 of_kept nothing f None = nothing
 of_kept nothing f (Some kept) = f kept
 
--- what a tally says
+-- The counts that a tally represents.
 abbrev pub tally_of : Tally → Tallied
 tally_of tally = record {
   count = λ id sort. of_kept 0 (count_in sort) (kept_of id tally);
@@ -111,13 +115,13 @@ tally_of tally = record {
   has_result = λ id passes. of_kept false (answers_in passes) (kept_of id tally);
 }
 
--- A tally is of these components: where they are few it says what is counted of them.
+-- The tally counts these components exactly, if they are few.
 abbrev pub IsTally : Table → List Component → Tally → Type 0
 IsTally table cs tally = AreFew cs → tally_of tally ≡ tallied table cs
 
 -- ---- several tallies
 
--- what tallies say together
+-- The counts that several tallies represent together.
 abbrev pub tallies_of : List Tally → Tallied
 tallies_of [] = nothing_tallied
 tallies_of (tally ∷ more) = both_tallied (tally_of tally) (tallies_of more)

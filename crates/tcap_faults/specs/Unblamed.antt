@@ -1,5 +1,5 @@
--- Why nothing is blamed on an end at an entry: it used an own ID again, so that it can't be told which transaction is meant; or its
--- message goes over tangled IDs, of which the first is named.
+-- Why is nothing blamed on an end at an entry? Either the end used an own ID again, so that it is unclear which
+-- transaction is meant. Or the end's message goes over tangled IDs, and the first of them is reported.
 use Rattle.std.specs.Prelude.{ℕ, ◌+◌, Bool, true, false, List, [], ◌∷◌, ◌++◌, map, slice_get, take, Option, Some, None, Result, Ok, Err, cond}
 use Rattle.tcap_record.specs.declared.entry.End.{End as Side}
 use Rattle.tcap_record.specs.declared.entry.Entry.{Entry}
@@ -16,8 +16,8 @@ use Rattle.tcap_faults.specs.Subject.{items_among}
 use Rattle.tcap_faults.specs.Tangled.{tangled_in}
 use Rattle.tcap_faults.specs.UsedAgain.{is_used_again}
 
--- The number of the first of these entries in which the end used an own ID again, since the last quiet mark; these items since then,
--- and that number, if there is one, are of the entries before.
+-- The number of the first entry since the last quiet mark in which the end used an own ID again. `seen` are the items
+-- since the mark before these entries, and `first` is the number that was found in them.
 abbrev pub again_behind : Table → Side → ℕ → List (Result Item Reason) → List Item → Option ℕ → Option ℕ
 again_behind table side number [] seen first = first
 again_behind table side number (Err reason ∷ more) seen first = again_behind table side (number + 1) more seen first
@@ -26,21 +26,22 @@ again_behind table side number (Ok (Sent sender m) ∷ more) seen first =
     again_behind table side (number + 1) more (seen ++ Sent sender m ∷ [])
     (or_else first (cond (is_used_again table side seen (Sent sender m)) (Some number) None))
 
--- that number, among so many entries
+-- The number of the first such entry among the first `count` entries.
 abbrev pub again_among : Table → Side → List Entry → ℕ → Option ℕ
 again_among table side entries count = again_behind table side 0 (map item_of (take count entries)) [] None
 
--- whether an entry is a quiet mark
+-- Whether an entry is a quiet mark.
 abbrev pub is_mark : Option (Result Item Reason) → Bool
 is_mark (Some (Ok Item.Quiet)) = true
 is_mark entry = false
 
--- That number, for an entry: a message is judged by the entries up to it, it too; a quiet mark by those before it.
+-- The number of the first such entry that matters for the entry `number`. A message is judged by the entries up to
+-- it, itself included; a quiet mark by those before it.
 abbrev pub used_again_at : Table → Side → List Entry → ℕ → Option ℕ
 used_again_at table side entries number =
     again_among table side entries (cond (is_mark (slice_get (map item_of entries) number)) number (number + 1))
 
--- the first tangled ID that the message of that entry goes over, where that end sent it
+-- The first tangled ID that the entry's message goes over, if this end sent it.
 abbrev pub tangled_at : Side → List Entry → ℕ → Option TangledId
 tangled_at side entries number = by (slice_get (map item_of entries) number)
   where
@@ -49,11 +50,13 @@ tangled_at side entries number = by (slice_get (map item_of entries) number)
         cond (is_side side sender) (tangled_in side (since_quiet (items_among (map item_of (take number entries)))) m) None
     by entry = None
 
+-- The reason: an own ID that was used again, or else a tangled ID.
 abbrev pub unblamed_by : Option ℕ → Option TangledId → Option Unblamed
 unblamed_by (Some again) tangled = Some (UsedAgain again)
 unblamed_by None (Some t) = Some (Tangled t)
 unblamed_by None None = None
 
+-- Why nothing is blamed on an end at the entry `number`, if there is such a reason.
 abbrev pub unblamed_at : Table → Side → List Entry → ℕ → Option Unblamed
 unblamed_at table side entries number =
     unblamed_by (used_again_at table side entries number) (tangled_at side entries number)

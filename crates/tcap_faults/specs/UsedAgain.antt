@@ -1,5 +1,5 @@
--- An own ID that is used again, once its transaction may be over. That an ID is used once between two quiet marks is this
--- profile's choice: a stack may free it when its transaction is over, so this is no fault.
+-- When does an end use an own ID again whose transaction may be over? That an ID is used once between two quiet marks
+-- is this profile's choice. A stack may free an ID when its transaction is over, so using it again is no fault.
 use Rattle.std.specs.Prelude.{ℕ, Bool, false, List, [], ◌&&◌, ◌||◌, not}
 use Rattle.std.specs.List.{list_any}
 use Rattle.std.specs.Str.{bytes_eq}
@@ -15,15 +15,16 @@ use Rattle.tcap_faults.specs.Counts.{is_nothing}
 use Rattle.tcap_faults.specs.Told.{has_ended, has_used, one_passes, told}
 use Rattle.tcap_faults.specs.Tangled.{owns_of, peers_of}
 
--- Whether the transaction of an own ID may be over: the peer ended it, or the end did; or transactions may end by
--- prearrangement, which no message tells.
+-- Whether the transaction of an own ID may be over. The peer sent an End or an Abort to it, the end sent a user's end
+-- to an ID that is joined with it, or transactions may end by prearrangement, without a message.
 abbrev pub may_be_over : Table → Side → List Item → List ℕ → Bool
 may_be_over table side items own =
     table.prearranged || list_any (ends_to own) (sent_by (other side) items)
     || list_any (has_ended side items) (peers_of side items own)
 
--- whether a message uses an own ID again: a Begin of it; or a Continue of it that answers a Begin of the peer, to which
--- nothing was told before, and with whose ID it is not joined
+-- Whether a message uses again an own ID whose transaction may be over. It is a Begin from the ID; or it is a
+-- Continue from the ID to an ID that the peer began, that is not joined with the own ID, and to which the end sent
+-- nothing before.
 abbrev pub uses_again : Table → Side → List Item → Message → Bool
 uses_again table side items (Begin otid dialogue components) =
     has_used side items otid && may_be_over table side items otid
@@ -32,10 +33,11 @@ uses_again table side items (Continue otid dtid dialogue components) =
     && is_nothing (told side dtid items) && not (list_any (bytes_eq otid) (owns_of side items dtid))
 uses_again table side items m = false
 
+-- Whether an item is a message of the end that uses an own ID again.
 abbrev pub is_used_again : Table → Side → List Item → Item → Bool
 is_used_again table side seen (Sent sender m) = is_side side sender && uses_again table side seen m
 is_used_again table side seen Item.Quiet = false
 
--- Whether an end used an own ID again in these items. From there on it can't be told which transaction is meant.
+-- Whether an end used an own ID again in these items. After that, it is unclear which transaction is meant.
 abbrev pub has_used_again : Table → Side → List Item → Bool
 has_used_again table side items = one_passes (is_used_again table side) [] items

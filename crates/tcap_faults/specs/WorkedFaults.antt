@@ -1,4 +1,5 @@
--- Worked records: which entry of each end is blamed, and all kinds of that entry. tests/cases/faults.json has 270 more, judged by the program.
+-- Which entry of each end in a worked record is blamed, and which kinds does it have? tests/cases/faults.json has
+-- more records, which the program judges.
 use Rattle.std.specs.Prelude.{◌≡◌, ℕ, ◌+◌, List, [], ◌∷◌, ◌++◌, map, filter, ◌&&◌, cond, not, Option, Some, None, pos, true, refl}
 use Rattle.std.specs.List.{find}
 use Rattle.tcap_msg.specs.declared.message.Message.{Message}
@@ -24,7 +25,8 @@ use Rattle.tcap_refute.specs.WorkedTables.{all_expire}
 
 -- ---- what is blamed
 
--- the entry, and the numbers of the lowest of its kinds F2 to F7, and of all its further ones; or nothing
+-- The entry, the number of its lowest kind of F2 to F7, if it has one, and the numbers of its further kinds; or
+-- nothing.
 pub data Blaming : Type 0 where
   Blamed : ℕ → List ℕ → Blaming
   Unblamed : Blaming
@@ -38,7 +40,7 @@ numbers_of table side items m =
     lowest_number (find (is_fault table side items m) first_kinds)
     ++ map kind_number (filter (is_fault table side items m) further_kinds)
 
--- the numbers of an item of that end, behind these since the last mark
+-- The numbers of an item's kinds for this end, after these items since the last mark.
 abbrev numbers_since : Table → Side → List Item → Item → List ℕ
 numbers_since table side items (Sent sender m) =
     cond (is_side side sender && not (has_used_again table side (items ++ Sent sender m ∷ [])))
@@ -56,7 +58,7 @@ blaming_from table side before n (item ∷ items) =
     first_at n (numbers_since table side (since_quiet before) item)
     (blaming_from table side (before ++ item ∷ []) (n + 1) items)
 
--- `blamed` names that entry, with the lowest of these kinds.
+-- `blamed` returns this entry with the lowest of these kinds, or nothing.
 abbrev Names : Option Refutation → Blaming → Type 0
 Names None Unblamed = Unit {0}
 Names (Some r) (Blamed entry (first ∷ more)) = (r.entry ≡ entry) × (kind_number r.kind ≡ first)
@@ -66,13 +68,13 @@ abbrev IsBlamedOf : Table → List Item → Side → Blaming → Type 0
 IsBlamedOf table items side blaming =
     (blaming_from table side [] 0 items ≡ blaming) × Names (blamed table side (map entry_of items)) blaming
 
--- That is blamed of A, and that of B.
+-- `of_a` is blamed on A, and `of_b` on B.
 abbrev pub IsBlamed : Table → List Item → Blaming → Blaming → Type 0
 IsBlamed table items of_a of_b = IsBlamedOf table items A of_a × IsBlamedOf table items B of_b
 
 -- ---- worked records
 
--- F8: A goes on with a half that it began, before the peer's Continue came to it.
+-- F8: A goes on with a transaction that it began, before the peer's Continue came to it.
 pub wrong_half : IsBlamed all_expire
     (Sent A (Begin (1 ∷ []) None None)
     ∷ Sent B (Begin (7 ∷ []) None None)
@@ -81,7 +83,7 @@ pub wrong_half : IsBlamed all_expire
     Unblamed
 wrong_half = ((refl, (refl, refl)), (refl, tt))
 
--- After the peer's Continue it may.
+-- A may do so after the peer's Continue.
 pub right_half : IsBlamed all_expire
     (Sent A (Begin (1 ∷ []) None None)
     ∷ Sent B (Continue (7 ∷ []) (1 ∷ []) None None)

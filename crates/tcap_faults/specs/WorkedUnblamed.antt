@@ -1,4 +1,4 @@
--- Worked rows: why nothing is blamed on an end at an entry.
+-- Why is nothing blamed on an end at an entry of a worked record?
 use Rattle.std.specs.Prelude.{◌≡◌, ℕ, List, [], ◌∷◌, map, Option, Some, None, refl}
 use Rattle.tcap_msg.specs.declared.message.Message.TheVariants.{Begin, Continue, End as EndMessage}
 use Rattle.tcap_record.specs.declared.entry.End.{End as Side}
@@ -22,11 +22,11 @@ ends side dtid = Sent side (EndMessage (id dtid) None None)
 abbrev unblamed : List Item → Side → ℕ → Option Unblamed
 unblamed items side number = unblamed_at table side (map entry_of items) number
 
--- A uses 01 again in entry 2. Its half with 03 is open at the mark, and the next dialogue begins after that.
+-- A uses 01 again in entry 2. Its half with 03 is open at the mark, and the next dialogue begins after the mark.
 abbrev used_again : List Item
 used_again = begins A 1 ∷ ends B 1 ∷ begins A 1 ∷ begins A 3 ∷ goes_on B 9 3 ∷ goes_on A 3 9 ∷ Item.Quiet ∷ begins A 4 ∷ []
 
--- From that entry on A is blamed for nothing, up to the quiet mark and at the mark; after the mark that no longer matters.
+-- From entry 2 on, nothing is blamed on A up to the quiet mark and at it. After the mark, entry 2 no longer matters.
 pub before_it : unblamed used_again A 1 ≡ None
 before_it = refl
 
@@ -42,6 +42,6 @@ at_the_mark = refl
 pub after_the_mark : unblamed used_again A 7 ≡ None
 after_the_mark = refl
 
--- B used none again.
+-- B used no ID again.
 pub of_the_peer : unblamed used_again B 6 ≡ None
 of_the_peer = refl

@@ -1,4 +1,4 @@
-//! Components by their invoke IDs: how they are counted, and those that a half does not allow (F10 to F13).
+//! The components of a message: their counts by invoke ID, and those that a half does not allow (F10 to F13).
 
 pub(crate) mod answer_faults;
 pub(crate) mod class_counts;

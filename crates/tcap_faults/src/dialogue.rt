@@ -1,4 +1,4 @@
-//! The half of a dialogue over which a message goes, and messages that do not fit it (F8, F9, F14, F15).
+//! The half over which a message goes, and messages that do not fit it (F8, F9, F14, F15).
 
 pub(crate) mod half;
 pub(crate) mod half_lookup;

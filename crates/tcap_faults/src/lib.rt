@@ -1,5 +1,5 @@
-//! What an end of TCAP dialogues did wrong, whatever its peer did (Q.771, Q.773, Q.774): kinds of faults over a list of
-//! messages, each of which can be checked by hand.
+//! Finds what an end of TCAP dialogues did wrong, no matter what its peer did (Q.771, Q.773, Q.774). Each kind of
+//! fault is a fact about a list of messages that can be checked by hand.
 #![tactic(auto)]
 
 mod component;

@@ -1,4 +1,4 @@
-//! Transaction IDs: what is kept of what both ends sent from them and to them, and which of them are tangled.
+//! Transaction IDs: what both ends sent from and to each, and which are tangled.
 
 pub(crate) mod history;
 pub(crate) mod history_update;

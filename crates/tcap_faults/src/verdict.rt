@@ -1,4 +1,4 @@
-//! What is wrong with the entries of a record: the first fault of an end, what it is about, and why there is none.
+//! The verdict on a record: the first fault of an end, what it is about, and why there is none.
 
 pub(crate) mod earlier_entries;
 pub(crate) mod fault_subject;

@@ -1,4 +1,4 @@
--- What is asked of what was noted is what a kind asks of the list.
+-- The kinds that the notes give are the kinds that the list gives.
 use Rattle.std.proofs.Common.{◌≡◌, ℕ, Bool, true, false, cond, ◌&&◌, ◌||◌, List, [], ◌∷◌, Option, Some, None, refl, sym, ap, ◌∙◌}
 use Rattle.std.proofs.Math.Path.{fun_ext}
 use Rattle.std.specs.List.{find, list_any}
@@ -26,15 +26,15 @@ use Rattle.tcap_refute.specs.Asking.{AreOfIds, comes_after_end, component_by, di
 use Rattle.tcap_refute.proofs.TestLaws.{and_false}
 use Rattle.tcap_refute.proofs.ToldLaws.{answering, component_told, from_id, nothing_of, same_any, there, told_is, told_of, wrong}
 
--- ---- a transaction that the peer did not speak of
+-- ---- F2
 
--- A message from an ID is a Begin or a Continue.
+-- A message with this originating ID is a Begin or a Continue.
 spoke : (table : Table) (id : List ℕ) (m : Message) → is_id id (otid_in m) ≡ true → shows_from table Spoke m ≡ true
 spoke table id (Begin otid dialogue components) is = refl
 spoke table id (Continue otid dtid dialogue components) is = refl
 spoke table id m is = cc
 
--- So one was sent from there where there are any.
+-- If there is a message from the ID, `Spoke` holds.
 spoke_where : (table : Table) (id : List ℕ) (xs : List Message) (m : Message) (ms : List Message)
     → from_id id xs ≡ m ∷ ms → told_of table (m ∷ ms) Spoke ≡ true
 spoke_where table id [] m ms is = cc
@@ -73,7 +73,7 @@ transaction table items side (EndMessage dtid dialogue components) = unasked tab
 transaction table items side (Abort dtid reason) = unasked table items side dtid (cause_in (Abort dtid reason))
 transaction table items side m = refl
 
--- ---- an ID that was used
+-- ---- F3
 
 begin_reused : (table : Table) (id : List ℕ) (m : Message)
     → (is_id id (otid_in m) && shows_from table Spoke m) ≡ is_id id (otid_in m)
@@ -97,7 +97,7 @@ reused table items side (Continue otid dtid dialogue components) =
     same_any _ _ (sent_by side (since_quiet items)) (continue_reused table otid dtid)
 reused table items side m = refl
 
--- ---- behind the end
+-- ---- F4
 
 after_end : (table : Table) (items : List Item) (side : Side) (m : Message)
     → comes_after_end (told_ended (told_by_list table items side) (dtid_in m)) (cause_in m)
@@ -110,7 +110,7 @@ after_end table items side (Abort dtid None) = refl
 after_end table items side (Abort dtid (Some (reasons.Cause cause))) = refl
 after_end table items side (Abort dtid (Some (reasons.Dialogue dialogue))) = refl
 
--- ---- the dialogue portion
+-- ---- F7
 
 module _ (table : Table) (items : List Item) (side : Side) where
   asks : (m : Message) → shows_from table Asked m ≡ is_begin_with_request m
@@ -147,12 +147,12 @@ chained false true c x y z rest = refl
 chained false false true x y z rest = refl
 chained false false false x y z rest = refl
 
--- the lowest kind, asked of one end or not
+-- The lowest kind by the list, for one end or for both.
 abbrev kind_found : Bool → Table → List Item → Side → Message → Option Kind
 kind_found false table items side m = lowest_kind table items (Sent side m)
 kind_found true table items side m = find (is_of_first_kind table side (since_quiet items) m) first_kinds
 
--- the same, by what the list gives
+-- The lowest kind by the list, of F2 to F7 in order.
 abbrev kind_chosen : Bool → Table → List Item → Side → Message → Option Kind
 kind_chosen of_one table items side m =
     cond (is_unknown_transaction side (since_quiet items) m) (Some kinds.UnknownTransaction)
@@ -167,7 +167,7 @@ found : (of_one : Bool) (table : Table) (items : List Item) (side : Side) (m : M
 found true table items side m = refl
 found false table items side m = refl
 
--- The kind by what the list tells is the lowest one.
+-- The kind from the facts in the list is the lowest kind.
 kind_by_list : (of_one : Bool) (table : Table) (items : List Item) (side : Side) (m : Message)
     → kind_by of_one table (told_from (told_by_list table items side) (otid_in m)) (there table items side m)
     (told_ended (told_by_list table items side) (dtid_in m)) m
@@ -187,7 +187,7 @@ kind_by_list of_one table items side m =
     ) refl
     ∙ found of_one table items side m
 
--- So it is by what is kept of its IDs,
+-- The kind from what is kept of the message's IDs is the lowest kind.
 pub kind_kept : (of_one : Bool) (table : Table) (items : List Item) (side : Side) (m : Message) (own there : Option FromId)
     (ended : Bool) → AreOfIds table items side m own there ended
     → kind_by of_one table (told_by_from own) (told_by_from there) ended m ≡ kind_found of_one table items side m
@@ -199,7 +199,7 @@ kind_kept of_one table items side m own there ended are =
     (told_from (told_by_list table items (other side)) (dtid_in m)) b m) are.has_ended
     ∙ kind_by_list of_one table items side m
 
--- and so is the component by which a message has a kind.
+-- The component from what is kept is the component that the definitions give.
 pub component_kept : (of_one : Bool) (table : Table) (items : List Item) (side : Side) (m : Message) (kind : Kind)
     (there : Option FromId)
     → ((fact : FromFact) → told_by_from there fact ≡ told_from (told_by_list table items (other side)) (dtid_in m) fact)
@@ -208,7 +208,7 @@ pub component_kept : (of_one : Bool) (table : Table) (items : List Item) (side :
 component_kept of_one table items side m kind there told =
     ap (λ told. component_by of_one table told m kind) (fun_ext told) ∙ component_told table items side of_one m kind
 
--- ---- what is noted of items tells what they do
+-- ---- the notes on items agree with the items
 
 module _ (table : Table) (items : List Item) (notes : Notes) (are : AreNotesOf table items notes) (side : Side) where
   noted_from : (id : Option (List ℕ)) (fact : FromFact)

@@ -1,4 +1,4 @@
--- What was sent since the last quiet mark stands behind it: what an end sent, and what it was asked from an ID.
+-- A message that was sent since the last quiet mark is among the messages after it, and those are what tests find.
 use Rattle.std.proofs.Common.{◌≡◌, Bool, true, false, cond, ℕ, List, [], ◌∷◌, ◌++◌, Option, Some, refl, ap, sym}
 use Rattle.std.specs.Prelude.{Contains, ◌||◌}
 use Rattle.std.specs.List.{cons_option, list_any}
@@ -23,11 +23,11 @@ use Rattle.tcap_refute.proofs.Members.{filter_has, filter_map_has, flat_map_has,
 
 -- ---- tests
 
--- An ID is that ID.
+-- An ID equals itself.
 pub is_that_id : (id : List ℕ) (o : Option (List ℕ)) → o ≡ Some id → is_id id o ≡ true
 is_that_id id o is = rw is ((bytes_eq-Decides id id).1 refl)
 
--- The originating ID of a Begin or a Continue is the one that it carries; other messages carry none.
+-- A Begin or a Continue carries its originating ID; other messages have none.
 pub originating_is : (m : Message) → originating m ≡ otid_in m
 originating_is (Unidirectional dialogue components) = refl
 originating_is (Begin otid dialogue components) = refl
@@ -35,9 +35,9 @@ originating_is (Continue otid dtid dialogue components) = refl
 originating_is (EndMessage dtid dialogue components) = refl
 originating_is (Abort dtid reason) = refl
 
--- ---- what stands there
+-- ---- what is after the mark
 
--- A message that was sent, with no mark behind it, stands behind the last mark.
+-- A message with no mark after it is after the last mark.
 behind_mark : (side : Side) (m : Message) (front behind : List Item) → has_quiet behind ≡ false
     → Contains (since_quiet (front ++ Sent side m ∷ behind)) (Sent side m)
 behind_mark side m [] behind none = rw none (has_first (Sent side m) behind)
@@ -53,7 +53,7 @@ behind_mark side m (item ∷ front) behind none =
     by false later = has_later item all (Sent side m)
         (Contains-append_right front (Sent side m ∷ behind) (Sent side m) (has_first (Sent side m) behind))
 
--- So it is among those that its end sent,
+-- Such a message is among those that its end sent.
 pub sent_has : (side : Side) (m : Message) (items : List Item) → SentSince side m items
     → Contains (sent_by side (since_quiet items)) m
 sent_has side m items (front, behind, is, none) =
@@ -61,33 +61,33 @@ sent_has side m items (front, behind, is, none) =
     (filter_map_has (message_of side) (since_quiet (front ++ Sent side m ∷ behind)) (Sent side m) m
     (behind_mark side m front behind none) (ap (λ b. where_so b (Some m)) (itself side)))
 
--- and among what the other end was asked from its originating ID;
+-- Such a message is among those that the peer sent from its originating ID.
 pub asked_has : (side : Side) (id : List ℕ) (m : Message) (items : List Item) → SentSince (other side) m items
     → otid_in m ≡ Some id → Contains (asked side id (since_quiet items)) m
 asked_has side id m items since from =
     filter_has (λ n. is_id id (otid_in n)) (sent_by (other side) (since_quiet items)) m
     (sent_has (other side) m items since) (is_that_id id (otid_in m) from)
 
--- and so its components are among those of what was asked.
+-- Its components are among those of the peer's messages from that ID.
 pub component_has : (side : Side) (id : List ℕ) (m : Message) (c : Component) (items : List Item)
     → SentSince (other side) m items → otid_in m ≡ Some id → Contains (components_in m) c
     → Contains (components_of (asked side id (since_quiet items))) c
 component_has side id m c items since from inside =
     flat_map_has components_in (asked side id (since_quiet items)) m c (asked_has side id m items since from) inside
 
--- ---- what a test finds among what was sent
+-- ---- what a test finds
 
--- A message that an end sent since, and which passes.
+-- The end sent a message since the last mark that passes.
 abbrev pub Found : Side → (Message → Bool) → List Item → Type 0
 Found side p items = (m : Message) × SentSince side m items × (p m ≡ true)
 
--- It is found with one item more before the others.
+-- One more item in front changes nothing.
 found_later : (side : Side) (p : Message → Bool) (item : Item) (items : List Item) → Found side p items
     → Found side p (item ∷ items)
 found_later side p item items (m, (front, behind, is, clear), passes) =
     (m, (item ∷ front, behind, ap (λ more. item ∷ more) is, clear), passes)
 
--- Where there is no mark, what the test finds was sent since.
+-- If there is no mark, a message that a test finds was sent since the last mark.
 found_all : (side : Side) (p : Message → Bool) (items : List Item) → has_quiet items ≡ false
     → list_any p (sent_by side items) ≡ true → Found side p items
 found_all side p [] none found = cc
@@ -109,7 +109,7 @@ found_all side p (Sent sender n ∷ items) none found =
     by true own is rest = here (p n) refl (same_side side sender own) is rest
     by false own is rest = rest is
 
--- What it finds among what an end sent behind the last mark was sent since.
+-- A message that a test finds among those after the last mark was sent since that mark.
 pub found_since : (side : Side) (p : Message → Bool) (items : List Item)
     → list_any p (sent_by side (since_quiet items)) ≡ true → Found side p items
 found_since side p [] found = cc

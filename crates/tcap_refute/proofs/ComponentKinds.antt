@@ -1,5 +1,4 @@
--- No message that is sent answers what its end was never asked (Q.774 3.2), or is of an operation that it may not be of
--- (Q.771 3.1).
+-- No message that an end sends has F5 (Q.774 3.2) or F6 (Q.771 3.1).
 use Rattle.std.proofs.Common.{◌≡◌, ◌⊎◌, inl, inr, Bool, true, false, ℤ, List, [], ◌∷◌, Option, Some, None, Result, Ok, Err, is_none, is_some, not, refl, sym, ◌∙◌}
 use Rattle.std.specs.Prelude.{◌||◌, ok_or}
 use Rattle.std.specs.List.{AllByRecursion, list_any}
@@ -34,7 +33,7 @@ use Rattle.tcap_refute.proofs.Members.{any_has, has_not}
 use Rattle.tcap_refute.proofs.SentLaws.{IsSent}
 use Rattle.tcap_refute.proofs.FoundedLaws.{IsFounded, IsInvoked, MayAnswer, MayReject, begin_founded, one_of_all, over_founded}
 
--- Where none of which that holds passes, none of all does.
+-- If no element with `P` passes, and all elements have `P`, none passes.
 none_passes : {A : Type 0} (P : A → Type 0) (test : A → Bool) (xs : List A) → ((x : A) → P x → test x ≡ true → ⊥)
     → AllByRecursion P xs → list_any test xs ≡ true → ⊥
 none_passes P test xs none all found = let (x, holds, passes) = one_of_all P test xs all found in none x holds passes
@@ -44,13 +43,13 @@ none_passes P test xs none all found = let (x, holds, passes) = one_of_all P tes
 same_id : (id : ℤ) → is_invoke_id id id ≡ true
 same_id id = rw (tied_itself int_cmp_total id) refl
 
--- An Invoke with its ID is there;
+-- The Invoke is there.
 has_invoke : (cs : List Component) (id : ℤ) (item : Invocation) → IsInvoked cs id item
     → not (list_any (invokes id) cs) ≡ true → ⊥
 has_invoke cs id item (linked, parameter, has) is =
     both_ways _ (not-true _ is) (any_has (invokes id) cs (Invoke id linked item.code parameter) has (same_id id))
 
--- an answer with its ID is.
+-- The answer is there.
 is_answered : (is_result : Bool) (id : ℤ) (answer : Answer) (c : Component) → answer.is_result ≡ is_result
     → IsAnswer answer id c → answers is_result id c ≡ true
 is_answered true id answer (ReturnResult last other body) sort is = rw (is.1) (same_id id)
@@ -65,7 +64,7 @@ has_answer : (cs : List Component) (is_result : Bool) (id : ℤ) → MayReject c
 has_answer cs is_result id (answer, (c, sort, has), same) is =
     both_ways _ (not-true _ is) (any_has (answers is_result id) cs c has (is_answered is_result id answer c same sort))
 
--- So it answers or rejects one of them,
+-- A founded component answers or rejects one of these components.
 answers_one : (table : Table) (cs : List Component) (c : Component) → IsFounded table cs c
     → answers_none_of cs c ≡ true → ⊥
 answers_one table cs (Invoke id linked code parameter) founded is = cc
@@ -76,14 +75,14 @@ answers_one table cs (Reject (Some id) (problems.ReturnResult n)) founded is = h
 answers_one table cs (Reject (Some id) (problems.ReturnError n)) founded is = has_answer cs false id founded is
 answers_one table cs c founded is = absurd founded
 
--- and where there are none it is an Invoke;
+-- If there are no components, a founded component is an Invoke.
 of_nothing : (table : Table) (c : Component) → IsFounded table [] c → (is_answer c || is_reject c) ≡ true → ⊥
 of_nothing table (Invoke id linked code parameter) founded is = cc
 of_nothing table (Reject None problem) founded is = absurd founded
 of_nothing table (Reject (Some id) (problems.General n)) founded is = absurd founded
 of_nothing table c founded is = has_not _ founded.1.2
 
--- the table has its operation;
+-- The table has the operation of a founded Invoke.
 known_operation : (table : Table) (cs : List Component) (c : Component) → IsFounded table cs c
     → is_unknown_operation table c ≡ true → ⊥
 known_operation table cs (Invoke id linked code parameter) founded is = by (operation_of table code) founded is
@@ -93,7 +92,7 @@ known_operation table cs (Invoke id linked code parameter) founded is = by (oper
     by (Some x) some none = cc
 known_operation table cs c founded is = cc
 
--- and an answer is one that the class of an invocation allows.
+-- The class of an invocation allows the answer.
 class_allows : (table : Table) (cs : List Component) (is_result : Bool) (id : ℤ) (named : Option Code)
     → MayAnswer table cs is_result id named → not (list_any (may_be_answered table is_result id named) cs) ≡ true → ⊥
 class_allows table cs is_result id named (item, (linked, parameter, has), may) is =
@@ -110,7 +109,7 @@ of_its_class table cs c founded is = cc
 
 -- ---- a Unidirectional
 
--- It carries Invokes of class 4.
+-- A component of a Unidirectional is an Invoke of class 4.
 abbrev IsUni : Table → Component → Type 0
 IsUni table (Invoke id linked code parameter) = of_class reports_neither (class_of table code) ≡ true
 IsUni table _ = ⊥
@@ -145,9 +144,9 @@ of_class_4 : (table : Table) (c : Component) → IsUni table c → is_not_of_cla
 of_class_4 table (Invoke id linked code parameter) uni is = both_ways _ (not-true _ is) uni
 of_class_4 table c uni is = absurd uni
 
--- ---- both kinds
+-- ---- F5 and F6
 
--- All answer or reject one of these components, or neither.
+-- All founded components that answer or reject do so to one of these components.
 all_answer : (table : Table) (cs components : List Component) → AllByRecursion (IsFounded table cs) components
     → list_any (answers_none_of cs) components ≡ true → ⊥
 all_answer table cs components = none_passes (IsFounded table cs) (answers_none_of cs) components (answers_one table cs)
@@ -168,7 +167,7 @@ answers_nothing_sent table events w side (EndMessage dtid dialogue components) i
     (over_founded dtid it refl) is
 answers_nothing_sent table events w side (Abort dtid reason) it is = cc
 
--- An operation is unknown, or no class allows an answer.
+-- No founded component has an unknown operation, or is an answer that no class allows.
 neither : (table : Table) (cs components : List Component) → AllByRecursion (IsFounded table cs) components
     → (list_any (is_unknown_operation table) components || list_any (no_class_allows table cs) components) ≡ true → ⊥
 neither table cs components all is =

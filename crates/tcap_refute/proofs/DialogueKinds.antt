@@ -1,4 +1,4 @@
--- No message that is sent has a dialogue portion that no message of its kind carries (Q.774 3.2).
+-- No message that an end sends has F7 (Q.774 3.2).
 use Rattle.std.proofs.Common.{◌≡◌, ◌⊎◌, inl, inr, Bool, true, false, ℕ, List, Option, Some, None, is_none, is_some, not, refl, sym, ◌∙◌}
 use Rattle.std.specs.Prelude.{◌&&◌, ◌||◌}
 use Rattle.std.specs.List.{list_any}
@@ -31,17 +31,17 @@ use Rattle.tcap_refute.proofs.SentLaws.{IsSent, half_over}
 
 -- ---- portions that a half may carry
 
--- A half in Received that was asked for a dialogue.
+-- A half in Received whose peer asked for a dialogue.
 abbrev pub IsAsked : Phase → Standing → Type 0
 IsAsked phase standing = (phase ≡ phases.Received) × (standing ≡ standings.Asked)
 
--- A half that goes on carries none, or was asked for a dialogue and accepts it.
+-- The portion of a Continue or an End is none, or accepts a dialogue that was asked for.
 pub goes_on : (phase : Phase) (standing : Standing) (d : Option Dialogue) → may_go_on phase standing d ≡ true
     → (is_none d ≡ true) ⊎ (IsAsked phase standing × (accepts_dialogue d ≡ true))
 goes_on phases.Received standings.Asked d may = inr ((refl, refl), may)
 goes_on phase standing d may = inl may
 
--- One that aborts carries none, or an ABRT of the user, or was asked for a dialogue and refuses it.
+-- The portion of an Abort is none, a user's ABRT, or refuses a dialogue that was asked for.
 pub aborts : (phase : Phase) (standing : Standing) (d : Option Dialogue) → may_abort phase standing d ≡ true
     → ((is_none d || is_user_abort d) ≡ true) ⊎ (IsAsked phase standing × (refuses_dialogue d ≡ true))
 aborts phases.Received standings.Asked d may = by (is_none d) (refuses_dialogue d) (is_user_abort d) refl may
@@ -56,19 +56,19 @@ aborts phase standing d may = inl (or_left (is_none d) (is_user_abort d) may)
 
 -- ---- tests
 
--- None is not misplaced.
+-- No portion is not misplaced in a Continue or an End.
 none_misplaced : (is_asked : Bool) (d : Option Dialogue) → is_none d ≡ true → is_misplaced_going_on is_asked d ≡ true
     → ⊥
 none_misplaced is_asked None none is = cc
 none_misplaced is_asked (Some d) none is = cc
 
--- Nor is one that accepts a dialogue that was asked for,
+-- A portion that accepts a dialogue that was asked for is not misplaced.
 answer_misplaced : (is_asked : Bool) (d : Option Dialogue) → is_asked ≡ true → accepts_dialogue d ≡ true
     → is_misplaced_going_on is_asked d ≡ true → ⊥
 answer_misplaced is_asked None asked accepts is = cc
 answer_misplaced is_asked (Some d) asked accepts is = let bad : false ≡ true = rw (asked, accepts) at is in cc
 
--- nor, in an Abort, none or an ABRT of the user,
+-- No portion, or a user's ABRT, is not misplaced in an Abort.
 user_misplaced : (is_asked : Bool) (d : Option Dialogue) → (is_none d || is_user_abort d) ≡ true
     → is_misplaced_aborting is_asked d ≡ true → ⊥
 user_misplaced is_asked (Some (dialogues.Abort source info)) so is =
@@ -76,14 +76,14 @@ user_misplaced is_asked (Some (dialogues.Abort source info)) so is =
     let bad : false ≡ true = rw zero at is in cc
 user_misplaced is_asked o so is = cc
 
--- or one that refuses a dialogue that was asked for.
+-- A portion that refuses a dialogue that was asked for is not misplaced in an Abort.
 refusal_misplaced : (is_asked : Bool) (d : Option Dialogue) → is_asked ≡ true → refuses_dialogue d ≡ true
     → is_misplaced_aborting is_asked d ≡ true → ⊥
 refusal_misplaced is_asked (Some (dialogues.Response context result diagnostic info)) asked refuses is =
     let bad : false ≡ true = rw (asked, refuses) at is in cc
 refusal_misplaced is_asked o asked refuses is = cc
 
--- A portion that has to pass where it is there does not fail.
+-- A portion that passes if it is there does not fail.
 only_such : {A : Type 0} (o : Option A) (passes : Bool) → (is_none o || passes) ≡ true
     → (is_some o && not passes) ≡ true → ⊥
 only_such None passes may is = cc
@@ -92,7 +92,7 @@ only_such (Some x) false may is = cc
 
 -- ---- messages
 
--- A Begin asks for a dialogue where it carries a request.
+-- A Begin asks for a dialogue if it has an AARQ.
 asks_is : (m : Message) → asks m ≡ is_begin_with_request m
 asks_is (Unidirectional dialogue components) = refl
 asks_is (Begin otid dialogue components) = refl
@@ -113,14 +113,14 @@ module _ {table : Table} {events : List Event} {w : World} {side : Side} {messag
   abbrev is_asked : Bool
   is_asked = list_any is_begin_with_request (asked side id (since_quiet w.sent))
 
-  -- A half that was asked for a dialogue was asked by a Begin from its peer.
+  -- A half that was asked for a dialogue got a Begin with an AARQ from its peer.
   was_asked : IsAsked phase standing → is_asked ≡ true
   was_asked (received, asked_for) =
       let (m, since, so, from) = (knows table events w side half.kept it.runs half.had).request received asked_for in
       any_has is_begin_with_request (asked side id (since_quiet w.sent)) m
       (asked_has side id m w.sent since (sym (originating_is m) ∙ from ∙ half.peer)) (sym (asks_is m) ∙ so)
 
-  -- A Continue or an End carries what its half may carry,
+  -- A Continue or an End has a portion that its half may carry.
   going_on : may_go_on phase standing d ≡ true → is_misplaced_going_on is_asked d ≡ true → ⊥
   going_on may is = by (goes_on phase standing d may)
     where
@@ -128,7 +128,7 @@ module _ {table : Table} {events : List Event} {w : World} {side : Side} {messag
       by (inl none) = none_misplaced is_asked d none is
       by (inr (so, accepts)) = answer_misplaced is_asked d (was_asked so) accepts is
 
-  -- and so does an Abort.
+  -- An Abort has a portion that its half may carry.
   aborting : may_abort phase standing d ≡ true → is_misplaced_aborting is_asked d ≡ true → ⊥
   aborting may is = by (aborts phase standing d may)
     where
@@ -137,7 +137,7 @@ module _ {table : Table} {events : List Event} {w : World} {side : Side} {messag
       by (inr (so, refuses)) = refusal_misplaced is_asked d (was_asked so) refuses is
 
 module _ (table : Table) (events : List Event) (w : World) (side : Side) where
-  -- What is sent carries no portion that is misplaced.
+  -- No message that an end sends has a misplaced portion.
   pub misplaced_sent : (message : Message) → IsSent table events w side message
       → is_misplaced_dialogue side (since_quiet w.sent) message ≡ true → ⊥
   misplaced_sent (Unidirectional dialogue components) it is =

@@ -1,4 +1,4 @@
--- What is told of an end behind a message more.
+-- The facts about an end after one more message.
 use Rattle.std.proofs.Common.{◌≡◌, ℕ, Bool, true, false, ◌&&◌, ◌||◌, List, Some, None, bytes_eq, refl, sym, ap, ◌∙◌}
 use Rattle.std.specs.BTreeMap.{BTreeMap, WritesThrough, is_at}
 use Rattle.std.specs.BTreeSet.{BTreeSet, insert_key}
@@ -36,10 +36,10 @@ at_id a b = by (is_at (octets_cmp a) b) (bytes_eq a b) refl refl
 at_other : (a b : List ℕ) → is_at (octets_cmp a) b ≡ is_id b (Some a)
 at_other a b = (eq_by_cmp_equiv nat_list_cmp_total).symm a b ∙ at_id b a
 
--- ---- a message from one
+-- ---- one more message from an ID
 
 module _ (table : Table) (id : List ℕ) (m : Message) (old new : BTreeMap (List ℕ) FromId) (s : FromId) where
-  -- Something was kept of the ID.
+  -- If something was kept of the ID.
   pub from_written : (was : FromId) → Some was ≡ lookup (is_at (octets_cmp id)) old.entries
       → WritesThrough octets_cmp (octets_cmp id) old s new
       → ((f : FromFact) → tells_from f s ≡ (tells_from f was || shows_from table f m)) → (other : List ℕ) (f : FromFact)
@@ -49,7 +49,7 @@ module _ (table : Table) (id : List ℕ) (m : Message) (old new : BTreeMap (List
       written exact_bytes tells_from (λ f. shows_from table f m) old new id was s there writes told other f
       ∙ ap (λ b. told_at exact_bytes tells_from old.entries other f || (b && shows_from table f m)) (at_other id other)
 
-  -- Nothing was.
+  -- If nothing was kept of the ID.
   pub from_made : (fresh : FromId) → None ≡ lookup (is_at (octets_cmp id)) old.entries
       → Puts exact_bytes tells_from old.entries new.entries id s
       → ((f : FromFact) → tells_from f fresh ≡ false)
@@ -61,7 +61,7 @@ module _ (table : Table) (id : List ℕ) (m : Message) (old new : BTreeMap (List
       made exact_bytes tells_from (λ f. shows_from table f m) old new id fresh s none puts nothing told other f
       ∙ ap (λ b. told_at exact_bytes tells_from old.entries other f || (b && shows_from table f m)) (at_other id other)
 
--- ---- a message
+-- ---- one more message
 
 pub end_noted : (table : Table) (m : Message) (old headed new : EndNotes)
     → ((id : List ℕ) (f : FromFact)

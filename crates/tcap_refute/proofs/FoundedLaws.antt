@@ -1,5 +1,5 @@
--- What a component that is sent answers or rejects came to its half before (Q.774 3.2), and what came from the half's
--- peer is among what was asked from there.
+-- What a sent component answers or rejects came to its half before (Q.774 3.2). What came to the half is among what
+-- its peer sent from that ID.
 use Rattle.std.proofs.Common.{◌≡◌, Bool, true, false, cond, ℕ, ℤ, List, [], ◌∷◌, Option, Some, None, Result, Ok, is_none, is_some, refl, sym, ◌∙◌}
 use Rattle.std.specs.Prelude.{Contains, ◌||◌, option_map}
 use Rattle.std.specs.List.{AllByRecursion, list_any}
@@ -39,7 +39,7 @@ use Rattle.tcap_refute.proofs.BeforeLaws.{component_has, originating_is}
 use Rattle.tcap_refute.proofs.OverLaws.{IsOver}
 use Rattle.tcap_refute.proofs.SentLaws.{IsSent, half_over}
 
--- Where a test finds an item, what holds of each holds of one that passes.
+-- If all elements have `P` and a test finds one, some element has `P` and passes.
 pub one_of_all : {A : Type 0} (P : A → Type 0) (fits : A → Bool) (xs : List A) → AllByRecursion P xs
     → list_any fits xs ≡ true → (x : A) × P x × (fits x ≡ true)
 one_of_all P fits [] all found = cc
@@ -53,21 +53,21 @@ one_of_all {A} P fits (x ∷ xs) all found = by (fits x) refl found (one_of_all 
 
 -- ---- what came to a half
 
--- An invocation that a half received is among these components;
+-- These components have the Invoke of an invocation that a half received.
 abbrev pub IsInvoked : List Component → ℤ → Invocation → Type 0
 IsInvoked cs id item =
     (linked : Option ℤ) × (parameter : Option (List ℕ)) × Contains cs (Invoke id linked item.code parameter)
 
--- an answer is.
+-- These components have an answer that a half received.
 abbrev pub IsAnswered : List Component → ℤ → Answer → Type 0
 IsAnswered cs id answer = (component : Component) × IsAnswer answer id component × Contains cs component
 
--- All that a half received is among these components.
+-- These components have all that a half received.
 pub record Came (cs : List Component) (h : Half) : Type 0 where
   pub inn : (id : ℤ) → AllByRecursion (IsInvoked cs id) (listed id h.inn)
   pub grants : (id : ℤ) → AllByRecursion (IsAnswered cs id) (listed id h.grants)
 
--- So is what is left where the oldest that fits is taken.
+-- They have all that remains after the oldest fitting invocation is taken.
 took_inn : (cs : List Component) (h : Half) (id : ℤ) (fits : Invocation → Bool) → Rises int_cmp h.inn → Came cs h
     → Came cs (record h { inn = without_oldest_of id fits h.inn })
 took_inn cs h id fits rises came =
@@ -78,23 +78,23 @@ took_grants : (cs : List Component) (h : Half) (id : ℤ) (fits : Answer → Boo
 took_grants cs h id fits rises came =
     record { inn = came.inn; grants = λ q. taken_loses id fits h.grants rises q (IsAnswered cs q) (came.grants q) }
 
--- It is such a half where the step was Ok.
+-- Both halves are the same if the step was Ok.
 came_this : (cs : List Component) (x g : Half) → Came cs x → (let r : Result Half EndFault = Ok x in r) ≡ Ok g
     → Came cs g
 came_this cs x g came is = let same = ok_same {F = EndFault} x g is in rw (← same) came
 
 -- ---- components that are sent
 
--- An answer is of an invocation among these components that it may answer.
+-- These components have an invocation that the answer may answer.
 abbrev pub MayAnswer : Table → List Component → Bool → ℤ → Option Code → Type 0
 MayAnswer table cs is_result id named =
     (item : Invocation) × IsInvoked cs id item × (may_answer table is_result named item ≡ true)
 
--- A Reject is of an answer among them, of that sort.
+-- These components have an answer of this sort, to reject.
 abbrev pub MayReject : List Component → Bool → ℤ → Type 0
 MayReject cs is_result id = (answer : Answer) × IsAnswered cs id answer × (answer.is_result ≡ is_result)
 
--- What a component answers or rejects is among these components; what it invokes, the table has.
+-- These components have what this component answers or rejects; the table has what it invokes.
 abbrev pub IsFounded : Table → List Component → Component → Type 0
 IsFounded table cs (Invoke id linked code parameter) = is_some (operation_of table code) ≡ true
 IsFounded table cs (ReturnResult last id body) = MayAnswer table cs true id (option_map (λ b. b.code) body)
@@ -105,7 +105,7 @@ IsFounded table cs (Reject (Some id) (problems.Invoke n)) = (item : Invocation) 
 IsFounded table cs (Reject (Some id) (problems.ReturnResult n)) = MayReject cs true id
 IsFounded table cs (Reject (Some id) (problems.ReturnError n)) = MayReject cs false id
 
--- An answer of that sort that allows a problem is there.
+-- An answer that allows the problem is of this sort.
 allows_sort : (is_result : Bool) (n : ℕ) (answer : Answer) → allows_for is_result n answer ≡ true
     → answer.is_result ≡ is_result
 allows_sort is_result n answer is = by is_result answer.is_result is
@@ -123,7 +123,7 @@ rejects_answer cs h is_result n id came one =
     one_of_all (IsAnswered cs id) (allows_for is_result n) (listed id h.grants) (came.grants id) one in
     (answer, is, allows_sort is_result n answer fits)
 
--- A Reject is sent,
+-- A Reject that is sent is founded.
 reject_founded : (table : Table) (cs : List Component) (h g : Half) (id : Option ℤ) (problem : Problem)
     → Rises int_cmp h.inn → Rises int_cmp h.grants → Came cs h → send_reject h id problem ≡ Ok g
     → IsFounded table cs (Reject id problem) × Came cs g
@@ -142,7 +142,7 @@ reject_founded table cs h g (Some id) (problems.ReturnError n) inn grants came i
     let left = took_grants cs h id (allows_for false n) grants came in
     (rejects_answer cs h false n id came one, came_this cs _ g left done)
 
--- an Invoke,
+-- The table has the operation of an Invoke that is sent.
 invoke_founded : (table : Table) (cs : List Component) (h g : Half) (id : ℤ) (linked : Option ℤ) (code : Code)
     → Came cs h → send_invoke table h id linked code ≡ Ok g → (is_some (operation_of table code) ≡ true) × Came cs g
 invoke_founded table cs h g id linked code came is =
@@ -151,7 +151,7 @@ invoke_founded table cs h g id linked code came is =
     let may = needs_ok (may_link table h linked code) faults.BadLink _ g free.1 in
     (known.0, came_this cs _ g (record { inn = came.inn; grants = came.grants }) may.1)
 
--- or an answer.
+-- An answer that is sent is founded.
 answer_founded : (table : Table) (cs : List Component) (h g : Half) (is_result last : Bool) (id : ℤ)
     (named : Option Code) → Rises int_cmp h.inn → Came cs h → send_answer table h is_result last id named ≡ Ok g
     → MayAnswer table cs is_result id named × Came cs g
@@ -183,7 +183,7 @@ component_founded table cs h g (Reject id problem) inn grants came is =
 one_follows : (table : Table) (h g : Half) (c : Component) → send_component table h c ≡ Ok g → Follows h g
 one_follows table h g c is = (all_sends table (c ∷ []) h g (rw is refl)).follows
 
--- Components are sent, one after the other, and nothing comes meanwhile.
+-- All components of a sent message are founded; nothing is received in between.
 all_founded : (table : Table) (cs components : List Component) (h g : Half) → IsListed h.inn → IsListed h.grants
     → Came cs h → send_components table h components ≡ Ok g → AllByRecursion (IsFounded table cs) components
 all_founded table cs [] h g inn grants came is = tt
@@ -195,7 +195,7 @@ all_founded table cs (c ∷ more) h g inn grants came is =
 
 -- ---- a Begin
 
--- Nothing came to the half that it begins.
+-- The components of a Begin are founded on none.
 pub begin_founded : (table : Table) (e made : End) (otid : List ℕ) (dialogue : Option Dialogue)
     (components : List Component) → send_begin table e otid dialogue components ≡ Ok made
     → AllByRecursion (IsFounded table []) components
@@ -212,22 +212,23 @@ begin_founded table e made otid dialogue components is =
 
 -- ---- a message with a destination ID
 
--- an invocation that came from a half's peer, and an answer
+-- The invocation came from the half's peer.
 abbrev IsPeersInvoke : World → Side → KeptHalf → ℤ → Invocation → Type 0
 IsPeersInvoke w side f id item =
     (linked : Option ℤ) × (parameter : Option (List ℕ)) × CameFromPeer w side f (Invoke id linked item.code parameter)
 
+-- The answer came from the half's peer.
 abbrev IsPeersAnswer : World → Side → KeptHalf → ℤ → Answer → Type 0
 IsPeersAnswer w side f id answer =
     (component : Component) × IsAnswer answer id component × CameFromPeer w side f component
 
--- What came from a half's peer is among what was asked from there.
+-- What came from a half's peer is among what the peer sent from its ID.
 from_peer : (w : World) (side : Side) (f : KeptHalf) (id : List ℕ) (c : Component) → f.half.peer ≡ Some id
     → CameFromPeer w side f c → Contains (components_of (asked side id (since_quiet w.sent))) c
 from_peer w side f id c peer (m, since, from, has) =
     component_has side id m c w.sent since (sym (originating_is m) ∙ from ∙ peer) has
 
--- So is all that came to the half of the message.
+-- All that the message's half received is among what the peer sent from the destination ID.
 came_from : (table : Table) (events : List Event) (w : World) (side : Side) (message : Message) (id : List ℕ)
     → Runs table events w → (half : IsOver table (end_at side w) message id)
     → Came (components_of (asked side id (since_quiet w.sent))) half.start
@@ -248,7 +249,7 @@ came_from table events w side message id runs half = record {
     cs : List Component
     cs = components_of (asked side id (since_quiet w.sent))
 
--- So what it answers or rejects is.
+-- The components of a message are founded on what the peer sent from its destination ID.
 pub over_founded : {table : Table} {events : List Event} {w : World} {side : Side} {message : Message} (id : List ℕ)
     → IsSent table events w side message → dtid_in message ≡ Some id
     → AllByRecursion (IsFounded table (components_of (asked side id (since_quiet w.sent)))) (components_in message)

@@ -1,4 +1,4 @@
--- What is told of an originating ID behind a message more.
+-- The facts about an originating ID after one more message.
 use Rattle.std.proofs.Common.{◌≡◌, ℕ, ℤ, Bool, true, false, cond, not, ◌&&◌, ◌||◌, List, Option, Some, None, bytes_eq, refl, sym, ap, ◌∙◌}
 use Rattle.std.specs.List.{list_any}
 use Rattle.std.proofs.lemmas.Map.Lookups.{exact_signed}
@@ -26,7 +26,7 @@ or_itself false = refl
 same_octets : (a b : List ℕ) → bytes_eq a b ≡ true → a ≡ b
 same_octets a b e = (bytes_eq-Decides a b).0 e
 
--- Of two IDs that differ one is another than this.
+-- If two IDs differ, one of them differs from `id`.
 one_of_two : (id a b : List ℕ) → bytes_eq b a ≡ false → true ≡ (not (bytes_eq id a) || not (bytes_eq id b))
 one_of_two id a b apart = by (bytes_eq id a) (bytes_eq id b) refl refl
   where

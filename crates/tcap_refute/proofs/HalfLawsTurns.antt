@@ -1,4 +1,4 @@
--- What a step of one end makes of its halves, case by case: their phases, their IDs, and how their dialogues stand.
+-- What a step of one end changes in its halves, case by case: their phases, IDs and dialogues.
 use Rattle.std.proofs.Common.{◌≡◌, ◌≢◌, ◌⊎◌, inl, inr, true, false, ℕ, List, Option, Some, None, refl, sym, subst}
 use Rattle.std.proofs.lemmas.Map.Lookups.{exact_bytes}
 use Rattle.tcap_parts.specs.declared.component.Component.{Component}
@@ -25,27 +25,27 @@ use Rattle.tcap_refute.specs.Before.{ends_to}
 
 -- ---- one half
 
--- An end says a message, or hears one, or something happens to it unseen.
+-- What an end does: it sends a message, receives one, or takes a hidden step.
 pub data Deed : Type 0 where
   Said : Message → Deed
   Heard : Message → Deed
   Unseen : Deed
 
--- Why a half closes: what was said ends the dialogue with its peer; what was heard ends it at its own ID; or it may
--- close unseen.
+-- Why a half closes: a sent message ends the dialogue with its peer, a received one ends it at its own ID, or it
+-- closes in a hidden step.
 abbrev pub IsEnded : Table → Deed → Half → Type 0
 IsEnded table (Said m) h = (id : List ℕ) × (ended_by m ≡ Some id) × (h.peer ≡ Some id)
 IsEnded table (Heard m) h = (id : List ℕ) × (ends_to id m ≡ true) × (h.own ≡ Some id)
 IsEnded table Unseen h = may_close table h.phase ≡ true
 
--- A half keeps its phase, its IDs and its dialogue;
+-- The half keeps its phase, its IDs and its dialogue.
 pub record Stays (h g : Half) : Type 0 where
   pub phase : g.phase ≡ h.phase
   pub own : g.own ≡ h.own
   pub peer : g.peer ≡ h.peer
   pub standing : g.standing ≡ h.standing
 
--- it closes;
+-- The half closes.
 pub record Closes (table : Table) (deed : Deed) (h g : Half) : Type 0 where
   pub phase : g.phase ≡ phases.Closed
   pub own : g.own ≡ h.own
@@ -54,7 +54,7 @@ pub record Closes (table : Table) (deed : Deed) (h g : Half) : Type 0 where
   pub was_open : is_closed h.phase ≡ false
   pub ended : IsEnded table deed h
 
--- it answers a Begin by a Continue, and chooses its own ID;
+-- The half answers a Begin with a Continue, and chooses its own ID.
 pub record Answers (deed : Deed) (h g : Half) : Type 0 where
   pub id : List ℕ
   pub to : List ℕ
@@ -69,7 +69,7 @@ pub record Answers (deed : Deed) (h g : Half) : Type 0 where
   pub peer : g.peer ≡ Some to
   pub standing : g.standing ≡ confirm h.standing
 
--- or its Begin is answered by one, and it learns its peer's ID.
+-- A Continue answers the half's Begin, and the half learns its peer's ID.
 pub record Learns (deed : Deed) (h g : Half) : Type 0 where
   pub id : List ℕ
   pub from : List ℕ
@@ -85,14 +85,14 @@ pub record Learns (deed : Deed) (h g : Half) : Type 0 where
   pub standing : g.standing ≡ confirm h.standing
   pub answers : answers_request h.standing dialogue ≡ true
 
--- One of these became of it.
+-- One of these four happened to the half.
 pub data Turned (table : Table) (deed : Deed) (h g : Half) : Type 0 where
   stays : Stays h g → Turned table deed h g
   closes : Closes table deed h g → Turned table deed h g
   answers : Answers deed h g → Turned table deed h g
   learns : Learns deed h g → Turned table deed h g
 
--- A half began by saying a Begin from an ID that no half had,
+-- The half began: the end sent a Begin from an ID that no half had.
 pub record Starts (deed : Deed) (e : End) (f : KeptHalf) : Type 0 where
   pub dialogue : Option Dialogue
   pub components : Option (List Component)
@@ -104,7 +104,7 @@ pub record Starts (deed : Deed) (e : End) (f : KeptHalf) : Type 0 where
   pub peer : f.half.peer ≡ None
   pub standing : f.half.standing ≡ first_standing dialogue
 
--- or by hearing one from an ID that no half's peer had.
+-- The half began: the end received a Begin from an ID that no half's peer had.
 pub record Accepts (deed : Deed) (e : End) (f : KeptHalf) : Type 0 where
   pub dialogue : Option Dialogue
   pub components : Option (List Component)
@@ -118,24 +118,24 @@ pub record Accepts (deed : Deed) (e : End) (f : KeptHalf) : Type 0 where
 
 -- ---- an end
 
--- A half behind a step is new, or came of one that was there; and what was there became of something.
+-- Each half after the step is new, or one before it became it; each half before the step became one after it.
 pub record Acts (table : Table) (deed : Deed) (e next : End) : Type 0 where
   pub back : (g : KeptHalf) → Has next g
       → (Starts deed e g ⊎ Accepts deed e g) ⊎ ((h : Half) × Has e (record g { half = h }) × Turned table deed h g.half)
   pub forth : (f : KeptHalf) → Has e f → (g : Half) × Has next (record f { half = g }) × Turned table deed f.half g
 
--- A half stays as it is,
+-- A half may stay as it is.
 pub turned_self : {table : Table} {deed : Deed} (h : Half) → Turned table deed h h
 turned_self h = stays (record { phase = refl; own = refl; peer = refl; standing = refl })
 
--- and so does each of an end.
+-- All halves may stay as they are.
 pub acts_nowhere : (table : Table) (deed : Deed) (e : End) → Acts table deed e e
 acts_nowhere table deed e = record {
   back = λ g had. inr (g.half, had, turned_self g.half);
   forth = λ f had. (f.half, had, turned_self f.half);
 }
 
--- Two places are one, or are not.
+-- Two places are equal or not.
 one_place : (f g : KeptHalf) → ((f.slot ≡ g.slot) × (f.key ≡ g.key)) ⊎ (f.slot ≡ g.slot → f.key ≢ g.key)
 one_place f g = by (slots_eq f.slot g.slot) (keys_eq octets_total exact_bytes f.key g.key)
   where
@@ -145,7 +145,7 @@ one_place f g = by (slots_eq f.slot g.slot) (keys_eq octets_total exact_bytes f.
     by (inl slots) (inr apart) = inr (λ _. apart)
     by (inr apart) keys = inr (λ slots. absurd (apart slots))
 
--- A half of it becomes another,
+-- One half changes.
 pub put_acts : {table : Table} {deed : Deed} (e : End) (f : KeptHalf) (h : Half) → Has e f → Turned table deed f.half h
     → Acts table deed e (put e f.slot f.key h)
 put_acts {table} {deed} e f h had turned = record {
@@ -166,12 +166,12 @@ put_acts {table} {deed} e f h had turned = record {
         (h, rw (same.0, same.1) (put_there e f.slot f.key h), rw (← one) turned)
     forth g in_g (inr apart) = (g.half, put_other e f.slot f.key h g apart in_g, turned_self g.half)
 
--- What is kept at one place, and is one half, is the same.
+-- Equal parts make equal halves.
 same_kept : (s t : Slot) (k l : List ℕ) (h g : Half) → s ≡ t → k ≡ l → h ≡ g
     → (let f : KeptHalf = record { slot = s; key = k; half = h } in f) ≡ record { slot = t; key = l; half = g }
 same_kept s t k l h g slots keys halves = cc
 
--- or one begins, where none is kept.
+-- One half begins, at a place without a half.
 pub new_acts : {table : Table} {deed : Deed} (e : End) (f : KeptHalf)
     → ((g : KeptHalf) → Has e g → g.slot ≡ f.slot → g.key ≢ f.key) → Starts deed e f ⊎ Accepts deed e f
     → Acts table deed e (put e f.slot f.key f.half)

@@ -1,4 +1,4 @@
--- What is told of invoke IDs behind a component more.
+-- The facts about invoke IDs after one more component.
 use Rattle.std.proofs.Common.{◌≡◌, ℤ, Bool, true, false, ◌&&◌, ◌||◌, Some, None, int_cmp, refl, ap, ◌∙◌}
 use Rattle.std.specs.BTreeMap.{BTreeMap, WritesThrough, is_at}
 use Rattle.std.specs.Map.{lookup}
@@ -15,13 +15,13 @@ use Rattle.tcap_refute.specs.Kept.{tells}
 use Rattle.tcap_refute.proofs.TestLaws.{and_false, and_true}
 use Rattle.tcap_refute.proofs.SetLaws.{Puts, made, told_at, written}
 
--- ---- a component tells of its ID alone
+-- ---- a component adds facts about its own ID alone
 
 of_invoke : (a r n : Bool) → (a && (true && r && n)) ≡ (a && r && n)
 of_invoke true r n = refl
 of_invoke false r n = refl
 
--- Of what is to be told, one part is.
+-- Adding one part of the facts, and then the rest, adds all.
 pub one_more : (old part rest now all : Bool) → now ≡ (old || part) → (old || (part || rest)) ≡ all
     → (now || rest) ≡ all
 one_more true part rest now all is told = rw is told
@@ -51,11 +51,11 @@ module _ (table : Table) (id other : ℤ) where
   of_that_id (Reject n problem) f e = cc
   of_that_id c fact e = and_false _
 
--- ---- behind it
+-- ---- after one more component
 
 module _ (table : Table) (id : ℤ) (component : Component) (its : noted_id component ≡ Some id)
     (old new : BTreeMap ℤ ById) (s : ById) where
-  -- Something was kept of the ID.
+  -- If something was kept of the ID.
   pub id_written : (was : ById) → Some was ≡ lookup (is_at (int_cmp id)) old.entries
       → WritesThrough int_cmp (int_cmp id) old s new
       → ((f : IdFact) → tells f s ≡ (tells f was || shows table id f component)) → (other : ℤ) (f : IdFact)
@@ -65,7 +65,7 @@ module _ (table : Table) (id : ℤ) (component : Component) (its : noted_id comp
       written exact_signed tells (λ f. shows table id f component) old new id was s there writes told other f
       ∙ ap (λ b. told_at exact_signed tells old.entries other f || b) (of_that_id table id other component f its)
 
-  -- Nothing was.
+  -- If nothing was kept of the ID.
   pub id_made : (fresh : ById) → None ≡ lookup (is_at (int_cmp id)) old.entries
       → Puts exact_signed tells old.entries new.entries id s → ((f : IdFact) → tells f fresh ≡ false)
       → ((f : IdFact) → tells f s ≡ (tells f fresh || shows table id f component))

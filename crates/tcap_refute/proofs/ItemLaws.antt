@@ -1,4 +1,4 @@
--- What is noted behind one item more.
+-- The notes after one more item.
 use Rattle.std.proofs.Common.{◌≡◌, ℕ, Bool, true, false, cond, ◌&&◌, ◌||◌, List, [], ◌∷◌, ◌++◌, map, drop, Option, Some, None, Ok, refl, sym, ap, ◌∙◌}
 use Rattle.std.specs.List.{cons_option, list_any}
 use Rattle.std.proofs.lemmas.List.Folds.{list_any-append}
@@ -20,7 +20,7 @@ use Rattle.tcap_refute.specs.Kind.{lowest_kind, refuted, refuted_behind}
 use Rattle.tcap_refute.specs.Judging.{Judges}
 use Rattle.tcap_refute.proofs.TestLaws.{or_none}
 
--- ---- a message more
+-- ---- one more message
 
 module _ (side : Side) (m : Message) where
   quiet_kept : (xs : List Item) → has_quiet (xs ++ Sent side m ∷ []) ≡ has_quiet xs
@@ -59,7 +59,7 @@ module _ (side : Side) (m : Message) where
       by None rest = rest
       by (Some message) rest = ap (λ ms. message ∷ ms) rest
 
-  -- What the list tells, behind the message.
+  -- The facts in the list with the message.
   told_more : (table : Table) (items : List Item) (end : Side) (fact : EndFact)
       → told_by_list table (items ++ Sent side m ∷ []) end fact
       ≡ (told_by_list table items end fact || (is_side end side && shows_end table fact m))
@@ -79,7 +79,7 @@ module _ (side : Side) (m : Message) where
         ∙ sym (told_more table items end fact);
   }
 
-  -- A message that was asked for its kind and has none, and was noted.
+  -- The message has no kind, and was noted.
   pub passes : (table : Table) (items : List Item) (old new : Notes) → AreNotesOf table items old
       → (asked : Option Kind) → asked ≡ lowest_kind table items (Sent side m) → (asked ≡ None)
       → ((end : Side) (fact : EndFact) → told_by_notes new end fact
@@ -87,7 +87,7 @@ module _ (side : Side) (m : Message) where
       → Judges table items (Ok (Sent side m)) Passed new
   passes table items old new are asked is none told = (sym is ∙ none, noted table items old new are told)
 
--- ---- a quiet mark more
+-- ---- one more quiet mark
 
 quiet_last : (xs : List Item) → has_quiet (xs ++ Item.Quiet ∷ []) ≡ true
 quiet_last [] = refl
@@ -117,7 +117,7 @@ marked table items new told = (refl, noted_mark table items new told)
 
 -- ---- a record
 
--- What is left of the entries decides, behind these items, which are noted.
+-- The notes are on the items before the remaining entries, and these entries decide.
 pub record Searches (table : Table) (entries : List Entry) (number : ℕ) (notes : Notes) : Type 0 where
   pub items : List Item
   pub noted : AreNotesOf table items notes

@@ -1,4 +1,4 @@
--- No message that an end sends which keeps the rules, or that its provider replies, is of a kind.
+-- No message of an end that keeps the rules has a kind, nor does a reply of its provider.
 use Rattle.std.proofs.Common.{◌≡◌, ◌⊎◌, inl, inr, true, ℕ, List, ◌∷◌, ◌++◌, Some, refl, sym}
 use Rattle.std.proofs.lemmas.Option.{cond_some}
 use Rattle.tcap_msg.specs.declared.message.AbortReason.TheVariants.{Cause}
@@ -19,7 +19,7 @@ use Rattle.tcap_refute.proofs.MomentLaws.{IsMoment, RepliesIt, SendsIt, sent_at}
 use Rattle.tcap_refute.proofs.SentLaws.{IsSent}
 use Rattle.tcap_refute.proofs.TransactionKinds.{after_end_sent, reused_sent, unknown_replied, unknown_sent}
 
--- None is of a kind that the end sends,
+-- A message that the end sends has no kind.
 module _ (table : Table) (events : List Event) (w : World) (side : Side) (message : Message)
     (it : IsSent table events w side message) where
   kind_sent : (kind : Kind) → is_of_kind table side (since_quiet w.sent) message kind ≡ true → ⊥
@@ -31,14 +31,14 @@ module _ (table : Table) (events : List Event) (w : World) (side : Side) (messag
   kind_sent kinds.MisplacedDialogue is = misplaced_sent table events w side message it is
   kind_sent kind is = cc
 
--- A provider's reply is an Abort with a cause,
+-- A reply of the provider is an Abort with a cause.
 reply_aborts : (e : End) (m message : Message) → reply_to e m ≡ Some message
     → (id : List ℕ) × (cause : ℕ) × (message ≡ provider_abort id cause)
 reply_aborts e (Begin otid dialogue components) message is = (otid, 4, sym ((cond_some _ _ message is).1))
 reply_aborts e (Continue otid dtid dialogue components) message is = (otid, 1, sym ((cond_some _ _ message is).1))
 reply_aborts e m message is = cc
 
--- and of that only one kind speaks, which it is not.
+-- An Abort with a cause can only have F2.
 abort_kind : (table : Table) (side : Side) (before : List Item) (id : List ℕ) (cause : ℕ) (kind : Kind)
     → is_of_kind table side before (Abort id (Some (Cause cause))) kind ≡ true → kind ≡ kinds.UnknownTransaction
 abort_kind table side before id cause kinds.UnknownTransaction is = refl
@@ -52,7 +52,7 @@ kind_replied table events w side message kind runs it is =
     let only = abort_kind table side (since_quiet w.sent) id cause kind (rw aborts at is) in
     unknown_replied table events w side message runs it (rw only at is)
 
--- So none is that stands in a run, behind what was sent before it.
+-- No message in a run has a kind after the items before it.
 pub none_of_kind : (table : Table) (events : List Event) (w : World) (before behind : List Item) (side : Side)
     (message : Message) (kind : Kind) → Runs table events w → KeepsRules side events
     → w.sent ≡ before ++ Sent side message ∷ behind → is_of_kind table side (since_quiet before) message kind ≡ true → ⊥

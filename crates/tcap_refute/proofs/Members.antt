@@ -1,4 +1,4 @@
--- What stands in a list, and what a test finds in it.
+-- Membership in a list, and what a test finds there.
 use Rattle.std.proofs.Common.{◌≡◌, ◌⊎◌, inl, inr, arith, Bool, true, false, cond, zero, List, [], ◌∷◌, Option, Some, None, refl, ap, ◌∙◌}
 use Rattle.std.specs.Prelude.{Contains, filter, filter_map}
 use Rattle.std.specs.List.{cons_option, flat_map, list_any}
@@ -17,7 +17,7 @@ has_later y xs x has = Contains-append_right (y ∷ []) xs x has
 pub has_not : {A P : Type 0} (x : A) → Contains [] x → P
 has_not x (k, below, is) = absurd (omega arith)
 
--- What passes is kept.
+-- `filter` keeps what passes.
 pub filter_has : {A : Type 0} (p : A → Bool) (xs : List A) (x : A) → Contains xs x → p x ≡ true
     → Contains (filter p xs) x
 filter_has p [] x has passes = has_not x has
@@ -31,7 +31,7 @@ filter_has {A = A} p (y ∷ ys) x has passes = by (contains_first y ys x has) (�
     by (inl first) kept = rw (first, passes) (has_first x (filter p ys))
     by (inr rest) kept = later (p y) (kept rest)
 
--- What is made of an item is among what is made of all.
+-- `filter_map` keeps what `f` makes of an element.
 pub filter_map_has : {A B : Type 0} (f : A → Option B) (xs : List A) (x : A) (y : B) → Contains xs x → f x ≡ Some y
     → Contains (filter_map f xs) y
 filter_map_has f [] x y has made = has_not x has
@@ -58,6 +58,6 @@ flat_map_has {A = A} {B = B} f (z ∷ zs) x y has inside =
 
 -- ---- what a test finds
 
--- It finds what passes.
+-- A test finds an element that passes.
 pub any_has : {A : Type 0} (p : A → Bool) (xs : List A) (x : A) → Contains xs x → p x ≡ true → list_any p xs ≡ true
 any_has p xs x (k, below, is) passes = list_any_at p xs k x below (ap p is ∙ passes)

@@ -1,5 +1,5 @@
--- The moment at which a message of a run is sent: a run to the world before it, in which its end sends it, or its
--- provider replies by it.
+-- Each message of a run has a moment: a run to the world before it, in which its end sends it, or its provider
+-- replies with it.
 use Rattle.std.proofs.Common.{◌≡◌, ℕ, ◌⊎◌, inl, inr, true, false, List, [], ◌∷◌, ◌++◌, Some, Ok, refl, sym, ap, ◌∙◌}
 use Rattle.std.proofs.lemmas.Bool.{or_parts}
 use Rattle.std.proofs.lemmas.List.{append-nil}
@@ -14,18 +14,17 @@ use Rattle.tcap_model.specs.Run.{Adds, Event, Sends, Receives, Replies, Loses, E
 use Rattle.tcap_model.proofs.WorldLaws.{itself, sent_joined, sent_with_channel}
 use Rattle.tcap_model.proofs.RunLaws.{IsReply, grows, reply, runs_keep, sending}
 
--- The end sends it.
+-- The end sends the message next.
 abbrev pub SendsIt : Table → World → Side → Message → Type 0
 SendsIt table w side message = (made : End) × (send table (end_at side w) message ≡ Ok made)
 
--- Its provider replies by it to the oldest message on its way from the peer.
+-- The end's provider replies with the message to the oldest message that is on its way from the peer.
 abbrev pub RepliesIt : World → Side → Message → Type 0
 RepliesIt w side message =
     (head : OnItsWay) × (more : List OnItsWay) × (channel_from (other side) w ≡ head ∷ more)
     × (reply_to (end_at side w) head.message ≡ Some message)
 
--- Behind a run in which the end keeps the rules, and which sent these items, it sends the message, or its provider
--- replies by it.
+-- There is a run that sent these items, in which the end keeps the rules, and after which the message is sent next.
 pub record IsMoment (table : Table) (side : Side) (before : List Item) (message : Message) : Type 0 where
   pub events : List Event
   pub world : World
@@ -34,9 +33,9 @@ pub record IsMoment (table : Table) (side : Side) (before : List Item) (message 
   pub sent : world.sent ≡ before
   pub how : SendsIt table world side message ⊎ RepliesIt world side message
 
--- ---- lists with one item more
+-- ---- lists with one more item
 
--- A place in such a list is the last, or was there before.
+-- An item of such a list is the last, or is in the list without the last.
 pub last_or_before : (item at : Item) (items front behind : List Item) → items ++ item ∷ [] ≡ front ++ at ∷ behind
     → ((item ≡ at) × (items ≡ front)) ⊎ ((rest : List Item) × (items ≡ front ++ at ∷ rest))
 last_or_before item at [] [] behind is = inl (cc, refl)
@@ -53,7 +52,7 @@ last_or_before item at (i ∷ items) (f ∷ front) behind is = by (cc) (last_or_
     by same (inl (last, all)) = inl (last, cc)
     by same (inr (rest, all)) = inr (rest, cc)
 
--- An end that keeps the rules kept them before the last event, and in it.
+-- An end that keeps the rules up to an event kept them before it and in it.
 pub kept_before : (side : Side) (before : List Event) (event : Event) → KeepsRules side (before ++ event ∷ [])
     → KeepsRules side before × (is_told_by side event ≡ false)
 kept_before side [] event keeps = (refl, (or_parts (is_told_by side event) false keeps).0)
@@ -64,21 +63,21 @@ kept_before side (first ∷ before) event keeps =
 
 -- ---- along a run
 
--- Each message of an end that keeps the rules has its moment.
+-- Each message of the end has its moment.
 abbrev HaveMoments : Table → Side → List Event → World → Type 0
 HaveMoments table side events w =
     KeepsRules side events → (front behind : List Item) (message : Message)
     → w.sent ≡ front ++ Sent side message ∷ behind → IsMoment table side front message
 
--- One step more.
+-- One more step.
 module _ (table : Table) (side : Side) (before : List Event) (w next : World) (runs : Runs table before w)
     (had : HaveMoments table side before w) (kept : KeepsRules side before) (front behind : List Item)
     (message : Message) (sent : next.sent ≡ front ++ Sent side message ∷ behind) where
-  -- Where it adds nothing, the message was there before.
+  -- If the step adds nothing, the message was sent before.
   none_more : next.sent ≡ w.sent ++ [] → IsMoment table side front message
   none_more is = had kept front behind message (sym (append-nil w.sent) ∙ sym is ∙ sent)
 
-  -- Where it adds an item, the message was there before, or is that item, and then this is its moment.
+  -- If the step adds an item, the message was sent before or is this item.
   one_more : (item : Item) → next.sent ≡ w.sent ++ item ∷ []
       → (item ≡ Sent side message → SendsIt table w side message ⊎ RepliesIt w side message)
       → IsMoment table side front message
@@ -90,7 +89,7 @@ module _ (table : Table) (side : Side) (before : List Event) (w next : World) (r
           record { events = before; world = w; runs = runs; keeps = kept; sent = all; how = now last }
       by (inr (rest, all)) = had kept front rest message all
 
-  -- What a step adds.
+  -- The items that a step adds.
   added : (event : Event) (items : List Item) → after table event w ≡ Some next
       → ((found : List Item) → Adds w event found → found ≡ items) → next.sent ≡ w.sent ++ items
   added event items is only =
@@ -138,7 +137,7 @@ nothing_sent : {P : Type 0} (item : Item) (front behind : List Item) → [] ≡ 
 nothing_sent item [] behind is = cc
 nothing_sent item (first ∷ front) behind is = cc
 
--- What an end that keeps the rules sent has its moment.
+-- Each message that an end sends in a run in which it keeps the rules has its moment.
 pub sent_at : (table : Table) (events : List Event) (w : World) (before behind : List Item) (side : Side)
     (message : Message) → Runs table events w → KeepsRules side events
     → w.sent ≡ before ++ Sent side message ∷ behind → IsMoment table side before message

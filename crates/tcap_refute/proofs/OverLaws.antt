@@ -1,4 +1,4 @@
--- What a message is sent over: a Continue, an End or an Abort goes over an open half whose peer has the destination ID.
+-- A Continue, an End or an Abort without cause goes over an open half whose peer has the destination ID.
 use Rattle.std.proofs.Common.{◌≡◌, ◌⊎◌, inl, inr, Bool, true, false, cond, ℕ, List, [], ◌∷◌, Option, Some, None, Ok, is_none, not, refl, sym, ap, subst, ◌∙◌}
 use Rattle.std.specs.Prelude.{ok_or}
 use Rattle.std.proofs.lemmas.Bool.{not-true}
@@ -28,25 +28,25 @@ use Rattle.tcap_end.proofs.StepLaws.{none_is}
 use Rattle.tcap_model.proofs.TurnLaws.{id_is}
 use Rattle.tcap_refute.proofs.HalfLawsTurns.{Answers, Deed, Said, Turned, answers, closes, stays}
 
--- whether a half may carry the dialogue portion of a message with a destination ID
+-- Whether a half in this phase may carry the message's dialogue portion.
 abbrev pub may_carry : Message → Phase → Standing → Bool
 may_carry (Abort dtid reason) phase standing = may_abort phase standing (reason_dialogue reason)
 may_carry m phase standing = may_go_on phase standing (dialogue_in m)
 
--- A Continue goes over an active half with its originating ID, or over one whose Begin it answers, where no half has
+-- A Continue goes over an active half with its originating ID; or over a half whose Begin it answers, if no half has
 -- that ID.
 abbrev pub Speaks : End → Message → Half → Type 0
 Speaks e (Continue otid dtid dialogue components) h =
     ((h.phase ≡ phases.Active) × (h.own ≡ Some otid)) ⊎ ((h.phase ≡ phases.Received) × (with_own e otid ≡ None))
 Speaks e m h = Unit {0}
 
--- It leaves its half active, with that ID.
+-- A Continue leaves its half active, with its originating ID.
 abbrev pub HasSpoken : Message → Half → Type 0
 HasSpoken (Continue otid dtid dialogue components) h = (h.phase ≡ phases.Active) × (h.own ≡ Some otid)
 HasSpoken m h = Unit {0}
 
--- The message has no cause, and is sent over that half, which is open and may carry its dialogue portion. Its
--- components are sent from a half with the same invocations and answers; and this is what the half becomes.
+-- The message has no cause. Its half is open and may carry its dialogue portion. Its components are sent from a half
+-- with the same invocations and answers, and `now` is what the half becomes.
 pub record IsOver (table : Table) (e : End) (m : Message) (id : List ℕ) : Type 0 where
   pub kept : KeptHalf
   pub had : Has e kept
@@ -67,9 +67,9 @@ pub record IsOver (table : Table) (e : End) (m : Message) (id : List ℕ) : Type
   pub spoken : HasSpoken m now
   pub leads : send table e m ≡ Ok (put e kept.slot kept.key now)
 
--- ---- halves that are found
+-- ---- how halves are found
 
--- They pass.
+-- A half that a search finds passes.
 first_passes : (passes : Half → Bool) (slot : Slot) (es : List (List ℕ × Half)) (f : KeptHalf)
     → first_half passes slot es ≡ Some f → passes f.half ≡ true
 first_passes passes slot [] f is = cc
@@ -83,7 +83,7 @@ first_passes passes slot ((key, half) ∷ es) f is = by (passes half) refl is (f
     by true so is rest = let same : first ≡ f = cc in subst (λ (g : KeptHalf). passes g.half ≡ true) same so
     by false so is rest = rest is
 
--- So do those of an end.
+-- A half of an end that a search finds passes.
 pub found_passes : (passes : Half → Bool) (e : End) (f : KeptHalf) → half_where passes e ≡ Some f → passes f.half ≡ true
 found_passes passes e f is = by (first_half passes Begun e.begun) refl
   where
@@ -98,7 +98,7 @@ peer_is e id f is = id_is id f.half.peer (found_passes (λ h. is_id id h.peer) e
 pub own_is : (e : End) (id : List ℕ) (f : KeptHalf) → with_own e id ≡ Some f → f.half.own ≡ Some id
 own_is e id f is = id_is id f.half.own (found_passes (λ h. is_id id h.own) e f is)
 
--- Components leave a half's phase, its IDs and its dialogue.
+-- Sending components leaves a half's phase, IDs and dialogue unchanged.
 pub follows_stays : {table : Table} {deed : Deed} (h g : Half) → Follows h g → Turned table deed h g
 follows_stays h g follows =
     stays (record { phase = follows.phase; own = follows.own; peer = follows.peer; standing = follows.standing })
@@ -106,7 +106,7 @@ follows_stays h g follows =
 -- ---- each message
 
 module _ (table : Table) (e made : End) (sound : IsEnd e) where
-  -- A Continue that answers a Begin,
+  -- A Continue that answers a Begin.
   answer_over : (otid dtid : List ℕ) (dialogue : Option Dialogue) (components : Option (List Component))
       → with_own e otid ≡ None → send_first_continue table e otid dtid dialogue (items_of components) ≡ Ok made
       → IsOver table e (Continue otid dtid dialogue components) dtid
@@ -157,7 +157,7 @@ module _ (table : Table) (e made : End) (sound : IsEnd e) where
         leads = ap (send_continue table e otid dtid dialogue (items_of components)) none ∙ is ∙ sym done;
       }
 
-  -- or one that goes on,
+  -- A Continue over an active half.
   next_over : (otid dtid : List ℕ) (dialogue : Option Dialogue) (components : Option (List Component)) (f : KeptHalf)
       → with_own e otid ≡ Some f → send_next_continue table e dtid dialogue (items_of components) f ≡ Ok made
       → IsOver table e (Continue otid dtid dialogue components) dtid
@@ -189,7 +189,7 @@ module _ (table : Table) (e made : End) (sound : IsEnd e) where
         leads = ap (send_continue table e otid dtid dialogue (items_of components)) found ∙ is ∙ sym done;
       }
 
-  -- by the half that has its own ID;
+  -- Any Continue.
   continue_over : (otid dtid : List ℕ) (dialogue : Option Dialogue) (components : Option (List Component))
       (o : Option KeptHalf) → with_own e otid ≡ o
       → send_continue table e otid dtid dialogue (items_of components) o ≡ Ok made
@@ -197,7 +197,7 @@ module _ (table : Table) (e made : End) (sound : IsEnd e) where
   continue_over otid dtid dialogue components None found is = answer_over otid dtid dialogue components found is
   continue_over otid dtid dialogue components (Some f) found is = next_over otid dtid dialogue components f found is
 
-  -- an End;
+  -- An End.
   end_over : (dtid : List ℕ) (dialogue : Option Dialogue) (components : Option (List Component))
       → send_end table e dtid dialogue (items_of components) ≡ Ok made
       → IsOver table e (EndMessage dtid dialogue components) dtid
@@ -236,7 +236,7 @@ module _ (table : Table) (e made : End) (sound : IsEnd e) where
         leads = is ∙ sym done;
       }
 
-  -- and an Abort, which has no cause.
+  -- An Abort without cause.
   abort_over : (dtid : List ℕ) (reason : Option AbortReason) → send_abort e dtid reason ≡ Ok made
       → IsOver table e (Abort dtid reason) dtid
   abort_over dtid reason is =
@@ -274,7 +274,7 @@ module _ (table : Table) (e made : End) (sound : IsEnd e) where
         leads = is ∙ sym may.1;
       }
 
-  -- A message with a destination ID that is sent is sent over such a half.
+  -- Each sent message with a destination ID goes over such a half.
   pub over : (m : Message) (id : List ℕ) → send table e m ≡ Ok made → dtid_in m ≡ Some id → IsOver table e m id
   over (Continue otid dtid dialogue components) id is to =
       let same : dtid ≡ id = cc in

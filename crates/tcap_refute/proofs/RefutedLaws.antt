@@ -1,4 +1,4 @@
--- What a refutation says of all runs.
+-- What a refutation implies for all runs.
 use Rattle.std.proofs.Common.{◌≡◌, inl, inr, Bool, true, false, cond, ℕ, zero, suc, ◌+◌, List, [], ◌∷◌, ◌++◌, map, length, slice_get, Option, Some, None, Result, Ok, Err, refl, sym, ap, subst, ◌∙◌}
 use Rattle.std.specs.List.{find}
 use Rattle.std.specs.Prelude.{IfOk, IfSome}
@@ -21,7 +21,7 @@ use Rattle.tcap_refute.specs.Kind.{is_limit, is_of_kind, kind_of_reason, or_else
 use Rattle.tcap_refute.specs.Unsendable.{IsAtFault, IsBadByKind}
 use Rattle.tcap_refute.proofs.KindLaws.{none_of_kind}
 
--- What is found passes the test.
+-- What `find` returns passes.
 pub found_so : {A : Type 0} (passes : A → Bool) (xs : List A) (x : A) → find passes xs ≡ Some x → passes x ≡ true
 found_so passes [] x is = cc
 found_so passes (y ∷ ys) x is = by (passes y) refl (found_so passes ys x) is
@@ -31,7 +31,7 @@ found_so passes (y ∷ ys) x is = by (passes y) refl (found_so passes ys x) is
     by true so on is = let same : y ≡ x = cc in rw (← same) so
     by false so on is = on is
 
--- The items before, and one more entry.
+-- These items, as entries.
 abbrev pub oks : List Item → List (Result Item Reason)
 oks items = map (λ item. Ok item) items
 
@@ -45,7 +45,7 @@ pub get_there : (before : List Item) (entry : Result Item Reason) (more : List (
 get_there [] entry more = refl
 get_there (first ∷ before) entry more = get_there before entry more
 
--- A reason that names a kind is that of octets that are no message.
+-- If a reason gives a kind, the kind is F1, and the octets are no message.
 pub bad_reason : (reason : Reason) (kind : Kind) → kind_of_reason reason ≡ Some kind
     → (kind ≡ kinds.BadMessage) × (fault : Fault) × (reason ≡ reasons.BadMessage fault)
     × (is_limit fault.reason ≡ false)
@@ -58,7 +58,7 @@ bad_reason (reasons.BadMessage fault) kind is = by (is_limit fault.reason) refl 
     by false so is = (cc, fault, refl, so)
 bad_reason reason kind is = cc
 
--- Behind these items, of which none has a kind, the entry that is named is at fault.
+-- If none of these items has a kind, the refuted entry after them is at fault.
 at_fault_behind : (table : Table) (before : List Item) (more : List (Result Item Reason)) (r : Refutation)
     → refuted_behind table before (length before) more ≡ Some r → IsAtFault table (oks before ++ more) r
 at_fault_behind table before [] r is = cc
@@ -118,7 +118,7 @@ pub at_fault : (table : Table) (entries : List (Result Item Reason)) (r : Refuta
     → IsAtFault table entries r
 at_fault table entries r is = at_fault_behind table [] entries r is
 
--- Of its kind is F1 exactly where its octets are no message,
+-- The kind is F1 exactly if the entry's octets are no message.
 pub bad_by_kind : (table : Table) (entries : List (Result Item Reason)) (r : Refutation) → IsAtFault table entries r
     → IsBadByKind entries r
 bad_by_kind table entries r (inl (is, entry)) = ((λ same. entry), (λ bad. is))
@@ -132,15 +132,15 @@ bad_by_kind table entries r (inr it) = (
       let wrong = sym bad.there ∙ there in cc),
 )
 
--- as of an entry that is named, if one is.
+-- This holds for the result of a search.
 pub named_by_kind : {F : Type 0} (table : Table) (entries : List (Result Item Reason)) (found : Result (Option Refutation) F)
     → IfOk found (λ r. r ≡ refuted table entries) → IfOk found (λ r. IfSome r (IsBadByKind entries))
 named_by_kind table entries (Ok (Some r)) is = bad_by_kind table entries r (at_fault table entries r (sym is))
 named_by_kind table entries r is = tt
 
--- ---- and so it is lawful by no certificate
+-- ---- a refuted record is lawful by no certificate
 
--- Entries that are items are these.
+-- If the entries are these items, their meanings are these items.
 pub are_oks : (entries : List Entry) (items : List Item) → AreItems entries items → map item_of entries ≡ oks items
 are_oks [] [] are = refl
 are_oks [] (item ∷ items) are = absurd are
@@ -148,13 +148,13 @@ are_oks (entry ∷ entries) [] are = absurd are
 are_oks (entry ∷ entries) (Sent side message ∷ items) are = rw (are.0.0, are.0.1, are_oks entries items are.1) refl
 are_oks (entry ∷ entries) (Item.Quiet ∷ items) are = rw (are.0.0, are.0.1, are_oks entries items are.1) refl
 
--- What stands among items is one.
+-- No entry of a list of items is bad.
 pub none_is_bad : (items : List Item) (entry : ℕ) (reason : Reason) → slice_get (oks items) entry ≡ Some (Err reason) → ⊥
 none_is_bad [] entry reason is = cc
 none_is_bad (item ∷ items) zero reason is = cc
 none_is_bad (item ∷ items) (suc entry) reason is = none_is_bad items entry reason is
 
--- Items that are the ones before and then a message stand so in the list.
+-- A split of the entries at an item is a split of the items.
 pub split_oks : (items before : List Item) (item : Item) (more : List (Result Item Reason))
     → oks items ≡ oks before ++ Ok item ∷ more → (behind : List Item) × (items ≡ before ++ item ∷ behind)
 split_oks [] [] item more is = cc

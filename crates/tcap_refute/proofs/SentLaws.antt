@@ -1,4 +1,4 @@
--- A message that an end sends behind a run in which it keeps the rules, and the half over which it goes.
+-- A message that an end sends after a run in which it keeps the rules, and the half over which the message goes.
 use Rattle.std.proofs.Common.{◌≡◌, ℕ, List, Some, Ok, sym, ◌∙◌}
 use Rattle.tcap_msg.specs.declared.message.Message.{Message}
 use Rattle.tcap_msg.specs.Parts.{dtid_in, otid_in}
@@ -24,11 +24,11 @@ pub record IsSent (table : Table) (events : List Event) (w : World) (side : Side
 
 module _ {table : Table} {events : List Event} {w : World} {side : Side} {message : Message} (id : List ℕ)
     (it : IsSent table events w side message) (to : dtid_in message ≡ Some id) where
-  -- It goes over an open half whose peer has its destination ID,
+  -- The message goes over an open half whose peer has its destination ID.
   pub half_over : IsOver table (end_at side w) message id
   half_over = over table (end_at side w) it.made (sound table events w it.runs side) message id it.step to
 
-  -- and the peer sent a message from there.
+  -- The peer sent a message from the destination ID.
   pub peer_spoke : (m : Message) × SentSince (other side) m w.sent × (otid_in m ≡ Some id)
   peer_spoke =
       let (m, since, from) = (knows table events w side half_over.kept it.runs half_over.had).peer id half_over.peer in

@@ -1,4 +1,4 @@
--- Sets and maps of what was noted: what a query finds behind one key more.
+-- What a query finds in a set or map of notes with one more key.
 use Rattle.std.proofs.Common.{◌≡◌, ℕ, Bool, true, false, cond, ◌&&◌, ◌||◌, List, [], ◌∷◌, Some, None, is_some, Vec, Global as Alloc, Ordering, Less, Equal, Greater, nat_cmp, refl, sym, ap, ◌∙◌}
 use Rattle.std.specs.BTreeMap.{BTreeMap, WritesThrough, is_at}
 use Rattle.std.specs.BTreeSet.{insert_key}
@@ -35,7 +35,7 @@ module _ {K : Type 0} (cmp : K → K → Ordering) (test : K → Bool) where
   greater true b c = refl
   greater false b c = refl
 
-  -- A key more, where the test does not tell apart keys that the order does not.
+  -- A set with one more key, if the test agrees on keys that are equal in the order.
   pub any_inserted : ((x y : K) → cmp x y ≡ Equal → test x ≡ test y) → (ks : List K) (k : K)
       → list_any test (insert_key cmp ks k) ≡ (list_any test ks || test k)
   any_inserted alike [] k = less (test k) false false
@@ -53,7 +53,7 @@ module _ {K : Type 0} (cmp : K → K → Ordering) (test : K → Bool) where
 abbrev vec_cmp : Vec ℕ Alloc → Vec ℕ Alloc → Ordering
 vec_cmp a b = slice_cmp nat_cmp a.items b.items
 
--- A global one.
+-- One more global code.
 pub global_added : (codes new : CodeSets) (octets : List ℕ) (vec : Vec ℕ Alloc) → vec.items ≡ octets
     → new.globals.keys ≡ insert_key vec_cmp codes.globals.keys vec → new.locals.keys ≡ codes.locals.keys
     → (other : Code) → is_among other new ≡ (is_among other codes || is_code other (Global octets))
@@ -65,15 +65,15 @@ global_added codes new octets vec its is same (Global others) = rw (is, ← its)
 -- ---- maps
 
 module _ {K A F : Type 0} {cmp : K → K → Ordering} (exact : CmpEqualImpliesEq cmp) (tell : F → A → Bool) where
-  -- what is told of the value at a key
+  -- The facts that hold by the value at a key.
   abbrev pub told_at : List (K × A) → K → F → Bool
   told_at es q f = holds (tell f) (lookup (is_at (cmp q)) es)
 
-  -- The value at one key became another.
+  -- The value at one key changed.
   abbrev pub Puts : List (K × A) → List (K × A) → K → A → Type 0
   Puts old new k s = (q : K) → lookup (is_at (cmp q)) new ≡ cond (is_at (cmp k) q) (Some s) (lookup (is_at (cmp q)) old)
 
-  -- The value at one key became one that tells of some facts more.
+  -- The value at one key changed, and more facts hold by it.
   pub put : (shown : F → Bool) (old new : List (K × A)) (k : K) (s : A) → Puts old new k s
       → ((f : F) → tell f s ≡ (told_at old k f || shown f)) → (q : K) (f : F)
       → told_at new q f ≡ (told_at old q f || (is_at (cmp k) q && shown f))
@@ -84,7 +84,7 @@ module _ {K A F : Type 0} {cmp : K → K → Ordering} (exact : CmpEqualImpliesE
       by true same = rw (← tells_apart exact k q same) (told f)
       by false apart = or_none _
 
-  -- It was there, and was written.
+  -- The key was there, and its value was overwritten.
   pub written : (shown : F → Bool) (old new : BTreeMap K A) (k : K) (was s : A)
       → Some was ≡ lookup (is_at (cmp k)) old.entries → WritesThrough cmp (cmp k) old s new → ((f : F) → tell f s ≡ (tell f was || shown f)) → (q : K) (f : F)
       → told_at new.entries q f ≡ (told_at old.entries q f || (is_at (cmp k) q && shown f))
@@ -92,7 +92,7 @@ module _ {K A F : Type 0} {cmp : K → K → Ordering} (exact : CmpEqualImpliesE
       put shown old.entries new.entries k s (writes.3 (sym (ap is_some there))).0
       (λ f. told f ∙ ap (λ o. holds (tell f) o || shown f) there)
 
-  -- It was not there, and is new.
+  -- The key was not there, and was added.
   pub made : (shown : F → Bool) (old new : BTreeMap K A) (k : K) (fresh s : A)
       → None ≡ lookup (is_at (cmp k)) old.entries → Puts old.entries new.entries k s
       → ((f : F) → tell f fresh ≡ false) → ((f : F) → tell f s ≡ (tell f fresh || shown f))

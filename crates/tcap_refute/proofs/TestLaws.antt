@@ -15,7 +15,7 @@ pub and_false : (b : Bool) → (b && false) ≡ false
 and_false true = refl
 and_false false = refl
 
--- A first one passes where one does.
+-- There is a first element that passes exactly if one passes.
 pub some_first : {A : Type 0} (p : A → Bool) (number : ℕ) (xs : List A) → is_some (first_so p number xs) ≡ list_any p xs
 some_first p number [] = refl
 some_first p number (x ∷ xs) = by (p x) (some_first p (number + 1) xs)

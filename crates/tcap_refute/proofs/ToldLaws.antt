@@ -1,4 +1,4 @@
--- What is told of an ID is what its messages tell, and what a component is asked by that is what it is asked of them.
+-- The facts about an ID are those of its messages, and they decide the tests of components as the messages do.
 use Rattle.std.proofs.Common.{◌≡◌, ℕ, ℤ, Bool, true, false, cond, not, ◌==◌, ◌&&◌, ◌||◌, List, [], ◌∷◌, filter, Some, is_some, refl, sym, ap, ap₂, ◌∙◌}
 use Rattle.std.proofs.Math.Path.{fun_ext}
 use Rattle.std.specs.List.{flat_map, list_any}
@@ -55,9 +55,9 @@ any_or p q [] = refl
 any_or p q (x ∷ xs) =
     or_swap (p x) (list_any p xs) (q x) (list_any q xs) ∙ ap (λ r. (p x || q x) || r) (any_or p q xs)
 
--- ---- what the list tells of an ID
+-- ---- the facts about an ID
 
--- the messages that an end sent from an ID
+-- The messages from an ID.
 abbrev pub from_id : List ℕ → List Message → List Message
 from_id id messages = filter (λ m. is_id id (otid_in m)) messages
 
@@ -120,7 +120,7 @@ module _ (table : Table) (messages : List Message) where
   allowed (ReturnError id code parameter) = ap not (told_id id Fails)
   allowed c = refl
 
-  -- Whether one is of a wrong operation.
+  -- Whether a component has a wrong operation.
   wrong_asked : (c : Component)
       → is_wrong table (told_of table messages) c
       ≡ (is_unknown_operation table c || no_class_allows table (components_of messages) c)
@@ -132,7 +132,7 @@ module _ (table : Table) (messages : List Message) where
 -- ---- the components of a message
 
 module _ (table : Table) (items : List Item) (side : Side) where
-  -- what the list tells of a destination ID
+  -- The facts about the destination ID.
   abbrev pub there : Message → FromFact → Bool
   there m = told_from (told_by_list table items (other side)) (dtid_in m)
 
@@ -167,7 +167,7 @@ module _ (table : Table) (items : List Item) (side : Side) where
   wrong_is (EndMessage dtid dialogue components) c = wrong_to dtid c
   wrong_is (Abort dtid reason) c = wrong_to dtid c
 
-  -- The component by which a message has a kind is that which the definitions name.
+  -- The component that gives a message its kind is that of the definitions.
   pub component_told : (of_one : Bool) (m : Message) (kind : Kind)
       → component_by of_one table (there m) m kind ≡ first_component of_one table side (since_quiet items) m kind
   component_told of_one m kinds.AnswersNothing =
@@ -176,9 +176,9 @@ module _ (table : Table) (items : List Item) (side : Side) where
       ap (λ test. first_so test 0 (components_in m)) (fun_ext (wrong_is m))
   component_told of_one m kind = refl
 
--- ---- A message has F5 or F6 where one of its components has.
+-- ---- a message has F5 or F6 exactly if one of its components has it
 
--- F5, as it is asked of one end or of both
+-- F5, for one end or for both.
 abbrev pub nothing_of : Bool → Side → List Item → Message → Bool
 nothing_of true = answers_nothing_there
 nothing_of false = answers_nothing

@@ -1,4 +1,4 @@
--- No message that is sent, or that a provider replies, is of a kind that speaks of transactions (Q.774 3.3).
+-- No message that an end sends, and no reply of its provider, has F2, F3 or F4 (Q.774 3.3).
 use Rattle.std.proofs.Common.{◌≡◌, Bool, true, false, cond, ℕ, List, [], ◌∷◌, Option, Some, None, Ok, is_none, not, refl, sym, ap, ◌∙◌}
 use Rattle.std.specs.Prelude.{Contains}
 use Rattle.std.specs.List.{AllByRecursion, list_any}
@@ -39,45 +39,45 @@ use Rattle.tcap_refute.proofs.SentLaws.{IsSent, half_over, peer_spoke}
 
 -- ---- tests
 
--- Something was asked, and no cause is given.
+-- A message without cause answers what the peer sent.
 asked_something : (messages : List Message) (m : Message) (cause : Option ℕ) → Contains messages m → cause ≡ None
     → is_unasked cause messages ≡ true → ⊥
 asked_something [] m cause has none is = has_not m has
 asked_something (first ∷ more) m cause has none is = let bad : false ≡ true = rw none at is in cc
 
--- Something was asked, and that cause answers it.
+-- An Abort with this cause answers what the peer sent.
 answers_one : (cause : ℕ) (messages : List Message) (m : Message) → Contains messages m
     → is_cause_unfounded cause messages ≡ false → is_unasked (Some cause) messages ≡ true → ⊥
 answers_one cause [] m has founded is = has_not m has
 answers_one cause (first ∷ more) m has founded is = cc
 
--- a test that is made only where another passes
+-- If a conditional test passes, the inner test passes.
 both_pass : (a b : Bool) → cond a b false ≡ true → b ≡ true
 both_pass true b is = is
 both_pass false b is = cc
 
 -- ---- own IDs
 
--- A message with that originating ID has its half.
+-- A message from an own ID has a half with that ID.
 uses_own : (w : World) (side : Side) (otid : List ℕ) (m : Message) → HasUsed w side m → otid_in m ≡ Some otid
     → (f : KeptHalf) × Has (end_at side w) f × (f.half.own ≡ Some otid)
 uses_own w side otid (Begin id dialogue components) (f, had, own) from = (f, had, own ∙ from)
 uses_own w side otid (Continue id dtid dialogue components) (f, had, own, peer) from = (f, had, own ∙ from)
 uses_own w side otid m used from = cc
 
--- At one place an end has one half.
+-- At one place, an end has one half.
 pub one_half : (e : End) (f g : KeptHalf) → Has e f → Has e g → IsSame f g → g.half ≡ f.half
 one_half e f g in_f in_g same =
     let here : Some g.half ≡ Some f.half = sym in_g ∙ (rw (← same.0, ← same.1) in_f) in cc
 
--- Halves with one own ID have one peer.
+-- Halves with one own ID have one peer's ID.
 one_peer : (e : End) (f g : KeptHalf) (otid dtid to : List ℕ) → IsEnd e → Has e f → Has e g → f.half.own ≡ Some otid
     → g.half.own ≡ Some otid → f.half.peer ≡ Some dtid → g.half.peer ≡ Some to → dtid ≡ to
 one_peer e f g otid dtid to is_end in_f in_g f_own g_own f_peer g_peer =
     let same = one_half e f g in_f in_g (is_end.one_own f g otid in_f in_g f_own g_own) in
     let peers : Some dtid ≡ Some to = sym f_peer ∙ ap (λ (h : Half). h.peer) (sym same) ∙ g_peer in cc
 
--- A Continue that is sent, over the half that has its originating ID.
+-- A Continue that is sent over the half with its originating ID.
 module _ (table : Table) (w : World) (side : Side) (made : End) (otid dtid : List ℕ) (dialogue : Option Dialogue)
     (components : Option (List Component)) (is_end : IsEnd (end_at side w))
     (step : send table (end_at side w) (Continue otid dtid dialogue components) ≡ Ok made) where
@@ -92,7 +92,7 @@ module _ (table : Table) (w : World) (side : Side) (made : End) (otid dtid : Lis
       one_peer made g (record f { half = h }) otid dtid to (sends table e made m is_end step).sound now there g_own
       (turns.own otid own) g_peer (turns.peer to peer)
 
-  -- So none was sent to another.
+  -- No Continue from that ID was sent to another ID.
   goes_nowhere_else : (m : Message) → HasUsed w side m → goes_elsewhere otid dtid m ≡ true → ⊥
   goes_nowhere_else (Continue id to d c) (f, had, own, peer) goes =
       let (from, elsewhere) = and_parts (is_id otid (Some id)) (not (is_id dtid (Some to))) goes in
@@ -104,14 +104,14 @@ module _ (table : Table) (w : World) (side : Side) (made : End) (otid dtid : Lis
 
 module _ {table : Table} {events : List Event} {w : World} {side : Side} {message : Message} (id : List ℕ)
     (it : IsSent table events w side message) (to : dtid_in message ≡ Some id) where
-  -- The peer spoke of its transaction.
+  -- The peer sent something from the destination ID.
   unknown_to : is_unasked (cause_in message) (asked side id (since_quiet w.sent)) ≡ true → ⊥
   unknown_to is =
       let (m, since, from) = peer_spoke id it to in
       asked_something (asked side id (since_quiet w.sent)) m (cause_in message) (asked_has side id m w.sent since from)
       (half_over id it to).no_cause is
 
-  -- A half that was ended is closed, and the message goes over an open one.
+  -- No message follows its end: an ended half is closed, and the message goes over an open half.
   ended_to : list_any (λ m. is_id id (ended_by m)) (sent_by side (since_quiet w.sent)) ≡ true → ⊥
   ended_to is =
       let half = half_over id it to in
@@ -121,7 +121,7 @@ module _ {table : Table} {events : List Event} {w : World} {side : Side} {messag
       both_ways (is_closed half.kept.half.phase) half.is_open (ap is_closed closed)
 
 module _ (table : Table) (events : List Event) (w : World) (side : Side) where
-  -- It is to a transaction that the peer spoke of.
+  -- The message does not have F2.
   pub unknown_sent : (message : Message) → IsSent table events w side message
       → is_unknown_transaction side (since_quiet w.sent) message ≡ true → ⊥
   unknown_sent (Continue otid dtid dialogue components) it is = unknown_to dtid it refl is
@@ -129,7 +129,7 @@ module _ (table : Table) (events : List Event) (w : World) (side : Side) where
   unknown_sent (Abort dtid reason) it is = unknown_to dtid it refl is
   unknown_sent m it is = cc
 
-  -- A Begin is from an ID that no half has.
+  -- A Begin comes from an ID that no half has.
   begin_sent : (otid : List ℕ) (dialogue : Option Dialogue) (components : Option (List Component))
       → IsSent table events w side (Begin otid dialogue components)
       → is_reused side (since_quiet w.sent) (Begin otid dialogue components) ≡ true → ⊥
@@ -148,14 +148,14 @@ module _ (table : Table) (events : List Event) (w : World) (side : Side) where
       goes_nowhere_else table w side it.made otid dtid dialogue components (sound table events w it.runs side) it.step
       m (ids_used table events w side m it.runs it.keeps since) goes
 
-  -- It reuses no ID.
+  -- The message does not have F3.
   pub reused_sent : (message : Message) → IsSent table events w side message
       → is_reused side (since_quiet w.sent) message ≡ true → ⊥
   reused_sent (Begin otid dialogue components) it is = begin_sent otid dialogue components it is
   reused_sent (Continue otid dtid dialogue components) it is = continue_sent otid dtid dialogue components it is
   reused_sent m it is = cc
 
-  -- It does not follow the end of its dialogue.
+  -- The message does not have F4.
   pub after_end_sent : (message : Message) → IsSent table events w side message
       → is_after_end side (since_quiet w.sent) message ≡ true → ⊥
   after_end_sent (Continue otid dtid dialogue components) it is = ended_to dtid it refl is
@@ -164,7 +164,7 @@ module _ (table : Table) (events : List Event) (w : World) (side : Side) where
       ended_to dtid it refl (both_pass (is_none (reason_cause reason)) _ is)
   after_end_sent m it is = cc
 
--- ---- a message that a provider replies
+-- ---- a reply of the provider
 
 -- The peer sent what the reply answers.
 module _ (table : Table) (events : List Event) (w : World) (side : Side) (message : Message)

@@ -1,5 +1,4 @@
--- What stands before an entry of a list, since the last quiet mark: what its end was sent, and what it sent, by
--- transaction IDs (Q.774 3.3).
+-- Which messages came before an entry, since the last quiet mark, from each end and transaction ID (Q.774 3.3)?
 use Rattle.std.specs.Prelude.{ℕ, ℤ, Bool, true, false, List, [], ◌∷◌, filter, filter_map, Option, Some, None, ◌&&◌, ◌||◌, cond}
 use Rattle.std.specs.Ordering.{int_cmp}
 use Rattle.std.specs.BTreeMap.{is_at}
@@ -17,24 +16,25 @@ use Rattle.tcap_model.specs.World.{Item, Sent, is_side}
 use Rattle.tcap_model.specs.Run.{where_so}
 use Rattle.tcap_model.specs.World.{has_quiet}
 
--- what stands behind the last quiet mark
+-- The items after the last quiet mark.
 abbrev pub since_quiet : List Item → List Item
 since_quiet [] = []
 since_quiet (item ∷ items) = cond (has_quiet (item ∷ items)) (since_quiet items) (item ∷ items)
 
+-- The message of an item, if this end sent it.
 abbrev pub message_of : Side → Item → Option Message
 message_of side (Sent sender message) = where_so (is_side side sender) (Some message)
 message_of side Item.Quiet = None
 
--- the messages that an end sent
+-- The messages that an end sent.
 abbrev pub sent_by : Side → List Item → List Message
 sent_by side items = filter_map (message_of side) items
 
--- what was asked of an end from a transaction ID: the messages that its peer sent with it as originating ID
+-- The messages that the peer sent with this originating ID: `from d` in docs/KINDS.md.
 abbrev pub asked : Side → List ℕ → List Item → List Message
 asked side id items = filter (λ m. is_id id (otid_in m)) (sent_by (other side) items)
 
--- the components of these messages
+-- The components of these messages, in order.
 abbrev pub components_of : List Message → List Component
 components_of messages = flat_map components_in messages
 
@@ -46,41 +46,42 @@ is_form forms.End forms.End = true
 is_form forms.Abort forms.Abort = true
 is_form _ _ = false
 
--- whether a message is a Begin, a Continue ..
+-- Whether a message has this form: Begin, Continue and so on.
 abbrev pub is_a : Form → Message → Bool
 is_a form message = is_form form (kind_in message)
 
--- whether one of these messages is
+-- Whether one of these messages has this form.
 abbrev pub has_a : Form → List Message → Bool
 has_a form messages = list_any (is_a form) messages
 
--- an End or an Abort to that ID
+-- An End or an Abort to this ID.
 abbrev pub ends_to : List ℕ → Message → Bool
 ends_to id m = (is_a forms.End m || is_a forms.Abort m) && is_id id (dtid_in m)
 
 -- ---- components
 
--- whether it is that invoke ID
+-- Whether two invoke IDs are equal.
 abbrev pub is_invoke_id : ℤ → ℤ → Bool
 is_invoke_id id other = is_at (int_cmp id) other
 
--- an Invoke with that ID
+-- An Invoke with this ID.
 abbrev pub invokes : ℤ → Component → Bool
 invokes id (Invoke other linked code parameter) = is_invoke_id id other
 invokes id _ = false
 
--- a Return Result (true), or a Return Error, for that ID
+-- A Return Result (if `true`) or a Return Error (if `false`) with this ID.
 abbrev pub answers : Bool → ℤ → Component → Bool
 answers true id (ReturnResult last other body) = is_invoke_id id other
 answers false id (ReturnError other code parameter) = is_invoke_id id other
 answers is_result id _ = false
 
--- a Return Result, or a Return Error
+-- A Return Result or a Return Error.
 abbrev pub is_answer : Component → Bool
 is_answer (ReturnResult last id body) = true
 is_answer (ReturnError id code parameter) = true
 is_answer _ = false
 
+-- A Reject.
 abbrev pub is_reject : Component → Bool
 is_reject (Reject id problem) = true
 is_reject _ = false

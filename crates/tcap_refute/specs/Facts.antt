@@ -1,5 +1,5 @@
--- Facts that are noted of the messages that an end sends. Each holds of a message or not; what is noted tells whether
--- it holds of one of the messages since the last quiet mark.
+-- Which facts about earlier messages decide the kinds F2 to F7? A fact holds for a message or does not. For each end
+-- it is kept whether a fact holds for one of its messages since the last quiet mark.
 use Rattle.std.specs.Prelude.{ℤ, ℕ, Bool, true, false, List, Option, Some, None, ◌&&◌, ◌||◌, not}
 use Rattle.std.specs.List.{list_any}
 use Rattle.tcap_parts.specs.declared.code.Code.{Code}
@@ -17,52 +17,54 @@ use Rattle.tcap_model.specs.Since.{ended_by}
 use Rattle.tcap_refute.specs.Before.{answers, invokes, is_a, sent_by, since_quiet}
 use Rattle.tcap_refute.specs.Kind.{may_be_answered}
 
--- ---- of an invoke ID, in the messages from an originating ID
+-- ---- facts about an invoke ID, in the messages from one originating ID
 
 pub data IdFact : Type 0 where
-  -- an Invoke
+  -- An Invoke has the ID.
   Invoked : IdFact
-  -- a Return Result (true), or a Return Error
+  -- A Return Result (if `true`) or a Return Error (if `false`) has the ID.
   Answered : Bool → IdFact
-  -- an Invoke whose class reports success, of that operation where one is named
+  -- An Invoke has the ID, its class allows a Return Result, and its operation is this one, if one is given.
   Succeeds : Option Code → IdFact
-  -- an Invoke whose class reports failure
+  -- An Invoke has the ID, and its class allows a Return Error.
   Fails : IdFact
 
+-- Whether the fact holds for a component.
 abbrev pub shows : Table → ℤ → IdFact → Component → Bool
 shows table id Invoked component = invokes id component
 shows table id (Answered is_result) component = answers is_result id component
 shows table id (Succeeds named) component = may_be_answered table true id named component
 shows table id Fails component = may_be_answered table false id None component
 
--- the invoke ID of a component of which something is noted
+-- The invoke ID for which facts about this component are kept; a Reject has none.
 abbrev pub noted_id : Component → Option ℤ
 noted_id (Invoke id linked code parameter) = Some id
 noted_id (ReturnResult last id body) = Some id
 noted_id (ReturnError id code parameter) = Some id
 noted_id (Reject id problem) = None
 
--- ---- of an originating ID
+-- ---- facts about an originating ID
 
 pub data FromFact : Type 0 where
-  -- a message
+  -- A message comes from the ID.
   Spoke : FromFact
-  -- a Begin
+  -- A Begin comes from the ID.
   Begun : FromFact
-  -- a Begin with a dialogue request
+  -- A Begin with a dialogue request comes from the ID.
   Asked : FromFact
-  -- a Continue
+  -- A Continue comes from the ID.
   WentOn : FromFact
-  -- a Continue to another destination ID than this
+  -- A Continue comes from the ID and goes to a destination ID other than this.
   WentElsewhere : List ℕ → FromFact
-  -- a message with a component of that invoke ID
+  -- A message comes from the ID, and this fact about this invoke ID holds for one of its components.
   OfId : ℤ → IdFact → FromFact
 
--- whether there is an ID, and it is another
+-- Whether there is an ID, and it differs from `id`.
 abbrev pub is_other : List ℕ → Option (List ℕ) → Bool
 is_other id None = false
 is_other id (Some other) = not (is_id id (Some other))
 
+-- Whether the fact holds for a message from the ID.
 abbrev pub shows_from : Table → FromFact → Message → Bool
 shows_from table Spoke message = is_a forms.Begin message || is_a forms.Continue message
 shows_from table Begun message = is_a forms.Begin message
@@ -71,22 +73,23 @@ shows_from table WentOn message = is_a forms.Continue message
 shows_from table (WentElsewhere dtid) message = is_a forms.Continue message && is_other dtid (dtid_in message)
 shows_from table (OfId id fact) message = list_any (shows table id fact) (components_in message)
 
--- ---- of an end
+-- ---- facts about an end
 
 pub data EndFact : Type 0 where
-  -- a message from that originating ID of which the fact holds
+  -- The fact holds for a message from this originating ID.
   From : List ℕ → FromFact → EndFact
-  -- an End, or an Abort without cause, to that destination ID
+  -- An End, or an Abort without cause, goes to this destination ID.
   Ended : List ℕ → EndFact
 
+-- Whether the fact holds for a message of the end.
 abbrev pub shows_end : Table → EndFact → Message → Bool
 shows_end table (From id fact) message = is_id id (otid_in message) && shows_from table fact message
 shows_end table (Ended id) message = is_id id (ended_by message)
 
--- whether a fact holds of a message that an end sent in these items since the last quiet mark
+-- Whether a fact holds for a message of the end in these items, which are those since the last quiet mark.
 abbrev pub told_since : Table → Side → List Item → EndFact → Bool
 told_since table side items fact = list_any (shows_end table fact) (sent_by side items)
 
--- the same by all items
+-- Whether a fact holds for a message of the end since the last quiet mark of these items.
 abbrev pub told_by_list : Table → List Item → Side → EndFact → Bool
 told_by_list table items side fact = told_since table side (since_quiet items) fact

@@ -1,5 +1,4 @@
--- Which component of a message has F5 or F6: the first that answers what was never sent, or is of a wrong operation (Q.774 3.2,
--- Q.771 3.1).
+-- Which component of a message is the first with F5 or F6 (Q.774 3.2, Q.771 3.1)?
 use Rattle.std.specs.Prelude.{ℕ, ◌+◌, Bool, false, List, [], ◌∷◌, Option, Some, None, ◌||◌, cond}
 use Rattle.tcap_parts.specs.declared.component.Component.{Component}
 use Rattle.tcap_msg.specs.declared.message.Message.{Message}
@@ -14,12 +13,13 @@ use Rattle.tcap_refute.specs.Before.{asked, components_of, is_answer, is_reject}
 use Rattle.tcap_refute.specs.FirstKinds.{answers_none}
 use Rattle.tcap_refute.specs.Kind.{answers_none_of, is_not_of_class_4, is_unknown_operation, no_class_allows}
 
--- the number of the first of these that passes, counted from that number
+-- The number of the first element that passes, counted from `number`.
 abbrev pub first_so : {A : Type 0} → (A → Bool) → ℕ → List A → Option ℕ
 first_so passes number [] = None
 first_so passes number (a ∷ more) = cond (passes a) (Some number) (first_so passes (number + 1) more)
 
--- Whether a component of a message answers or rejects what was never sent. It is given whether that is asked of one end.
+-- Whether a component has F5: it is an answer or a Reject for nothing that the peer sent. `of_one` is whether one end
+-- alone is judged.
 abbrev pub answers_nothing_in : Bool → Side → List Item → Message → Component → Bool
 answers_nothing_in of_one side items (Unidirectional dialogue components) c = is_answer c
 answers_nothing_in of_one side items (Begin otid dialogue components) c = is_answer c || is_reject c
@@ -30,7 +30,7 @@ answers_nothing_in of_one side items m c = by (dtid_in m)
     by (Some id) = cond of_one (answers_none (components_of (asked side id items)) c)
         (answers_none_of (components_of (asked side id items)) c)
 
--- whether it is of a wrong operation
+-- Whether a component has F6: its operation is wrong.
 abbrev pub is_wrong_in : Table → Side → List Item → Message → Component → Bool
 is_wrong_in table side items (Unidirectional dialogue components) c = is_not_of_class_4 table c
 is_wrong_in table side items m c = is_unknown_operation table c || by (dtid_in m)
@@ -39,7 +39,7 @@ is_wrong_in table side items m c = is_unknown_operation table c || by (dtid_in m
     by None = false
     by (Some id) = no_class_allows table (components_of (asked side id items)) c
 
--- the number of the component that has that kind, by these items since the last quiet mark
+-- The number of the first component that has F5 or F6, after these items since the last quiet mark.
 abbrev pub first_component : Bool → Table → Side → List Item → Message → Kind → Option ℕ
 first_component of_one table side items m kinds.AnswersNothing =
     first_so (answers_nothing_in of_one side items m) 0 (components_in m)

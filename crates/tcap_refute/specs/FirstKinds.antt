@@ -1,5 +1,5 @@
--- The kinds F2 to F7 as they are asked of one end: those by which a record is refuted (`Kind`), but for F5 of a spelling that a
--- stack may call wrong (Q.774 3.2, Q.773 4.2.2).
+-- Which of F2 to F7 does a message have, if its end alone is judged (Q.774 3.2, Q.773 4.2.2)? They are as in `Kind`,
+-- but F5 leaves out a Reject of a spelling that a stack may call wrong.
 use Rattle.std.specs.Prelude.{ℤ, ℕ, Bool, false, List, [], ◌∷◌, Option, Some, None, ◌==◌, ◌&&◌, ◌||◌, not}
 use Rattle.std.specs.List.{list_any}
 use Rattle.tcap_parts.specs.declared.component.Component.{Component}
@@ -15,21 +15,22 @@ use Rattle.tcap_refute.specs.declared.kind.Kind.TheVariants as kinds
 use Rattle.tcap_refute.specs.Before.{asked, components_of, is_invoke_id}
 use Rattle.tcap_refute.specs.Kind.{answers_none_of, answers_nothing, is_of_kind}
 
--- an Invoke or an answer of that ID
+-- An Invoke, a Return Result or a Return Error with this ID.
 abbrev pub is_of_id : ℤ → Component → Bool
 is_of_id id (Invoke other linked code parameter) = is_invoke_id id other
 is_of_id id (ReturnResult last other body) = is_invoke_id id other
 is_of_id id (ReturnError other code parameter) = is_invoke_id id other
 is_of_id id (Reject other problem) = false
 
--- Whether a component answers or rejects what none of these is. A Reject with mistypedComponent (1) or
--- badlyStructuredComponent (2) of an ID of which one of these is an Invoke or an answer may be of that one: this profile takes
--- parameters as they are.
+-- An answer or a Reject that is for none of these components. A Reject with mistypedComponent (1) or
+-- badlyStructuredComponent (2) may be for an Invoke or an answer with its ID, because this profile accepts any
+-- parameter.
 abbrev pub answers_none : List Component → Component → Bool
 answers_none components (Reject (Some id) (problems.General n)) =
     not ((n == 1 || n == 2) && list_any (is_of_id id) components)
 answers_none components c = answers_none_of components c
 
+-- F5, if one end alone is judged: a component is an answer or a Reject for nothing that the peer sent.
 abbrev pub answers_nothing_there : Side → List Item → Message → Bool
 answers_nothing_there side items m = by (dtid_in m)
   where
@@ -37,12 +38,12 @@ answers_nothing_there side items m = by (dtid_in m)
     by None = answers_nothing side items m
     by (Some id) = list_any (answers_none (components_of (asked side id items))) (components_in m)
 
--- F2 to F7, as they are asked of one end
+-- Whether a message has this kind, of F2 to F7, if its end alone is judged.
 abbrev pub is_of_first_kind : Table → Side → List Item → Message → Kind → Bool
 is_of_first_kind table side items m kinds.AnswersNothing = answers_nothing_there side items m
 is_of_first_kind table side items m kind = is_of_kind table side items m kind
 
--- these kinds, the lowest first
+-- F2 to F7, the lowest first.
 abbrev pub first_kinds : List Kind
 first_kinds = kinds.UnknownTransaction ∷ kinds.ReusedId ∷ kinds.AfterEnd ∷ kinds.AnswersNothing ∷ kinds.WrongOperation
     ∷ kinds.MisplacedDialogue ∷ []

@@ -1,4 +1,4 @@
--- What an entry is to a search, and what is noted behind it.
+-- What does a search conclude from one entry, and which notes does it keep?
 use Rattle.std.specs.Prelude.{◌≡◌, List, [], ◌∷◌, ◌++◌, Option, Some, None, Result, Ok, Err, cond}
 use Rattle.tcap_ber.specs.declared.fault.Reason.{Reason as ReadingReason}
 use Rattle.tcap_end.specs.Table.{Table}
@@ -12,17 +12,17 @@ use Rattle.tcap_refute.specs.declared.notes.Notes.{Notes}
 use Rattle.tcap_refute.specs.Kind.{is_limit, kind_of_reason, lowest_kind}
 use Rattle.tcap_refute.specs.Kept.{AreNotesOf}
 
--- octets that are no message, by that reason
+-- The conclusion from octets that are no message: F1, or no kind if the reason is a limit of this profile.
 abbrev pub judged_fault : ReadingReason → Judged
 judged_fault reason = cond (is_limit reason) Ended (Refuted BadMessage)
 
--- the kind of an entry behind these items
+-- The lowest kind of an entry after these items.
 abbrev pub entry_kind : Table → List Item → Result Item Reason → Option Kind
 entry_kind table items (Ok item) = lowest_kind table items item
 entry_kind table items (Err reason) = kind_of_reason reason
 
--- What is said of an entry behind these items holds of it: that it is an item of no kind, which is noted; that it has
--- that kind; or that it is no item, and has none.
+-- The conclusion from an entry after these items is right. `Refuted`: the entry has that kind. `Passed`: it is an
+-- item without a kind, and the notes include it. `Ended`: it is no item and has no kind.
 abbrev pub Judges : Table → List Item → Result Item Reason → Judged → Notes → Type 0
 Judges table items entry (Refuted kind) notes = entry_kind table items entry ≡ Some kind
 Judges table items (Ok item) Passed notes =

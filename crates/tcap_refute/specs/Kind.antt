@@ -1,5 +1,6 @@
--- Facts about an entry of a list, and what stands before it since the last quiet mark, that hold of no message which an
--- end sends that keeps the rules (Q.771, Q.773, Q.774): each can be checked by hand, over the list alone.
+-- Which kinds F1 to F7 does an entry have (Q.771, Q.773, Q.774)? Each kind is a fact about the entry and the items
+-- before it since the last quiet mark, so it can be checked by hand. No end that keeps the rules sends such an entry
+-- there.
 use Rattle.std.specs.Prelude.{ℕ, ℤ, Bool, true, false, List, [], ◌∷◌, Option, Some, None, Result, Ok, Err, ◌+◌, ◌++◌, ◌==◌, ◌&&◌, ◌||◌, not, nat_lt, cond, is_none, is_some, option_map}
 use Rattle.std.specs.List.{find, list_any}
 use Rattle.tcap_ber.specs.declared.fault.Reason.{Reason as ReadingReason}
@@ -31,7 +32,7 @@ use Rattle.tcap_refute.specs.Before.{answers, asked, components_of, has_a, invok
 
 -- ---- F1: octets that are no message (Q.773, X.690)
 
--- the reasons that are limits of this profile, and not of the standard
+-- The reasons that are limits of this profile, and not of the standard.
 abbrev pub is_limit : ReadingReason → Bool
 is_limit reading.LengthForm = true
 is_limit reading.TooLong = true
@@ -43,21 +44,22 @@ is_limit reading.CodeTooWide = true
 is_limit reading.TooDeep = true
 is_limit _ = false
 
--- ---- F2: a transaction that the peer did not speak of (Q.774 3.3)
+-- ---- F2: a transaction in which the peer sent nothing (Q.774 3.3)
 
--- No provider answers by an Abort with this cause where these messages were asked: cause 1, unrecognized transaction
--- ID, answers a Continue, cause 4, resource limitation, a Begin; no provider sends another cause.
+-- Whether these messages of the peer give no reason for an Abort with this cause. Cause 1, unrecognized transaction
+-- ID, answers a Continue; cause 4, resource limitation, answers a Begin; no provider of this profile sends another.
 abbrev pub is_cause_unfounded : ℕ → List Message → Bool
 is_cause_unfounded cause messages =
     cond (cause == 1) (not (has_a forms.Continue messages))
     (cond (cause == 4) (not (has_a forms.Begin messages)) true)
 
--- nothing was asked from there, or nothing that an Abort with this cause answers
+-- Whether the peer sent nothing from the ID, or nothing that an Abort with this cause answers.
 abbrev pub is_unasked : Option ℕ → List Message → Bool
 is_unasked cause [] = true
 is_unasked None messages = false
 is_unasked (Some cause) messages = is_cause_unfounded cause messages
 
+-- F2: The peer sent nothing from the message's destination ID, or nothing that its cause answers.
 abbrev pub is_unknown_transaction : Side → List Item → Message → Bool
 is_unknown_transaction side before message = by (dtid_in message)
   where
@@ -67,21 +69,23 @@ is_unknown_transaction side before message = by (dtid_in message)
 
 -- ---- F3: an originating ID that its end has used (Q.774 3.3; that an ID is used once is this profile's choice)
 
--- a Continue from that originating ID to another destination ID
+-- A Continue from this originating ID to another destination ID.
 abbrev pub goes_elsewhere : List ℕ → List ℕ → Message → Bool
 goes_elsewhere otid dtid (Continue other to dialogue components) = is_id otid (Some other) && not (is_id dtid (Some to))
 goes_elsewhere otid dtid _ = false
 
+-- F3: A Begin from an ID that the end used before, or a Continue from an ID from which the end sent a Continue to
+-- another destination ID.
 abbrev pub is_reused : Side → List Item → Message → Bool
 is_reused side before (Begin otid dialogue components) = list_any (λ m. is_id otid (otid_in m)) (sent_by side before)
 is_reused side before (Continue otid dtid dialogue components) =
     list_any (goes_elsewhere otid dtid) (sent_by side before)
 is_reused side before _ = false
 
--- ---- F4: a message behind the end of its dialogue (Q.774 3.3)
+-- ---- F4: a message after the end of its dialogue (Q.774 3.3)
 
--- A Continue, an End, or an Abort without cause, to an ID to which the same end sent an End, or an Abort without
--- cause, before.
+-- F4: A Continue, an End, or an Abort without cause goes to an ID to which the same end sent an End, or an Abort
+-- without cause, before.
 abbrev pub is_after_end : Side → List Item → Message → Bool
 is_after_end side before message = cond (is_none (cause_in message)) (by (dtid_in message)) false
   where
@@ -89,9 +93,9 @@ is_after_end side before message = cond (is_none (cause_in message)) (by (dtid_i
     by None = false
     by (Some id) = list_any (λ m. is_id id (ended_by m)) (sent_by side before)
 
--- ---- F5: an answer, or a Reject, of what was never sent (Q.774 3.2)
+-- ---- F5: an answer to, or a Reject of, what was never sent (Q.774 3.2)
 
--- whether a component answers or rejects what none of these is
+-- An answer or a Reject that is for none of these components.
 abbrev pub answers_none_of : List Component → Component → Bool
 answers_none_of components (Invoke id linked code parameter) = false
 answers_none_of components (ReturnResult last id body) = not (list_any (invokes id) components)
@@ -102,8 +106,9 @@ answers_none_of components (Reject (Some id) (problems.Invoke n)) = not (list_an
 answers_none_of components (Reject (Some id) (problems.ReturnResult n)) = not (list_any (answers true id) components)
 answers_none_of components (Reject (Some id) (problems.ReturnError n)) = not (list_any (answers false id) components)
 
--- In a Unidirectional no answer can stand, in a Begin no Reject either, for nothing came before. A Reject in a
--- Unidirectional is left open (Q.771 3.1.3).
+-- F5: A component is an answer or a Reject for nothing that the peer sent. Nothing comes before a Unidirectional or a
+-- Begin, so neither has an answer, and a Begin has no Reject. A Reject in a Unidirectional is left open (Q.771
+-- 3.1.3).
 abbrev pub answers_nothing : Side → List Item → Message → Bool
 answers_nothing side before (Unidirectional dialogue components) = list_any is_answer components
 answers_nothing side before (Begin otid dialogue components) =
@@ -114,27 +119,27 @@ answers_nothing side before message = by (dtid_in message)
     by None = false
     by (Some id) = list_any (answers_none_of (components_of (asked side id before))) (components_in message)
 
--- ---- F6: an operation of another kind (Q.771 3.1, operation classes)
+-- ---- F6: a wrong operation (Q.771 3.1, operation classes)
 
--- whether the table lacks the operation of an Invoke
+-- An Invoke of an operation that the table lacks.
 abbrev pub is_unknown_operation : Table → Component → Bool
 is_unknown_operation table (Invoke id linked code parameter) = is_none (operation_of table code)
 is_unknown_operation table _ = false
 
--- whether it is an Invoke of another class than 4, the only one that a Unidirectional may carry
+-- An Invoke of an operation that is not of class 4, the only class that a Unidirectional may carry.
 abbrev pub is_not_of_class_4 : Table → Component → Bool
 is_not_of_class_4 table (Invoke id linked code parameter) = not (of_class reports_neither (class_of table code))
 is_not_of_class_4 table _ = false
 
--- an Invoke of that ID whose class allows a Return Result (true), or a Return Error, and, where one is named, of that
--- operation
+-- An Invoke with this ID whose class allows a Return Result (if `is_result`) or else a Return Error. If an operation
+-- is named, it is the Invoke's.
 abbrev pub may_be_answered : Table → Bool → ℤ → Option Code → Component → Bool
 may_be_answered table is_result id named (Invoke other linked code parameter) =
     is_invoke_id id other && class_reports table is_result code && names named code
 may_be_answered table is_result id named _ = false
 
--- Whether an answer is one that no Invoke among these allows. The code of a Return Result names an operation, that of a
--- Return Error an error.
+-- An answer that no Invoke among these components allows. The code of a Return Result names an operation; that of a
+-- Return Error names an error, and is not compared.
 abbrev pub no_class_allows : Table → List Component → Component → Bool
 no_class_allows table components (ReturnResult last id body) =
     not (list_any (may_be_answered table true id (option_map (λ b. b.code) body)) components)
@@ -142,6 +147,8 @@ no_class_allows table components (ReturnError id code parameter) =
     not (list_any (may_be_answered table false id None) components)
 no_class_allows table components _ = false
 
+-- F6: An Invoke of an operation that the table lacks or, in a Unidirectional, that is not of class 4; or an answer
+-- that no Invoke of the peer allows.
 abbrev pub is_wrong_operation : Table → Side → List Item → Message → Bool
 is_wrong_operation table side before (Unidirectional dialogue components) = list_any (is_not_of_class_4 table) components
 is_wrong_operation table side before message =
@@ -151,25 +158,27 @@ is_wrong_operation table side before message =
     by None = false
     by (Some id) = list_any (no_class_allows table (components_of (asked side id before))) (components_in message)
 
--- ---- F7: a dialogue portion that no message of its kind carries (Q.774 3.2, dialogues; Q.773 4.2.3)
+-- ---- F7: a misplaced dialogue portion (Q.774 3.2, dialogues; Q.773 4.2.3)
 
+-- A Begin with an AARQ.
 abbrev pub is_begin_with_request : Message → Bool
 is_begin_with_request (Begin otid dialogue components) = is_request dialogue
 is_begin_with_request _ = false
 
--- Whether a PDU may not stand in a Continue or an End; whether a dialogue was asked for is given. An AARE there takes
--- the dialogue.
+-- A PDU that a Continue or an End may not have. Only an AARE that accepts the dialogue is allowed, if the peer asked
+-- for one (`is_asked`).
 abbrev pub is_misplaced_going_on : Bool → Option Dialogue → Bool
 is_misplaced_going_on is_asked None = false
 is_misplaced_going_on is_asked dialogue = not (is_asked && accepts_dialogue dialogue)
 
--- Whether it may not stand in an Abort: an AARE there refuses the dialogue, and an ABRT names the user (0) or the
--- provider (1) as its source.
+-- A PDU that an Abort may not have. Allowed are an ABRT whose source is the user (0) or the provider (1), and an AARE
+-- that refuses the dialogue, if the peer asked for one.
 abbrev pub is_misplaced_aborting : Bool → Option Dialogue → Bool
 is_misplaced_aborting is_asked None = false
 is_misplaced_aborting is_asked (Some (dialogues.Abort source info)) = nat_lt 1 source
 is_misplaced_aborting is_asked dialogue = not (is_asked && refuses_dialogue dialogue)
 
+-- F7: The message has a dialogue PDU that its form may not have there.
 abbrev pub is_misplaced_dialogue : Side → List Item → Message → Bool
 is_misplaced_dialogue side before (Unidirectional dialogue components) = is_some dialogue && not (is_uni dialogue)
 is_misplaced_dialogue side before (Begin otid dialogue components) = is_some dialogue && not (is_request dialogue)
@@ -180,9 +189,9 @@ is_misplaced_dialogue side before (EndMessage dtid dialogue components) =
 is_misplaced_dialogue side before (Abort dtid reason) =
     is_misplaced_aborting (list_any is_begin_with_request (asked side dtid before)) (dialogue_in (Abort dtid reason))
 
--- ---- these kinds
+-- ---- all these kinds
 
--- whether a message that an end sends is of that kind of these, behind these items since the last quiet mark
+-- Whether a message of this end has this kind, of F2 to F7, after these items since the last quiet mark.
 abbrev pub is_of_kind : Table → Side → List Item → Message → Kind → Bool
 is_of_kind table side before message kinds.BadMessage = false
 is_of_kind table side before message kinds.UnknownTransaction = is_unknown_transaction side before message
@@ -193,7 +202,7 @@ is_of_kind table side before message kinds.WrongOperation = is_wrong_operation t
 is_of_kind table side before message kinds.MisplacedDialogue = is_misplaced_dialogue side before message
 is_of_kind table side before message _ = false
 
--- the number behind the F
+-- The number after the F.
 abbrev pub kind_number : Kind → ℕ
 kind_number kinds.BadMessage = 1
 kind_number kinds.UnknownTransaction = 2
@@ -211,33 +220,34 @@ kind_number kinds.RejectNotAllowed = 13
 kind_number kinds.WrongReply = 14
 kind_number kinds.OpenAtMark = 15
 
--- the kinds by which a record is refuted, the lowest first
+-- The kinds that refute a record, the lowest first.
 abbrev pub refuting_kinds : List Kind
 refuting_kinds = kinds.BadMessage ∷ kinds.UnknownTransaction ∷ kinds.ReusedId ∷ kinds.AfterEnd ∷ kinds.AnswersNothing
     ∷ kinds.WrongOperation ∷ kinds.MisplacedDialogue ∷ []
 
--- the lowest kind of an item behind these; a quiet mark has none
+-- The lowest kind of an item after these items; a quiet mark has none.
 abbrev pub lowest_kind : Table → List Item → Item → Option Kind
 lowest_kind table items (Sent side message) = find (is_of_kind table side (since_quiet items) message) refuting_kinds
 lowest_kind table items Item.Quiet = None
 
--- that of an entry that is no item: octets that the standard makes no message
+-- The kind of an entry that is no item: F1 if the standard makes its octets no message.
 abbrev pub kind_of_reason : Reason → Option Kind
 kind_of_reason (BadMessage fault) = cond (is_limit fault.reason) None (Some kinds.BadMessage)
 kind_of_reason _ = None
 
 -- ---- a record
 
+-- The refutation of this entry, if it has a kind.
 abbrev pub refutation_at : ℕ → Option Kind → Option Refutation
 refutation_at entry kind = option_map (λ k. record { entry = entry; kind = k }) kind
 
--- this one, or the other where there is none
+-- The first value, or the second if the first is None.
 abbrev pub or_else : {A : Type 0} → Option A → Option A → Option A
 or_else None other = other
 or_else (Some a) other = Some a
 
--- The lowest of these entries that has a kind, with its lowest kind. These items stand before them, and none has a kind;
--- the number is their count. What stands behind the first entry that is no item is not looked at.
+-- The first of these entries that has a kind, with its lowest kind. `entry` is the count of the `items` before them,
+-- which have no kind. Nothing after the first entry that is no item is looked at.
 abbrev pub refuted_behind : Table → List Item → ℕ → List (Result Item Reason) → Option Refutation
 refuted_behind table items entry [] = None
 refuted_behind table items entry (Err reason ∷ more) = refutation_at entry (kind_of_reason reason)
@@ -245,6 +255,6 @@ refuted_behind table items entry (Ok item ∷ more) =
     or_else (refutation_at entry (lowest_kind table items item))
     (refuted_behind table (items ++ item ∷ []) (entry + 1) more)
 
--- the lowest entry of a record that has a kind, with its lowest kind
+-- The first entry of a record that has a kind, with its lowest kind.
 abbrev pub refuted : Table → List (Result Item Reason) → Option Refutation
 refuted table entries = refuted_behind table [] 0 entries

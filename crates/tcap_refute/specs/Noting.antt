@@ -1,4 +1,4 @@
--- What is kept behind one component, or one message, more.
+-- Which notes remain after one more component or message?
 use Rattle.std.specs.Prelude.{◌≡◌, Bool, true, false, List, ℕ, Option, Some, ◌&&◌, ◌||◌, cond}
 use Rattle.tcap_parts.specs.declared.code.Code.{Code}
 use Rattle.tcap_msg.specs.declared.kind.Kind.TheVariants as forms
@@ -15,7 +15,7 @@ use Rattle.tcap_refute.specs.declared.from_id.Toward.TheVariants.{Nowhere, One, 
 use Rattle.tcap_refute.specs.Before.{is_a}
 use Rattle.tcap_refute.specs.Kept.{has_code}
 
--- an Invoke of that operation more
+-- `new` is `old` with one more Invoke of this operation.
 pub record IsInvoked (table : Table) (code : Code) (old new : ById) : Type 0 where
   pub invoked : new.invoked ≡ true
   pub fails : new.fails ≡ old.fails || class_reports table false code
@@ -25,17 +25,18 @@ pub record IsInvoked (table : Table) (code : Code) (old new : ById) : Type 0 whe
   pub by_result : new.by_result ≡ old.by_result
   pub by_error : new.by_error ≡ old.by_error
 
--- a destination ID more
+-- The destination IDs with one more.
 abbrev pub toward_with : List ℕ → Toward → Toward
 toward_with dtid Nowhere = One dtid
 toward_with dtid (One other) = cond (is_id dtid (Some other)) (One other) Several
 toward_with dtid Several = Several
 
+-- The destination IDs after a message; the flag is whether the message is a Continue.
 abbrev pub toward_behind : Bool → Option (List ℕ) → Toward → Toward
 toward_behind true (Some dtid) toward = toward_with dtid toward
 toward_behind _ _ toward = toward
 
--- a message more, but for its components
+-- `new` is `old` with one more message, but without its components.
 pub record IsHeaded (message : Message) (old new : FromId) : Type 0 where
   pub begun : new.begun ≡ old.begun || is_a forms.Begin message
   pub asked : new.asked ≡ old.asked || is_a forms.Begin message && is_request (dialogue_in message)
@@ -43,7 +44,7 @@ pub record IsHeaded (message : Message) (old new : FromId) : Type 0 where
   pub toward : new.toward ≡ toward_behind (is_a forms.Continue message) (dtid_in message) old.toward
   pub ids : new.ids ≡ old.ids
 
--- the same but for what components tell
+-- `new` and `old` differ in nothing but what components add.
 pub record IsSameHead (old new : FromId) : Type 0 where
   pub begun : new.begun ≡ old.begun
   pub asked : new.asked ≡ old.asked

@@ -1,4 +1,4 @@
--- What a refutation says of all runs.
+-- What does a refutation imply for all runs?
 use Rattle.std.specs.Prelude.{◌≡◌, ◌⊎◌, ℕ, true, false, List, ◌∷◌, ◌++◌, map, length, slice_get, Some, Result, Ok, Err}
 use Rattle.tcap_ber.specs.declared.fault.Fault.{Fault}
 use Rattle.tcap_msg.specs.declared.message.Message.{Message}
@@ -13,20 +13,20 @@ use Rattle.tcap_refute.specs.declared.kind.Refutation.{Refutation}
 use Rattle.tcap_refute.specs.Before.{since_quiet}
 use Rattle.tcap_refute.specs.Kind.{is_limit, is_of_kind}
 
--- An end that keeps the rules sends the message in no run behind these items, whatever the other end does, and whatever
--- follows.
+-- No run in which the end keeps the rules sends this message directly after these items, no matter what the other end
+-- does and what follows.
 abbrev pub IsUnsendable : Table → List Item → Side → Message → Type 0
 IsUnsendable table before side message =
     (events : List Event) (w : World) (behind : List Item) → Runs table events w → KeepsRules side events
     → w.sent ≡ before ++ Sent side message ∷ behind → ⊥
 
--- an entry whose octets are no message, by a reason that is no limit of this profile
+-- An entry whose octets are no message, for a reason that is no limit of this profile.
 pub record IsBadEntry (entries : List (Result Item Reason)) (entry : ℕ) : Type 0 where
   pub fault : Fault
   pub there : slice_get entries entry ≡ Some (Err (BadMessage fault))
   pub no_limit : is_limit fault.reason ≡ false
 
--- an entry that its end sends in no such run: it has the kind that is named
+-- A message with this kind. No run in which its end keeps the rules has it there.
 pub record IsUnsendableEntry (table : Table) (entries : List (Result Item Reason)) (r : Refutation) : Type 0 where
   pub before : List Item
   pub side : Side
@@ -37,12 +37,12 @@ pub record IsUnsendableEntry (table : Table) (entries : List (Result Item Reason
   pub has_kind : is_of_kind table side (since_quiet before) message r.kind ≡ true
   pub unsendable : IsUnsendable table before side message
 
--- The octets of the entry are no message; or it is a message that its end sends in no run in which it keeps the rules, behind
--- the items before it. It has the kind that is named.
+-- Either the octets of the entry are no message, and the kind is F1. Or the entry is a message with this kind, and no
+-- run in which its end keeps the rules has it there.
 abbrev pub IsAtFault : Table → List (Result Item Reason) → Refutation → Type 0
 IsAtFault table entries r =
     ((r.kind ≡ kinds.BadMessage) × IsBadEntry entries r.entry) ⊎ IsUnsendableEntry table entries r
 
--- F1 is named exactly of an entry whose octets are no message.
+-- The kind is F1 exactly if the octets of the entry are no message, for a reason that is no limit of this profile.
 abbrev pub IsBadByKind : List (Result Item Reason) → Refutation → Type 0
 IsBadByKind entries r = (r.kind ≡ kinds.BadMessage → IsBadEntry entries r.entry) × (IsBadEntry entries r.entry → r.kind ≡ kinds.BadMessage)

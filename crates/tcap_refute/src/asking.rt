@@ -1,4 +1,4 @@
-//! Which kind a message has, by what was noted of those before it (Q.771, Q.773, Q.774).
+//! The kinds F2 to F7 of a message, from the notes on earlier messages (Q.771, Q.773, Q.774).
 
 ghost use Rattle.std.specs.Prelude.{◌≡◌, option_copied};
 ghost use Rattle.tcap_msg.specs.Meaning.{cause_of};
@@ -15,35 +15,35 @@ use tcap_ber::SmallView;
 use tcap_end::Table;
 use tcap_msg::{Kind as Form, MessageParts, TransactionIdView};
 
-/// Whether a Begin was sent from there.
+/// Returns whether a Begin was sent from the ID.
 fn begun(from: Option<&FromId>) -> bool
     ensures { result ≡ told_by_from (option_copied from.entry) Begun }
 {
     matches!(from, Some(kept) if kept.begun)
 }
 
-/// Whether a Begin with a dialogue request was.
+/// Returns whether a Begin with a dialogue request was sent from the ID.
 fn asked(from: Option<&FromId>) -> bool
     ensures { result ≡ told_by_from (option_copied from.entry) Asked }
 {
     matches!(from, Some(kept) if kept.asked)
 }
 
-/// Whether a Continue was.
+/// Returns whether a Continue was sent from the ID.
 fn went_on(from: Option<&FromId>) -> bool
     ensures { result ≡ told_by_from (option_copied from.entry) WentOn }
 {
     matches!(from, Some(kept) if kept.went_on)
 }
 
-/// Whether a message was.
+/// Returns whether a message was sent from the ID.
 fn spoke(from: Option<&FromId>) -> bool
     ensures { result ≡ told_by_from (option_copied from.entry) Spoke }
 {
     begun(from) || went_on(from)
 }
 
-/// Whether a Continue to another ID was.
+/// Returns whether a Continue was sent from the ID to another ID than `dtid`.
 fn went_elsewhere(from: Option<&FromId>, dtid: TransactionIdView) -> bool
     ensures { result ≡ told_by_from (option_copied from.entry) (WentElsewhere dtid.entry.octets.now) }
 {
@@ -53,7 +53,7 @@ fn went_elsewhere(from: Option<&FromId>, dtid: TransactionIdView) -> bool
     }
 }
 
-/// Whether no provider answers what was sent from there by an Abort with that cause.
+/// Returns whether no message from the ID is a reason for an Abort of the provider with this cause.
 fn cause_is_unfounded(from: Option<&FromId>, cause: SmallView) -> bool
     ensures { result ≡ cause_is_unfounded (told_by_from (option_copied from.entry)) cause.number }
 {
@@ -64,7 +64,7 @@ fn cause_is_unfounded(from: Option<&FromId>, cause: SmallView) -> bool
     }
 }
 
-/// Whether a message with that cause, or none, answers nothing that was sent from there.
+/// Returns whether nothing was sent from the ID that a message with this cause, if it has one, can refer to.
 fn was_not_asked(from: Option<&FromId>, cause: Option<SmallView>) -> bool
     ensures { result ≡ was_not_asked (told_by_from (option_copied from.entry)) (cause_of cause) }
 {
@@ -74,14 +74,14 @@ fn was_not_asked(from: Option<&FromId>, cause: Option<SmallView>) -> bool
     }
 }
 
-/// Whether the peer did not speak of its transaction; from has what was sent from its destination ID.
+/// Returns whether the message has F2. `from` has what the peer sent from the destination ID.
 fn transaction_is_unknown<M: MessageParts>(from: Option<&FromId>, message: &M) -> bool
     ensures { result ≡ transaction_is_unknown (told_by_from (option_copied from.entry)) (M.meaning message.now) }
 {
     message.dtid().is_some() && was_not_asked(from, message.cause())
 }
 
-/// Whether its end has used its originating ID; from has what it sent from there.
+/// Returns whether the message has F3. `from` has what its end sent from the originating ID.
 fn id_is_reused<M: MessageParts>(from: Option<&FromId>, message: &M) -> bool
     ensures { result ≡ id_is_reused (told_by_from (option_copied from.entry))
         (dtid_in (M.meaning message.now)) (kind_in (M.meaning message.now)) }
@@ -93,8 +93,7 @@ fn id_is_reused<M: MessageParts>(from: Option<&FromId>, message: &M) -> bool
     }
 }
 
-/// Whether it has a dialogue portion that no message of its kind carries; from has what was sent from its destination
-/// ID.
+/// Returns whether the message has F7. `from` has what the peer sent from the destination ID.
 fn dialogue_is_misplaced<M: MessageParts>(from: Option<&FromId>, message: &M) -> bool
     ensures { result ≡ dialogue_is_misplaced (told_by_from (option_copied from.entry) Asked)
         (kind_in (M.meaning message.now)) (dialogue_in (M.meaning message.now)) }
@@ -108,7 +107,7 @@ fn dialogue_is_misplaced<M: MessageParts>(from: Option<&FromId>, message: &M) ->
     }
 }
 
-/// Whether it comes behind the end of its dialogue, where it is given whether its end ended that.
+/// Returns whether the message has F4. `has_ended` is whether its end ended this dialogue before.
 fn comes_after_end<M: MessageParts>(has_ended: bool, message: &M) -> bool
     ensures { result ≡ comes_after_end has_ended (cause_in (M.meaning message.now)) }
 {
@@ -118,7 +117,9 @@ fn comes_after_end<M: MessageParts>(has_ended: bool, message: &M) -> bool
     }
 }
 
-/// The lowest kind by the IDs of a message; own and there have what was sent from its originating ID, and from its destination ID.
+/// Returns the lowest of F2 to F4 that the message has.
+///
+/// `own` has what its end sent from the originating ID, and `there` what the peer sent from the destination ID.
 fn kind_of_ids<M: MessageParts>(
     own: Option<&FromId>,
     there: Option<&FromId>,
@@ -139,8 +140,7 @@ fn kind_of_ids<M: MessageParts>(
     }
 }
 
-/// The lowest kind by the components and the dialogue portion of a message; there has what was sent from its
-/// destination ID.
+/// Returns the lowest of F5 to F7 that the message has. `there` has what the peer sent from the destination ID.
 fn kind_of_parts<M: MessageParts>(
     of_one: bool,
     table: &Table,
@@ -160,8 +160,10 @@ fn kind_of_parts<M: MessageParts>(
     }
 }
 
-/// The lowest kind of a message, by what was sent from its IDs, and whether its end ended its dialogue; and whether that is asked of
-/// one end.
+/// Returns the lowest of F2 to F7 that the message has.
+///
+/// `own` has what its end sent from the originating ID, and `there` what the peer sent from the destination ID.
+/// `has_ended` is whether its end ended this dialogue before, and `of_one` whether that end alone is judged.
 pub(crate) fn kind_by<M: MessageParts>(
     of_one: bool,
     table: &Table,

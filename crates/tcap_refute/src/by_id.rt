@@ -1,4 +1,4 @@
-//! What an end sent of an invoke ID, in messages from one transaction ID.
+//! What an end sent with one invoke ID, in messages from one transaction ID.
 
 ghost use Rattle.std.specs.Prelude.{◌≡◌, ◌||◌, ℤ, false, OnOk, Some};
 ghost use Rattle.tcap_parts.specs.Meaning.{code_of, component_of};
@@ -12,24 +12,24 @@ use std::alloc::{AllocError, Global};
 use tcap_end::{Table, reports};
 use tcap_parts::{CodeView, ComponentView};
 
-/// What an end sent of an invoke ID.
+/// The notes on what an end sent with an invoke ID.
 #[derive(Debug, Drop)]
 pub(crate) struct ById {
-    /// An Invoke.
+    /// True if it sent an Invoke.
     pub(crate) invoked: bool,
-    /// A Return Result.
+    /// True if it sent a Return Result.
     pub(crate) by_result: bool,
-    /// A Return Error.
+    /// True if it sent a Return Error.
     pub(crate) by_error: bool,
-    /// An Invoke of an operation whose class reports success.
+    /// True if it sent an Invoke whose class reports success.
     pub(crate) succeeds: bool,
-    /// An Invoke of one whose class reports failure.
+    /// True if it sent an Invoke whose class reports failure.
     pub(crate) fails: bool,
-    /// The operations whose class reports success.
+    /// The operations of its Invokes whose class reports success.
     pub(crate) codes: Codes,
 }
 
-/// Whether an operation has a class, and it reports success, or failure (Q.771).
+/// Returns whether there is a class, and it reports success (if `is_result`) or else failure (Q.771).
 fn class_reports(class: Option<u8>, is_result: bool) -> bool
     ensures { result ≡ of_class (reports is_result) class }
 {
@@ -40,7 +40,7 @@ fn class_reports(class: Option<u8>, is_result: bool) -> bool
 }
 
 impl ById {
-    /// Nothing.
+    /// Creates the notes for an ID with which nothing was sent.
     pub(crate) fn new() -> ById
         ensures { (fact : IdFact) → tells fact result ≡ false }
     {
@@ -54,7 +54,7 @@ impl ById {
         }
     }
 
-    /// An Invoke of that operation.
+    /// Notes an Invoke of this operation. Fails if memory runs out.
     fn note_invoke(
         &mut self,
         alloc: Global,
@@ -75,7 +75,7 @@ impl ById {
         Ok(())
     }
 
-    /// A component of the ID.
+    /// Notes a component with the ID. Fails if memory runs out.
     pub(crate) fn note(
         &mut self,
         alloc: Global,

@@ -10,7 +10,7 @@ use std::alloc::{AllocError, Global};
 use std::collections::BTreeSet;
 use tcap_parts::CodeView;
 
-/// Operation codes, local and global ones.
+/// Local and global operation codes.
 #[derive(Debug, Drop)]
 pub(crate) struct CodeSets {
     pub(crate) locals: BTreeSet<i32>,
@@ -18,17 +18,17 @@ pub(crate) struct CodeSets {
     pub(crate) globals: BTreeSet<Vec<u8>>,
 }
 
-/// A set of operation codes. Most have one code, a local one, which takes no memory.
+/// A set of operation codes. Most sets have one local code, which needs no allocation.
 #[derive(Debug, Drop)]
 pub(crate) struct Codes {
-    /// The local code that came first.
+    /// The first local code.
     pub(crate) first: Option<i32>,
-    /// The others.
+    /// The other codes.
     pub(crate) others: Option<Box<CodeSets>>,
 }
 
 impl CodeSets {
-    /// No codes.
+    /// Creates an empty set.
     fn new(alloc: Global) -> CodeSets
         ensures { (code : Code) → is_among code result ≡ false }
     {
@@ -38,7 +38,7 @@ impl CodeSets {
         }
     }
 
-    /// Whether the code is one of them.
+    /// Returns whether the code is in the set.
     fn has(&self, code: CodeView) -> bool
         ensures { result ≡ is_among (code_of code.entry) self.now }
     {
@@ -48,7 +48,7 @@ impl CodeSets {
         }
     }
 
-    /// One code more.
+    /// Adds a code. Fails if memory runs out.
     fn add(&mut self, alloc: Global, code: CodeView) -> Result<(), AllocError>
         ensures { OnOk result ((other : Code) → is_among other self.new
             ≡ is_among other self.old || is_code other (code_of code.entry)) }
@@ -62,7 +62,7 @@ impl CodeSets {
 }
 
 impl Codes {
-    /// No codes.
+    /// Creates an empty set, without an allocation.
     pub(crate) fn new() -> Codes
         ensures { (code : Code) → has_code code result ≡ false }
     {
@@ -72,7 +72,7 @@ impl Codes {
         }
     }
 
-    /// Whether it is the local code that came first.
+    /// Returns whether this is the first local code.
     fn is_first(&self, code: CodeView) -> bool
         ensures { result ≡ is_first (code_of code.entry) self.now.first }
     {
@@ -82,7 +82,7 @@ impl Codes {
         }
     }
 
-    /// Whether the code is one of them.
+    /// Returns whether the code is in the set.
     pub(crate) fn has(&self, code: CodeView) -> bool
         ensures { result ≡ has_code (code_of code.entry) self.now }
     {
@@ -95,7 +95,7 @@ impl Codes {
         }
     }
 
-    /// One code more, which is not the first.
+    /// Adds a code to the others. Fails if memory runs out.
     fn add_other(&mut self, alloc: Global, code: CodeView) -> Result<(), AllocError>
         ensures { OnOk result ((other : Code) → has_code other self.new
             ≡ has_code other self.old || is_code other (code_of code.entry)) }
@@ -109,7 +109,7 @@ impl Codes {
         Ok(())
     }
 
-    /// One code more.
+    /// Adds a code. Fails if memory runs out.
     pub(crate) fn add(&mut self, alloc: Global, code: CodeView) -> Result<(), AllocError>
         ensures { OnOk result ((other : Code) → has_code other self.new
             ≡ has_code other self.old || is_code other (code_of code.entry)) }

@@ -1,4 +1,4 @@
-//! What is asked of the components of a message (Q.774 3.2, component sub-layer; Q.771, operation classes).
+//! The tests of components for F5 and F6 (Q.774 3.2, component sub-layer; Q.771, operation classes).
 
 ghost use Rattle.std.specs.Prelude.{◌≡◌, option_copied, option_map};
 ghost use Rattle.tcap_parts.specs.Meaning.{body_of, code_of, component_of, problem_of};
@@ -15,24 +15,26 @@ use tcap_end::{Table, reports_neither};
 use tcap_msg::{Kind as Form, MessageParts};
 use tcap_parts::{CodeView, ComponentView, ProblemView, ResultBodyView};
 
-/// What is asked of a component.
+/// A test of a component.
 #[derive(Clone, Copy)]
 pub(crate) enum Test {
-    /// Whether it is an answer.
+    /// The component is an answer.
     Answer,
-    /// Whether it is an answer or a Reject.
+    /// The component is an answer or a Reject.
     AnswerOrReject,
-    /// Whether it answers or rejects what was never sent from an ID; and whether that is asked of one end.
+    /// The component is an answer or a Reject for nothing that the peer sent. The value is whether one end alone is
+    /// judged.
     AnswersNothing(bool),
-    /// Whether it is an Invoke whose operation the table lacks.
+    /// The component is an Invoke of an operation that the table lacks.
     UnknownOperation,
-    /// Whether it is an Invoke of another class than 4.
+    /// The component is an Invoke of an operation that is not of class 4.
     NotOfClass4,
-    /// Whether it is an Invoke whose operation the table lacks, or an answer that no Invoke from an ID allows.
+    /// The component is an Invoke of an operation that the table lacks, or an answer that no Invoke of the peer
+    /// allows.
     Wrong,
 }
 
-/// Whether the table has the operation, in class 4.
+/// Returns whether the table has the operation, in class 4.
 fn is_of_class_4(table: &Table, code: CodeView) -> bool
     ensures { result ≡ of_class reports_neither (class_of table.now (code_of code.entry)) }
 {
@@ -42,14 +44,14 @@ fn is_of_class_4(table: &Table, code: CodeView) -> bool
     }
 }
 
-/// What is kept of an invoke ID.
+/// Returns what was sent with this invoke ID, if anything was.
 fn of_id(from: Option<&FromId>, id: i8) -> Option<&ById>
     ensures { option_copied result ≡ id_in (option_copied from.entry) id }
 {
     from?.ids.get(&id)
 }
 
-/// Whether that ID was invoked from there.
+/// Returns whether an Invoke with this invoke ID was sent.
 fn is_invoked(from: Option<&FromId>, id: i8) -> bool
     ensures { result ≡ told_by_from (option_copied from.entry) (OfId id Invoked) }
 {
@@ -59,7 +61,7 @@ fn is_invoked(from: Option<&FromId>, id: i8) -> bool
     }
 }
 
-/// Whether a Return Result, or a Return Error, of that ID came from there.
+/// Returns whether a Return Result (if `is_result`) or else a Return Error with this invoke ID was sent.
 fn is_answered(from: Option<&FromId>, is_result: bool, id: i8) -> bool
     ensures { result ≡ told_by_from (option_copied from.entry) (OfId id (Answered is_result)) }
 {
@@ -70,7 +72,8 @@ fn is_answered(from: Option<&FromId>, is_result: bool, id: i8) -> bool
     }
 }
 
-/// Whether that ID was invoked from there by an operation whose class reports success, by that one where it is named.
+/// Returns whether an Invoke with this invoke ID was sent whose class reports success. If the body names an
+/// operation, the Invoke must be of that operation.
 fn succeeds(from: Option<&FromId>, id: i8, body: Option<ResultBodyView>) -> bool
     ensures { result ≡ told_by_from (option_copied from.entry)
         (OfId id (Succeeds (option_map (λ b. b.code) (option_map body_of body.entry)))) }
@@ -82,7 +85,7 @@ fn succeeds(from: Option<&FromId>, id: i8, body: Option<ResultBodyView>) -> bool
     }
 }
 
-/// Whether that ID was invoked from there by an operation whose class reports failure.
+/// Returns whether an Invoke with this invoke ID was sent whose class reports failure.
 fn fails(from: Option<&FromId>, id: i8) -> bool
     ensures { result ≡ told_by_from (option_copied from.entry) (OfId id Fails) }
 {
@@ -92,7 +95,7 @@ fn fails(from: Option<&FromId>, id: i8) -> bool
     }
 }
 
-/// Whether an Invoke or an answer of that ID came from there.
+/// Returns whether an Invoke or an answer with this invoke ID was sent.
 fn has_come(from: Option<&FromId>, id: i8) -> bool
     ensures { result ≡ has_come (told_by_from (option_copied from.entry)) id }
 {
@@ -102,8 +105,10 @@ fn has_come(from: Option<&FromId>, id: i8) -> bool
     }
 }
 
-/// Whether a Reject rejects what was never sent from there. Asked of one end, one with mistypedComponent (1) or
-/// badlyStructuredComponent (2) may be of what has its ID and came from there.
+/// Returns whether a Reject is for nothing that was sent.
+///
+/// If one end alone is judged, mistypedComponent (1) and badlyStructuredComponent (2) may be for what was sent with
+/// the same invoke ID.
 fn rejects_none(of_one: bool, from: Option<&FromId>, id: Option<i8>, problem: ProblemView) -> bool
     ensures { result ≡ rejects_none of_one (told_by_from (option_copied from.entry)) id (problem_of problem) }
 {
@@ -118,7 +123,7 @@ fn rejects_none(of_one: bool, from: Option<&FromId>, id: Option<i8>, problem: Pr
     }
 }
 
-/// Whether a component answers or rejects what was never sent from there.
+/// Returns whether a component is an answer or a Reject for nothing that was sent.
 fn answers_none(of_one: bool, from: Option<&FromId>, component: ComponentView) -> bool
     ensures { result ≡ answers_none of_one (told_by_from (option_copied from.entry)) (component_of component.entry) }
 {
@@ -131,7 +136,7 @@ fn answers_none(of_one: bool, from: Option<&FromId>, component: ComponentView) -
     }
 }
 
-/// Whether it is an answer that no Invoke from there allows.
+/// Returns whether a component is an answer that no Invoke allows.
 fn is_not_allowed(from: Option<&FromId>, component: ComponentView) -> bool
     ensures { result ≡ is_not_allowed (told_by_from (option_copied from.entry)) (component_of component.entry) }
 {
@@ -142,7 +147,7 @@ fn is_not_allowed(from: Option<&FromId>, component: ComponentView) -> bool
     }
 }
 
-/// Whether a component passes a test.
+/// Returns whether a component passes a test.
 fn passes(table: &Table, from: Option<&FromId>, test: Test, component: ComponentView) -> bool
     ensures { result ≡ passes table.now (told_by_from (option_copied from.entry)) test (component_of component.entry) }
 {
@@ -160,8 +165,7 @@ fn passes(table: &Table, from: Option<&FromId>, test: Test, component: Component
     }
 }
 
-/// By what it is asked whether a component of a message of that kind answers or rejects what was never sent; and whether that
-/// is asked of one end.
+/// Returns the test for F5 in a message of this form. `of_one` is whether one end alone is judged.
 fn answer_test(of_one: bool, form: Form) -> Test
     ensures { result ≡ answer_test of_one form }
 {
@@ -172,7 +176,7 @@ fn answer_test(of_one: bool, form: Form) -> Test
     }
 }
 
-/// By what it is asked whether one is of a wrong operation.
+/// Returns the test for F6 in a message of this form.
 fn operation_test(form: Form) -> Test
     ensures { result ≡ operation_test form }
 {
@@ -183,7 +187,7 @@ fn operation_test(form: Form) -> Test
     }
 }
 
-/// The number of the first component of a message that passes a test.
+/// Returns the number, from 0, of the first component that passes a test.
 fn first_passing<M: MessageParts>(
     table: &Table,
     from: Option<&FromId>,
@@ -192,7 +196,7 @@ fn first_passing<M: MessageParts>(
 ) -> Option<u64>
     ensures { result ≡ first_passing table.now (told_by_from (option_copied from.entry)) test (M.meaning message.now) }
 {
-    // It bounds how many components there are, so that their numbers fit.
+    // Bounds the number of components, so that their numbers fit.
     let _count = message.count();
     let mut number = 0;
     for component in message.components() {
@@ -204,7 +208,9 @@ fn first_passing<M: MessageParts>(
     None
 }
 
-/// The number of the first component by which a message has that kind, F5 or F6; and whether that is asked of one end.
+/// Returns the number, from 0, of the first component with this kind, F5 or F6.
+///
+/// `from` has what the peer sent from the destination ID, and `of_one` is whether one end alone is judged.
 pub(crate) fn component_of<M: MessageParts>(
     of_one: bool,
     table: &Table,

@@ -1,4 +1,4 @@
-//! Which dialogue portion a message may carry (Q.774 3.2, dialogues; Q.773 4.2.3).
+//! The dialogue portions that a message may carry (Q.774 3.2, dialogues; Q.773 4.2.3).
 
 ghost use Rattle.std.specs.Prelude.{◌≡◌, option_map};
 ghost use Rattle.tcap_parts.specs.DialogueMeaning.{dialogue_of};
@@ -7,21 +7,21 @@ ghost use Rattle.tcap_refute.specs.Kind.{is_misplaced_aborting, is_misplaced_goi
 
 use tcap_parts::{DialogueView, SourceView};
 
-/// Whether it is a dialogue request.
+/// Returns whether this is an AARQ.
 pub(crate) fn is_request(dialogue: Option<DialogueView>) -> bool
     ensures { result ≡ is_request (option_map dialogue_of dialogue.entry) }
 {
     matches!(dialogue, Some(DialogueView::Request { .. }))
 }
 
-/// Whether it is that of a Unidirectional.
+/// Returns whether this is an AUDT.
 pub(crate) fn is_uni(dialogue: Option<DialogueView>) -> bool
     ensures { result ≡ is_uni (option_map dialogue_of dialogue.entry) }
 {
     matches!(dialogue, Some(DialogueView::Uni { .. }))
 }
 
-/// Whether it is a response that takes the dialogue.
+/// Returns whether this is an AARE that accepts the dialogue.
 fn accepts_dialogue(dialogue: Option<DialogueView>) -> bool
     ensures { result ≡ accepts_dialogue (option_map dialogue_of dialogue.entry) }
 {
@@ -39,7 +39,7 @@ fn accepts_dialogue(dialogue: Option<DialogueView>) -> bool
     }
 }
 
-/// Whether it is a response that refuses it, by the user.
+/// Returns whether this is an AARE by which a user refuses the dialogue.
 fn refuses_dialogue(dialogue: Option<DialogueView>) -> bool
     ensures { result ≡ refuses_dialogue (option_map dialogue_of dialogue.entry) }
 {
@@ -55,14 +55,14 @@ fn refuses_dialogue(dialogue: Option<DialogueView>) -> bool
     }
 }
 
-/// Whether it may not stand in a Continue or an End; whether a dialogue was asked for is given.
+/// Returns whether a Continue or an End may not carry this. `is_asked` is whether the peer sent an AARQ.
 pub(crate) fn is_misplaced_going_on(is_asked: bool, dialogue: Option<DialogueView>) -> bool
     ensures { result ≡ is_misplaced_going_on is_asked (option_map dialogue_of dialogue.entry) }
 {
     dialogue.is_some() && !(is_asked && accepts_dialogue(dialogue))
 }
 
-/// Whether it may not stand in an Abort.
+/// Returns whether an Abort may not carry this. `is_asked` is whether the peer sent an AARQ.
 pub(crate) fn is_misplaced_aborting(is_asked: bool, dialogue: Option<DialogueView>) -> bool
     ensures { result ≡ is_misplaced_aborting is_asked (option_map dialogue_of dialogue.entry) }
 {

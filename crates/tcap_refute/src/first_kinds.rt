@@ -1,4 +1,4 @@
-//! The kinds F1 to F7 as they are asked of one end, by what is kept of the IDs of its message.
+//! The kinds F1 to F7 of a message whose end alone is judged, from what is kept of its IDs.
 
 ghost use Rattle.std.specs.Prelude.{◌≡◌, List, Some, None, cond, option_copied};
 ghost use Rattle.std.specs.List.{find};
@@ -24,8 +24,8 @@ use tcap_ber::Reason;
 use tcap_end::Table;
 use tcap_msg::MessageParts;
 
-/// The kind of octets that are no message, by the reason why they are none; `None` where that is a limit of this profile, and not
-/// of the standard (Q.773, X.690).
+/// Returns the kind of octets that are no message for this reason: F1, or `None` if the reason is a limit of this
+/// profile and not of the standard (Q.773, X.690).
 pub fn kind_of_reason(reason: Reason) -> Option<Kind>
     ensures { result ≡ cond (is_limit reason) None (Some BadMessage) }
 {
@@ -36,10 +36,14 @@ pub fn kind_of_reason(reason: Reason) -> Option<Kind>
     }
 }
 
-/// The lowest of the kinds F2 to F7 of a message of an end, as they are asked of one end (Q.771, Q.773, Q.774): those by which
-/// `refute` answers, but that a Reject with the general problems 1 and 2 may be of what has its ID and came from there. It is given
-/// what that end sent from the originating ID, what its peer sent from the destination ID, where anything is kept of these, and
-/// whether the end sent an End, or an Abort without cause, to the destination ID. A few look-ups for each of its components.
+/// Returns the lowest of F2 to F7 that a message has, if its end alone is judged (Q.771, Q.773, Q.774).
+///
+/// The kinds are those of `refute`, with one exception: a Reject with general problem 1 or 2 may reject what the peer
+/// sent with its invoke ID.
+///
+/// `own` has what the end sent from the originating ID, and `there` what the peer sent from the destination ID, if
+/// anything is kept of these. `has_ended` is whether the end sent an End, or an Abort without cause, to the
+/// destination ID. Each component takes a few look-ups.
 pub fn first_kind<M: MessageParts>(
     table: &Table,
     own: Option<&FromId>,
@@ -54,10 +58,11 @@ pub fn first_kind<M: MessageParts>(
     kind_by(true, table, own, there, has_ended, message)
 }
 
-/// The number, from 0, of the component by which a message of an end has that kind, F5 or F6: the first that has it (Q.774 3.2,
-/// Q.771 3.1). `None` where none has it, or the kind is another. `of_one` says whether it is asked of one end, as `first_kind`
-/// asks it, or of both, as `refute` does. It is given what the peer sent from the destination ID, where anything is kept of that.
-/// A few look-ups for each component.
+/// Returns the number, from 0, of the first component with this kind, F5 or F6 (Q.774 3.2, Q.771 3.1).
+///
+/// Returns `None` if no component has the kind, or if the kind is another. If `of_one` holds, one end alone is
+/// judged, as by `first_kind`; else both are, as by `refute`. `there` has what the peer sent from the destination ID,
+/// if anything is kept of it. Each component takes a few look-ups.
 pub fn faulty_component<M: MessageParts>(
     of_one: bool,
     table: &Table,

@@ -1,4 +1,4 @@
-//! What an end sent from a transaction ID.
+//! What an end sent from one transaction ID.
 
 ghost use Rattle.std.specs.Prelude.{◌≡◌, ◌||◌, ℤ, Some, false, OnOk};
 ghost use Rattle.std.specs.Map.{lookup};
@@ -18,34 +18,34 @@ use tcap_end::Table;
 use tcap_msg::{Kind as Form, MessageParts, TransactionId, TransactionIdView};
 use tcap_parts::{ComponentView, Components};
 
-/// The destination IDs of Continues.
+/// The destination IDs of an end's Continues.
 #[derive(Debug, Drop)]
 pub(crate) enum Toward {
-    /// There was none.
+    /// There was no Continue.
     Nowhere,
-    /// All of them had this one.
+    /// All Continues went to this ID.
     One(TransactionId),
-    /// Two of them differ.
+    /// Two Continues went to different IDs.
     Several,
 }
 
-/// What an end sent from a transaction ID since the last quiet mark, as far as F2 to F7 of its peer's messages, and of its own, ask
-/// for it (Q.771, Q.773, Q.774).
+/// The notes on what an end sent from a transaction ID since the last quiet mark, as far as F2 to F7 need it (Q.771,
+/// Q.773, Q.774).
 #[derive(Debug, Drop)]
 pub struct FromId {
-    /// A Begin.
+    /// True if it sent a Begin.
     pub(crate) begun: bool,
-    /// A Begin with a dialogue request.
+    /// True if it sent a Begin with a dialogue request.
     pub(crate) asked: bool,
-    /// A Continue.
+    /// True if it sent a Continue.
     pub(crate) went_on: bool,
-    /// Where its Continues went.
+    /// The destination IDs of its Continues.
     pub(crate) toward: Toward,
-    /// Its components, by their invoke IDs.
+    /// The notes on each invoke ID.
     pub(crate) ids: BTreeMap<i8, ById>,
 }
 
-/// The invoke ID of a component of which something is noted.
+/// Returns the invoke ID under which a component is noted; a Reject is not noted.
 fn noted_id(component: &ComponentView) -> Option<i8>
     ensures { result ≡ noted_id (component_of component.now) }
 {
@@ -58,7 +58,7 @@ fn noted_id(component: &ComponentView) -> Option<i8>
 }
 
 impl Toward {
-    /// Whether one of them is another than this.
+    /// Returns whether a Continue went to another ID than this.
     pub(crate) fn is_elsewhere(&self, dtid: TransactionIdView) -> bool
         ensures { result ≡ is_elsewhere dtid.entry.octets.now self.now }
     {
@@ -69,7 +69,7 @@ impl Toward {
         }
     }
 
-    /// One more.
+    /// Notes a Continue to this ID.
     fn note(&mut self, dtid: TransactionIdView)
         ensures { self.new ≡ toward_with dtid.entry.octets.now self.old }
     {
@@ -82,7 +82,7 @@ impl Toward {
 }
 
 impl FromId {
-    /// That of no message.
+    /// Creates the notes for an ID from which nothing was sent.
     pub fn new(alloc: Global) -> FromId
         ensures { (fact : FromFact) → tells_from fact result ≡ false }
     {
@@ -95,7 +95,7 @@ impl FromId {
         }
     }
 
-    /// A message, but for its components.
+    /// Notes a message, but not its components.
     fn note_head<M: MessageParts>(&mut self, message: &M)
         ensures { IsHeaded (M.meaning message.now) self.old self.new }
     {
@@ -116,7 +116,7 @@ impl FromId {
         }
     }
 
-    /// A component of that invoke ID.
+    /// Notes a component with this invoke ID. Fails if memory runs out.
     fn note_of_id(
         &mut self,
         alloc: Global,
@@ -140,7 +140,7 @@ impl FromId {
         Ok(())
     }
 
-    /// A component.
+    /// Notes a component. Fails if memory runs out.
     fn note_component(
         &mut self,
         alloc: Global,
@@ -159,7 +159,7 @@ impl FromId {
         }
     }
 
-    /// Components, one after the other.
+    /// Notes components in order. Fails if memory runs out.
     fn note_components(
         &mut self,
         alloc: Global,
@@ -178,8 +178,11 @@ impl FromId {
         Ok(())
     }
 
-    /// A message more that came from the ID. Each of its components takes a look-up. `AllocError` where memory ran out; what is kept
-    /// then is nothing to go on with.
+    /// Notes a message from the ID. Each of its components takes a look-up.
+    ///
+    /// # Errors
+    ///
+    /// `AllocError` if memory runs out. The notes are of no use then.
     pub fn note<M: MessageParts>(
         &mut self,
         alloc: Global,

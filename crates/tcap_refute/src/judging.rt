@@ -1,4 +1,4 @@
-//! What an entry is to a search: whether it has a kind, and what is noted of it.
+//! What a search concludes from an entry, and what it notes.
 
 ghost use Rattle.std.specs.Prelude.{◌≡◌, Ok, List, IfOk};
 ghost use Rattle.tcap_end.specs.Table.{Table};
@@ -16,18 +16,18 @@ use tcap_end::Table;
 use tcap_msg::MessageParts;
 use tcap_record::{Body, End, Entry};
 
-/// What an entry is to a search.
+/// The conclusion of a search from an entry.
 #[derive(Clone, Copy, PartialEq, Eq)]
 pub(crate) enum Judged {
-    /// An item that has no kind: it is noted.
+    /// The entry is an item without a kind, and was noted.
     Passed,
-    /// It has that kind, the lowest.
+    /// The entry has this lowest kind.
     Refuted(Kind),
-    /// No item, and it has no kind: what is behind it is not looked at.
+    /// The entry is no item and has no kind. The entries after it are not looked at.
     Ended,
 }
 
-/// Whether a reason is a limit of this profile, and not of the standard.
+/// Returns whether a reason is a limit of this profile, and not of the standard.
 pub(crate) fn is_limit(reason: Reason) -> bool
     ensures { result ≡ is_limit reason }
 {
@@ -44,7 +44,7 @@ pub(crate) fn is_limit(reason: Reason) -> bool
     )
 }
 
-/// What octets are that are no message, by that reason.
+/// Returns the conclusion from octets that are no message for this reason.
 fn judged_fault(reason: Reason) -> Judged
     ensures { result ≡ judged_fault reason }
 {
@@ -56,7 +56,7 @@ fn judged_fault(reason: Reason) -> Judged
 }
 
 impl Notes {
-    /// Takes a message that an end sent.
+    /// Takes a message that an end sent. Fails if memory runs out.
     fn take_message<M: MessageParts>(
         &mut self,
         alloc: Global,
@@ -74,7 +74,7 @@ impl Notes {
         Ok(Judged::Passed)
     }
 
-    /// Takes a quiet mark: what was before it is forgotten.
+    /// Takes a quiet mark: forgets what was before it.
     fn take_mark(&mut self, alloc: Global) -> Judged
         ensures { (table : Table) (items : List Item) → Judges table items (Ok Item.Quiet) result self.new }
     {
@@ -82,7 +82,7 @@ impl Notes {
         Judged::Passed
     }
 
-    /// Takes the next entry.
+    /// Takes the next entry. Fails if memory runs out.
     pub(crate) fn take(
         &mut self,
         alloc: Global,

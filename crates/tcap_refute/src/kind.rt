@@ -1,49 +1,51 @@
-//! Kinds of refutation.
+//! The kinds of faults, and a refutation by one of them.
 
 ghost use Rattle.std.specs.Prelude.{◌≡◌};
 ghost use Rattle.tcap_refute.specs.Kind.{kind_number};
 
-/// A fact about an entry of a record, and what stands before it since the last quiet mark, that holds of no message which
-/// an end sends that keeps the rules.
+/// A kind of fault: a fact about an entry and the entries before it since the last quiet mark. No end that keeps the
+/// rules sends such an entry there.
+///
+/// `refute` knows F1 to F7, and `blame` of `tcap_faults` all fifteen.
 #[derive(Clone, Copy, Debug, PartialEq, Eq)]
 pub enum Kind {
-    /// The octets are no message (Q.773, X.690), by a reason that is no limit of this profile.
+    /// F1: The octets are no message (Q.773, X.690), for a reason that is no limit of this profile.
     BadMessage,
-    /// A message to a transaction ID from which the peer sent nothing, or an Abort of the provider that answers nothing
-    /// from there, or has another cause than 1 and 4, which no provider of this profile sends (Q.774 3.3).
+    /// F2: The peer sent nothing from the destination ID, or nothing that the Abort of the provider answers; or its
+    /// cause is neither 1 nor 4, and no provider of this profile sends another (Q.774 3.3).
     UnknownTransaction,
-    /// A Begin from an ID that its end has used; a Continue from one that its end used towards another (Q.774 3.3; that an
-    /// ID is used once between quiet marks is this profile's choice).
+    /// F3: A Begin from an ID that its end used before, or a Continue from an ID from which its end sent a Continue
+    /// to another ID (Q.774 3.3). That an ID is used once between quiet marks is this profile's choice.
     ReusedId,
-    /// A Continue, an End, or an Abort without cause, behind the end of its dialogue (Q.774 3.3).
+    /// F4: A Continue, an End, or an Abort without cause, after its own end ended the dialogue (Q.774 3.3).
     AfterEnd,
-    /// An answer, or a Reject, of what the peer never sent (Q.774 3.2).
+    /// F5: An answer or a Reject for something that the peer never sent (Q.774 3.2).
     AnswersNothing,
-    /// An Invoke of an operation that the table lacks, or that a Unidirectional may not carry; an answer that the class
-    /// of no such invocation allows (Q.771 3.1).
+    /// F6: An Invoke of an operation that the table lacks or that a Unidirectional may not carry, or an answer that
+    /// the class of no such invocation allows (Q.771 3.1).
     WrongOperation,
-    /// A dialogue portion that no message of its kind carries (Q.774 3.2).
+    /// F7: A dialogue portion that the message may not carry (Q.774 3.2).
     MisplacedDialogue,
-    /// No half has the IDs for it, or the half was answered as closed (Q.774 3.3).
+    /// F8: No half of the end may send the message, or the end answered the half as closed (Q.774 3.3).
     WrongHalf,
-    /// The dialogue portion does not fit how the dialogue stands (Q.774 3.2).
+    /// F9: The dialogue portion does not fit the state of the dialogue (Q.774 3.2).
     WrongDialogue,
-    /// An Invoke of an ID that is in use (Q.774 3.2).
+    /// F10: An Invoke of an ID that is in use (Q.774 3.2).
     InvokeIdBusy,
-    /// A linked ID of no invocation that is there, or of one to which the operation may not be linked (Q.771 3.1).
+    /// F11: A linked ID without an invocation, or whose operation does not list the linked one (Q.771 3.1).
     BadLink,
-    /// More answers to an ID than invocations that allow them (Q.774 3.2).
+    /// F12: More answers to an invoke ID than its invocations allow (Q.774 3.2).
     AnsweredAlready,
-    /// A Reject with a problem that nothing which was received has (Q.774 3.2).
+    /// F13: A Reject with a problem that nothing received has (Q.774 3.2).
     RejectNotAllowed,
-    /// An Abort of the provider that answers nothing that is left (Q.774 3.3).
+    /// F14: An Abort of the provider that answers nothing that is left (Q.774 3.3).
     WrongReply,
-    /// A half is open at a quiet mark.
+    /// F15: A half is open at a quiet mark.
     OpenAtMark,
 }
 
 impl Kind {
-    /// The number that a line of output gives for this kind, behind an F.
+    /// Returns the number of this kind, which a line of output has after an F.
     pub fn number(self) -> u8
         ensures { result ≡ kind_number self }
     {
@@ -67,11 +69,11 @@ impl Kind {
     }
 }
 
-/// An entry that no end sends which keeps the rules, with the fact that shows it.
+/// An entry that no end that keeps the rules sends, with the kind that shows it.
 #[derive(Clone, Copy, Debug, PartialEq, Eq)]
 pub struct Refutation {
     /// The number of the entry, from 0.
     pub entry: u64,
-    /// The fact.
+    /// Its kind.
     pub kind: Kind,
 }

@@ -1,5 +1,5 @@
-//! What refutations say of all runs. Each function says by its contract alone what holds of every run in which an end keeps
-//! the rules, whatever the other end does.
+//! What refutations imply for all runs. Each function's contract alone is its statement: it holds for every run in
+//! which an end keeps the rules, no matter what the other end does.
 
 ghost use Rattle.std.specs.Prelude.{◌≡◌, ℕ, List, ◌∷◌, ◌++◌, map, true, false, Some, Result};
 ghost use Rattle.tcap_msg.specs.declared.message.Message.{Message};
@@ -17,8 +17,8 @@ ghost use Rattle.tcap_refute.specs.Before.{since_quiet};
 ghost use Rattle.tcap_refute.specs.Kind.{is_of_kind, refuted};
 ghost use Rattle.tcap_refute.specs.Unsendable.{IsAtFault};
 
-/// A message that has a kind, behind what was sent before it, is sent in no run in which its end keeps the rules, whatever
-/// the other end sends, and whatever follows.
+/// States that an end that keeps the rules sends no message of a kind after the items that give it this kind, no
+/// matter what the other end sends and what follows.
 pub fn no_run_sends()
     ensures { (table : Table) (events : List Event) (w : World) (before behind : List Item) (side : Side)
         (message : Message) (kind : Kind) → Runs table events w → KeepsRules side events
@@ -26,14 +26,16 @@ pub fn no_run_sends()
         → is_of_kind table side (since_quiet before) message kind ≡ true → ⊥ }
 {}
 
-/// The entry that is named is at fault: its octets are no message, or its end sends it in no run in which that end keeps the
-/// rules, behind the items before it, whatever the other end sends, and whatever follows.
+/// States that a refuted entry is at fault.
+///
+/// Its octets are no message, or no run in which its end keeps the rules has it there, no matter what the other end
+/// sends and what follows.
 pub fn refuted_is_at_fault()
     ensures { (table : Table) (entries : List (Result Item Reason)) (r : Refutation)
         → refuted table entries ≡ Some r → IsAtFault table entries r }
 {}
 
-/// A record that is refuted is lawful by no certificate: no two ends may have sent it.
+/// States that no run shows a refuted record to be lawful: no two ends that keep the rules sent it.
 pub fn refuted_is_never_lawful()
     ensures { (table : Table) (entries : List Entry) (items : List Item) (r : Refutation) (moves : ℕ)
         → refuted table (map item_of entries) ≡ Some r → AreItems entries items → IsLawful items table moves → ⊥ }

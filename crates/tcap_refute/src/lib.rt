@@ -1,5 +1,5 @@
-//! What no end of TCAP dialogues sends that keeps the rules (Q.771, Q.773, Q.774): facts over a list of messages, and the
-//! first entry of a record of which one holds.
+//! Finds the first entry of a record that no end that keeps the rules of TCAP sends (Q.771, Q.773, Q.774). Each kind
+//! of such an entry is a fact about a list of messages.
 #![tactic(auto)]
 
 mod asking;

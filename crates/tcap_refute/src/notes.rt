@@ -1,4 +1,4 @@
-//! What is kept of the messages that two ends sent since the last quiet mark, found by transaction IDs.
+//! What is kept of the messages of both ends since the last quiet mark, by transaction ID.
 
 ghost use Rattle.std.specs.Prelude.{◌≡◌, ◌&&◌, ◌||◌, ℕ, List, Some, false, OnOk, option_copied};
 ghost use Rattle.std.specs.Map.{lookup};
@@ -26,23 +26,23 @@ use tcap_end::Table;
 use tcap_msg::{Kind as Form, MessageParts, TransactionId, TransactionIdView};
 use tcap_record::End;
 
-/// What an end sent.
+/// The notes on the messages of one end.
 #[derive(Drop)]
 pub(crate) struct EndNotes {
-    /// Its messages, by their originating IDs.
+    /// The notes on each originating ID.
     pub(crate) from: BTreeMap<TransactionId, FromId>,
     /// The destination IDs of its Ends, and of its Aborts without cause.
     pub(crate) ended: BTreeSet<TransactionId>,
 }
 
-/// What is noted of the messages that two ends sent since the last quiet mark.
+/// The notes on the messages of both ends since the last quiet mark.
 #[derive(Drop)]
 pub(crate) struct Notes {
     pub(crate) a: EndNotes,
     pub(crate) b: EndNotes,
 }
 
-/// The destination ID of an End, or of an Abort without cause.
+/// Returns the destination ID of an End, or of an Abort without cause.
 fn ended_by<M: MessageParts>(message: &M) -> Option<TransactionIdView<'_>>
     ensures { id_of result ≡ ended_by (M.meaning message.now) }
 {
@@ -53,7 +53,7 @@ fn ended_by<M: MessageParts>(message: &M) -> Option<TransactionIdView<'_>>
 }
 
 impl EndNotes {
-    /// Nothing.
+    /// Creates the notes on an end that sent nothing.
     fn new(alloc: Global) -> EndNotes
         ensures { (fact : EndFact) → tells_end fact result ≡ false }
     {
@@ -63,14 +63,14 @@ impl EndNotes {
         }
     }
 
-    /// What it sent from a transaction ID, where there is one.
+    /// Returns what the end sent from an ID, if there is one.
     fn from(&self, id: Option<TransactionIdView>) -> Option<&FromId>
         ensures { option_copied result ≡ kept_from (id_of id.entry) self.now }
     {
         self.from.get(&id?.to_transaction_id())
     }
 
-    /// Whether it ended the dialogue with a transaction ID; with none it did not.
+    /// Returns whether the end ended the dialogue with an ID; false if there is none.
     fn has_ended(&self, id: Option<TransactionIdView>) -> bool
         ensures { result ≡ told_ended (λ fact. tells_end fact self.now) (id_of id.entry) }
     {
@@ -80,7 +80,7 @@ impl EndNotes {
         }
     }
 
-    /// A message from that transaction ID.
+    /// Notes a message under this originating ID. Fails if memory runs out.
     fn note_from<M: MessageParts>(
         &mut self,
         alloc: Global,
@@ -104,7 +104,7 @@ impl EndNotes {
         Ok(())
     }
 
-    /// The originating ID of a message, and what it tells of it.
+    /// Notes a message under its originating ID, if it has one. Fails if memory runs out.
     fn note_otid<M: MessageParts>(
         &mut self,
         alloc: Global,
@@ -121,7 +121,7 @@ impl EndNotes {
         }
     }
 
-    /// The destination ID of a message that ends a dialogue.
+    /// Notes the destination ID of a message that ends a dialogue. Fails if memory runs out.
     fn note_ended<M: MessageParts>(&mut self, message: &M) -> Result<(), AllocError>
         ensures ended { OnOk result ((id : List ℕ) → tells_end (Ended id) self.new
             ≡ tells_end (Ended id) self.old || is_id id (ended_by (M.meaning message.now))) }
@@ -133,7 +133,7 @@ impl EndNotes {
         Ok(())
     }
 
-    /// A message.
+    /// Notes a message. Fails if memory runs out.
     fn note<M: MessageParts>(
         &mut self,
         alloc: Global,
@@ -149,7 +149,7 @@ impl EndNotes {
 }
 
 impl Notes {
-    /// Nothing.
+    /// Creates the notes on two ends that sent nothing.
     pub(crate) fn new(alloc: Global) -> Notes
         ensures { (side : Side) (fact : EndFact) → told_by_notes result side fact ≡ false }
     {
@@ -159,7 +159,7 @@ impl Notes {
         }
     }
 
-    /// What that end sent.
+    /// Returns the notes on this end.
     fn at(&self, side: End) -> &EndNotes
         ensures { result.now ≡ notes_at side self.now }
     {
@@ -169,7 +169,7 @@ impl Notes {
         }
     }
 
-    /// The lowest kind of a message that an end sends.
+    /// Returns the lowest kind of a message that this end sends.
     pub(crate) fn kind_of<M: MessageParts>(
         &self,
         table: &Table,
@@ -186,7 +186,7 @@ impl Notes {
         kind_by(false, table, own, there, has_ended, message)
     }
 
-    /// A message that an end sent.
+    /// Notes a message that this end sent. Fails if memory runs out.
     pub(crate) fn note<M: MessageParts>(
         &mut self,
         alloc: Global,

@@ -1,4 +1,4 @@
-//! The search for the first entry of a record that no end sends which keeps the rules.
+//! The search for the first entry of a record that no end that keeps the rules sends.
 
 ghost use Rattle.std.specs.Prelude.{◌≡◌, map, IfOk, IfSome};
 ghost use Rattle.tcap_model.specs.Entries.{item_of};
@@ -12,7 +12,7 @@ use std::alloc::{AllocError, Global};
 use tcap_end::Table;
 use tcap_record::Record;
 
-/// Why a search answers nothing.
+/// Why a search has no result.
 #[derive(Clone, Copy, Debug, PartialEq, Eq)]
 pub enum SearchFault {
     /// Memory ran out.
@@ -29,7 +29,7 @@ impl From<AllocError> for SearchFault {
     }
 }
 
-/// The lowest entry of a record that has a kind, with its lowest kind.
+/// Finds the first entry of a record that has a kind, with its lowest kind.
 fn first_refuted(
     alloc: Global,
     record: &Record,
@@ -53,10 +53,15 @@ fn first_refuted(
     Ok(None)
 }
 
-/// The lowest entry of a record that has a kind, with its lowest kind: no end sends it that keeps the rules (Q.771,
-/// Q.773, Q.774). `None` where no entry has one. What stands behind octets that are no message by a limit of this
-/// profile, or behind an entry that is no item, is not looked at. Each message and each component takes a few look-ups
-/// in maps. `Memory` where memory ran out.
+/// Finds the first entry of a record that has a kind, with its lowest kind (Q.771, Q.773, Q.774). No end that keeps
+/// the rules sends this entry.
+///
+/// Returns `None` if no entry has a kind. Entries after one that is no item, or whose octets exceed a limit of this
+/// profile, are not looked at. Each message and each component takes a few look-ups in maps.
+///
+/// # Errors
+///
+/// `Memory` if memory runs out.
 pub fn refute(
     alloc: Global,
     record: &Record,

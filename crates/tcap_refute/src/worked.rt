@@ -1,5 +1,5 @@
-//! Worked records: the entry that is refuted, and its kind; or none. Each function says by its contract alone what holds of
-//! the definitions.
+//! Worked records, with the entry that is refuted and its kind, if there is one. Each function's contract alone is
+//! its statement.
 
 ghost use Rattle.tcap_refute.specs.WorkedKinds as worked;
 
@@ -43,7 +43,7 @@ pub fn dialogue_portions()
     ensures { worked.dialogue_portions }
 {}
 
-/// A Reject in a Unidirectional (Q.771 3.1.3), and an ABRT whose source is the provider, are refuted by nothing.
+/// States that a Reject in a Unidirectional (Q.771 3.1.3) and an ABRT whose source is the provider are not refuted.
 pub fn left_open()
     ensures { worked.left_open }
 {}

@@ -1,4 +1,4 @@
--- Answers to invocations that were answered already, where few components are counted (Q.774 3.2, Q.771 3.1).
+-- F12 from counts is F12, if few components are counted (Q.774 3.2, Q.771 3.1).
 use Rattle.std.proofs.Common.{◌≡◌, ℕ, ℤ, ◌+◌, ◌^◌, ◌≤◌, ◌<◌, arith, Bool, true, false, ltb, List, [], ◌∷◌, ◌++◌, Option, Some, None, refl, ap, ◌∙◌, ap₂}
 use Rattle.std.specs.Prelude.{◌||◌, ◌&&◌}
 use Rattle.tcap_parts.specs.declared.problem.Problem.TheVariants as problems
@@ -20,7 +20,7 @@ use Rattle.tcap_faults.proofs.component_laws.FewSums.{count_invokes, count_withi
 use Rattle.tcap_faults.proofs.component_laws.InvokeSums.{counted_of}
 use Rattle.tcap_faults.proofs.component_laws.SumLaws.{sum_few}
 
--- Sums of counts that are few are exact.
+-- Sums of few counts are exact.
 answered_same : (of_1 of_2 of_3 all results errors rejects : ℕ) → of_1 ≤ 2 ^ 126 → of_2 ≤ 2 ^ 126 → of_3 ≤ 2 ^ 126
     → results + errors + rejects < 2 ^ 128
     → (ltb (sum of_1 of_3) results || ltb (sum of_1 of_2) errors || ltb (sum (sum of_1 of_2) of_3) (sum results errors)
@@ -37,7 +37,7 @@ answered_same of_1 of_2 of_3 all results errors rejects few_1 few_2 few_3 few =
     ) refl
 
 module _ (table : Table) (h : HalfOf) (few_heard : AreFew h.heard) (id : ℤ) where
-  -- Whether more was answered.
+  -- Whether more is answered than was heard.
   more_same : (results errors rejects : ℕ) → results + errors + rejects < 2 ^ 128
       → more_answered_by (tallied table h.heard) id results errors rejects
       ≡ more_answered table h id results errors rejects
@@ -56,7 +56,7 @@ module _ (table : Table) (h : HalfOf) (few_heard : AreFew h.heard) (id : ℤ) wh
       few_of class = omega (arith, few_heard, count_within (is_sort table id (sorts.Invokes class)) h.heard)
 
   module _ (all before own : List Component) (few : AreFew before) where
-    -- Whether those that were told are more, with so many besides,
+    -- Whether what was sent answers more, with so many components besides.
     overspent_same : (results errors rejects : ℕ) → results + errors + rejects ≤ 1
         → is_overspent_by (counted_of table h all before own) id results errors rejects
         ≡ more_answered table h id (count (is_last_result id) before + results) (count (is_error id) before + errors)
@@ -77,7 +77,7 @@ module _ (table : Table) (h : HalfOf) (few_heard : AreFew h.heard) (id : ℤ) wh
         few_so : (passes : Component → Bool) → count passes before ≤ 2 ^ 126
         few_so passes = omega (arith, few, count_within passes before)
 
-    -- and with one component more.
+    -- Whether what was sent answers more, with this component.
     behind : (c : Component) (results errors rejects : ℕ) → one (is_last_result id c) ≡ results
         → one (is_error id c) ≡ errors → one (rejects_invoke id any_problem c) ≡ rejects
         → results + errors + rejects ≤ 1
@@ -97,7 +97,7 @@ module _ (table : Table) (h : HalfOf) (few_heard : AreFew h.heard) (id : ℤ) wh
             ≡ count (rejects_invoke id any_problem) (before ++ c ∷ [])
         same_rejects = omega (arith, count_last (rejects_invoke id any_problem) before c, is_rejects)
 
-    -- A Return Result that is not the last is counted as one.
+    -- A Return Result Not Last counts as one Return Result besides.
     besides : is_overspent_by (counted_of table h all before own) id 1 0 0 ≡ is_overspent table h id before 1
     besides =
         overspent_same 1 0 0 (omega arith)
@@ -108,7 +108,7 @@ module _ (table : Table) (h : HalfOf) (few_heard : AreFew h.heard) (id : ℤ) wh
     operation_same None = refl
     operation_same (Some body) = refl
 
--- Whether a component answers an invocation that was answered already.
+-- Whether a component has F12.
 pub answers_again_same : (table : Table) (h : HalfOf) (all before own : List Component) → AreFew h.heard → AreFew before
     → (c : Component) → answers_again_by (counted_of table h all before own) c ≡ answers_again table h own before c
 answers_again_same table h all before own few_heard few (ReturnResult true id body) =

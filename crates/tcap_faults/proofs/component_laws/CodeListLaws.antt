@@ -1,4 +1,4 @@
--- Codes that are listed.
+-- Lists of codes.
 use Rattle.std.proofs.Common.{◌≡◌, Bool, true, false, ◌||◌, List, [], ◌∷◌, inl, inr, refl, ap}
 use Rattle.std.specs.List.{list_any}
 use Rattle.std.proofs.lemmas.Bool.{or_cases, or_left, or_right}
@@ -8,7 +8,7 @@ use Rattle.tcap_parts.specs.declared.code.Code.{Code}
 use Rattle.tcap_parts.specs.declared.code.Code.TheVariants.{Local, Global}
 use Rattle.tcap_end.specs.Component.{is_code}
 
--- It is that code.
+-- Codes that compare as equal are equal.
 pub code_same : (a b : Code) → is_code a b ≡ true → a ≡ b
 code_same (Local m) (Local n) is = ap Local (tells_apart exact_signed m n is)
 code_same (Local m) (Global octets) is = cc
@@ -20,7 +20,7 @@ absorbed true b then_so = refl
 absorbed false true then_so = then_so refl
 absorbed false false then_so = refl
 
--- A listed code passes a test where one of the list does.
+-- If a code of the list passes a test, the test finds one.
 listed_passes : (code : Code) (passes : Code → Bool) (codes : List Code) → list_any (is_code code) codes ≡ true
     → passes code ≡ true → list_any passes codes ≡ true
 listed_passes code passes [] there so = there
@@ -30,7 +30,7 @@ listed_passes code passes (first ∷ more) there so =
       | inr later ↦ or_right (passes first) _ (listed_passes code passes more later so)
     ]
 
--- One that is listed adds nothing to what a test finds.
+-- A code of the list adds nothing to what a test finds.
 pub listed_stays : (code : Code) (codes : List Code) → list_any (is_code code) codes ≡ true
     → (passes : Code → Bool) → list_any passes codes ≡ (list_any passes codes || passes code)
 listed_stays code codes there passes =

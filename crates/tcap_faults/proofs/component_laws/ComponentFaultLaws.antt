@@ -1,4 +1,4 @@
--- What is found of the components of a message, one after the other, is the first that is so.
+-- The loops over the components of a message find the first component with each kind.
 use Rattle.std.proofs.Common.{◌≡◌, ℕ, suc, ℤ, ◌+◌, ◌≤◌, arith, Bool, true, false, cond, List, [], ◌∷◌, ◌++◌, length, filter, Option, Some, None, is_some, length-append, int_cmp, refl, sym, ap, ap₂, ◌∙◌}
 use Rattle.std.specs.Prelude.{◌||◌, map, option_to_list}
 use Rattle.std.specs.BTreeSet.{BTreeSet, contains}
@@ -33,26 +33,26 @@ use Rattle.tcap_faults.proofs.component_laws.InvokeSums.{counted_of, invokes_bus
 use Rattle.tcap_faults.proofs.component_laws.AnswerSums.{answers_again_same}
 use Rattle.tcap_faults.proofs.component_laws.RejectSums.{rejects_wrongly_same}
 
--- ---- fewer are few
+-- ---- a part of few components is few
 
 few_split : (told own left all : List Component) → own ++ left ≡ all → AreFew (told ++ all)
     → AreFew ((told ++ own) ++ left)
 few_split told own left all whole few = rw (append_assoc told own left, whole) few
 
--- ---- the first
+-- ---- the first component
 
 or_nothing : {A : Type 0} (o : Option A) → or_else o None ≡ o
 or_nothing None = refl
 or_nothing (Some a) = refl
 
--- One that is so where none was found comes before what is left.
+-- A component that is found now comes before those that are left.
 first_else : (old : Option ℕ) (now : Bool) (number : ℕ) (left : Option ℕ)
     → or_else (first_or old now number) left ≡ or_else old (cond now (Some number) left)
 first_else None true number left = refl
 first_else None false number left = refl
 first_else (Some first) now number left = refl
 
--- There is a first one where there is one.
+-- There is a first component exactly if one passes.
 pub some_component : (is_so : List Component → List Component → Component → Bool) (number : ℕ) (own before cs : List Component)
     → is_some (component_so is_so number own before cs) ≡ has_component is_so own before cs
 some_component is_so number own before [] = refl
@@ -69,7 +69,7 @@ some_component is_so number own before (c ∷ more) =
 
 -- ---- the Rejects of a message
 
--- Those that pass a test are among those that pass a weaker one.
+-- As many pass a test among those that pass a weaker test as among all.
 count_among : (p q : Component → Bool) → ((c : Component) → p c ≡ true → q c ≡ true) → (cs : List Component)
     → count p (filter q cs) ≡ count p cs
 count_among p q weaker [] = refl
@@ -86,7 +86,7 @@ a_reject : (id : ℤ) (c : Component) → may_reject_answer id c ≡ true → is
 a_reject id (Reject other problem) is = refl
 a_reject id c is = cc
 
--- So whether an ID is in use is told by the Rejects of the message.
+-- The Rejects of the message decide whether an ID is in use.
 module _ (table : Table) (h : HalfOf) (told cs own before : List Component) where
   as_many : (id : ℤ) → count (may_reject_answer id) (told ++ filter is_reject cs) ≡ count (may_reject_answer id) (told ++ cs)
   as_many id =
@@ -106,7 +106,7 @@ few_rejects told cs few =
     let c : length (filter is_reject cs) ≤ length cs = count_within is_reject cs in
     omega (arith, few, a, b, c)
 
--- The loop that counts them: those so far are counted.
+-- The loop that counts Rejects: those so far are counted.
 pub record AreRejects (table : Table) (all left : List Component) (kept : Tally) : Type 0 where
   pub done : List Component
   pub noted : IsTally table done kept
@@ -131,7 +131,7 @@ module _ (table : Table) (all : List Component) where
 
 -- ---- what is counted
 
--- Where a half, the components of its message before one and all its Rejects are kept, they are counted.
+-- The counts from a half, a tally of the components before one, and a tally of all Rejects.
 module _ (table : Table) (h : HalfOf) (half : Half) (tally rejects : Tally) (own cs : List Component)
     (is : IsHalf table h half) (is_own : IsTally table own tally)
     (are_rejects : IsTally table (filter is_reject cs) rejects) where
@@ -153,7 +153,7 @@ module _ (table : Table) (h : HalfOf) (half : Half) (tally rejects : Tally) (own
 
 -- ---- over a half
 
--- What is found behind some components of a message, or else what is so of those that are left, is the first of all.
+-- The component that was found so far, or else the first among those left, is the first of all.
 abbrev IsFoundSo : (List Component → List Component → Component → Bool) → List Component → List Component → List Component
     → List Component → ℕ → Option ℕ → Type 0
 IsFoundSo is_so told all own left number found =
@@ -165,7 +165,7 @@ pub record IsSoFar (table : Table) (h : HalfOf) (all own left : List Component) 
   pub answered_already : IsFoundSo (answers_again table h) h.told all own left number found.answered_already
   pub wrongly_rejected : IsFoundSo (rejects_wrongly table h) h.told all own left number found.wrongly_rejected
 
--- The loop over the components: those before the last one are noted.
+-- The loop over the components: those before the last are counted.
 pub record IsReached (table : Table) (half : Half) (all left : List Component) (last : Option Component) (own : Tally)
     (number : ℕ) (found : ComponentFaults) : Type 0 where
   pub done : List Component
@@ -175,7 +175,7 @@ pub record IsReached (table : Table) (half : Half) (all left : List Component) (
   pub so_far : (h : HalfOf) → IsHalf table h half → AreFew h.heard → AreFew h.invoked → AreFew (h.told ++ all)
       → IsSoFar table h all (done ++ option_to_list last) left number found
 
--- None are found of none.
+-- Before the loop, nothing is found.
 pub none_found : (table : Table) (half : Half) (all : List Component) (own : Tally) (found : ComponentFaults)
     → IsTally table [] own → IsFaultless found → IsReached table half all all None own 0 found
 none_found table half all own found is none = record {
@@ -191,7 +191,7 @@ none_found table half all own found is none = record {
   };
 }
 
--- One component more.
+-- One more component, for one kind.
 one_found : (is_so : List Component → List Component → Component → Bool) (told all own left : List Component) (c : Component)
     (number : ℕ) (old new : Option ℕ) (now : Bool) → new ≡ first_or old now number → now ≡ is_so own (told ++ own) c
     → IsFoundSo is_so told all own (c ∷ left) number old
@@ -235,7 +235,7 @@ module _ (table : Table) (h : HalfOf) (half : Half) (tally rejects : Tally) (kep
         so_far.wrongly_rejected;
   }
 
--- One component more is looked at.
+-- One more component is judged.
 pub one_reached : (table : Table) (half : Half) (tally rejects : Tally) (all here left : List Component)
     (last : Option Component) (c : Component) (was : Tally) (number : ℕ) (old new : ComponentFaults)
     (reached : IsReached table half all here last was number old) → here ≡ c ∷ left
@@ -259,7 +259,7 @@ one_reached table half tally rejects all here left last c was number old new rea
     parts : own ++ c ∷ left ≡ all
     parts = ap (λ list. own ++ list) (sym next) ∙ reached.whole
 
--- All are.
+-- After the loop, all are judged.
 pub all_found : (table : Table) (half : Half) (all : List Component) (last : Option Component) (own : Tally) (number : ℕ)
     (found : ComponentFaults) → IsReached table half all [] last own number found
     → (h : HalfOf) → IsHalf table h half → AreFew h.heard → AreFew h.invoked → AreFew (h.told ++ all)
@@ -277,7 +277,7 @@ all_found table half all last own number found reached h kept few_heard few_invo
 
 -- ---- a message without destination ID
 
--- What is found behind some components, whose Invokes have these IDs.
+-- The faults of the components so far, and the IDs of their Invokes.
 pub record IsFirstSoFar (all left : List Component) (seen : BTreeSet ℤ) (number : ℕ) (found : ComponentFaults) : Type 0 where
   pub done : List Component
   pub ids : (id : ℤ) → contains int_cmp seen id ≡ list_any (invokes id) done

@@ -1,4 +1,4 @@
--- What a component of an invoke ID is, is what it is whatever its ID, where that is its ID.
+-- A component with an invoke ID is of a sort exactly if it has the ID, and is of the sort apart from the ID.
 use Rattle.std.proofs.Common.{◌≡◌, ℕ, ℤ, Bool, true, false, ◌&&◌, List, Option, Some, None, not, refl, sym}
 use Rattle.tcap_parts.specs.declared.code.Code.{Code}
 use Rattle.tcap_parts.specs.declared.problem.Problem.{Problem}

@@ -1,11 +1,11 @@
--- Short ways to tests of counts.
+-- Shortcuts for tests of counts.
 use Rattle.std.proofs.Common.{◌≡◌, ℕ, ◌≤◌, ◌<◌, arith, Bool, true, false, not, refl, ap, ◌∙◌}
 use Rattle.std.specs.Prelude.{◌||◌, ◌&&◌, ◌==◌, nat_lt}
 use Rattle.std.proofs.lemmas.Bool.{le-leb, le-ltb, lt-ltb, ne_eqb}
 use Rattle.tcap_faults.specs.Components.{is_of_link}
 use Rattle.tcap_faults.specs.ByTallies.{more_last_by}
 
--- Where an invocation lasts.
+-- If an invocation lasts.
 pub some_last : (r : Bool) (all of_1 of_3 ends results generals not_lasts : ℕ)
     (all' of_1' of_3' ends' results' generals' not_lasts' : ℕ) → (all ≡ 0 → ⊥)
     → r ≡ more_last_by all of_1 of_3 ends results generals not_lasts → all ≡ all' → of_1 ≡ of_1' → of_3 ≡ of_3'
@@ -19,15 +19,15 @@ some_last r all of_1 of_3 ends results generals not_lasts all' of_1' of_3' ends'
     none : (all == 0) ≡ false → false ≡ (all == 0)
     none e = rw e refl
 
--- An ID that an Invoke of the message has.
+-- If an Invoke of the message has the ID.
 pub seen_before : (n m : ℕ) (busy : Bool) → n ≡ m → 0 < n → nat_lt 0 n ≡ (nat_lt 0 m || busy)
 seen_before n m busy same some = rw (← same, lt-ltb 0 n some) refl
 
--- One that none has.
+-- If no Invoke of the message has the ID.
 pub seen_not : (n m : ℕ) (busy busy' : Bool) → n ≡ m → n ≤ 0 → busy ≡ busy' → busy ≡ (nat_lt 0 m || busy')
 seen_not n m busy busy' same none is = rw (← same, le-ltb 0 n none, ← is) refl
 
--- A problem of a link, where there are not too many Rejects with one.
+-- If the problem concerns a link, and there are not too many Rejects with one.
 pub link_fine : (n linked linked' rejects rejects' : ℕ) (again fine fine' : Bool) → 5 ≤ n → n ≤ 7
     → linked ≡ linked' → rejects ≡ rejects' → rejects ≤ linked → fine ≡ fine'
     → fine ≡ (((n == 0) && again) || (is_of_link n && nat_lt linked' rejects') || fine' || nat_lt 7 n)

@@ -1,4 +1,4 @@
--- What a half heard, told and invoked are no more components than the items have.
+-- What a half heard, sent and invoked has at most as many components as the items.
 use Rattle.std.proofs.Common.{◌≡◌, ℕ, ◌+◌, ◌*◌, ◌≤◌, ◌<◌, ◌^◌, arith, Bool, true, false, cond, ◌&&◌, List, [], ◌∷◌, ◌++◌, length, filter, Option, Some, None, refl}
 use Rattle.std.specs.Prelude.{is_none}
 use Rattle.std.specs.List.{find}
@@ -19,7 +19,7 @@ use Rattle.tcap_faults.specs.HalfOf.{answered_from, begun_from, continued_to, fr
 use Rattle.tcap_faults.specs.Searching.{AreCounted, AreRoomy, components_in_all}
 use Rattle.tcap_faults.specs.Tallied.{AreFew}
 
--- how many components messages have
+-- The number of components of messages.
 abbrev weight : List Message → ℕ
 weight ms = length (components_of ms)
 
@@ -31,7 +31,7 @@ weight_both [] ys = omega arith
 weight_both (x ∷ xs) ys =
     let e = weight_more x (xs ++ ys) in let f = weight_both xs ys in let g = weight_more x xs in omega arith
 
--- Two parts of messages that have nothing in common.
+-- Two disjoint parts of messages have at most the components of all.
 apart : (p q : Message → Bool) (xs : List Message) → ((m : Message) → p m ≡ true → q m ≡ true → ⊥)
     → weight (filter p xs) + weight (filter q xs) ≤ weight xs
 apart p q [] never = omega arith
@@ -86,9 +86,9 @@ told_few side id items =
     let e = part (λ m. is_id id (dtid_in m) && is_none (cause_in m)) (sent_by side items) in
     let f = sent_few side items in omega arith
 
--- ---- what was invoked
+-- ---- own invocations
 
--- the Begin of the own ID is none of what was told
+-- The Begin from the own ID is not among what was sent to the peer.
 abbrev begins_from : List ℕ → Message → Bool
 begins_from own m = is_a forms.Begin m && is_id own (otid_in m)
 
@@ -185,7 +185,7 @@ module _ (side : Side) (items : List Item) (id : List ℕ) where
   invoked_few : length (half_of side items id).invoked ≤ components_in_all items
   invoked_few = invoked_by (has_a forms.Begin (asked side id items)) (begun_from side items id)
 
--- ---- items, one after the other
+-- ---- one item after the other
 
 in_all : (items : List Item) (item : Item)
     → components_in_all (items ++ item ∷ []) ≡ components_in_all items + components_in_all (item ∷ [])
@@ -200,7 +200,7 @@ all_more items side m = let e = in_all items (Sent side m) in omega (arith, e)
 pub none_counted : AreCounted [] 0
 none_counted = record { few = omega arith; components = omega arith }
 
--- no item more
+-- An entry that is no item adds none.
 pub still_counted : (items : List Item) (number : ℕ) → AreCounted items number → AreCounted items (number + 1)
 still_counted items number are =
     let a = are.few in
@@ -232,7 +232,7 @@ module _ (items : List Item) (number : ℕ) (are : AreCounted items number) (ite
       bound : (number a b all : ℕ) → number < 2 ^ 63 → a ≤ number * 2 ^ 63 → b < 2 ^ 63 → all ≡ a + b → all ≤ 2 ^ 126
       bound number a b all few is_a is_b is = omega (arith, few, is_a, is_b, is)
 
--- ---- what a half has
+-- ---- the components of a half
 
 module _ (side : Side) (id : List ℕ) (items : List Item) (m : Message) (roomy : AreRoomy (items ++ Sent side m ∷ [])) where
   all_items : components_in_all items + length (components_in m) ≤ 2 ^ 126
@@ -272,7 +272,7 @@ since_short (item ∷ items) = by (has_quiet (item ∷ items)) (since_short item
     by true rest = omega (arith, rest)
     by false rest = omega arith
 
--- what is few is few since the last quiet mark
+-- Few items are few since the last quiet mark.
 pub still_roomy : (side : Side) (items : List Item) (m : Message) → AreRoomy (items ++ Sent side m ∷ [])
     → AreRoomy (since_quiet items ++ Sent side m ∷ [])
 still_roomy side items m roomy =

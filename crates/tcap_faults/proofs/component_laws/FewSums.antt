@@ -1,4 +1,4 @@
--- What is counted of few components: no sum of these counts is above the greatest.
+-- Counts of few components: no sum of these counts exceeds the greatest.
 use Rattle.std.proofs.Common.{◌≡◌, ℕ, ℤ, ◌+◌, ◌^◌, ◌≤◌, ◌<◌, arith, Bool, true, false, List, [], ◌∷◌, ◌++◌, length, length-append, refl, sym, ap, ◌∙◌}
 use Rattle.std.specs.Prelude.{◌&&◌, nat_lt}
 use Rattle.std.specs.List.{list_any}
@@ -19,7 +19,7 @@ use Rattle.tcap_faults.proofs.component_laws.SumLaws.{sum_few}
 
 -- ---- sums
 
--- A sum of three that is not above the greatest is exact.
+-- A sum of three that does not exceed the greatest is exact.
 pub sum_three : (a b c : ℕ) → a + b + c < 2 ^ 128 → sum (sum a b) c ≡ a + b + c
 sum_three a b c below = rw (sum_few a b (omega arith)) (sum_few (a + b) c below)
 
@@ -29,7 +29,7 @@ one_within : (b : Bool) → one b ≤ 1
 one_within true = omega arith
 one_within false = omega arith
 
--- No more are counted than there are.
+-- A count is at most the length.
 pub count_within : {A : Type 0} (p : A → Bool) (xs : List A) → count p xs ≤ length xs
 count_within p [] = omega arith
 count_within p (x ∷ xs) = omega (arith, count_more p x xs, one_within (p x), count_within p xs)
@@ -38,11 +38,11 @@ count_within p (x ∷ xs) = omega (arith, count_more p x xs, one_within (p x), c
 pub count_same : {A : Type 0} (p q : A → Bool) (xs : List A) → ((x : A) → p x ≡ q x) → count p xs ≡ count q xs
 count_same p q xs same = ap (λ t. count t xs) (fun_ext same)
 
--- and find the same.
+-- Tests that agree find the same.
 pub any_same : {A : Type 0} (p q : A → Bool) (xs : List A) → ((x : A) → p x ≡ q x) → list_any p xs ≡ list_any q xs
 any_same p q xs same = ap (λ t. list_any t xs) (fun_ext same)
 
--- One is found where some are counted.
+-- A test finds an element exactly if its count is not 0.
 pub any_counted : {A : Type 0} (p : A → Bool) (xs : List A) → nat_lt 0 (count p xs) ≡ list_any p xs
 any_counted p xs = by (list_any p xs) (nat_lt 0 (count p xs)) refl refl
   where
@@ -54,7 +54,7 @@ any_counted p xs = by (list_any p xs) (nat_lt 0 (count p xs)) refl refl
 
 -- ---- Invokes
 
--- An Invoke of any class is one.
+-- An Invoke of any class is an Invoke.
 any_class : (table : Table) (id : ℤ) (c : Component) → is_sort table id (sorts.Invokes classes.Any) c ≡ invokes id c
 any_class table id (Invoke other linked code parameter) = by (is_invoke_id id other)
   where
@@ -76,7 +76,7 @@ few_front xs ys few = omega (arith, few, length-append xs ys)
 pub few_behind : (xs ys : List Component) → AreFew (xs ++ ys) → AreFew ys
 few_behind xs ys few = omega (arith, few, length-append xs ys)
 
--- What both have is what the one behind the other has.
+-- The sum of the counts of two lists is the count of the joined list.
 sum_both : (p : Component → Bool) (xs ys : List Component) → AreFew (xs ++ ys)
     → sum (count p xs) (count p ys) ≡ count p (xs ++ ys)
 sum_both p xs ys few =

@@ -1,4 +1,4 @@
--- Codes that are counted, the first of them in place: what a test finds.
+-- What a test finds among counted codes, with the first code kept apart.
 use Rattle.std.proofs.Common.{◌≡◌, ℕ, ℤ, Bool, true, false, ◌&&◌, ◌||◌, not, Option, Some, None, List, [], ◌∷◌, length, refl, sym, ap, ◌∙◌, arith}
 use Rattle.std.specs.Prelude.{◌==◌, vec_len}
 use Rattle.std.specs.Global.{Box}
@@ -11,14 +11,14 @@ use Rattle.tcap_faults.specs.declared.component.code_counts.CodeCounts.{CodeCoun
 use Rattle.tcap_faults.specs.declared.component.code_count_maps.ManyCodes.{ManyCodes}
 use Rattle.tcap_faults.specs.Tallies.{codes_any, first_passes, others_any}
 
--- Where the first passes, one does.
+-- If the first code passes, a code passes.
 pub first_is_so : (passes : Code → Bool) (kept : CodeCounts) (n : ℤ) → kept.first ≡ Some n → passes (Local n) ≡ true
     → true ≡ codes_any passes kept
 first_is_so passes kept n is so =
     sym (ap (λ first. first_passes passes first || others_any passes kept.others) is
     ∙ ap (λ b. b || others_any passes kept.others) so)
 
--- Where there is no first, one of the others is there, or none.
+-- If there is no first code, a code was counted exactly if there are others.
 pub others_listed : (kept : CodeCounts) (others : Box ManyCodes) → kept.first ≡ None → kept.others ≡ Some others
     → not (vec_len others.value.codes == 0) ≡ codes_any (λ code. true) kept
 others_listed kept others no_first is =
@@ -28,7 +28,7 @@ others_listed kept others no_first is =
     listed n [] is = rw is refl
     listed n (code ∷ more) is = let some : (n == 0) ≡ false = grind (arith, nat_tests) in ap not some
 
--- ---- a test that does not ask which code it is
+-- ---- a test that does not depend on the code
 
 never : (codes : List Code) → list_any (λ code. false) codes ≡ false
 never [] = refl
@@ -45,11 +45,11 @@ by_some : (b : Bool) (kept : CodeCounts) → (codes_any (λ code. true) kept && 
 by_some true kept = and_true (codes_any (λ code. true) kept)
 by_some false kept = and_false (codes_any (λ code. true) kept) ∙ sym (none_so kept.first kept.others)
 
--- Where a code was counted, one passes as the test says,
+-- If a code was counted, the test finds one exactly if it holds.
 pub where_some : (b : Bool) (kept : CodeCounts) → codes_any (λ code. true) kept ≡ true → b ≡ codes_any (λ code. b) kept
 where_some b kept some = sym (ap (λ s. s && b) some) ∙ by_some b kept
 
--- and where none was, none does.
+-- If no code was counted, the test finds none.
 pub where_none : (b : Bool) (kept : CodeCounts) → codes_any (λ code. true) kept ≡ false
     → false ≡ codes_any (λ code. b) kept
 where_none b kept none = sym (ap (λ s. s && b) none) ∙ by_some b kept

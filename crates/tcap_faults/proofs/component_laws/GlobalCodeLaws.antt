@@ -1,4 +1,4 @@
--- Global codes that are counted by their octets: their counts, and which are listed, behind one more.
+-- Counts and lists of global codes, by their octets, after one more code.
 use Rattle.std.proofs.Common.{◌≡◌, ℕ, ℤ, Bool, true, false, cond, List, [], ◌∷◌, ◌++◌, Option, Some, None, is_some, Result, Ok, Err, OnOk, OnErr, Ordering, Less, Equal, Greater, nat_cmp, refl, sym, ap, ◌∙◌}
 use Rattle.std.specs.BTreeMap.{insert_entry, is_at}
 use Rattle.std.specs.Cmp.Lexicographic.{slice_cmp}
@@ -19,11 +19,11 @@ use Rattle.tcap_faults.specs.Listed.{AreListed, counted}
 use Rattle.tcap_faults.specs.Tallied.{more_if, sum}
 use Rattle.tcap_faults.specs.Tallies.{or_zero}
 
--- whether octets are those
+-- Whether both lists of octets are equal.
 abbrev same : List ℕ → List ℕ → Bool
 same octets others = is_at (slice_cmp nat_cmp octets) others
 
--- whether they are those of a key
+-- Whether a key has these octets.
 abbrev pub at : List ℕ → Vec ℕ → Bool
 at octets key = same octets key.items
 
@@ -33,9 +33,9 @@ itself octets = ap is_eq (tied_itself octets_total octets)
 one : (octets others : List ℕ) → same octets others ≡ true → octets ≡ others
 one octets others is = tells_apart exact_bytes octets others is
 
--- ---- what is found
+-- ---- look-ups
 
--- A count is found at its octets alone,
+-- The count changed at these octets alone.
 abbrev pub IsPut : List ℕ → ℕ → List (Vec ℕ × ℕ) → List (Vec ℕ × ℕ) → Type 0
 IsPut octets n old new = (q : List ℕ) → lookup (at q) new ≡ cond (same q octets) (Some n) (lookup (at q) old)
 
@@ -91,7 +91,7 @@ is_inserted key n (e ∷ es) none q =
         let g : at key.items e.0 ≡ true = rw (← f) here in
         let h : is_eq (slice_cmp nat_cmp key.items e.0.items) ≡ false = rw is refl in cc)
 
--- ---- what is counted and listed
+-- ---- counts and lists
 
 module _ (octets : List ℕ) (locals : List (ℤ × ℕ)) (old new : List (Vec ℕ × ℕ)) (n : ℕ)
     (put : IsPut octets n old new) where
@@ -106,7 +106,7 @@ module _ (octets : List ℕ) (locals : List (ℤ × ℕ)) (old new : List (Vec �
       by true is = let e : q ≡ octets = one q octets is in rw e more
       by false is = refl
 
-  -- Each that was counted is listed, and this one is.
+  -- Each counted code is listed, and so is the new one.
   pub lists_one_more : (codes : List Code) → ((code : Code) → is_some (counted locals old code) ≡ true
       → list_any (is_code code) codes ≡ true) → list_any (is_code (Global octets)) codes ≡ true
       → AreListed locals new codes
@@ -118,7 +118,7 @@ module _ (octets : List ℕ) (locals : List (ℤ × ℕ)) (old new : List (Vec �
       by false is =
           listed (Global q) (sym (ap is_some (put q ∙ ap (λ b. cond b (Some n) (lookup (at q) old)) is)) ∙ there)
 
--- Where one more is listed, all are listed that were.
+-- With one more listed code, all counted codes are still listed.
 pub listed_before : (locals : List (ℤ × ℕ)) (globals : List (Vec ℕ × ℕ)) (codes : List Code) (code : Code)
     → AreListed locals globals codes → AreListed locals globals (codes ++ code ∷ [])
 listed_before locals globals codes code listed other there =
@@ -130,7 +130,7 @@ listed_last codes octets =
     list_any-append (is_code (Global octets)) codes (Global octets ∷ [])
     ∙ or_right _ _ (or_left _ _ (itself octets))
 
--- Behind an insertion, whether it took place or not.
+-- After an insertion of a new key, which may have failed.
 module _ (locals : List (ℤ × ℕ)) (old new : List (Vec ℕ × ℕ)) (key : Vec ℕ) (octets : List ℕ) (n : ℕ)
     (its : key.items ≡ octets) (none : None ≡ lookup (at octets) old) where
   pub inserted : new ≡ insert_entry (λ a b. slice_cmp nat_cmp a.items b.items) old key n → IsPut octets n old new

@@ -1,4 +1,4 @@
--- Invokes that a half does not allow, where few components are counted (Q.774 3.2, Q.771 3.1).
+-- F10 and F11 from counts are F10 and F11, if few components are counted (Q.774 3.2, Q.771 3.1).
 use Rattle.std.proofs.Common.{◌≡◌, ℕ, ℤ, ◌+◌, ◌^◌, ◌≤◌, arith, Bool, true, false, ltb, List, Some, not, refl, sym, ap, ◌∙◌, ap₂}
 use Rattle.std.specs.Prelude.{◌||◌, ◌&&◌, ◌==◌, nat_le}
 use Rattle.std.specs.List.{list_any}
@@ -22,8 +22,8 @@ use Rattle.tcap_faults.proofs.list_laws.CountLaws.{count_apart, count_covered, c
 use Rattle.tcap_faults.proofs.component_laws.FewSums.{any_counted, count_invokes, count_within, sum_three}
 use Rattle.tcap_faults.proofs.component_laws.SumLaws.{above_sum, sum_few, sum_more}
 
--- what is counted of what a half heard and invoked, of what it told before, of the components of the message before that one,
--- and of what it told with what else of the message ends an own invocation
+-- The exact counts of what a half heard, invoked and sent before, of the message's components before this one, and of
+-- all that may have ended an own invocation.
 abbrev pub counted_of : Table → HalfOf → List Component → List Component → List Component → Counted
 counted_of table h all before own = record {
   heard = tallied table h.heard;
@@ -33,9 +33,9 @@ counted_of table h all before own = record {
   all_told = tallied table all;
 }
 
--- ---- an invoke ID that is in use
+-- ---- F10
 
--- Where no invocation lasts, none of a class does.
+-- If no invocation lasts, none of a class does.
 none_last : (of_1 of_3 results not_lasts : ℕ) → of_1 ≤ 0 → of_3 ≤ 0
     → (ltb results (of_1 + of_3) || ltb not_lasts 0) ≡ false
 none_last of_1 of_3 results not_lasts none_1 none_3 =
@@ -53,7 +53,7 @@ where_none all of_1 of_3 results not_lasts least_1 least_3 = by (all == 0) refl
         rw none (sym (none_last of_1 of_3 results not_lasts (omega arith) (omega arith)))
     by false is = refl
 
--- No sum is compared with more than the greatest.
+-- No sum is compared with a number over the greatest.
 last_same : (all of_1 of_3 : ℕ) (results errors rejects generals : ℕ) (own_results own_generals not_lasts : ℕ)
     → of_1 ≤ all → of_3 ≤ all → all ≤ 2 ^ 126
     → (not (all == 0) && more_last_by all of_1 of_3 (sum (sum (sum results errors) rejects) generals) own_results
@@ -72,7 +72,7 @@ last_same all of_1 of_3 results errors rejects generals own_results own_generals
       above_sum (results + errors + rejects + generals) not_lasts all (omega arith),
     ) (where_none all of_1 of_3 _ _ least_1 least_3)
 
--- An invocation of a class that lasts is one that lasts.
+-- A lasting invocation of a class is a lasting invocation.
 last_weaker : (table : Table) (id : ℤ) (class : Class) (c : Component)
     → is_sort table id (sorts.Lasting class) c ≡ true → is_sort table id (sorts.Lasting classes.Any) c ≡ true
 last_weaker table id class (Invoke other linked code parameter) =
@@ -94,7 +94,7 @@ module _ (id : ℤ) where
   no_answer (Reject (Some other) (problems.ReturnResult n)) = λ is general. cc
   no_answer c = λ is. cc
 
--- Of two tests that not both pass as many pass one as pass each.
+-- If two tests never both pass, the count of either is the sum of both counts.
 count_either : (p q : Component → Bool) (xs : List Component) → ((c : Component) → p c ≡ true → q c ≡ true → ⊥)
     → count (λ c. p c || q c) xs ≡ count p xs + count q xs
 count_either p q xs apart = omega (arith, least, most)
@@ -149,16 +149,16 @@ module _ (table : Table) (h : HalfOf) (few_invoked : AreFew h.invoked) (all befo
       told : count (may_reject_answer id) all ≡ own_results + own_generals
       told = count_either (rejects_result id any_problem) (rejects_generally id) all (no_answer id)
 
-  -- Whether an Invoke is of an ID that is in use.
+  -- Whether an Invoke has F10.
   pub invokes_busy_same : (c : Component)
       → invokes_busy_by (counted_of table h all before own) c ≡ invokes_busy table h all own before c
   invokes_busy_same (Invoke id linked code parameter) =
       ap₂ (λ a b. a || b) (ap (λ n. ltb 0 n) (count_invokes table id own) ∙ any_counted (invokes id) own) (busy_same id)
   invokes_busy_same c = refl
 
--- ---- a linked ID of no invocation that is there
+-- ---- F11
 
--- As many were taken as are counted of each sort.
+-- As many invocations were taken as the counts of each sort say.
 taken_same : (table : Table) (before : List Component) (id : ℤ) → AreFew before
     → taken_by (tallied table before) id ≡ count (takes id) before
 taken_same table before id few =
@@ -177,7 +177,7 @@ taken_same table before id few =
         ≡ count (takes id) before
     all = omega (arith, count_takes id before, count_takes_all id before)
 
--- Whether an Invoke is linked to no invocation that is there.
+-- Whether an Invoke has F11.
 pub links_badly_same : (table : Table) (h : HalfOf) (all before own : List Component) → AreFew before → (c : Component)
     → links_badly_by table (counted_of table h all before own) c ≡ links_badly table h own before c
 links_badly_same table h all before own few (Invoke id (Some to) code parameter) =

@@ -1,4 +1,4 @@
--- Linked Invokes by their linked IDs: what a test finds behind one more.
+-- What a test finds among linked Invokes, by their linked IDs, after one more.
 use Rattle.std.proofs.Common.{◌≡◌, ℤ, Bool, true, false, cond, ◌||◌, List, [], ◌∷◌, Some, None, Ordering, Less, Equal, Greater, int_cmp, refl, sym, ap, ◌∙◌}
 use Rattle.std.specs.BTreeMap.{BTreeMap, WritesThrough, insert_entry, is_at}
 use Rattle.std.specs.List.{list_any}
@@ -35,7 +35,7 @@ before true false = refl
 before false p = sym (or_none p)
 
 module _ {K X : Type 0} (finds : K × X → Bool) where
-  -- Where a value takes the place of one, and what the test finds there is more by that,
+  -- If a value replaces an old one, the test finds what it found before or what the value adds.
   pub any_set : (test : K → Bool) (was now : X) (p : Bool)
       → ((k : K) → test k ≡ true → finds (k, now) ≡ (finds (k, was) || p)) → (es : List (K × X))
       → Some was ≡ lookup test es → list_any finds (set_value test es now) ≡ (list_any finds es || p)
@@ -56,7 +56,7 @@ module _ {K X : Type 0} (finds : K × X → Bool) where
           ap (λ b. finds (k, x) || b) (rest left)
           ∙ later (finds (k, x)) (list_any finds es) p
 
-  -- and where one is new.
+  -- If a value is new, the test finds what it found before or what the value has.
   pub any_inserted : (cmp : K → K → Ordering) (k : K) (x : X) (es : List (K × X)) → None ≡ lookup (is_at (cmp k)) es
       → list_any finds (insert_entry cmp es k x) ≡ (list_any finds es || finds (k, x))
   any_inserted cmp k x [] none = sym (or_none _)
@@ -75,7 +75,7 @@ module _ {K X : Type 0} (finds : K × X → Bool) where
           ap (λ b. finds e || b) (rest left) ∙ later (finds e) (list_any finds es) (finds (k, x))
 
 module _ (linked : ℤ) (code : Code) (old new : BTreeMap ℤ CodeCounts) (s : CodeCounts) where
-  -- Something was kept of the linked ID.
+  -- If something was kept of the linked ID.
   pub link_written : (was : CodeCounts) → Some was ≡ lookup (is_at (int_cmp linked)) old.entries
       → WritesThrough int_cmp (int_cmp linked) old s new
       → ((passes : Code → Bool) → codes_any passes s ≡ (codes_any passes was || passes code))
@@ -88,7 +88,7 @@ module _ (linked : ℤ) (code : Code) (old new : BTreeMap ℤ CodeCounts) (s : C
       ∙ ap (λ q. codes_any (passes k) was || passes q code) (sym (tells_apart exact_signed linked k same)))
       old.entries there
 
-  -- Nothing was.
+  -- If nothing was kept of the linked ID.
   pub link_made : (fresh : CodeCounts) → None ≡ lookup (is_at (int_cmp linked)) old.entries
       → new.entries ≡ insert_entry int_cmp old.entries linked s
       → ((passes : Code → Bool) → codes_any passes fresh ≡ false)
@@ -101,7 +101,7 @@ module _ (linked : ℤ) (code : Code) (old new : BTreeMap ℤ CodeCounts) (s : C
       ∙ ap (λ b. list_any (links_at passes) old.entries || b)
       (gains (passes linked) ∙ ap (λ b. b || passes linked code) (nothing (passes linked)))
 
--- ---- a loop over them
+-- ---- a loop over linked IDs
 
 module _ (passes : ℤ → Code → Bool) (linked : ℤ) (counts : CodeCounts) (left more all : List (ℤ × CodeCounts))
     (steps : left ≡ (linked, counts) ∷ more)
@@ -109,18 +109,18 @@ module _ (passes : ℤ → Code → Bool) (linked : ℤ) (counts : CodeCounts) (
   here : (codes_any (passes linked) counts || list_any (links_at passes) more) ≡ list_any (links_at passes) all
   here = sym (ap (list_any (links_at passes)) steps) ∙ so_far
 
-  -- Where the next one passes, one of all does,
+  -- If the next one passes, one of all passes.
   pub link_found : codes_any (passes linked) counts ≡ true → true ≡ list_any (links_at passes) all
   link_found so = sym (ap (λ b. b || list_any (links_at passes) more) so) ∙ here
 
-  -- and where it does not, what is left decides.
+  -- If the next one does not pass, those that are left decide.
   pub link_passed : codes_any (passes linked) counts ≡ false
       → list_any (links_at passes) more ≡ list_any (links_at passes) all
   link_passed none = sym (ap (λ b. b || list_any (links_at passes) more) none) ∙ here
 
--- ---- one of them
+-- ---- a remembered linked ID
 
--- Where what is kept of a linked ID passes, one does.
+-- If what is kept of a linked ID passes, one of all passes.
 pub link_there : (passes : ℤ → Code → Bool) (linked : ℤ) (counts : CodeCounts) (es : List (ℤ × CodeCounts))
     → Some counts ≡ lookup (is_at (int_cmp linked)) es → codes_any (passes linked) counts ≡ true
     → list_any (links_at passes) es ≡ true
@@ -141,7 +141,7 @@ link_there passes linked counts ((k, x) ∷ es) there so =
         let left : Some counts ≡ lookup (is_at (int_cmp linked)) es = rw is at there in
         or_right (codes_any (passes k) x) (list_any (links_at passes) es) (rest left so)
 
--- What may be linked to an operation, where a linked Invoke has a problem, says that it has it.
+-- An operation that meets the condition of a problem shows that the linked Invoke has the problem.
 pub names_as : (table : Table) (invoked : Tallied) (problem : LinkProblem) (linked : ℤ) (code : CodeView)
     → invoked.has_operation linked (links_as table (linkable_by problem code)) ≡ true
     → names_so table invoked problem linked (code_of code) ≡ true

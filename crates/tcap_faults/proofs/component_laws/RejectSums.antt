@@ -1,4 +1,4 @@
--- Rejects with a problem that nothing has, where few components are counted (Q.774 3.2, Q.773 4.2.2).
+-- F13 from counts is F13, if few components are counted (Q.774 3.2, Q.773 4.2.2).
 use Rattle.std.proofs.Common.{◌≡◌, ℕ, ℤ, ◌+◌, ◌≤◌, arith, Bool, true, false, List, [], ◌∷◌, ◌++◌, length, Some, None, not, refl, sym, ap, ◌∙◌, ap₂}
 use Rattle.std.specs.Prelude.{◌||◌, ◌&&◌, ◌==◌, nat_le, nat_lt}
 use Rattle.std.specs.List.{list_any}
@@ -27,14 +27,14 @@ use Rattle.tcap_faults.proofs.list_laws.TwoTests.{any_agree}
 
 -- ---- tests
 
--- Two tests are the same behind one that is so where they are the same.
+-- Two conjunctions agree if their second parts agree whenever the first part holds.
 and_same : (a x y : Bool) → (a ≡ true → x ≡ y) → (a && x) ≡ (a && y)
 and_same true x y same = same refl
 and_same false x y same = refl
 
--- ---- one Reject more
+-- ---- one more Reject
 
--- Where a Reject passes a test, one more does.
+-- A Reject that passes is counted once more.
 one_more : (passes : Component → Bool) (before : List Component) (c : Component) → AreFew before → passes c ≡ true
     → sum (count passes before) 1 ≡ count passes (before ++ c ∷ [])
 one_more passes before c few is =
@@ -92,7 +92,7 @@ module _ (table : Table) (h : HalfOf) (all before own : List Component) (few : A
 
 -- ---- Rejects of answers
 
--- The same numbers are compared.
+-- Both sides compare the same numbers.
 answer_same : (most problem answers : ℕ) (rejects suited : ℕ) (expected : Bool) (rejects' suited' : ℕ) (expected' : Bool)
     → rejects' ≡ rejects → suited' ≡ suited → expected' ≡ expected
     → (nat_lt answers rejects' || nat_lt most problem || ((problem == 1 && expected')
@@ -109,7 +109,7 @@ answer_same most problem answers rejects suited expected rejects' suited' expect
 
 module _ (table : Table) (h : HalfOf) (all before own : List Component) (few_heard : AreFew h.heard)
     (few_invoked : AreFew h.invoked) (few : AreFew before) (id : ℤ) where
-  -- So many own invocations are of class 1 or of another.
+  -- The number of own invocations whose class allows the answer.
   suited_same : (of_result : Bool) → suited_by of_result (tallied table h.invoked) id
       ≡ count_suited table of_result id h.invoked
   suited_same true = sum_few _ _ (omega (arith, few_invoked, of_class 1, of_class 3))
@@ -136,7 +136,7 @@ module _ (table : Table) (h : HalfOf) (all before own : List Component) (few_hea
   unknown_same (ReturnResult last other (Some body)) = ap (λ b. is_invoke_id id other && b) (none_same body.code)
   unknown_same c = refl
 
-  -- Whether an answer is expected.
+  -- Whether no answer can be unexpected.
   expected_same : (of_result : Bool)
       → is_expected_by (counted_of table h all before own) of_result id ≡ is_expected table h of_result id
   expected_same of_result =
@@ -173,7 +173,7 @@ module _ (table : Table) (h : HalfOf) (all before own : List Component) (few_hea
       c : Component
       c = Reject (Some id) (problems.ReturnError n)
 
--- Whether a component is a Reject with a problem that nothing has.
+-- Whether a component has F13.
 pub rejects_wrongly_same : (table : Table) (h : HalfOf) (all before own : List Component) → AreFew h.heard
     → AreFew h.invoked → AreFew before → (c : Component)
     → rejects_wrongly_by table (counted_of table h all before own) c ≡ rejects_wrongly table h own before c

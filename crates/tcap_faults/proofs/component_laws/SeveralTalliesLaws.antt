@@ -1,4 +1,4 @@
--- Several tallies together: what a loop over them answers.
+-- What a loop over several tallies returns.
 use Rattle.std.proofs.Common.{◌≡◌, ℕ, zero, suc, ℤ, ◌+◌, ◌^◌, ◌<◌, ◌≤◌, Bool, true, ◌||◌, List, [], ◌∷◌, length, get_or, drop, Bor, sym, ap, ◌∙◌, arith}
 use Rattle.std.proofs.lemmas.Bool.{or_left, or_right}
 use Rattle.std.proofs.lemmas.List.{at_drop_all, at_drop_more}
@@ -21,13 +21,13 @@ pub results_below : (id : ℤ) (code : Code) (tallies : List Tally) → (tallies
 results_below id code [] = omega arith
 results_below id code (tally ∷ more) = sum_below _ _
 
--- Where none is left, the sum so far is that of all.
+-- After the loop, the sum so far is the sum of all.
 pub counted_all : (f : List (Bor Tally) → ℕ) (all i : ℕ) (tallies : List (Bor Tally)) → f [] ≡ 0 → all < 2 ^ 128
     → length tallies ≤ i → sum all (f (drop i tallies)) ≡ f tallies → all ≡ f tallies
 counted_all f all i tallies none few past is =
     sym (last all few) ∙ (ap (sum all) (sym (at_drop_all f tallies i past ∙ none)) ∙ is)
 
--- Where the next one is so, one of all is.
+-- If the next tally passes, one of all passes.
 pub found_next : (f : List (Bor Tally) → Bool) (p : Tally → Bool) (i : ℕ) (tallies : List (Bor Tally))
     (tally : Bor Tally) → ((t : Bor Tally) (more : List (Bor Tally)) → f (t ∷ more) ≡ (p t.now || f more)) → i < length tallies
     → tally ≡ get_or tallies i tally → p tally.now ≡ true → f (drop i tallies) ≡ f tallies → true ≡ f tallies
@@ -37,7 +37,7 @@ found_next f p i tallies tally step within is so left =
     ∙ or_left (p (get_or tallies i tally).now) (f (drop (i + 1) tallies)) here)
     ∙ left
 
--- Where one is so, one of all is.
+-- If a tally passes, one of all passes.
 pub found_one : (f : List (Bor Tally) → Bool) (p : Tally → Bool) (i : ℕ) (tallies : List (Bor Tally))
     (tally : Bor Tally) → ((t : Bor Tally) (more : List (Bor Tally)) → f (t ∷ more) ≡ (p t.now || f more)) → i < length tallies
     → tally ≡ get_or tallies i tally → p tally.now ≡ true → f tallies ≡ true

@@ -8,11 +8,11 @@ use Rattle.tcap_faults.specs.Counts.{count}
 use Rattle.tcap_faults.specs.Tallied.{more_if, sum}
 use Rattle.tcap_faults.proofs.list_laws.CountLaws.{count_last}
 
--- A sum of a sum is that of all.
+-- A sum of a sum is the sum of all.
 pub sum_more : (a b c : ℕ) → sum (sum a b) c ≡ sum (a + b) c
 sum_more a b c = grind (arith, nat_tests)
 
--- What is no count above the greatest is above a sum where it is above what the sum stands for.
+-- A number that is no count over the greatest exceeds a capped sum exactly if it exceeds the exact sum.
 pub above_sum : (a b n : ℕ) → n < 2 ^ 128 → nat_lt (sum a b) n ≡ nat_lt (a + b) n
 above_sum a b n fits = grind (arith, nat_tests)
 
@@ -22,14 +22,14 @@ sum_few a b few = grind (arith, nat_tests)
 pub sum_below : (a b : ℕ) → sum a b < 2 ^ 128
 sum_below a b = grind (arith, nat_tests)
 
--- Nothing adds nothing, before a count or behind it.
+-- Adding 0 on the left changes no count.
 pub first : (n : ℕ) → n < 2 ^ 128 → sum 0 n ≡ n
 first n few = sum_few 0 n (omega arith) ∙ omega arith
 
 pub last : (n : ℕ) → n < 2 ^ 128 → sum n 0 ≡ n
 last n few = sum_few n 0 (omega arith) ∙ omega arith
 
--- A count of a list, and one more where the next passes, is the count of both.
+-- The count of a list, and one more if the next element passes, is the count of both.
 pub count_one_more : {A : Type 0} (p : A → Bool) (xs : List A) (x : A) → length (xs ++ x ∷ []) ≤ 2 ^ 126
     → more_if (p x) (count p xs) ≡ count p (xs ++ x ∷ [])
 count_one_more p xs x few = by (p x) refl

@@ -1,4 +1,4 @@
--- What is counted behind one component more.
+-- A tally after one more component.
 use Rattle.std.proofs.Common.{◌≡◌, ℕ, ℤ, Bool, true, false, cond, ◌&&◌, ◌||◌, List, [], ◌∷◌, ◌++◌, Option, Some, None, option_map, int_cmp, refl, sym, ap, ◌∙◌, arith}
 use Rattle.std.specs.BTreeMap.{is_at}
 use Rattle.std.specs.Global.{Box}
@@ -21,9 +21,9 @@ use Rattle.tcap_faults.proofs.component_laws.ComponentSortLaws.{its_answer, its_
 use Rattle.tcap_faults.proofs.component_laws.SumLaws.{count_one_more}
 use Rattle.tcap_faults.proofs.list_laws.OneMoreLaws.{any_more}
 
--- ---- a component of an ID
+-- ---- a component with an ID
 
--- What is kept of its ID is a step further than what was kept, if anything.
+-- What is kept of the component's ID is one step after what was kept, if anything.
 pub record AreSteps (table : Table) (c : Component) (old : Option OfId) (new : OfId) : Type 0 where
   pub counts : (sort : Sort) → count_in sort new ≡ more_if (has_sort table sort c) (of_kept 0 (count_in sort) old)
   pub invokes : (code : Code)
@@ -114,7 +114,7 @@ module _ (table : Table) (c : Component) (id : ℤ) (its : invoke_id c ≡ Some 
         ∙ found_at c id q its (results_so q passes c) (answers_by passes c) (its_answer q passes c) _) i;
   }
 
--- ---- a component of none
+-- ---- a component without an ID
 
 module _ (q : ℤ) (c : Component) (none : invoke_id c ≡ None) (so has : Bool)
     (is : so ≡ (is_its_id q (invoke_id c) && has)) where

@@ -1,4 +1,4 @@
--- Tallies of components taken together: of lists one behind the other.
+-- Tallies of joined lists of components.
 use Rattle.std.proofs.Common.{List, [], ◌∷◌, ◌++◌, refl, ◌∙◌, ap₂}
 use Rattle.std.proofs.lemmas.List.{append-nil}
 use Rattle.tcap_parts.specs.declared.component.Component.{Component}
@@ -18,6 +18,6 @@ module _ (table : Table) where
   are_more cs ds tally tallies is are few =
       ap₂ both_tallied (is (few_front cs ds few)) (are (few_behind cs ds few)) ∙ tallied_both table cs ds few
 
-  -- The last of them.
+  -- A single tally.
   pub are_one : (cs : List Component) (tally : Tally) → IsTally table cs tally → AreTallies table cs (tally ∷ [])
   are_one cs tally is = rw (append-nil cs) at (are_more cs [] tally [] is are_none)

@@ -1,4 +1,4 @@
--- The half with an ID of the peer is the one that is read off what is kept.
+-- The half with an ID of the peer is read correctly from what is kept.
 use Rattle.std.proofs.Common.{◌≡◌, Bor, ℕ, Bool, true, false, cond, not, ◌&&◌, ◌||◌, List, [], ◌∷◌, ◌++◌, Option, Some, None, is_some, map, option_copied, refl, sym, ap, subst, ◌∙◌}
 use Rattle.std.specs.Prelude.{is_none}
 use Rattle.std.specs.Map.{lookup}
@@ -39,16 +39,15 @@ use Rattle.tcap_faults.proofs.transaction_laws.HistoryLookupLaws.{told_is}
 
 -- ---- two tests
 
--- ---- what was told
+-- ---- what was sent to the ID
 
--- What was told is what was sent there, without the Aborts of the provider;
--- and by one of these a Begin was refused.
+-- The Begin was refused exactly if an Abort with cause 4 was sent to its ID.
 pub refused_is : (side : Side) (id : List ℕ) (items : List Item)
     → list_any (λ m. is_cause 4 (cause_in m)) (sent_to side items id) ≡ was_refused side id items
 refused_is side id items =
     any_both (λ m. is_id id (dtid_in m)) (λ m. is_cause 4 (cause_in m)) (sent_by side items)
 
--- The first originating ID is that of the first Continue.
+-- The first own ID is the originating ID of the first Continue.
 first_told : (ms : List Message) → ids_first (otids_of ms) ≡ then_so (find (is_a forms.Continue) (of_user ms)) otid_in
 first_told [] = refl
 first_told (Continue otid dtid dialogue components ∷ ms) = refl
@@ -67,7 +66,7 @@ first_answer side id items =
     first_told (sent_to side items id)
     ∙ ap (λ ms. then_so (find (is_a forms.Continue) ms) otid_in) (told_is side items id)
 
--- It is there where there is a Continue.
+-- There is a first own ID exactly if there is a Continue.
 first_there : (ms : List Message)
     → is_none (then_so (find (is_a forms.Continue) ms) otid_in) ≡ not (has_a forms.Continue ms)
 first_there [] = refl
@@ -78,7 +77,7 @@ pub went_on : (side : Side) (id : List ℕ) (items : List Item)
     → is_none (ids_first (otids_of (sent_to side items id))) ≡ not (has_a forms.Continue (told side id items))
 went_on side id items = ap is_none (first_answer side id items) ∙ first_there (told side id items)
 
--- ---- what is kept of what was told
+-- ---- what is kept of what was sent to the ID
 
 module _ (table : Table) (ms : List Message) (o : Option (Bor SentTo)) (at : IsToAt table ms (option_copied o)) where
   pub told_there : (to : Bor SentTo) → o ≡ Some to → IsTo table ms to.now
@@ -87,7 +86,7 @@ module _ (table : Table) (ms : List Message) (o : Option (Bor SentTo)) (at : IsT
   pub told_nowhere : o ≡ None → ms ≡ []
   told_nowhere is = rw is at at
 
--- ---- Continues, apart by the first that answers
+-- ---- Continues, divided at the first that answers
 
 apart : (ms : List Message) → before_response ms ++ from_first responds ms ≡ ms
 apart [] = refl
@@ -107,9 +106,9 @@ none_from (m ∷ ms) = by (responds m) (none_from ms)
     by true rest = refl
     by false rest = rest
 
--- ---- components that are counted
+-- ---- counted components
 
--- of the Continues to an own ID, if that is known
+-- The tallies of the Continues to an own ID, if that is known.
 abbrev pub later_of : SentFrom → Option (List ℕ) → List Tally
 later_of asks None = []
 later_of asks (Some own) = came_counted (lookup (is_at (octets_cmp own)) asks.came.entries)
@@ -131,7 +130,7 @@ module _ (table : Table) where
   came_are ms None none = rw none (are_none table)
   came_are ms (Some came) (some, is) = both_are ms came is
 
-  -- the Continues to the half's own ID, if that is known
+  -- These tallies count the Continues to the half's own ID, if that is known.
   later_are : (side : Side) (items : List Item) (id : List ℕ) (asks : SentFrom)
       → IsFrom table (sent_from (other side) items id) asks → (own : Option (List ℕ))
       → AreTallies table (components_of (continued_to side items id own)) (later_of asks own)
@@ -169,7 +168,7 @@ module _ (table : Table) where
   none_so None none = refl
   none_so (Some begin) none = absurd none
 
--- ---- a half that began by the peer's Begin
+-- ---- a half that the peer's Begin began
 
 module _ (table : Table) (side : Side) (id : List ℕ) (items : List Item) (kept : Half) where
   abbrev heard : List Tally
@@ -209,7 +208,7 @@ module _ (table : Table) (side : Side) (id : List ℕ) (items : List Item) (kept
           subst (λ (o : Option FirstBegin). IsFirstBegin table (find (is_a forms.Begin) (asked side id items)) o)
           begun is.begin
 
-  -- ---- a half that began by its own Begin
+  -- ---- a half that the end's Begin began
 
   pub is_begun : (own : List ℕ) (begin : FirstBegin) (came : Came) (to : Option SentTo)
       → IsBegunBy table side items own begin → IsCameBack table side items id own came

@@ -1,4 +1,4 @@
--- Aborts of a provider, and halves that are open at a quiet mark, by what is kept of both ends.
+-- F14 and F15 from what is kept of both ends.
 use Rattle.std.proofs.Common.{◌≡◌, ◌⊎◌, inl, inr, ℕ, ◌+◌, ◌-◌, ◌<◌, ◌≤◌, ◌^◌, arith, Bool, true, false, cond, not, ◌&&◌, ◌||◌, List, [], ◌∷◌, Option, Some, None, is_some, bytes_eq, drop, filter, get_or, length, refl, sym, ap, ◌∙◌, ap₂}
 use Rattle.std.specs.Prelude.{Contains, filter_map, nat_le, nat_lt}
 use Rattle.std.specs.Cmp as tests
@@ -50,14 +50,14 @@ use Rattle.tcap_faults.proofs.component_laws.FewSums.{count_within}
 
 -- ---- a half that is surely open
 
--- where the first Continue goes
+-- The destination ID of the first Continue.
 first_goes : (ms : List Message) → then_so (find (is_a forms.Continue) ms) dtid_in ≡ ids_first (dtids_of ms)
 first_goes [] = refl
 first_goes (Continue otid dtid dialogue components ∷ ms) = refl
 first_goes (m ∷ ms) = first_goes ms
 
 module _ (table : Table) (side : Side) (items : List Item) (own : List ℕ) where
-  -- whether it is, by where its first Continue goes
+  -- Whether the half is surely open, if its first Continue has this destination ID.
   abbrev open_to : Option (List ℕ) → Bool
   open_to to =
       not table.prearranged && holds (λ id. not (has_ended side items id)) to
@@ -76,23 +76,23 @@ module _ (table : Table) (side : Side) (items : List Item) (own : List ℕ) wher
       ∙ ap (λ o. then_so o dtid_in) (found_both (λ m. is_id own (otid_in m)) (is_a forms.Continue) (sent_by side items)))
       ∙ surely_so _ refl
 
-  -- By where it goes, and whether it ended something there;
+  -- The half is surely open exactly if the end did not end the destination ID, and the peer did not end the own ID.
   pub open_there : (to : List ℕ) (b : Bool) → Some to ≡ ids_first (dtids_of (sent_from side items own))
       → b ≡ (not table.prearranged && not (has_ended side items to))
       → (b && not (list_any (ends_to own) (sent_by (other side) items))) ≡ is_surely_open table side items own
   open_there to b goes is =
       ap (λ x. x && not (list_any (ends_to own) (sent_by (other side) items))) is ∙ ap open_to goes ∙ surely
 
-  -- and it is not where it goes nowhere.
+  -- A half without a Continue is not surely open.
   pub open_nowhere : None ≡ ids_first (dtids_of (sent_from side items own))
       → false ≡ is_surely_open table side items own
   open_nowhere goes =
       ap (λ x. x && not (list_any (ends_to own) (sent_by (other side) items))) (sym (and_false (not table.prearranged)))
       ∙ ap open_to goes ∙ surely
 
--- ---- IDs that are kept
+-- ---- lists of kept IDs
 
--- What is so of one of these is so of the first of those that are kept,
+-- A test finds a kept ID exactly if it finds the first or one of the others.
 module _ (p : List ℕ → Bool) (ids : List (List ℕ)) (kept : Ids) (are : AreAmong ids (Some kept)) (first : List ℕ)
     (is : kept.first ≡ Some first) where
   either_kept : (p first || list_any p kept.more.items) ≡ list_any p ids
@@ -101,7 +101,7 @@ module _ (p : List ℕ → Bool) (ids : List (List ℕ)) (kept : Ids) (are : Are
   pub first_so : p first ≡ true → true ≡ list_any p ids
   first_so so = sym (or_left (p first) (list_any p kept.more.items) so) ∙ either_kept
 
-  -- or of the others where not of the first;
+  -- If the first does not pass, the others decide.
   pub others_so : p first ≡ false → list_any p kept.more.items ≡ list_any p ids
   others_so none = ap (λ b. b || list_any p kept.more.items) (sym none) ∙ either_kept
 
@@ -109,28 +109,28 @@ first_there : (ids : List (List ℕ)) → is_some (ids_first ids) ≡ list_any (
 first_there [] = refl
 first_there (id ∷ more) = refl
 
--- and there is one where there is a first.
+-- There is a first ID exactly if there is an ID.
 pub some_kept_of : (o : Option (List ℕ)) (ids : List (List ℕ)) (kept : Ids)
     → ((those : List (List ℕ)) → AreIds those kept → o ≡ ids_first those)
     → AreAmong ids (Some kept) → is_some o ≡ not (is_nothing ids)
 some_kept_of o ids kept says (those, are, same) =
     ap is_some (says those are) ∙ first_there those ∙ any_same (λ id. true) those ids same ∙ sym (some_there ids)
 
--- A search through them, one after the other: the next passes,
+-- A search through the IDs: the next one passes.
 module _ (p : List ℕ → Bool) (xs : List (List ℕ)) (i : ℕ) (left : list_any p (drop i xs) ≡ list_any p xs) where
   pub any_first : (x : List ℕ) → i < length xs → x ≡ get_or xs i x → p x ≡ true → true ≡ list_any p xs
   any_first x within is so =
       let here : p (get_or xs i x) ≡ true = rw (← is) so in
       sym (at_drop_more (list_any p) xs i x within ∙ ap (λ b. b || list_any p (drop (i + 1) xs)) here) ∙ left
 
-  -- or not,
+  -- A search through the IDs: the next one does not pass.
   pub any_next : (x : List ℕ) → i < length xs → x ≡ get_or xs i x → p x ≡ false
       → list_any p (drop (i + 1) xs) ≡ list_any p xs
   any_next x within is so =
       let here : p (get_or xs i x) ≡ false = rw (← is) so in
       sym (at_drop_more (list_any p) xs i x within ∙ ap (λ b. b || list_any p (drop (i + 1) xs)) here) ∙ left
 
-  -- or none is left.
+  -- A search through the IDs: none is left.
   pub any_last : length xs ≤ i → false ≡ list_any p xs
   any_last past = sym (at_drop_all (list_any p) xs i past) ∙ left
 
@@ -147,7 +147,7 @@ pub all_open_is : (table : Table) (side : Side) (items : List Item) (ms : List M
     ≡ all_go_to_open table side items ms
 all_open_is table side items ms = ap₂ (λ a b. a && not b) (sym (some_go ms)) (went_where (is_surely_open table side items) ms)
 
--- ---- what is left to answer
+-- ---- F14
 
 module _ (side : Side) (items : List Item) (id : List ℕ) where
   pub accepted_is : (has_a forms.Begin (asked side id items)
@@ -162,7 +162,7 @@ module _ (side : Side) (items : List Item) (id : List ℕ) where
       ≡ count (is_abort_with 1 id) (sent_by side items)
   unknown_is = ap length (filter_both (λ m. is_id id (dtid_in m)) (λ m. is_cause 1 (cause_in m)) (sent_by side items))
 
-  -- One was received where something was told there, and no Begin was accepted,
+  -- One Continue was received if something was sent to the ID and no Begin was accepted.
   pub received_one : not (is_nothing (told side id items)) ≡ true → is_accepted (half_of side items id).how ≡ false
       → ◌≡◌ {A = ℕ} 1 (count_received side id items (half_of side items id))
   received_one spoke none = by (is_nothing (told side id items)) spoke
@@ -171,7 +171,7 @@ module _ (side : Side) (items : List Item) (id : List ℕ) where
       by true is = cc
       by false is = rw none refl
 
-  -- and else none.
+  -- Otherwise none was received.
   pub none_received : is_accepted (half_of side items id).how ≡ true
       → ◌≡◌ {A = ℕ} 0 (count_received side id items (half_of side items id))
   none_received accepted = ap (λ b. cond b 0 1) (sym (or_right (is_nothing (told side id items)) _ accepted))
@@ -184,7 +184,7 @@ module _ (side : Side) (items : List Item) (id : List ℕ) where
       by true is = refl
       by false is = cc
 
--- No more were sent than there are items.
+-- At most as many were sent as there are items.
 fewer_made : {A B : Type 0} (f : A → Option B) (xs : List A) → length (filter_map f xs) ≤ length xs
 fewer_made f [] = omega arith
 fewer_made {B = B} f (x ∷ xs) = by (f x) (fewer_made f xs)
@@ -211,7 +211,7 @@ module _ (side : Side) (items : List Item) (id : List ℕ) (few : length items �
         fewer_made (message_of side) items,
       )
 
--- None is left where one more is more than there are.
+-- No Continue is left exactly if one more Abort is too many.
 pub none_left : (c u n : ℕ) → nat_le (c - n) u ≡ nat_lt c (u + 1 + n)
 none_left c u n = at (cases_lt c (u + 1 + n))
   where
@@ -232,7 +232,8 @@ module _ (table : Table) (side : Side) (items : List Item) (own : List ℕ) wher
   abbrev from_own : List Message → List Message
   from_own ms = filter (λ m. is_id own (otid_in m)) ms
 
-  -- It is by where its Continues go.
+  -- A Continue among these messages is left open exactly if the half is surely open and a destination ID is not
+  -- tangled.
   abbrev IsByDtids : List Message → Type 0
   IsByDtids ms =
       list_any (is_left_open table side items) ms
@@ -258,7 +259,7 @@ module _ (table : Table) (side : Side) (items : List Item) (own : List ℕ) wher
       by false is rest = rest
   left_is (m ∷ ms) = left_is ms
 
-  -- Where it goes on to two IDs it is tangled,
+  -- If the ID's Continues go to two IDs, the own ID is tangled.
   own_tangled : two_differ (dtids_of (sent_from side items own)) ≡ true → is_own_tangled side items own ≡ true
   own_tangled differ =
       left_differ (filter_map dtid_in (filter (goes_on_from own) (sent_by side items)))
@@ -270,7 +271,7 @@ module _ (table : Table) (side : Side) (items : List Item) (own : List ℕ) wher
       ap not (or_left _ _ (any_has (is_own_tangled side items) (near side items (own ∷ []) to) own
       (Contains-append_right (owns_of side items to) (own ∷ []) own (has_first own [])) (own_tangled differ)))
 
-  -- so that it is not left open;
+  -- Then no Continue from it is left open.
   pub left_differing : two_differ (dtids_of (sent_from side items own)) ≡ true
       → false ≡ list_any (is_left_open table side items) (sent_from side items own)
   left_differing differ =
@@ -280,14 +281,14 @@ module _ (table : Table) (side : Side) (items : List Item) (own : List ℕ) wher
       ∙ and_false (is_surely_open table side items own)
       )
 
-  -- nor where it is not open;
+  -- If the half is not surely open, no Continue from it is left open.
   pub left_shut : is_surely_open table side items own ≡ false
       → false ≡ list_any (is_left_open table side items) (sent_from side items own)
   left_shut shut =
       sym (left_is (sent_by side items)
       ∙ ap (λ b. b && list_any is_plain (dtids_of (sent_from side items own))) shut)
 
-  -- and else it is where the one to which it goes on is not tangled.
+  -- Otherwise one is left open exactly if the IDs that it goes over are not tangled.
   pub left_at : (to : List ℕ) → Some to ≡ ids_first (dtids_of (sent_from side items own))
       → two_differ (dtids_of (sent_from side items own)) ≡ false → is_surely_open table side items own ≡ true
       → not (are_tangled side items (own ∷ []) to)
@@ -300,13 +301,13 @@ module _ (table : Table) (side : Side) (items : List Item) (own : List ℕ) wher
 
 -- ---- at a quiet mark
 
--- whether a half is left open of which that is kept
+-- Whether the half of a kept ID is left open.
 abbrev pub leaves : Table → Side → List Item → List ℕ × SentFrom → Bool
 leaves table side items e = list_any (is_left_open table side items) (sent_from side items e.0)
 
 module _ {table : Table} {side : Side} {items : List Item} {facts : SideFacts} (is : IsSide table side items facts)
     (ordered : IsOrdered octets_cmp facts.from) where
-  -- What is left first is kept of its key.
+  -- The first of what is left belongs to its key.
   pub next_kept : (left more : List (List ℕ × SentFrom)) (own : List ℕ) (kept : SentFrom)
       → ((e : List ℕ × SentFrom) → Contains left e → Contains facts.from.entries e) → left ≡ (own, kept) ∷ more
       → IsFrom table (sent_from side items own) kept
@@ -316,12 +317,12 @@ module _ {table : Table} {side : Side} {items : List Item} {facts : SideFacts} (
       (btree_map_get_iff nat_list_cmp_total exact_bytes facts.from ordered own kept).1 has in
       (rw found at (is.from own)).1.from
 
-  -- what is left open goes on from an ID
+  -- A message that is left open has an originating ID.
   left_from : (m : Message) → is_left_open table side items m ≡ true → (own : List ℕ) × (otid_in m ≡ Some own)
   left_from (Continue otid dtid dialogue components) left = (otid, refl)
   left_from m left = cc
 
-  -- A half is where one is of which something is kept.
+  -- A half is open at the mark exactly if one of a kept ID is.
   pub open_at_mark : list_any (leaves table side items) facts.from.entries ≡ is_open_at_mark table side items
   open_at_mark = tests.both_ways _ _ there back
     where

@@ -1,4 +1,4 @@
--- Which half has an ID of the peer: the one that accepted its Begin, the one whose Begin was answered from there, or none.
+-- Which half has an ID of the peer: the half that accepted its Begin, the half whose Begin it answered, or none.
 use Rattle.std.proofs.Common.{◌≡◌, ℕ, Bool, true, false, cond, List, [], ◌∷◌, Option, Some, None, is_some, filter, refl, sym, ap, subst, ◌∙◌}
 use Rattle.std.specs.Prelude.{Contains}
 use Rattle.std.specs.List.{find}
@@ -36,7 +36,7 @@ use Rattle.tcap_faults.proofs.transaction_laws.TangledLaws.{all_same, began_used
 -- ---- which half it is
 
 module _ (side : Side) (items : List Item) (id : List ℕ) where
-  -- Where the peer began the ID, it is the accepted one.
+  -- If the peer began the ID, the half is the accepted one.
   half_accepted : (table : Table) (begin : FirstBegin)
       → IsFirstBegin table (find (is_a forms.Begin) (asked side id items)) (Some begin)
       → half_of side items id ≡ accepted_half side items id
@@ -47,7 +47,7 @@ module _ (side : Side) (items : List Item) (id : List ℕ) where
   none_began table none =
       any_found (is_a forms.Begin) (asked side id items) ∙ ap is_some (none_so table _ none)
 
-  -- a Continue from there to an own ID that the end began
+  -- The peer sent a Continue from the ID to an own ID that the end began.
   record GoesTo (own : List ℕ) : Type 0 where
     begun : began side own items ≡ true
     message : Message
@@ -71,7 +71,7 @@ module _ (side : Side) (items : List Item) (id : List ℕ) where
         },
       )
 
-  -- There is none where no own ID is so.
+  -- If there is no such own ID, there is no begun half.
   begun_nowhere : ((own : List ℕ) → begun_from side items id ≡ Some own → GoesTo own → ⊥) → begun_from side items id ≡ None
   begun_nowhere none = by (find (goes_to_begun side items) (asked side id items)) refl
     where
@@ -80,7 +80,7 @@ module _ (side : Side) (items : List Item) (id : List ℕ) where
       by None nothing = ap (λ (o : Option Message). then_so o dtid_in) nothing
       by (Some n) found = let (own, is, goes) = goes_there n found in absurd (none own is goes)
 
-  -- Where there is one, a Continue goes there,
+  -- If there is a begun half, such a Continue went to its own ID.
   goes_it : (own : List ℕ) → begun_from side items id ≡ Some own → GoesTo own
   goes_it own is = by (find (goes_to_begun side items) (asked side id items)) refl is
     where
@@ -91,19 +91,19 @@ module _ (side : Side) (items : List Item) (id : List ℕ) where
           let (one, first, goes) = goes_there n found in
           let same : one ≡ own = cc in subst (λ (i : List ℕ). GoesTo i) same goes
 
-  -- and it is joined.
+  -- Such an own ID is joined with the ID.
   joined : (own : List ℕ) → GoesTo own → Contains (owns_of side items id) own
   joined own goes =
       joins side items id own goes.message goes.has goes.goes_on goes.to (began_used side items own goes.begun)
 
-  -- So where one at the most is joined, it is that one.
+  -- If at most one own ID is joined with the ID, it is the begun half's.
   pub joined_own_is : two_differ (owns_of side items id) ≡ false → (o : Option (List ℕ)) → IsOneOf (owns_of side items id) o
       → IsBegunOwn side items id o
   joined_own_is one None none = λ own is.
       has_not own (subst (λ (ids : List (List ℕ)). Contains ids own) none (joined own (goes_it own is)))
   joined_own_is one (Some x) has = λ own is. ap Some (all_same (owns_of side items id) x own one has (joined own (goes_it own is)))
 
-  -- Else it is the first of the destination IDs that the end began.
+  -- Otherwise it is the first of the destination IDs that the end began.
   pub first_own_is : (o : Option (List ℕ)) → o ≡ find (λ own. began side own items) (dtids_of (asked side id items))
       → IsBegunOwn side items id o
   first_own_is o is it so = is ∙ by (asked side id items) ∙ so
@@ -121,7 +121,7 @@ module _ (side : Side) (items : List Item) (id : List ℕ) where
           here false rest = rest
       by (m ∷ ms) = by ms
 
-  -- Where there is none, no half began so;
+  -- If there is no such ID, no half began so.
   none_own : IsBegunOwn side items id None → begun_from side items id ≡ None
   none_own none = begun_nowhere (λ own is goes. let bad = none own is in cc)
 
@@ -129,7 +129,7 @@ module _ (side : Side) (items : List Item) (id : List ℕ) where
     same : (one : List ℕ) → begun_from side items id ≡ Some one → one ≡ own
     same one is = let e = its one is in cc
 
-    -- nor where no Continue came to it,
+    -- If no Continue came to the own ID, no half began so.
     none_came : filter (goes_on_to own) (asked side id items) ≡ [] → begun_from side items id ≡ None
     none_came none = begun_nowhere bad
       where
@@ -141,7 +141,7 @@ module _ (side : Side) (items : List Item) (id : List ℕ) where
             (and_from (is_a forms.Continue goes.message) _ goes.goes_on
             (is_that_id own (dtid_in goes.message) (goes.to ∙ ap Some (same one is))))))
 
-    -- or the end did not begin that.
+    -- If the end did not begin the own ID, no half began so.
     none_begun : begin_from side own items ≡ None → begun_from side items id ≡ None
     none_begun none = begun_nowhere bad
       where
@@ -150,7 +150,7 @@ module _ (side : Side) (items : List Item) (id : List ℕ) where
             let begun : began side own items ≡ true = ap (λ (i : List ℕ). began side i items) (sym (same one is)) ∙ goes.begun in
             both_ways _ (ap is_some none) begun
 
-    -- Else it is that one.
+    -- Otherwise the half began from the own ID.
     goes_from : (table : Table) (begin : FirstBegin) (came : Came) → IsBegunBy table side items own begin
         → IsCameBack table side items id own came → begun_from side items id ≡ Some own
     goes_from table begin came begins (some, is) =
@@ -175,7 +175,7 @@ module _ (side : Side) (items : List Item) (id : List ℕ) where
         by [] is_it something = cc
         by (m ∷ more) is_it something = of m (rw is_it (has_first m more))
 
-  -- The half where the peer did not begin the ID.
+  -- The half, if the peer did not begin the ID.
   module _ (table : Table) (not_begun : IsFirstBegin table (find (is_a forms.Begin) (asked side id items)) None) where
     half_nowhere : begun_from side items id ≡ None → half_of side items id ≡ no_half
     half_nowhere none = rw (none_began table not_begun, none) refl
@@ -184,7 +184,7 @@ module _ (side : Side) (items : List Item) (id : List ℕ) where
         → half_of side items id ≡ begun_half side items id own
     half_begun own is = rw (none_began table not_begun, is) refl
 
--- The Begin of an own ID, as it is kept.
+-- What is kept of the Begin from an own ID.
 abbrev pub begin_kept : Option SentFrom → Option FirstBegin
 begin_kept None = None
 begin_kept (Some kept) = kept.begin
@@ -201,10 +201,10 @@ begin_is table side items own o at =
     by None none = rw none tt
     by (Some kept) (some, is) = is.from.begin
 
--- ---- which half is read off
+-- ---- which half the code returns
 
 module _ (table : Table) (side : Side) (items : List Item) (id : List ℕ) where
-  -- Where nothing was asked from there, there is no half,
+  -- If the peer sent nothing from the ID, there is no half.
   pub half_unasked : asked side id items ≡ [] → half_of side items id ≡ no_half
   half_unasked none = rw none refl
 
@@ -217,19 +217,19 @@ module _ (table : Table) (side : Side) (items : List Item) (id : List ℕ) where
       not_begun : IsFirstBegin table (find (is_a forms.Begin) (asked side id items)) None
       not_begun = rw none at is.begin
 
-      -- nor where it has no own ID,
+      -- If there is no own ID, there is no half.
       pub half_unowned : IsBegunOwn side items id None → half_of side items id ≡ no_half
       half_unowned no_own = half_nowhere side items id table not_begun (none_own side items id no_own)
 
       module _ (own : List ℕ) (its : IsBegunOwn side items id (Some own)) where
-        -- or nothing came to that,
+        -- If nothing came to the own ID, there is no half.
         pub half_not_come : IsCameAt table (filter (goes_on_to own) (sent_from (other side) items id)) None
             → half_of side items id ≡ no_half
         half_not_come no_came =
             half_nowhere side items id table not_begun
             (none_came side items id own its no_came)
 
-        -- or the end did not begin it.
+        -- If the end did not begin the own ID, there is no half.
         pub half_not_begun : IsFirstBegin table (begin_from side own items) None → half_of side items id ≡ no_half
         half_not_begun no_begin =
             half_nowhere side items id table not_begun

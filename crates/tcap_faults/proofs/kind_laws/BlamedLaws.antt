@@ -1,4 +1,4 @@
--- What is blamed on an end says of all runs.
+-- What blaming an entry on an end implies for all runs.
 use Rattle.std.proofs.Common.{◌≡◌, inl, inr, Bool, true, false, cond, ℕ, zero, suc, ◌+◌, ◌-◌, arith, List, [], ◌∷◌, ◌++◌, map, length, slice_get, Option, Some, None, Result, Ok, Err, not, refl, sym, ap, subst, ◌∙◌}
 use Rattle.std.specs.Prelude.{◌&&◌}
 use Rattle.std.specs.List.{find}
@@ -41,7 +41,7 @@ made_by entry kind r is =
     let made : (let x : Refutation = record { entry = entry; kind = kind } in x) ≡ r = cc in
     (ap (λ (x : Refutation). x.entry) made, ap (λ (x : Refutation). x.kind) made)
 
--- What stands behind a list is at its length.
+-- The element after a list is at its length.
 there_behind : (front : List Entry) (e : Entry) (more : List Entry) → slice_get (front ++ e ∷ more) (length front) ≡ Some e
 there_behind [] e more = refl
 there_behind (first ∷ front) e more = there_behind front e more
@@ -52,21 +52,21 @@ as_long [] (item ∷ before) is = cc
 as_long (e ∷ front) [] is = cc
 as_long (e ∷ front) (item ∷ before) is = ap suc (as_long front before cc)
 
--- Octets that are no message are those of a bad entry.
+-- Octets that are no message belong to a bad entry.
 bad_body : (side : Option Side) (body : Body) (fault : Fault) → item_by side body ≡ Err (reasons.BadMessage fault)
     → body ≡ Bad fault
 bad_body side (Bad f) fault is = let same : f ≡ fault = cc in ap Bad same
 bad_body None body fault is = cc
 bad_body (Some s) body fault is = cc
 
--- An entry of that end.
+-- The entry is of this end.
 of_end : (side : Side) (sender : Option Side) → is_entry_of side sender ≡ true → sender ≡ Some side
 of_end side None is = cc
 of_end side (Some s) is = ap Some (sym (same_side side s is))
 
 module _ (table : Table) (side : Side) (r : Refutation) (front : List Entry) (e : Entry) (more : List Entry)
     (before : List Item) (fronts : map item_of front ≡ oks before) where
-  -- what all entries are
+  -- The meanings of all entries.
   joined : (x : Result Item Reason) → item_of e ≡ x
       → map item_of (front ++ e ∷ more) ≡ oks before ++ x ∷ map item_of more
   joined x is = map-append item_of front (e ∷ more) ∙ rw (fronts, is) refl
@@ -74,7 +74,7 @@ module _ (table : Table) (side : Side) (r : Refutation) (front : List Entry) (e 
   counted : (kind : Kind) → refutation_at (length before) (Some kind) ≡ Some r → length before ≡ r.entry
   counted kind is = (made_by (length before) kind r is).0
 
-  -- An entry that is no item.
+  -- The entry is no item.
   of_bad : (reason : Reason) → item_of e ≡ Err reason
       → refutation_at (length before) (bad_entry_of side e.side reason) ≡ Some r
       → IsAtFaultOf table side (front ++ e ∷ more) r
@@ -106,7 +106,7 @@ module _ (table : Table) (side : Side) (r : Refutation) (front : List Entry) (e 
       by true mine is = with_kind mine (kind_of_reason reason) refl is
       by false other is = cc
 
-  -- A message, with what is said of it; else what is said of those behind it.
+  -- The entry is a message: it has the fault, or an entry after it has.
   of_message : (sender : Side) (message : Message) → item_of e ≡ Ok (Sent sender message) → (later : Option Refutation)
       → (later ≡ Some r → IsAtFaultOf table side (front ++ e ∷ more) r)
       → or_else (refutation_at (length before) (fault_since table side (since_quiet before) (Sent sender message))) later ≡ Some r
@@ -168,7 +168,7 @@ module _ (table : Table) (side : Side) (r : Refutation) (front : List Entry) (e 
           }))
       by false so is = on is
 
--- Behind these entries, of which none has a kind, the entry that is named is at fault.
+-- If none of these items has a kind, the blamed entry after them is at fault.
 of_behind : (table : Table) (side : Side) (r : Refutation) (front more : List Entry) (before : List Item)
     → map item_of front ≡ oks before → blamed_behind table side before (length before) (pairs more) ≡ Some r
     → IsAtFaultOf table side (front ++ more) r
@@ -206,7 +206,7 @@ blamed_at_fault table side entries r is = of_behind table side r [] entries [] r
 
 -- ---- octets that are no message
 
--- what stands there, where the octets begin at that place of the record
+-- What is at this place of the octets, if they begin at `start` in the record.
 record StandsFrom (start : ℕ) (side : Side) (place : ℕ) (octets : List ℕ) : Type 0 where
   front : List ℕ
   element : List ℕ
@@ -233,7 +233,7 @@ module _ (side : Side) (fault : Fault) (entry : Entry) (side_is : entry.side ≡
       mine = let both : Some sent.side ≡ Some side = sym sent.side_is ∙ side_is in cc
   first_none place octets others (inr mark) = let bad = sym mark.side_is ∙ side_is in cc
 
--- what stands before others
+-- Octets in front move the place.
 put_before : (start : ℕ) (side : Side) (place : ℕ) (front octets others : List ℕ) → octets ≡ front ++ others
     → StandsFrom (start + (length octets - length others)) side place others → StandsFrom start side place octets
 put_before start side place front octets others is it = record {

@@ -1,5 +1,4 @@
--- No component that a half sends is more than what happened to the half allows: it invokes no ID that is in use, links
--- to what is there, answers no invocation twice (Q.774 3.2, Q.771 3.1).
+-- No component that a half sends has F10 to F13: what happened to the half allows it (Q.774 3.2, Q.771 3.1).
 use Rattle.std.proofs.Common.{◌≡◌, ℕ, ℤ, ◌+◌, ◌≤◌, arith, Bool, true, false, List, [], ◌∷◌, ◌++◌, Option, Some, None, Ok, ltb, leb, is_some, not, refl, ap, subst, ◌∙◌}
 use Rattle.std.specs.Prelude.{◌&&◌, ◌||◌, option_map}
 use Rattle.std.specs.List.{list_any}
@@ -31,16 +30,16 @@ use Rattle.tcap_faults.proofs.story_laws.ComponentStepLaws.{answers_step, invoke
 use Rattle.tcap_faults.proofs.story_laws.ReceivedInvocationLaws.{spent_within, inn_of}
 use Rattle.tcap_faults.proofs.story_laws.RejectProblemLaws.{answer_not_wrong, invoke_not_wrong}
 
--- It is not less.
+-- A number is not less than one that it is at least.
 not_less : (a b : ℕ) → b ≤ a → ltb a b ≡ true → ⊥
 not_less a b below = both_ways (ltb a b) (le-ltb a b below)
 
 module _ (table : Table) (s : HalfOf) (past : List Happening) (g : Half)
     (bounds : Bounds s (sent_in past) (got_in past))
     (led : IsLed table past g) where
-  -- ---- an invoke ID that is in use
+  -- ---- F10
 
-  -- Where the ID of an Invoke is free, nothing in its message invoked it,
+  -- If the ID of an Invoke is free, no Invoke before it in the message has the ID.
   own_free : (own : List Component) (h : Half) (id : ℤ) → send_components table g own ≡ Ok h
       → own_invocation h id ≡ None → (list_any (invokes id) own ≡ false) × (own_invocation g id ≡ None)
   own_free own h id was free = (none, unseen (own_invocation g id) refl)
@@ -60,7 +59,7 @@ module _ (table : Table) (s : HalfOf) (past : List Happening) (g : Half)
       unseen (Some a) is =
           let bad : count (invokes id) own + 1 ≡ 0 = rw is at counts in absurd (omega (arith, bad))
 
-  -- and none of its invocations that last is left.
+  -- If the ID is free, none of its lasting invocations is left.
   not_busy : (all : List Component) (id : ℤ) → own_invocation g id ≡ None → is_busy table s all id ≡ true → ⊥
   not_busy all id free is =
       neither (or_cases (ltb (ends + count (may_reject_answer id) all) (of_class 1 + of_class 3)) _ is)
@@ -108,13 +107,13 @@ module _ (table : Table) (s : HalfOf) (past : List Happening) (g : Half)
       (not_busy all id free)
   none_busy all own h k c was is busy = cc
 
-  -- No Invoke of a message is of an ID that is in use.
+  -- No Invoke of a message has F10.
   pub invokes_none_busy : (components : List Component) (k : Half) → send_components table g components ≡ Ok k
       → (all : List Component) → has_component (invokes_busy table s all) [] s.told components ≡ true → ⊥
   invokes_none_busy components k is all =
       none_has table g s.told (invokes_busy table s all) (none_busy all) components k is
 
-  -- ---- a linked ID
+  -- ---- F11
 
   none_badly : (own : List Component) (h k : Half) (c : Component) → send_components table g own ≡ Ok h
       → send_component table h c ≡ Ok k → links_badly table s own (s.told ++ own) c ≡ true → ⊥
@@ -157,16 +156,16 @@ module _ (table : Table) (s : HalfOf) (past : List Happening) (g : Half)
           )
   none_badly own h k c was is bad = cc
 
-  -- No linked ID of a message is of nothing that is there.
+  -- No linked Invoke of a message has F11.
   pub links_none_badly : (components : List Component) (k : Half) → send_components table g components ≡ Ok k
       → has_component (links_badly table s) [] s.told components ≡ true → ⊥
   links_none_badly = none_has table g s.told (links_badly table s) none_badly
 
-  -- ---- answers
+  -- ---- F12
 
   module _ (own : List Component) (h : Half) (was : send_components table g own ≡ Ok h) (id : ℤ) where
-    -- Behind some components of a message: so many results, errors and Rejects of an ID were sent, and so many
-    -- invocations that they may answer are there.
+    -- After some components of a message: the answers of a sort that were sent, and the invocations left that allow
+    -- one, are at most the heard Invokes whose classes allow one.
     sent_results : count (is_last_result id) s.told + count (is_last_result id) own
         + count (λ item. class_reports table true item.code) (listed id h.inn)
         ≤ count_class table id 1 s.heard + count_class table id 3 s.heard
@@ -227,7 +226,8 @@ module _ (table : Table) (s : HalfOf) (past : List Happening) (g : Half)
               (any_takes table id) (invokes id) (any_brought table id) s past g h own bounds led was,
         )
 
-    -- So not more was answered than was heard; nor is it by so many results more as such invocations are there.
+    -- So the end did not answer more than it heard, also with as many Return Results besides as there are such
+    -- invocations.
     not_overspent : (besides : ℕ) → besides ≤ count (λ item. class_reports table true item.code) (listed id h.inn)
         → is_overspent table s id (s.told ++ own) besides ≡ true → ⊥
     not_overspent besides fewer is =
@@ -274,7 +274,7 @@ module _ (table : Table) (s : HalfOf) (past : List Happening) (g : Half)
             count_weaker (λ (item : Invocation). class_reports table true item.code) _ (listed id h.inn)
             (λ item is. refl)
 
-    -- A Return Result that names an operation is of an invocation of it that is there.
+    -- A Return Result that names an operation answers an invocation of that operation.
     not_named : (body : Option ResultBody)
         → one_fits id (may_answer table true (option_map (λ b. b.code) body)) h.inn ≡ true
         → is_operation_overspent s (s.told ++ own) id body ≡ true → ⊥
@@ -301,11 +301,11 @@ module _ (table : Table) (s : HalfOf) (past : List Happening) (g : Half)
                   (λ item may. (and_parts (class_reports table true item.code) (is_code body.code item.code) may).1),
             )
 
-    -- Nothing more was answered by what was sent,
+    -- What was sent answers no more than was heard.
     none_more : is_overspent table s id (s.told ++ own) 0 ≡ true → ⊥
     none_more = not_overspent 0 (omega arith)
 
-    -- or by a result that is not the last.
+    -- A Return Result Not Last answers no more than was heard.
     none_besides : one_fits id (may_answer table true None) h.inn ≡ true
         → is_overspent table s id (s.told ++ own) 1 ≡ true → ⊥
     none_besides fits =
@@ -317,7 +317,7 @@ module _ (table : Table) (s : HalfOf) (past : List Happening) (g : Half)
               (λ item may. (and_parts (class_reports table true item.code) true may).0),
         ))
 
-  -- The component that is sent is counted with those before it.
+  -- The sent component is counted with those before it.
   overspent_with : (own : List Component) (h k : Half) (c : Component) → send_components table g own ≡ Ok h
       → send_component table h c ≡ Ok k → (id : ℤ) → is_overspent table s id (s.told ++ own ++ c ∷ []) 0 ≡ true → ⊥
   overspent_with own h k c was is id bad =
@@ -340,12 +340,12 @@ module _ (table : Table) (s : HalfOf) (past : List Happening) (g : Half)
       overspent_with own h k (Reject (Some id) (problems.Invoke n)) was is id bad
   none_again own h k c was is bad = cc
 
-  -- No component of a message answers what was answered already.
+  -- No component of a message has F12.
   pub answers_none_again : (components : List Component) (k : Half) → send_components table g components ≡ Ok k
       → has_component (answers_again table s) [] s.told components ≡ true → ⊥
   answers_none_again = none_has table g s.told (answers_again table s) none_again
 
-  -- ---- Rejects
+  -- ---- F13
 
   none_wrongly : (own : List Component) (h k : Half) (c : Component) → send_components table g own ≡ Ok h
       → send_component table h c ≡ Ok k → rejects_wrongly table s own (s.told ++ own) c ≡ true → ⊥
@@ -357,7 +357,7 @@ module _ (table : Table) (s : HalfOf) (past : List Happening) (g : Half)
       answer_not_wrong table s past g bounds led own h k id n was false is bad
   none_wrongly own h k c was is bad = cc
 
-  -- No Reject of a message has a problem that nothing which was received has.
+  -- No Reject of a message has F13.
   pub rejects_none_wrongly : (components : List Component) (k : Half) → send_components table g components ≡ Ok k
       → has_component (rejects_wrongly table s) [] s.told components ≡ true → ⊥
   rejects_none_wrongly = none_has table g s.told (rejects_wrongly table s) none_wrongly

@@ -1,4 +1,4 @@
--- The dialogue portion of a message that is sent fits how the dialogue of its half stands (Q.774 3.2).
+-- No message that an end sends has F9: its dialogue portion fits the state of its half's dialogue (Q.774 3.2).
 use Rattle.std.proofs.Common.{◌≡◌, ◌⊎◌, inl, inr, ℕ, Bool, true, false, List, [], Option, Some, None, not, is_none, is_some, refl, sym, ap, subst, ◌∙◌}
 use Rattle.std.specs.Prelude.{Contains, ◌&&◌, ◌||◌}
 use Rattle.std.specs.List.{find}
@@ -40,7 +40,7 @@ use Rattle.tcap_faults.proofs.transaction_laws.TangledLaws.{IsPlain}
 
 -- ---- tests
 
--- What stands alone is the first.
+-- The only element is the first.
 alone_is : (o : Option Message) (m : Message) → Contains (option_to_list o) m → o ≡ Some m
 alone_is None m has = has_not m has
 alone_is (Some n) m has = by (contains_first n [] m has)
@@ -49,12 +49,12 @@ alone_is (Some n) m has = by (contains_first n [] m has)
     by (inl same) = ap Some same
     by (inr none) = has_not m none
 
--- An AARE that takes a dialogue is a response.
+-- A portion that accepts a dialogue is an AARE.
 accepts_responds : (d : Option Dialogue) → accepts_dialogue d ≡ true → is_response d ≡ true
 accepts_responds (Some (dialogues.Response context result diagnostic info)) is = refl
 accepts_responds o is = cc
 
--- A response is none of these.
+-- No portion, or a user's ABRT, is no AARE.
 no_response : (d : Option Dialogue) → (is_none d || is_user_abort d) ≡ true → is_response d ≡ true → ⊥
 no_response None so is = cc
 no_response (Some (dialogues.Request context info)) so is = cc
@@ -62,12 +62,12 @@ no_response (Some (dialogues.Response context result diagnostic info)) so is = c
 no_response (Some (dialogues.Abort source info)) so is = cc
 no_response (Some (dialogues.Uni context info)) so is = cc
 
--- What is there is something.
+-- An option cannot be both absent and present.
 not_both : {A : Type 0} (o : Option A) → is_none o ≡ true → is_some o ≡ true → ⊥
 not_both None none some = cc
 not_both (Some x) none some = cc
 
--- An ABRT of the user wants a dialogue.
+-- A user's ABRT needs a dialogue.
 user_wants : (phase : Phase) (standing : Standing) (d : Option Dialogue) → may_abort phase standing d ≡ true
     → is_user_abort d ≡ true → standing ≡ standings.Without → ⊥
 user_wants phases.Sent standings.Without (Some d) may user without = cc
@@ -76,21 +76,21 @@ user_wants phases.Active standings.Without (Some d) may user without = cc
 user_wants phases.Closed standings.Without (Some d) may user without = cc
 user_wants phase standing o may user without = cc
 
--- There is none where none was asked for.
+-- If no dialogue was asked for, there is none.
 never_asked : (phase : Phase) (d : Option Dialogue) → is_request d ≡ false → standing_of phase d ≡ standings.Without
 never_asked phases.Closed d none = refl
 never_asked phase d none = rw none refl
 
--- Where a portion asks for a dialogue, it stands so first.
+-- If the portion is an AARQ, the dialogue begins as asked for.
 asked_first : (d : Option Dialogue) → is_request d ≡ true → first_standing d ≡ standings.Asked
 asked_first d is = rw is refl
 
--- A half that waits to answer a request carries an AARE that takes it.
+-- A half that must answer a request sends an AARE that accepts the dialogue.
 takes_request : (p : Phase) (s : Standing) (d : Option Dialogue) → p ≡ phases.Received → s ≡ standings.Asked
     → may_go_on p s d ≡ true → accepts_dialogue d ≡ true
 takes_request p s d at asked may = rw (at, asked) at may
 
--- A message that is sent over a half, whose peer's ID is plain.
+-- A message that is sent over a half whose peer's ID is plain.
 module _ {table : Table} {side : Side} {e : End} {coming : List Message} {items : List Item}
     (view : View table side e coming items) (m : Message) (id : List ℕ) (half : IsOver table e m id)
     (plain : IsPlain side items id) where
@@ -106,7 +106,7 @@ module _ {table : Table} {side : Side} {e : End} {coming : List Message} {items 
   abbrev first : Bool
   first = is_first_answer side items id h
 
-  -- A half that waits to answer told no Continue,
+  -- A half in Received sent no Continue.
   not_gone_on : f.half.phase ≡ phases.Received → has_a forms.Continue (told side id items) ≡ true → ⊥
   not_gone_on received gone =
       let (n, has, goes) = any_is (is_a forms.Continue) (told side id items) gone in
@@ -114,7 +114,7 @@ module _ {table : Table} {side : Side} {e : End} {coming : List Message} {items 
       let his = told_own view id f half.had half.peer n o has goes from in
       let bad = sym (waits_so e f is_end half.had received) ∙ his in cc
 
-  -- One that began by receiving, and told no Continue, waits to answer.
+  -- An accepted half that sent no Continue is in Received.
   waits : f.slot ≡ slots.Accepted → has_a forms.Continue (told side id items) ≡ false → f.half.phase ≡ phases.Received
   waits slot none = by f.half.phase refl half.is_open
     where
@@ -132,7 +132,7 @@ module _ {table : Table} {side : Side} {e : End} {coming : List Message} {items 
           (any_has (is_a forms.Continue) (told side id items) it.message there it.goes_on))
       by phases.Closed at still = cc
 
-  -- An ABRT of the user wants a dialogue that the half's Begin asked for.
+  -- A user's ABRT needs a dialogue that the half's Begin asked for.
   wants_request : (d : Option Dialogue) → may_abort f.half.phase f.half.standing d ≡ true → is_user_abort d ≡ true
       → (wanted : Option Dialogue) → f.half.standing ≡ standing_of f.half.phase wanted → is_request wanted ≡ true
   wants_request d may user wanted stands = by (is_request wanted) refl
@@ -142,7 +142,7 @@ module _ {table : Table} {side : Side} {e : End} {coming : List Message} {items 
       by false none =
           absurd (user_wants f.half.phase f.half.standing d may user (stands ∙ never_asked f.half.phase wanted none))
 
-  -- It has its Begin, by which its dialogue stands.
+  -- The half has a Begin, and the dialogue has the state that the Begin gives.
   stands_by : (begin : Message) × (h.begin ≡ Some begin) × (is_a forms.Begin begin ≡ true)
       × (f.half.standing ≡ standing_of f.half.phase (dialogue_in begin))
   stands_by = by (either_slot f.slot)
@@ -180,7 +180,7 @@ module _ {table : Table} {side : Side} {e : End} {coming : List Message} {items 
   asks_so : is_request_of h.begin ≡ is_request (dialogue_in begin)
   asks_so = ap is_request_of stands_by.1 ∙ request_is begin stands_by.2
 
-  -- One that waits to answer answers first.
+  -- A message over a half in Received is a first answer.
   answers_first : f.half.phase ≡ phases.Received → first ≡ true
   answers_first received = by (either_slot f.slot)
     where
@@ -195,7 +195,7 @@ module _ {table : Table} {side : Side} {e : End} {coming : List Message} {items 
           none true gone = absurd (not_gone_on received gone)
           none false never = refl
 
-  -- What answers first waits to answer.
+  -- If a message is a first answer, its half is in Received.
   waits_first : first ≡ true → f.half.phase ≡ phases.Received
   waits_first is =
       let (accepted, never) = and_parts (is_accepted h.how) _ is in
@@ -207,7 +207,7 @@ module _ {table : Table} {side : Side} {e : End} {coming : List Message} {items 
           let bad : false ≡ true = sym (ap is_accepted (how_begun_half view m id half plain slot)) ∙ accepted in cc
       by accepted none (inr slot) = waits slot none
 
-  -- ---- a Continue, or an End
+  -- ---- a Continue or an End
 
   going_on : (d : Option Dialogue) → may_go_on f.half.phase f.half.standing d ≡ true
       → is_wrong_going_on first (is_request_of h.begin) d ≡ true → ⊥
@@ -258,7 +258,7 @@ module _ {table : Table} {side : Side} {e : End} {coming : List Message} {items 
           response_wrong later response (aborts f.half.phase f.half.standing d may)
       by (inr wrong) = let (user, never) = and_parts (is_user_abort d) _ wrong in user_wrong user never
 
-  -- The portion of a message with a destination ID fits.
+  -- The dialogue portion of a message with a destination ID fits.
   pub right_dialogue : is_wrong_dialogue side items id m h ≡ true → ⊥
   right_dialogue = by m half.carries going_on aborting
     where

@@ -1,4 +1,4 @@
--- No message that an end sends which keeps the rules, or that its provider replies, is a fault of any kind.
+-- No message of an end that keeps the rules is a fault of any kind, nor is a reply of its provider.
 use Rattle.std.proofs.Common.{◌≡◌, ◌⊎◌, inl, inr, ℕ, Bool, true, false, List, [], ◌∷◌, ◌++◌, Option, Some, None, not, refl, ap, subst}
 use Rattle.std.specs.Prelude.{◌&&◌, ◌||◌}
 use Rattle.std.specs.List.{list_any}
@@ -43,7 +43,7 @@ use Rattle.tcap_faults.proofs.transaction_laws.TangledLaws.{IsPlain, plain_to}
 
 -- ---- F2 to F7
 
--- What answers none of these by the looser fact does by the stricter.
+-- A component that is for nothing, if one end alone is judged, is so if both are.
 none_stricter : (components : List Component) (c : Component) → answers_none components c ≡ true
     → answers_none_of components c ≡ true
 none_stricter components (Reject (Some id) (problems.General n)) is = refl
@@ -84,7 +84,7 @@ module _ {table : Table} {events : List Event} {w : World} {side : Side} {messag
   view : View table side (end_at side w) (coming_to side w) items
   view = view_of table side events w it.runs it.keeps
 
-  -- Over a half it is of no kind, where its peer's ID is plain.
+  -- A message over a half whose peer's ID is plain has no kind.
   module _ (id : List ℕ) (to : dtid_in message ≡ Some id) (plain : IsPlain side items id) where
     half : IsOver table (end_at side w) message id
     half = half_over id it to
@@ -130,7 +130,7 @@ module _ {table : Table} {events : List Event} {w : World} {side : Side} {messag
   kind_to id to over None none kind is = half_kind id to (plain_to side items message id to over) kind is
   kind_to id to over (Some cause) none kind is = cc
 
--- A Begin is of no kind, nor is a Unidirectional.
+-- A Begin or a Unidirectional has no kind.
 module _ (m : Message) (again : is_of_alone_kind m kinds.InvokeIdBusy ≡ true → ⊥)
     (linked : is_of_alone_kind m kinds.BadLink ≡ true → ⊥) where
   alone_kind : (kind : Kind) → is_of_alone_kind m kind ≡ true → ⊥
@@ -156,7 +156,7 @@ further_sent table events w side (EndMessage dtid dialogue components) kind it o
 further_sent table events w side (Abort dtid reason) kind it over is =
     kind_to it dtid refl over (cause_in (Abort dtid reason)) (half_over dtid it refl).no_cause kind is
 
--- ---- a message that the provider replies
+-- ---- a reply of the provider
 
 reply_kind : (table : Table) (side : Side) (id : List ℕ) (items : List Item) (h : HalfOf) (cause : ℕ) (kind : Kind)
     → is_of_reply_kind table side id items h cause kind ≡ true → kind ≡ kinds.WrongReply
@@ -196,7 +196,7 @@ further_replied table events w side message kind runs keeps (head, more, channel
 
 -- ---- both
 
--- So none is of these kinds that stands in a run, behind what was sent before it.
+-- No message in a run has a further kind after the items before it.
 none_of_further : (table : Table) (events : List Event) (w : World) (before behind : List Item) (side : Side)
     (message : Message) (kind : Kind) → Runs table events w → KeepsRules side events
     → w.sent ≡ before ++ Sent side message ∷ behind → goes_over_tangled side (since_quiet before) message ≡ false
@@ -220,7 +220,7 @@ none_of_further table events w before behind side message kind runs keeps sent o
     by (inr replies) =
         further_replied table at_it.events at_it.world side message kind at_it.runs at_it.keeps replies plain there
 
--- And none is a fault.
+-- No message in a run is a fault.
 pub none_at_fault : (table : Table) (events : List Event) (w : World) (before behind : List Item) (side : Side)
     (message : Message) (kind : Kind) → Runs table events w → KeepsRules side events
     → w.sent ≡ before ++ Sent side message ∷ behind → is_fault table side (since_quiet before) message kind ≡ true → ⊥

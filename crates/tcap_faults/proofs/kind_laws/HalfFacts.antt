@@ -1,4 +1,4 @@
--- A half of an end, and what the list tells of it: its IDs, its Begin, and what may have come to it.
+-- A half of an end, and the facts about it in the list: its IDs, its Begin, and what it may have received.
 use Rattle.std.proofs.Common.{◌≡◌, ◌⊎◌, inl, inr, ℕ, ◌<◌, arith, Bool, true, false, List, [], ◌∷◌, ◌++◌, Option, Some, None, is_some, refl, sym, ap, subst, ◌∙◌}
 use Rattle.std.specs.Prelude.{Contains, filter}
 use Rattle.std.proofs.lemmas.Bool.{and_parts}
@@ -36,17 +36,17 @@ use Rattle.tcap_faults.proofs.view_laws.ViewLaws.{View, view_sound}
 
 -- ---- tests
 
--- Something is there.
+-- A list with an element is not empty.
 pub not_nothing : {A P : Type 0} (xs : List A) (x : A) → Contains xs x → is_nothing xs ≡ true → P
 not_nothing [] x has is = has_not x has
 not_nothing (y ∷ ys) x has is = cc
 
--- A Continue has its originating ID.
+-- A Continue has an originating ID.
 pub goes_from : (m : Message) → is_a forms.Continue m ≡ true → (own : List ℕ) × (otid_in m ≡ Some own)
 goes_from (Continue otid dtid dialogue components) is = (otid, refl)
 goes_from m is = cc
 
--- A slot is one or the other.
+-- A slot is one of two.
 pub either_slot : (s : Slot) → (s ≡ Begun) ⊎ (s ≡ Accepted)
 either_slot Begun = inl refl
 either_slot Accepted = inr refl
@@ -54,27 +54,27 @@ either_slot Accepted = inr refl
 -- ---- a half of an end
 
 module _ (e : End) (f : KeptHalf) (sound : IsEnd e) (had : Has e f) where
-  -- One that began by sending is kept by its own ID;
+  -- A begun half is kept by its own ID.
   pub kept_own : f.slot ≡ Begun → f.half.own ≡ Some f.key
   kept_own slot = rw slot at (sound.kept f had)
 
-  -- one that waits to answer has none.
+  -- A half in Received has no own ID.
   pub waits_so : f.half.phase ≡ phases.Received → f.half.own ≡ None
   waits_so at = (subst (λ (p : Phase). FitsPhase p f.half) at (sound.halves f had).phase).0
 
--- What was sent over a half that began by sending: its Begin, and what was told to its peer;
+-- What was sent over a begun half: its Begin, and the messages to its peer.
 pub over_begun : (side : Side) (items : List Item) (f : KeptHalf) (messages : List Message)
     → ToldOver side items f.slot f.key f.half.peer messages → f.slot ≡ Begun
     → (begin : Message) × (begin_from side f.key items ≡ Some begin)
     × (messages ≡ begin ∷ told_to side items f.half.peer)
 over_begun side items f messages is slot = rw slot at is
 
--- over one that began by receiving, what was told.
+-- What was sent over an accepted half: the messages to its peer.
 pub over_accepted : (side : Side) (items : List Item) (f : KeptHalf) (messages : List Message)
     → ToldOver side items f.slot f.key f.half.peer messages → f.slot ≡ Accepted → messages ≡ told_to side items f.half.peer
 over_accepted side items f messages is slot = rw slot at is
 
--- What may have come to them.
+-- If there is a Begin, what may have been heard is what was heard.
 pub behind_is : (begin : Option Message) (continues : List Message) → is_some begin ≡ true
     → heard_behind begin continues ≡ heard_of begin continues
 behind_is None continues is = cc
@@ -107,13 +107,13 @@ module _ {table : Table} {side : Side} {e : End} {coming : List Message} {items 
   is_end : IsEnd e
   is_end = view_sound view
 
-  -- One that began by receiving is kept by its peer's ID,
+  -- An accepted half is kept by its peer's ID.
   pub keyed : f.slot ≡ Accepted → f.key ≡ id
   keyed slot =
       let kept : f.half.peer ≡ Some f.key = rw slot at (is_end.kept f had) in
       let both : Some f.key ≡ Some id = sym kept ∙ peer in cc
 
-  -- and its Begin was asked, and not refused, where no two were asked.
+  -- The peer sent its Begin, and the provider did not refuse it, if the peer sent at most one Begin from the ID.
   pub stands_so : count (is_a forms.Begin) (asked side id items) < 2 → f.slot ≡ Accepted
       → (has_a forms.Begin (asked side id items) ≡ true) × (was_refused side id items ≡ false)
   stands_so few slot =
@@ -130,7 +130,7 @@ module _ {table : Table} {side : Side} {e : End} {coming : List Message} {items 
           let paid = (all_paid view OfBegins id).half f had (slot, keyed slot) in absurd (omega arith)
       by false refused = refl
 
-  -- A Continue that was told there is from its own ID.
+  -- A Continue to the peer comes from the half's own ID.
   pub told_own : (m : Message) (own : List ℕ) → Contains (told side id items) m → is_a forms.Continue m ≡ true
       → otid_in m ≡ Some own → f.half.own ≡ Some own
   told_own m own has goes_on from =

@@ -1,4 +1,4 @@
--- A message that is sent fits the half over which it goes: its IDs, and how it began (Q.774 3.3).
+-- No message that an end sends has F8: it fits the IDs and the beginning of its half (Q.774 3.3).
 use Rattle.std.proofs.Common.{◌≡◌, ◌⊎◌, inl, inr, ℕ, true, List, Option, Some, None, is_some, refl, sym, subst, ◌∙◌}
 use Rattle.std.specs.Prelude.{◌||◌}
 use Rattle.std.proofs.lemmas.Bool.{both_ways, not-true, or_cases}
@@ -32,7 +32,7 @@ use Rattle.tcap_faults.proofs.view_laws.BegunHalfLaws.{all_use, begin_used}
 use Rattle.tcap_faults.proofs.kind_laws.OwnHalfLaws.{how_accepted, how_begun_half, own_is}
 use Rattle.tcap_faults.proofs.transaction_laws.TangledLaws.{IsPlain}
 
--- Another ID is not that.
+-- An ID does not differ from itself.
 not_another : (otid : List ℕ) (own : Option (List ℕ)) → own ≡ Some otid → is_another otid own ≡ true → ⊥
 not_another otid None is so = cc
 not_another otid (Some own) is so = both_ways (is_id otid (Some own)) (not-true _ so) (is_that_id otid (Some own) is)
@@ -41,7 +41,7 @@ none_another : (otid : List ℕ) (own : Option (List ℕ)) → own ≡ None → 
 none_another otid None is so = cc
 none_another otid (Some own) is so = cc
 
--- A message that is sent over a half, whose peer's ID is plain.
+-- A message that is sent over a half whose peer's ID is plain.
 module _ {table : Table} {side : Side} {e : End} {coming : List Message} {items : List Item}
     (view : View table side e coming items) (m : Message) (id : List ℕ) (half : IsOver table e m id)
     (plain : IsPlain side items id) where
@@ -57,7 +57,7 @@ module _ {table : Table} {side : Side} {e : End} {coming : List Message} {items 
   own : h.own ≡ f.half.own
   own = own_is view m id half plain
 
-  -- It may speak.
+  -- The half may send.
   speaks_so : (how : How) → h.how ≡ how → (how ≡ Begun) ⊎ (how ≡ Accepted) → may_not_speak how m ≡ true → ⊥
   speaks_so how is (inl begun) so = let bad : may_not_speak Begun m ≡ true = rw begun at so in cc
   speaks_so how is (inr accepted) so = let bad : may_not_speak Accepted m ≡ true = rw accepted at so in cc
@@ -69,13 +69,13 @@ module _ {table : Table} {side : Side} {e : End} {coming : List Message} {items 
       by (inl slot) = inl (how_begun_half view m id half plain slot)
       by (inr slot) = inr (how_accepted view m id half plain slot)
 
-  -- A Continue is from its own ID, or from one that it chooses now.
+  -- A Continue comes from the half's own ID, or from an ID that the half chooses now.
   none_other : (otid : List ℕ) → ((f.half.phase ≡ phases.Active) × (f.half.own ≡ Some otid))
       ⊎ ((f.half.phase ≡ phases.Received) × (with_own e otid ≡ None)) → is_another otid h.own ≡ true → ⊥
   none_other otid (inl (active, mine)) so = not_another otid h.own (own ∙ mine) so
   none_other otid (inr (received, none)) so = none_another otid h.own (own ∙ waits_so e f is_end half.had received) so
 
-  -- From an ID that the end began it goes over the half that began so.
+  -- A Continue from an ID that the end began goes over the half with that Begin.
   begun_mine : (otid : List ℕ) (b : Message) → begins_from otid b ≡ true → Uses e b → f.half.own ≡ Some otid
       → f.slot ≡ slots.Begun
   begun_mine otid (Begin id dialogue components) begins (h, there) mine =
@@ -101,7 +101,7 @@ module _ {table : Table} {side : Side} {e : End} {coming : List Message} {items 
           let (has, begins) = find_has (begins_from otid) (sent_by side items) b found in
           begun_is otid b begins (all_use view b has) speaks
 
-  -- Over one that began by receiving it is from no ID that the end began.
+  -- A Continue over an accepted half comes from no ID that the end began.
   accepted_other : f.slot ≡ slots.Accepted → (n : Message) → n ≡ m
       → goes_from_other side items Accepted h.own n ≡ true → ⊥
   accepted_other slot (Continue otid dtid dialogue components) is so =
@@ -133,7 +133,7 @@ module _ {table : Table} {side : Side} {e : End} {coming : List Message} {items 
           accepted_other slot m refl
           (subst (λ (x : How). goes_from_other side items x h.own m ≡ true) (how_accepted view m id half plain slot) so)
 
-  -- It was not answered as closed.
+  -- The half was not answered as closed.
   none_closed : (o : Option (List ℕ)) → h.own ≡ o → was_closed side items o ≡ true → ⊥
   none_closed None is shown = cc
   none_closed (Some o) is shown =
@@ -143,7 +143,7 @@ module _ {table : Table} {side : Side} {e : End} {coming : List Message} {items 
       let shut : is_closed f.half.phase ≡ true = rw (← same, closed) refl in
       both_ways (is_closed f.half.phase) half.is_open shut
 
-  -- So the half is right for it.
+  -- So the message does not have F8.
   pub right_half : is_wrong_half side items m h ≡ true → ⊥
   right_half is = by (or_cases (may_not_speak h.how m || goes_from_other side items h.how h.own m) _ is)
     where

@@ -1,5 +1,5 @@
--- The half over which a message is sent is the one that the list tells, where the message goes over no tangled IDs; and what
--- is told of it bounds what was sent and received over it.
+-- If a message goes over no tangled IDs, the half over which an end sends it is that of the list. What the list has
+-- of the half bounds what was sent and received over it.
 use Rattle.std.proofs.Common.{◌≡◌, ◌⊎◌, inl, inr, ℕ, ◌+◌, ◌<◌, arith, Bool, true, false, cond, List, [], ◌∷◌, ◌++◌, Option, Some, None, is_some, refl, sym, ap, subst, ◌∙◌}
 use Rattle.std.specs.Prelude.{Contains, filter, length, ◌&&◌}
 use Rattle.std.specs.List.{find}
@@ -40,7 +40,7 @@ use Rattle.tcap_faults.proofs.view_laws.ViewLaws.{View, view_sound}
 use Rattle.tcap_faults.proofs.kind_laws.HalfFacts.{behind_is, come_accepted, come_begun, either_slot, goes_from, kept_own, keyed, not_nothing, over_accepted, over_begun, stands_so, told_own, waits_so}
 use Rattle.tcap_faults.proofs.transaction_laws.TangledLaws.{IsPlain, began_used, joins}
 
--- Where there is something, the half answered.
+-- If something was heard, the half is begun.
 how_begun : (xs : List Message) (x : Message) → Contains xs x → cond (is_nothing xs) Unanswered Begun ≡ Begun
 how_begun xs x has = by (is_nothing xs) refl
   where
@@ -48,7 +48,7 @@ how_begun xs x has = by (is_nothing xs) refl
     by true none = not_nothing xs x has none
     by false some = refl
 
--- what goes to a begun ID goes there
+-- A message to a begun ID has that destination ID.
 pub begun_there : (side : Side) (items : List Item) (m : Message) → goes_to_begun side items m ≡ true
     → (own : List ℕ) × (dtid_in m ≡ Some own) × (is_a forms.Continue m ≡ true) × (began side own items ≡ true)
 begun_there side items m is = by (dtid_in m) refl
@@ -65,7 +65,7 @@ pub to_begun : (side : Side) (items : List Item) (m : Message) (own : List ℕ) 
     → is_a forms.Continue m ≡ true → began side own items ≡ true → goes_to_begun side items m ≡ true
 to_begun side items m own to goes_on begun = rw to (and_from (is_a forms.Continue m) _ goes_on begun)
 
--- Where fewer than two pass, they are the first.
+-- If fewer than two elements pass, they are the first one.
 pub only_first : (p : Message → Bool) (xs : List Message) → count p xs < 2 → filter p xs ≡ option_to_list (find p xs)
 only_first p [] few = refl
 only_first p (x ∷ xs) few = by (p x) (count_more p x xs) (only_first p xs)
@@ -83,7 +83,7 @@ only_first p (x ∷ xs) few = by (p x) (count_more p x xs) (only_first p xs)
     by false more rest =
         let none : one false ≡ 0 = refl in rest (omega (arith, few))
 
--- A message that is sent over a half, whose peer's ID is plain.
+-- A message that is sent over a half whose peer's ID is plain.
 module _ {table : Table} {side : Side} {e : End} {coming : List Message} {items : List Item}
     (view : View table side e coming items) (m : Message) (id : List ℕ) (half : IsOver table e m id)
     (plain : IsPlain side items id) where
@@ -96,7 +96,7 @@ module _ {table : Table} {side : Side} {e : End} {coming : List Message} {items 
   is_end : IsEnd e
   is_end = view_sound view
 
-  -- ---- a half that began by receiving
+  -- ---- an accepted half
 
   module _ (slot : f.slot ≡ slots.Accepted) where
     stands : (has_a forms.Begin (asked side id items) ≡ true) × (was_refused side id items ≡ false)
@@ -110,7 +110,7 @@ module _ {table : Table} {side : Side} {e : End} {coming : List Message} {items 
         ap (λ (x : HalfOf). x.how) is_accepted_half
         ∙ ap (λ (b : Bool). cond b Refused Accepted) stands.1
 
-    -- Its own ID is that of the first Continue that it told its peer.
+    -- Its own ID is that of the first Continue to its peer.
     answered_own : answered_from side items id ≡ f.half.own
     answered_own = by (find (is_a forms.Continue) (told side id items)) refl
       where
@@ -139,7 +139,7 @@ module _ {table : Table} {side : Side} {e : End} {coming : List Message} {items 
     own_accepted : h.own ≡ f.half.own
     own_accepted = ap (λ (x : HalfOf). x.own) is_accepted_half ∙ answered_own
 
-  -- ---- a half that began by sending
+  -- ---- a begun half
 
   module _ (slot : f.slot ≡ slots.Begun) where
     kept : f.half.own ≡ Some f.key
@@ -170,7 +170,7 @@ module _ {table : Table} {side : Side} {e : End} {coming : List Message} {items 
     answer_to : dtid_in answer ≡ Some f.key
     answer_to = id_is f.key (dtid_in answer) (and_parts (is_a forms.Continue answer) _ answered.1).1
 
-    -- So the peer did not begin that ID,
+    -- The peer did not begin that ID.
     none_began : has_a forms.Begin (asked side id items) ≡ false
     none_began = by (has_a forms.Begin (asked side id items)) refl
       where
@@ -180,7 +180,7 @@ module _ {table : Table} {side : Side} {e : End} {coming : List Message} {items 
             (to_begun side items answer f.key answer_to answer_on begun_it))
         by false none = refl
 
-    -- and what it sent first to an ID that the end began goes to this one.
+    -- The peer's first Continue from the ID to a begun ID went to this half.
     first_to : begun_from side items id ≡ Some f.key
     first_to = by (find (goes_to_begun side items) (asked side id items)) refl
       where
@@ -208,9 +208,9 @@ module _ {table : Table} {side : Side} {e : End} {coming : List Message} {items 
     own_begun : h.own ≡ f.half.own
     own_begun = ap (λ (x : HalfOf). x.own) is_begun_half ∙ sym kept
 
-  -- ---- any
+  -- ---- any half
 
-  -- It has the own ID that the list tells.
+  -- Its own ID is that of the list.
   pub own_is : h.own ≡ f.half.own
   own_is = by (either_slot f.slot)
     where
@@ -218,7 +218,7 @@ module _ {table : Table} {side : Side} {e : End} {coming : List Message} {items 
       by (inl slot) = own_begun slot
       by (inr slot) = own_accepted slot
 
-  -- ---- what was sent and received over it
+  -- ---- what was sent and received over the half
 
   module _ (life : Story table side items (sent_by (other side) items) f.slot f.key f.half) where
     abbrev sent : List Component

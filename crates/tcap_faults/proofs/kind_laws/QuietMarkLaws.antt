@@ -1,4 +1,4 @@
--- No half is left open at a quiet mark.
+-- No half is open at a quiet mark.
 use Rattle.std.proofs.Common.{◌≡◌, ◌⊎◌, inl, inr, ℕ, Bool, true, false, cond, List, [], ◌∷◌, ◌++◌, Option, Some, None, Ok, option_map, refl, sym, ap, ◌∙◌}
 use Rattle.std.specs.Prelude.{◌&&◌}
 use Rattle.std.specs.Map.{lookup}
@@ -30,7 +30,7 @@ use Rattle.tcap_faults.proofs.list_laws.FindLaws.{any_is}
 use Rattle.tcap_faults.proofs.view_laws.ActiveHalfLaws.{surely_open}
 use Rattle.tcap_faults.proofs.view_laws.ViewLaws.{View, view_of}
 
--- ---- an end that is quiet
+-- ---- an end at a quiet mark
 
 -- All its halves are closed.
 closed_found : (es : List (List ℕ × Half)) (test : List ℕ → Bool) (h : Half) → all_closed es ≡ true
@@ -58,7 +58,7 @@ closed_in e closed f had = by f.slot f.key f.half had
     by Begun key h had = closed_found e.begun (is_at (octets_cmp key)) h both.0 had
     by Accepted key h had = closed_found e.accepted (is_at (octets_cmp key)) h both.1 had
 
--- At a quiet mark both ends are so.
+-- All halves of both ends are closed.
 both_closed : (a b : Bool) (x : World) (items : List Item)
     → then_so (result_ok (needs a faults.StillOpen >> Ok nothing))
     (λ p. option_map (λ q. record { a = p; b = q; from_a = []; from_b = []; sent = items })
@@ -91,7 +91,7 @@ mark_closed table w next is side = by side (ends w.from_a w.from_b is)
 
 -- ---- a mark
 
--- whether a message is a Continue from the own ID of a half that is surely open
+-- Whether a message is a Continue from an own ID whose half is surely open.
 abbrev is_sure_at : Table → Side → List Item → Option (List ℕ) → Bool
 is_sure_at table side items None = false
 is_sure_at table side items (Some own) = is_surely_open table side items own
@@ -99,7 +99,7 @@ is_sure_at table side items (Some own) = is_surely_open table side items own
 abbrev goes_on_sure : Table → Side → List Item → Message → Bool
 goes_on_sure table side items m = is_a forms.Continue m && is_sure_at table side items (otid_in m)
 
--- At a mark none goes on from there.
+-- No half is surely open at a mark.
 none_open : {table : Table} {side : Side} {e : End} {coming : List Message} {items : List Item}
     → View table side e coming items → (all_closed e.begun && all_closed e.accepted) ≡ true
     → is_open_at_mark table side items ≡ true → ⊥
@@ -121,7 +121,7 @@ HasNoOpen table side events w =
     KeepsRules side events → (front behind : List Item) → w.sent ≡ front ++ Item.Quiet ∷ behind
     → is_open_at_mark table side (since_quiet front) ≡ true → ⊥
 
--- One step more.
+-- One more step.
 module _ (table : Table) (side : Side) (before : List Event) (w next : World) (runs : Runs table before w)
     (had : HasNoOpen table side before w) (kept : KeepsRules side before) (front behind : List Item)
     (sent : next.sent ≡ front ++ Item.Quiet ∷ behind)
@@ -157,7 +157,7 @@ none_at_first : {P : Type 0} (front behind : List Item) → [] ≡ front ++ Item
 none_at_first [] behind is = cc
 none_at_first (item ∷ front) behind is = cc
 
--- At no quiet mark of a run a half of an end that keeps the rules is left open.
+-- At no quiet mark of a run is a half of an end that keeps the rules surely open.
 pub no_open_mark : (table : Table) (events : List Event) (w : World) (before behind : List Item) (side : Side)
     → Runs table events w → KeepsRules side events → w.sent ≡ before ++ Item.Quiet ∷ behind
     → is_open_at_mark table side (since_quiet before) ≡ true → ⊥

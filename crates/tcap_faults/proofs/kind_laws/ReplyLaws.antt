@@ -1,4 +1,4 @@
--- An Abort by which a provider replies answers something that is left (Q.774 3.3).
+-- No reply of a provider has F14: it answers something that is left (Q.774 3.3).
 use Rattle.std.proofs.Common.{◌≡◌, ◌⊎◌, inl, inr, ℕ, ◌+◌, ◌<◌, ◌≤◌, arith, Bool, true, false, cond, List, [], ◌∷◌, Option, Some, None, not, refl, ap, ◌∙◌}
 use Rattle.std.specs.Prelude.{Contains, ◌&&◌, ◌||◌, nat_lt}
 use Rattle.std.proofs.lemmas.Bool.{and_from, and_parts, both_ways, ltb-true, not-true, or_cases}
@@ -41,7 +41,7 @@ not_accepted_either : (b : Bool) → is_accepted (cond b Unanswered Begun) ≡ f
 not_accepted_either true = refl
 not_accepted_either false = refl
 
--- A half is accepted where the peer's Begin was asked, and not refused.
+-- A half is accepted exactly if the peer sent a Begin and the provider did not refuse it.
 pub accepted_stands : (side : Side) (items : List Item) (id : List ℕ)
     → is_accepted (half_of side items id).how
     ≡ (has_a forms.Begin (asked side id items) && not (was_refused side id items))
@@ -59,41 +59,41 @@ accepted_stands side items id = by (has_a forms.Begin (asked side id items)) (be
 
 -- ---- a reply
 
--- Something is there.
+-- A list that is not empty has an element.
 some_there : {A : Type 0} (xs : List A) → not (is_nothing xs) ≡ true → (x : A) × Contains xs x
 some_there [] is = cc
 some_there (x ∷ xs) is = (x, has_first x xs)
 
--- Nothing is counted as received, or something was told, and no Begin stands;
+-- No Continue counts as received, or something was sent and no Begin is accepted.
 received_or : (b c : Bool) → (let n : ℕ = cond (b || c) 0 1 in n ≡ 0) ⊎ ((not b ≡ true) × (c ≡ false))
 received_or true c = inl refl
 received_or false true = inl refl
 received_or false false = inr (refl, refl)
 
--- and no more than one is.
+-- At most one Continue counts as received.
 received_most : (b c : Bool) → cond (b || c) 0 1 ≤ 1
 received_most true c = omega arith
 received_most false true = omega arith
 received_most false false = omega arith
 
--- A provider of an end replies by an Abort to what is on its way.
+-- A provider of an end replies with an Abort to a message that is on its way.
 module _ {table : Table} {side : Side} {e : End} {coming : List Message} {items : List Item} (m : Message)
     (view : View table side e (m ∷ coming) items) where
   is_end : IsEnd e
   is_end = view_sound view
 
-  -- What was told to an ID has its half.
+  -- If something was sent to an ID, the end has a half with this peer.
   half_told : (id : List ℕ) → not (is_nothing (told side id items)) ≡ true
       → (f : KeptHalf) × Has e f × (f.half.peer ≡ Some id)
   half_told id some = let (n, has) = some_there (told side id items) some in told_half view n id has
 
-  -- The message is among what was asked from its ID.
+  -- The message is among those that the peer sent from its ID.
   was_asked : (id : List ℕ) → otid_in m ≡ Some id → Contains (asked side id items) m
   was_asked id from =
       filter_has (λ n. is_id id (otid_in n)) (sent_by (other side) items) m (view_comes m view)
       (is_that_id id (otid_in m) from)
 
-  -- ---- a Begin is refused
+  -- ---- a Begin that is refused
 
   pub begin_left : (id : List ℕ) → is_a forms.Begin m ≡ true → otid_in m ≡ Some id → with_peer e id ≡ None
       → count (is_a forms.Begin) (asked side id items) < 2
@@ -120,9 +120,9 @@ module _ {table : Table} {side : Side} {e : End} {coming : List Message} {items 
       by (inl never) = both_ways (is_accepted (half_of side items id).how) (not-true _ never) accepts
       by (inr some) = let (f, had, peer) = half_told id some in none_peer e id f none had peer
 
-  -- ---- a Continue is refused
+  -- ---- a Continue that is refused
 
-  -- No more Continues are answered or received than were asked,
+  -- At most as many Continues are answered or received as were sent.
   not_more : (id : List ℕ) → is_a forms.Continue m ≡ true → otid_in m ≡ Some id
       → count (is_a forms.Begin) (asked side id items) < 2
       → count (is_a forms.Continue) (asked side id items)
@@ -156,7 +156,7 @@ module _ {table : Table} {side : Side} {e : End} {coming : List Message} {items 
           let counted = here in absurd (omega arith)
       by (inr (some, never)) = begun some never
 
-  -- and not all of them go to halves that are open.
+  -- Not all Continues go to halves that are open.
   not_open : (id to : List ℕ) → is_a forms.Continue m ≡ true → otid_in m ≡ Some id → dtid_in m ≡ Some to
       → is_open (with_own e to) ≡ false → all_go_to_open table side items (asked side id items) ≡ true → ⊥
   not_open id to goes from dtid shut all =

@@ -1,21 +1,21 @@
--- How many of a list pass a test.
+-- The number of elements of a list that pass a test.
 use Rattle.std.proofs.Common.{◌≡◌, ℕ, ◌+◌, ◌≤◌, arith, Bool, true, false, cond, List, [], ◌∷◌, ◌++◌, length, filter, refl}
 use Rattle.std.specs.Prelude.{◌||◌}
 use Rattle.std.specs.List.{list_any}
 use Rattle.tcap_faults.specs.Counts.{count}
 
--- ---- one item
+-- ---- one element
 
--- one where so, else none
+-- 1 if the condition holds, else 0.
 abbrev pub one : Bool → ℕ
 one b = cond b 1 0
 
--- One is not more than another where the one is so only if the other is,
+-- A condition that implies another counts no more.
 pub one_weaker : (a b : Bool) → (a ≡ true → b ≡ true) → one a ≤ one b
 one_weaker true b then_so = rw (then_so refl) (omega arith)
 one_weaker false b then_so = omega arith
 
--- two are not more than a third that each shows, where not both are so,
+-- Two conditions that exclude each other count no more than one that both imply.
 pub one_apart : (a b c : Bool) → (a ≡ true → c ≡ true) → (b ≡ true → c ≡ true) → (a ≡ true → b ≡ true → ⊥)
     → one a + one b ≤ one c
 one_apart true true c left right apart = absurd (apart refl refl)
@@ -23,7 +23,7 @@ one_apart true false c left right apart = rw (left refl) (omega arith)
 one_apart false true c left right apart = rw (right refl) (omega arith)
 one_apart false false c left right apart = omega arith
 
--- and a third that shows one of two is not more than both.
+-- A condition that implies one of two counts no more than both.
 pub one_covered : (a b c : Bool) → (c ≡ true → (a || b) ≡ true) → one c ≤ one a + one b
 one_covered true b c covered = one_below c (one b)
   where
@@ -37,7 +37,7 @@ one_covered false b c covered = by c (one_weaker c b covered)
 
 -- ---- lists
 
--- One item more is counted where it passes,
+-- The first element is counted if it passes.
 pub count_more : {A : Type 0} (p : A → Bool) (x : A) (xs : List A) → count p (x ∷ xs) ≡ one (p x) + count p xs
 count_more {A} p x xs = by (p x)
   where
@@ -45,25 +45,25 @@ count_more {A} p x xs = by (p x)
     by true = omega arith
     by false = omega arith
 
--- of two lists those of each,
+-- The count of two joined lists is the sum.
 pub count_both : {A : Type 0} (p : A → Bool) (xs ys : List A) → count p (xs ++ ys) ≡ count p xs + count p ys
 count_both p [] ys = omega arith
 count_both p (x ∷ xs) ys = omega (arith, count_more p x (xs ++ ys), count_more p x xs, count_both p xs ys)
 
--- and of a list with one behind it that one too.
+-- The last element is counted if it passes.
 pub count_last : {A : Type 0} (p : A → Bool) (xs : List A) (x : A) → count p (xs ++ x ∷ []) ≡ count p xs + one (p x)
 count_last p xs x = omega (arith, count_both p xs (x ∷ []), count_more p x [])
 
 -- ---- two tests
 
--- No more pass a test than one that follows from it,
+-- At most as many pass a test as a weaker one.
 pub count_weaker : {A : Type 0} (p q : A → Bool) (xs : List A) → ((x : A) → p x ≡ true → q x ≡ true)
     → count p xs ≤ count q xs
 count_weaker p q [] weaker = omega arith
 count_weaker p q (x ∷ xs) weaker =
     omega (arith, count_more p x xs, count_more q x xs, one_weaker (p x) (q x) (weaker x), count_weaker p q xs weaker)
 
--- two tests that not both pass, than one that follows from each,
+-- Two tests that exclude each other count no more than a test that both imply.
 pub count_apart : {A : Type 0} (p q r : A → Bool) (xs : List A) → ((x : A) → p x ≡ true → r x ≡ true)
     → ((x : A) → q x ≡ true → r x ≡ true) → ((x : A) → p x ≡ true → q x ≡ true → ⊥)
     → count p xs + count q xs ≤ count r xs
@@ -78,7 +78,7 @@ count_apart p q r (x ∷ xs) left right apart =
       count_apart p q r xs left right apart,
     )
 
--- and one of which one of two follows, than both.
+-- A test that implies one of two counts no more than both.
 pub count_covered : {A : Type 0} (p q r : A → Bool) (xs : List A) → ((x : A) → r x ≡ true → (p x || q x) ≡ true)
     → count r xs ≤ count p xs + count q xs
 count_covered p q r [] covered = omega arith
@@ -92,14 +92,14 @@ count_covered p q r (x ∷ xs) covered =
       count_covered p q r xs covered,
     )
 
--- None pass what never is so.
+-- A test that never holds counts none.
 pub count_never : {A : Type 0} (xs : List A) → count (λ x. false) xs ≡ 0
 count_never [] = refl
 count_never (x ∷ xs) = count_never xs
 
 -- ---- what a test finds
 
--- Where it finds one, one is counted,
+-- If a test finds an element, its count is at least 1.
 pub any_counts : {A : Type 0} (p : A → Bool) (xs : List A) → list_any p xs ≡ true → 1 ≤ count p xs
 any_counts p [] found = cc
 any_counts {A} p (x ∷ xs) found = by (p x) (any_counts p xs) found (count_more p x xs)
@@ -109,7 +109,7 @@ any_counts {A} p (x ∷ xs) found = by (p x) (any_counts p xs) found (count_more
     by true later is more = omega arith
     by false later is more = omega (arith, later is)
 
--- and where one is counted it finds one.
+-- If the count of a test is at least 1, it finds an element.
 pub counts_any : {A : Type 0} (p : A → Bool) (xs : List A) → 1 ≤ count p xs → list_any p xs ≡ true
 counts_any p [] found = absurd (omega arith)
 counts_any {A} p (x ∷ xs) found = by (p x) (counts_any p xs) (count_more p x xs)

@@ -1,4 +1,4 @@
--- What is found in a list, or counted in it, and tests of messages.
+-- What tests find in a list, and tests of messages.
 use Rattle.std.proofs.Common.{◌≡◌, ◌⊎◌, inl, inr, Bool, true, false, cond, List, [], ◌∷◌, ◌++◌, Some, None, refl, sym, ap, ◌∙◌}
 use Rattle.std.specs.Prelude.{Contains, filter, ◌||◌}
 use Rattle.std.specs.List.{find, list_any}
@@ -16,9 +16,9 @@ use Rattle.tcap_refute.proofs.Members.{has_first, has_later, has_not}
 use Rattle.tcap_refute.proofs.TestLaws.{or_none}
 use Rattle.tcap_faults.specs.Told.{one_passes}
 
--- ---- what is found
+-- ---- search
 
--- What is found is there, and passes.
+-- What is found is in the list, and passes.
 pub find_has : {A : Type 0} (p : A → Bool) (xs : List A) (x : A) → find p xs ≡ Some x → Contains xs x × (p x ≡ true)
 find_has p [] x is = cc
 find_has {A} p (y ∷ ys) x is = by (p y) refl is (find_has p ys x)
@@ -28,7 +28,7 @@ find_has {A} p (y ∷ ys) x is = by (p y) refl is (find_has p ys x)
     by true so is rest = let same : y ≡ x = cc in rw (← same) (has_first y ys, so)
     by false so is rest = let (has, passes) = rest is in (has_later y ys x has, passes)
 
--- Where none is found none passes.
+-- If none is found, none passes.
 pub find_none : {A P : Type 0} (p : A → Bool) (xs : List A) (x : A) → find p xs ≡ None → Contains xs x → p x ≡ true → P
 find_none p [] x none has passes = has_not x has
 find_none {A} {P} p (y ∷ ys) x none has passes =
@@ -40,7 +40,7 @@ find_none {A} {P} p (y ∷ ys) x none has passes =
     by false so none (inl same) rest = let bad : false ≡ true = sym so ∙ ap p same ∙ passes in cc
     by false so none (inr more) rest = rest none more passes
 
--- What a test finds is there, and passes.
+-- If a test finds an element, one is in the list and passes.
 pub any_is : {A : Type 0} (p : A → Bool) (xs : List A) → list_any p xs ≡ true
     → (x : A) × Contains xs x × (p x ≡ true)
 any_is p [] is = cc
@@ -51,7 +51,7 @@ any_is {A} p (y ∷ ys) is = by (p y) refl is (any_is p ys)
     by true so is rest = (y, has_first y ys, so)
     by false so is rest = let (x, has, passes) = rest is in (x, has_later y ys x has, passes)
 
--- What is kept was there, and passes.
+-- What is kept was in the list, and passes.
 pub filter_is : {A : Type 0} (p : A → Bool) (xs : List A) (x : A) → Contains (filter p xs) x
     → Contains xs x × (p x ≡ true)
 filter_is p [] x has = has_not x has
@@ -72,14 +72,14 @@ filter_is {A} p (y ∷ ys) x has = by (p y) refl has (filter_is p ys x)
 
 -- ---- tests of messages
 
--- A Begin asks for a dialogue where its portion is a request.
+-- A Begin asks for a dialogue if its portion is a request.
 pub request_is : (m : Message) → is_a forms.Begin m ≡ true → is_begin_with_request m ≡ is_request (dialogue_in m)
 request_is (Begin otid dialogue components) is = refl
 request_is m is = cc
 
--- ---- one item more
+-- ---- one more item
 
--- One of the items passes behind those before it, or the last one does.
+-- With one more item, one of the old items passes or the last one does.
 pub one_more : (passes : List Item → Item → Bool) (seen items : List Item) (item : Item)
     → one_passes passes seen (items ++ item ∷ [])
     ≡ (one_passes passes seen items || passes (seen ++ items) item)

@@ -1,4 +1,4 @@
--- Lists with one more behind.
+-- Lists with one more element at the end.
 use Rattle.std.proofs.Common.{◌≡◌, ◌⊎◌, inl, inr, ℕ, ◌≤◌, ◌^◌, Bool, true, false, cond, ◌||◌, List, [], ◌∷◌, ◌++◌, length, Option, Some, None, refl, sym, ap, ◌∙◌, arith}
 use Rattle.std.specs.Prelude.{filter, filter_map}
 use Rattle.std.specs.List.{list_any}
@@ -26,15 +26,15 @@ module _ {A : Type 0} where
     pub any_more : (xs : List A) (x : A) → list_any p (xs ++ x ∷ []) ≡ (list_any p xs || p x)
     any_more xs x = list_any-append p xs (x ∷ []) ∙ ap (λ b. list_any p xs || b) (sym (or_none (p x)))
 
-    -- A count that is exact where there are few stays so.
+    -- A count that is exact for few elements stays exact.
     pub count_kept : (xs : List A) (x : A) (n more : ℕ) → (length xs ≤ 2 ^ 126 → n ≡ count p xs)
         → more ≡ more_if (p x) n → length (xs ++ x ∷ []) ≤ 2 ^ 126 → more ≡ count p (xs ++ x ∷ [])
     count_kept xs x n more was is few =
         is ∙ ap (more_if (p x)) (was (omega (arith, length-append xs (x ∷ []), few))) ∙ count_one_more p xs x few
 
--- ---- their IDs
+-- ---- IDs of messages
 
--- The IDs of those that pass, with one that passes and has one,
+-- An element that passes and has an ID adds this ID.
 module _ {A : Type 0} (p : A → Bool) (id_in : A → Option (List ℕ)) (xs : List A) (x : A) where
   pub ids_more : (id : List ℕ) → p x ≡ true → id_in x ≡ Some id
       → filter_map id_in (filter p (xs ++ x ∷ [])) ≡ filter_map id_in (filter p xs) ++ id ∷ []
@@ -42,7 +42,7 @@ module _ {A : Type 0} (p : A → Bool) (id_in : A → Option (List ℕ)) (xs : L
       ap (filter_map id_in) (filter_more p xs x ∙ rw passes refl) ∙ filter_map-append id_in (filter p xs) (x ∷ [])
       ∙ rw has refl
 
-  -- and beside one that does not, or has none.
+  -- An element that does not pass, or has no ID, adds none.
   pub ids_same : (p x ≡ false) ⊎ (id_in x ≡ None)
       → filter_map id_in (filter p (xs ++ x ∷ [])) ≡ filter_map id_in (filter p xs)
   ids_same why =
@@ -57,7 +57,7 @@ module _ {A : Type 0} (p : A → Bool) (id_in : A → Option (List ℕ)) (xs : L
       by true None is (inr none) = rw is refl
       by true (Some id) is (inr bad) = cc
 
--- ---- their components
+-- ---- components of messages
 
 pub components_more : (ms : List Message) (m : Message)
     → components_of (ms ++ m ∷ []) ≡ components_of ms ++ components_in m

@@ -1,4 +1,4 @@
--- Lists of which one test keeps some and another finds some, and what is made of their items.
+-- Lists with two tests, and with functions of their elements.
 use Rattle.std.proofs.Common.{◌≡◌, ◌⊎◌, inl, inr, ℕ, Bool, true, false, cond, not, ◌&&◌, ◌||◌, List, [], ◌∷◌, Option, Some, None, bytes_eq, filter, is_some, refl, ap, ◌∙◌}
 use Rattle.std.specs.Prelude.{Contains, filter_map}
 use Rattle.std.specs.List.{cons_option, find, flat_map, list_any}
@@ -19,7 +19,7 @@ and_turned false false = refl
 
 -- ---- two tests
 
--- What the second test keeps of what the first keeps, both keep,
+-- Two filters keep what both tests keep.
 pub filter_both : {A : Type 0} (p q : A → Bool) (xs : List A) → filter q (filter p xs) ≡ filter (λ x. p x && q x) xs
 filter_both p q [] = refl
 filter_both {A} p q (x ∷ xs) = by (p x) (filter_both p q xs)
@@ -32,11 +32,11 @@ filter_both {A} p q (x ∷ xs) = by (p x) (filter_both p q xs)
     by true rest = ap (λ ys. cond (q x) (x ∷ ys) ys) rest
     by false rest = rest
 
--- in any order;
+-- The order of two tests does not matter.
 pub filter_turned : {A : Type 0} (p q : A → Bool) (xs : List A) → filter q (filter p xs) ≡ filter (λ x. q x && p x) xs
 filter_turned p q xs = filter_both p q xs ∙ filter_agree _ _ (λ x. and_turned (p x) (q x)) xs
 
--- and so with what it finds.
+-- A test of what a filter keeps finds what both tests find.
 pub any_both : {A : Type 0} (p q : A → Bool) (xs : List A) → list_any q (filter p xs) ≡ list_any (λ x. p x && q x) xs
 any_both p q [] = refl
 any_both p q (x ∷ xs) = by (p x) (any_both p q xs)
@@ -53,7 +53,7 @@ pub any_turned : {A : Type 0} (p q : A → Bool) (xs : List A)
     → list_any q (filter p xs) ≡ list_any (λ x. q x && p x) xs
 any_turned p q xs = any_both p q xs ∙ any_agree _ _ xs (λ x. and_turned (p x) (q x))
 
--- The first that both find.
+-- The first element that passes both tests.
 pub found_both : {A : Type 0} (p q : A → Bool) (xs : List A) → find q (filter p xs) ≡ find (λ x. q x && p x) xs
 found_both p q [] = refl
 found_both p q (x ∷ xs) = by (p x) (found_both p q xs)
@@ -73,9 +73,9 @@ found_both p q (x ∷ xs) = by (p x) (found_both p q xs)
     by true rest = kept (q x) rest
     by false rest = left (q x) rest
 
--- ---- what is found
+-- ---- search
 
--- It is found where it is kept.
+-- A test finds an element exactly if a filter keeps one.
 pub any_kept : {A : Type 0} (p : A → Bool) (xs : List A) → list_any p xs ≡ not (is_nothing (filter p xs))
 any_kept p [] = refl
 any_kept p (x ∷ xs) = by (p x) (any_kept p xs)
@@ -85,7 +85,7 @@ any_kept p (x ∷ xs) = by (p x) (any_kept p xs)
     by true rest = refl
     by false rest = rest
 
--- It is found where there is a first.
+-- A test finds an element exactly if there is a first that passes.
 pub any_found : {A : Type 0} (p : A → Bool) (xs : List A) → list_any p xs ≡ is_some (find p xs)
 any_found p [] = refl
 any_found p (x ∷ xs) = by (p x) (any_found p xs)
@@ -94,7 +94,7 @@ any_found p (x ∷ xs) = by (p x) (any_found p xs)
     by true rest = refl
     by false rest = rest
 
--- Where none passes none is found.
+-- If no element passes, none is found.
 pub none_passes : {A : Type 0} (p : A → Bool) (xs : List A) → ((x : A) → Contains xs x → p x ≡ false)
     → list_any p xs ≡ false
 none_passes p xs none = false_from_ne_true _ some
@@ -102,13 +102,13 @@ none_passes p xs none = false_from_ne_true _ some
     some : list_any p xs ≡ true → ⊥
     some is = let (x, has, passes) = any_is p xs is in both_ways _ (none x has) passes
 
--- What is not found does not pass.
+-- If a test finds none, no element passes.
 pub passes_not : {A : Type 0} (p : A → Bool) (xs : List A) (x : A) → Contains xs x → list_any p xs ≡ false → p x ≡ false
 passes_not p xs x has none = false_from_ne_true (p x) (λ so. both_ways _ none (any_has p xs x has so))
 
--- ---- what is made of items
+-- ---- functions of elements
 
--- What is made was made of one of them.
+-- Each result of `filter_map` is the result of an element.
 pub filter_map_is : {A B : Type 0} (f : A → Option B) (xs : List A) (y : B) → Contains (filter_map f xs) y
     → (x : A) × Contains xs x × (f x ≡ Some y)
 filter_map_is f [] y has = has_not y has
@@ -138,7 +138,7 @@ flat_map_is {A} {B} f (z ∷ zs) y has = by (Contains-append_cases (f z) (flat_m
     by (inl here) rest = (z, has_first z zs, here)
     by (inr there) rest = let (x, in_rest, inside) = rest there in (x, has_later z zs x in_rest, inside)
 
--- An ID is among those that are made where it is made of one.
+-- An ID is among the results exactly if it is the result of an element.
 pub any_id : {A : Type 0} (f : A → Option (List ℕ)) (id : List ℕ) (xs : List A)
     → list_any (bytes_eq id) (filter_map f xs) ≡ list_any (λ x. is_id id (f x)) xs
 any_id f id [] = refl

@@ -1,4 +1,4 @@
--- The open halves of an end have their stories behind a message that it receives, and behind what happens unseen.
+-- The open halves of an end have their stories after a message that it receives, and after a hidden step.
 use Rattle.std.proofs.Common.{◌≡◌, ◌⊎◌, inl, inr, ℕ, ℤ, Bool, true, false, cond, not, List, [], ◌∷◌, ◌++◌, Option, Some, None, Result, Ok, is_none, refl, subst}
 use Rattle.std.specs.Prelude.{ok_or}
 use Rattle.tcap_parts.specs.declared.dialogue.Dialogue.{Dialogue}
@@ -34,13 +34,13 @@ use Rattle.tcap_faults.proofs.run_laws.HalfReceivesLaws.{story_answered, story_g
 use Rattle.tcap_faults.proofs.run_laws.HalfGoesOnLaws.{Story, story_ends, story_still}
 use Rattle.tcap_faults.proofs.run_laws.EndSendsLaws.{HaveStories}
 
--- To an ID that no half has as its peer's the end told nothing.
+-- The end sent nothing to an ID that no half has as its peer's.
 abbrev pub ToldNone : Side → List Item → End → Type 0
 ToldNone side items e = (id : List ℕ) → with_peer e id ≡ None → told side id items ≡ []
 
 -- ---- one half
 
--- Where a half becomes another, and the others stay, all have their stories.
+-- If one half changes, and has its story if it is open, all halves have their stories.
 pub put_story : (table : Table) (side : Side) (items : List Item) (gone : List Message) (e next : End) (slot : Slot)
     (key : List ℕ) (k : Half) → put e slot key k ≡ next → HaveStories table side items gone e
     → (is_closed k.phase ≡ false → Story table side items gone slot key k) → HaveStories table side items gone next
@@ -51,15 +51,15 @@ put_story table side items gone e next slot key k made had now g in_next is_open
     by (inl new) = rw (new.0, new.1, new.2) (now (rw (new.2) at is_open))
     by (inr old) = had g old is_open
 
--- It is the end that the step was Ok with.
+-- The step was Ok with this end.
 is_this : (x next : End) → (let r : Result End EndFault = Ok x in r) ≡ Ok next → x ≡ next
 is_this x next is = ok_same {F = EndFault} x next is
 
--- ---- what happens unseen
+-- ---- hidden steps
 
 module _ (table : Table) (side : Side) (items : List Item) (gone : List Message) (e next : End) (before : IsEnd e)
     (had : HaveStories table side items gone e) where
-  -- An own invocation ends,
+  -- An own invocation expires.
   pub expired_stories : (name : HalfName) (id : ℤ) → expire table e name id ≡ Ok next
       → HaveStories table side items gone next
   expired_stories name id is =
@@ -70,7 +70,7 @@ module _ (table : Table) (side : Side) (items : List Item) (gone : List Message)
       put_story table side items gone e next f.slot f.key (without_invocation id f.half) (is_this _ next may.1) had
       (λ is_open. story_ends table side items gone f.slot f.key f.half id may.0 (had f in_f is_open))
 
-  -- or a half closes.
+  -- A half closes.
   pub closed_stories : (name : HalfName) → close table e name ≡ Ok next → HaveStories table side items gone next
   closed_stories name is =
       let (f, ok, step) = then_ok (ok_or (named e name) faults.CannotClose) _ next is in
@@ -78,7 +78,7 @@ module _ (table : Table) (side : Side) (items : List Item) (gone : List Message)
       put_story table side items gone e next f.slot f.key (closed_half f.half) (is_this _ next may.1) had
       (λ is_open. cc)
 
--- ---- what is received
+-- ---- received messages
 
 -- A message is taken from the channel.
 pub stories_still : (table : Table) (side : Side) (items : List Item) (gone : List Message) (m : Message) (e : End)
@@ -88,18 +88,18 @@ stories_still table side items gone m e had g in_g is_open =
 
 module _ (table : Table) (side : Side) (items : List Item) (gone : List Message) (e next : End) (before : IsEnd e)
     (had : HaveStories table side items gone e) (told_none : ToldNone side items e) where
-  -- The end has its stories with one message more.
+  -- The end has its stories after this message.
   abbrev Got : Message → Type 0
   Got m = HaveStories table side items (gone ++ m ∷ []) next
 
-  -- A half becomes another by it.
+  -- One half changes by the message.
   becomes : (m : Message) (slot : Slot) (key : List ℕ) (k : Half) → put e slot key k ≡ next
       → (is_closed k.phase ≡ false → Story table side items (gone ++ m ∷ []) slot key k) → Got m
   becomes m slot key k made now =
       put_story table side items (gone ++ m ∷ []) e next slot key k made
       (stories_still table side items gone m e had) now
 
-  -- A Begin makes one,
+  -- A Begin makes a half.
   begin_got : (otid : List ℕ) (dialogue : Option Dialogue) (components : Option (List Component))
       → receive_begin table e otid dialogue (items_of components) ≡ Ok next → Got (Begin otid dialogue components)
   begin_got otid dialogue components is =
@@ -112,7 +112,7 @@ module _ (table : Table) (side : Side) (items : List Item) (gone : List Message)
       story_received table side items gone otid dialogue components
       (told_none otid (none_is (with_peer e otid) step.0)))
 
-  -- a Continue goes to the half whose own ID it has: it answers its Begin, or goes on,
+  -- A Continue goes to the half with its destination ID: it answers the half's Begin, or goes on.
   module _ (otid dtid : List ℕ) (dialogue : Option Dialogue) (components : Option (List Component)) (f : KeptHalf)
       (in_f : Has e f) (own : f.half.own ≡ Some dtid) where
     abbrev goes : Message
@@ -168,7 +168,7 @@ module _ (table : Table) (side : Side) (items : List Item) (gone : List Message)
       over_got otid dtid dialogue components f (own_has e dtid before f found) (own_is e dtid f found) f.half.phase refl
       step
 
-  -- and an End or an Abort closes one, or changes nothing.
+  -- An End or an Abort closes a half, or changes nothing.
   end_got : (m : Message) (o : Option KeptHalf) → receive_end e o ≡ next → Got m
   end_got m None is =
       subst (HaveStories table side items (gone ++ m ∷ [])) is (stories_still table side items gone m e had)
@@ -179,7 +179,7 @@ module _ (table : Table) (side : Side) (items : List Item) (gone : List Message)
           subst (HaveStories table side items (gone ++ m ∷ [])) same (stories_still table side items gone m e had)
       by false made = becomes m f.slot f.key (closed_half f.half) made (λ is_open. cc)
 
-  -- Each message that it receives leaves it its stories.
+  -- After each received message, the end has its stories.
   pub received_stories : (m : Message) → receive table e m ≡ Ok next → Got m
   received_stories (Unidirectional dialogue components) is =
       subst (HaveStories table side items (gone ++ Unidirectional dialogue components ∷ [])) (is_this e next is)

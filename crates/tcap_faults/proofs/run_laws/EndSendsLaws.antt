@@ -1,4 +1,4 @@
--- The open halves of an end have their stories behind a message that it sends.
+-- The open halves of an end have their stories after a message that it sends.
 use Rattle.std.proofs.Common.{◌≡◌, ◌⊎◌, inl, inr, ℕ, Bool, true, false, List, [], ◌∷◌, ◌++◌, Option, Some, None, Result, Ok, Err, is_none, refl, sym, ◌∙◌}
 use Rattle.tcap_parts.specs.declared.component.Component.{Component}
 use Rattle.tcap_parts.specs.declared.dialogue.Dialogue.{Dialogue}
@@ -35,38 +35,38 @@ use Rattle.tcap_faults.proofs.run_laws.ItemLaws.{begins_kept, sent_own, told_not
 use Rattle.tcap_faults.proofs.story_laws.Stories.{told_to}
 use Rattle.tcap_faults.proofs.view_laws.ActLaws.{keeps_peer}
 
--- Each open half of an end has its story.
+-- Each open half of the end has its story.
 abbrev pub HaveStories : Table → Side → List Item → List Message → End → Type 0
 HaveStories table side items gone e =
     (f : KeptHalf) → Has e f → is_closed f.half.phase ≡ false → Story table side items gone f.slot f.key f.half
 
--- An ID that no half has the end did not begin.
+-- The end sent no Begin from an ID that no half has.
 abbrev pub BeganNone : Side → List Item → End → Type 0
 BeganNone side items e = (id : List ℕ) → with_own e id ≡ None → begin_from side id items ≡ None
 
--- ---- one half becomes another
+-- ---- one half changes
 
 module _ (table : Table) (side : Side) (items : List Item) (gone : List Message) (e next : End) (m : Message) where
   keeps : KeepsBegins side items (items ++ Sent side m ∷ [])
   keeps = begins_kept side items (items ++ Sent side m ∷ []) (m ∷ []) (sent_own side m items)
 
-  -- The message is not told to that ID.
+  -- The message was not sent to this ID.
   abbrev IsApart : Option (List ℕ) → Type 0
   IsApart peer = told_to side (items ++ Sent side m ∷ []) peer ≡ told_to side items peer
 
-  -- It is to another ID, or to none.
+  -- The message has another destination ID, or none.
   apart_from : (peer : Option (List ℕ)) → ((q : List ℕ) → peer ≡ Some q → is_id q (dtid_in m) ≡ false) → IsApart peer
   apart_from None other = refl
   apart_from (Some q) other = told_not side items m q (rw (other q refl) refl)
 
-  -- A half that stays as it was has its story.
+  -- A half that does not change keeps its story.
   story_kept : HaveStories table side items gone e → (g : KeptHalf) → Has e g → is_closed g.half.phase ≡ false
       → IsApart g.half.peer
       → Story table side (items ++ Sent side m ∷ []) gone g.slot g.key g.half
   story_kept had g in_g is_open apart =
       story_later table side items (items ++ Sent side m ∷ []) gone g.slot g.key g.half keeps apart (had g in_g is_open)
 
-  -- The half with that peer becomes another.
+  -- The half with this peer changes.
   module _ (f : KeptHalf) (k : Half) (id : List ℕ) (sound : IsEnd next) (made : put e f.slot f.key k ≡ next)
       (peer : k.peer ≡ Some id) (to : dtid_in m ≡ Some id)
       (now : is_closed k.phase ≡ false → Story table side (items ++ Sent side m ∷ []) gone f.slot f.key k) where
@@ -107,11 +107,11 @@ module _ (table : Table) (side : Side) (items : List Item) (gone : List Message)
 
 module _ (table : Table) (side : Side) (items : List Item) (gone : List Message) (e next : End) (before : IsEnd e)
     (behind : IsEnd next) (had : HaveStories table side items gone e) where
-  -- The end has its stories with one message more.
+  -- The end has its stories after this message.
   abbrev Go : Message → Type 0
   Go m = HaveStories table side (items ++ Sent side m ∷ []) gone next
 
-  -- It is the end that the step was Ok with.
+  -- The step was Ok with this end.
   is_this : (x : End) → (let r : Result End EndFault = Ok x in r) ≡ Ok next → x ≡ next
   is_this x is = ok_same {F = EndFault} x next is
 
@@ -157,7 +157,7 @@ module _ (table : Table) (side : Side) (items : List Item) (gone : List Message)
           story_kept table side items gone e next (Begin otid dialogue components) had g old is_open
           (apart_from table side items gone e next (Begin otid dialogue components) g.half.peer (λ q of. refl))
 
-  -- What has a destination ID is told over the half with that peer.
+  -- A message with a destination ID is sent over the half with this peer.
   module _ (m : Message) (id : List ℕ) (half : IsOver table e m id) (to : dtid_in m ≡ Some id)
       (is : send table e m ≡ Ok next) where
     abbrev later : List Item
@@ -169,7 +169,7 @@ module _ (table : Table) (side : Side) (items : List Item) (gone : List Message)
     peer : half.now.peer ≡ Some id
     peer = keeps_peer id half.turned half.peer
 
-    -- One that answers a Begin began by receiving.
+    -- A message that answers a Begin goes over an accepted half.
     answers_begin : Answers (Said m) half.kept.half half.now → half.kept.slot ≡ Accepted
     answers_begin it = by half.kept.slot (before.kept half.kept half.had)
       where
@@ -201,7 +201,7 @@ module _ (table : Table) (side : Side) (items : List Item) (gone : List Message)
         (keeps_own half.turned) (told_now side items m id (is_that_id id (dtid_in m) to) half.no_cause)
         (keeps table side items gone e next m) (begun still half.turned) (had half.kept half.had half.is_open)) had
 
-  -- Each message that it sends leaves it its stories.
+  -- After each sent message, the end has its stories.
   pub sent_stories : BeganNone side items e → (m : Message) → send table e m ≡ Ok next → Go m
   sent_stories none (Unidirectional dialogue components) is = uni_goes dialogue components is
   sent_stories none (Begin otid dialogue components) is = begin_goes none otid dialogue components is

@@ -1,5 +1,5 @@
--- The story of a half goes on: where its end sends over it, or receives, or an own invocation ends, and where others do
--- what is no matter of it.
+-- The story of a half goes on if its end sends or receives over it, if an own invocation expires, and if something
+-- else happens to the end.
 use Rattle.std.proofs.Common.{◌≡◌, ◌≤◌, ◌+◌, ◌⊎◌, inl, inr, arith, ℕ, ℤ, Bool, true, List, [], ◌∷◌, ◌++◌, Option, Some, None, Ok, refl, sym, ap, ◌∙◌}
 use Rattle.std.specs.List.{list_any}
 use Rattle.std.proofs.lemmas.List.Folds.{list_any-append}
@@ -42,7 +42,7 @@ led_same table (Gets c ∷ past) g h same (f, led, lists) =
 led_same table (Ends id ∷ past) g h same (f, led, may, lists) =
     (f, led, may, (same.0 ∙ lists.0, same.1 ∙ lists.1, same.2 ∙ lists.2))
 
--- Components were sent, and nothing else happened;
+-- Components were sent, and nothing else happened.
 pub record SentOn (table : Table) (past : List Happening) (components : List Component) (k : Half) : Type 0 where
   pub now : List Happening
   pub is_led : IsLed table now k
@@ -67,7 +67,7 @@ sends_on table (c ∷ more) past g k led is =
         let front = count_both p (c ∷ []) (sent_in past) in
         let behind = count_both p (c ∷ []) more in omega arith
 
--- or received.
+-- Components were received, and nothing else happened.
 pub record GotOn (table : Table) (past : List Happening) (components : List Component) (k : Half) : Type 0 where
   pub now : List Happening
   pub is_led : IsLed table now k
@@ -91,13 +91,14 @@ gets_on table (c ∷ more) past g led =
 
 -- ---- the story of an open half
 
--- What was told over it.
+-- These messages were sent over the half.
 abbrev pub ToldOver : Side → List Item → Slot → List ℕ → Option (List ℕ) → List Message → Type 0
 ToldOver side items Accepted key peer messages = messages ≡ told_to side items peer
 ToldOver side items Begun key peer messages =
     (begin : Message) × (begin_from side key items ≡ Some begin) × (messages ≡ begin ∷ told_to side items peer)
 
--- Where its Begin asked for a dialogue: it waits for an answer, or a Continue that was taken from the channel gave it.
+-- If the half's Begin asked for a dialogue: the half waits for an answer, or a Continue that was taken from the
+-- channel answered.
 abbrev pub IsAnswered : List ℕ → List Message → Standing → Option (List ℕ) → Phase → Type 0
 IsAnswered own gone standing peer phases.Sent = standing ≡ standings.Asked
 IsAnswered own gone standing peer phases.Active =
@@ -110,7 +111,8 @@ HasBegun side items gone Begun key h =
     (begin : Message) × (begin_from side key items ≡ Some begin)
     × (is_begin_with_request begin ≡ true → IsAnswered key gone h.standing h.peer h.phase)
 
--- Of these items its end sent its own; these messages of the peer are no longer on their way.
+-- The story of a half: `items` have what its end sent, and `gone` are the messages of the peer that are no longer on
+-- their way.
 pub record Story (table : Table) (side : Side) (items : List Item) (gone : List Message) (slot : Slot) (key : List ℕ)
     (h : Half) : Type 0 where
   pub past : List Happening
@@ -122,9 +124,9 @@ pub record Story (table : Table) (side : Side) (items : List Item) (gone : List 
       → count p (got_in past) ≤ count_in p (may_have_heard side items gone slot h.own h.peer)
   pub begun : HasBegun side items gone slot key h
 
--- ---- what others do
+-- ---- what happens elsewhere
 
--- An answer stays one.
+-- An answer remains an answer.
 answered_still : (own : List ℕ) (gone more : List Message) (standing : Standing) (peer : Option (List ℕ))
     (phase : Phase)
     → IsAnswered own gone standing peer phase → IsAnswered own (gone ++ more) standing peer phase
@@ -141,7 +143,7 @@ begun_still side items gone more Accepted key h is = tt
 begun_still side items gone more Begun key h (begin, found, answered) =
     (begin, found, λ asks. answered_still key gone more h.standing h.peer h.phase (answered asks))
 
--- What began stays begun where the half keeps its phase, its peer and its dialogue.
+-- The beginning holds as long as the half keeps its phase, its peer and its dialogue.
 pub begun_kept : (side : Side) (items later : List Item) (gone : List Message) (slot : Slot) (key : List ℕ) (h k : Half)
     → KeepsBegins side items later → k.phase ≡ h.phase → k.peer ≡ h.peer → k.standing ≡ h.standing
     → HasBegun side items gone slot key h → HasBegun side later gone slot key k
@@ -156,7 +158,7 @@ told_kept side items later Accepted key peer messages keeps same is = is ∙ sym
 told_kept side items later Begun key peer messages keeps same (begin, found, is) =
     (begin, keeps key begin found, is ∙ ap (λ more. begin ∷ more) (sym same))
 
--- Messages are taken from the channel,
+-- Messages are taken from the channel.
 pub story_still : (table : Table) (side : Side) (items : List Item) (gone more : List Message) (slot : Slot)
     (key : List ℕ)
     (h : Half) → Story table side items gone slot key h → Story table side items (gone ++ more) slot key h
@@ -176,7 +178,7 @@ story_still table side items gone more slot key h it = record {
         let was = it.got p in
         let grows = heard_grows side items gone more slot h.own h.peer p in omega arith
 
--- or its end sends what is not told over it.
+-- The end sends messages that do not go over the half.
 pub story_later : (table : Table) (side : Side) (items later : List Item) (gone : List Message) (slot : Slot)
     (key : List ℕ)
     (h : Half) → KeepsBegins side items later → told_to side later h.peer ≡ told_to side items h.peer
@@ -197,9 +199,9 @@ story_later table side items later gone slot key h keeps same it = record {
         let was = it.got p in
         let grows = heard_later side items later gone slot h.own h.peer keeps p in omega arith
 
--- ---- what happens to it
+-- ---- what happens to the half
 
--- An own invocation of it ends.
+-- An own invocation of the half expires.
 pub story_ends : (table : Table) (side : Side) (items : List Item) (gone : List Message) (slot : Slot) (key : List ℕ)
     (h : Half) (id : ℤ) → may_expire table (own_invocation h id) ≡ true → Story table side items gone slot key h
     → Story table side items gone slot key (without_invocation id h)
@@ -215,7 +217,7 @@ story_ends table side items gone slot key h id may it = record {
       it.begun;
 }
 
--- It keeps its own ID, or chooses one, where it began by receiving.
+-- The half keeps its own ID, or an accepted half chooses one.
 abbrev pub KeepsOwn : Slot → Half → Half → Type 0
 KeepsOwn slot h k = (k.own ≡ h.own) ⊎ ((slot ≡ Accepted) × (h.own ≡ None) × ((own : List ℕ) × (k.own ≡ Some own)))
 
@@ -226,7 +228,7 @@ heard_by_own side items gone slot h k (inl same) =
 heard_by_own side items gone slot h k (inr (slots, none, (own, chosen))) =
     rw (slots, none, chosen) (heard_chosen side items gone own h.peer)
 
--- A message is sent over it.
+-- A message is sent over the half.
 module _ (table : Table) (side : Side) (items later : List Item) (gone : List Message) (slot : Slot) (key : List ℕ)
     (h start k : Half) (m : Message) (id : List ℕ) where
   told_too : told side id later ≡ told side id items ++ m ∷ [] → KeepsBegins side items later

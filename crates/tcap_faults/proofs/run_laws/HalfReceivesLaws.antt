@@ -1,4 +1,4 @@
--- The story of a half begins, or goes on where a message is received over it.
+-- The story of a half begins, and goes on with a message that is received over it.
 use Rattle.std.proofs.Common.{◌≡◌, ◌≤◌, ◌+◌, arith, ℕ, Bool, true, false, cond, List, [], ◌∷◌, ◌++◌, Option, Some, None, Ok, refl, sym, ap, subst, ◌∙◌}
 use Rattle.std.specs.Prelude.{◌||◌}
 use Rattle.std.specs.List.{list_any}
@@ -34,7 +34,7 @@ use Rattle.tcap_faults.proofs.story_laws.Stories.{Happening, SameLists, got_in, 
 
 -- ---- a half begins
 
--- Its end sends a Begin.
+-- The end sends a Begin.
 pub story_begins : (table : Table) (side : Side) (items : List Item) (gone : List Message) (otid : List ℕ)
     (dialogue : Option Dialogue) (components : Option (List Component)) (k : Half) → begin_from side otid items ≡ None
     → send_components table (fresh phases.Sent (Some otid) None (first_standing dialogue)) (items_of components) ≡ Ok k
@@ -73,7 +73,7 @@ story_begins table side items gone otid dialogue components k none sends = recor
     asked : (b : Bool) → b ≡ true → cond b standings.Asked standings.Without ≡ standings.Asked
     asked b is = rw is refl
 
--- It receives one: nothing was told to that ID before.
+-- The end receives a Begin, and sent nothing to the peer's ID before.
 pub story_received : (table : Table) (side : Side) (items : List Item) (gone : List Message) (otid : List ℕ)
     (dialogue : Option Dialogue) (components : Option (List Component)) → told side otid items ≡ []
     → Story table side items (gone ++ Begin otid dialogue components ∷ []) Accepted otid
@@ -113,11 +113,11 @@ module _ (table : Table) (side : Side) (items : List Item) (gone : List Message)
   abbrev m : Message
   m = Continue otid own dialogue components
 
-  -- a half that received it
+  -- The half after it received the Continue.
   abbrev behind : Half → Half
   behind start = receive_components table start (items_of components)
 
-  -- What it had got, and what comes now, it may have heard.
+  -- What the half received before, and what it receives now, it may have heard.
   got_too : (slot : Slot) (past : List Happening) (now : List Happening) (h : Half)
       → HaveThatToo m (may_have_heard side items gone slot h.own h.peer)
       (may_have_heard side items (gone ++ m ∷ []) slot (Some own) (Some otid))
@@ -130,14 +130,14 @@ module _ (table : Table) (side : Side) (items : List Item) (gone : List Message)
       let more = new p in
       let all = too p in omega arith
 
-  -- It may have been heard by a half with these IDs.
+  -- A half with these IDs may have heard it.
   heard_with : (slot : Slot) (of_own of_peer : Option (List ℕ)) (n : ℕ) (p : Component → Bool) → of_own ≡ Some own
       → of_peer ≡ Some otid
       → n ≤ count_in p (may_have_heard side items (gone ++ m ∷ []) slot (Some own) (Some otid))
       → n ≤ count_in p (may_have_heard side items (gone ++ m ∷ []) slot of_own of_peer)
   heard_with slot of_own of_peer n p is_own is_peer is = rw (is_own, is_peer) is
 
-  -- The half keeps the story of what was told over it.
+  -- The half keeps the story of what was sent over it.
   story_gets : (slot : Slot) (key : List ℕ) (h start : Half) → SameLists h start → start.own ≡ Some own
       → start.peer ≡ Some otid → (it : Story table side items gone slot key h)
       → ToldOver side items slot key (Some otid) it.told_over
@@ -166,9 +166,9 @@ module _ (table : Table) (side : Side) (items : List Item) (gone : List Message)
       comes : Receives start (behind start)
       comes = all_receives table (items_of components) start
 
-  -- ---- it answers a Begin
+  -- ---- the Continue answers a Begin
 
-  -- one that asked for a dialogue
+  -- The answer to a Begin that asked for a dialogue.
   answered_now : (standing : Standing) → standing ≡ standings.Asked → answers_request standing dialogue ≡ true
       → list_any responds (before side items gone otid own dialogue components ++ m ∷ []) ≡ true
   answered_now standing asked answers =
@@ -183,11 +183,11 @@ module _ (table : Table) (side : Side) (items : List Item) (gone : List Message)
       by true is = refl
       by false is = is
 
-  -- the ID is the peer's
+  -- The ID is the peer's.
   same_id : (id : List ℕ) (o : Option (List ℕ)) → o ≡ Some otid → o ≡ Some id → otid ≡ id
   same_id id o first second = cc
 
-  -- It was sent, and waits: nothing was told to the ID from which it is answered.
+  -- The half was in Sent, and nothing was sent to the ID from which it is answered.
   pub story_answered : (h : Half) → h.phase ≡ phases.Sent → h.own ≡ Some own → h.peer ≡ None
       → answers_request h.standing dialogue ≡ true → told side otid items ≡ []
       → Story table side items gone Begun own h
@@ -236,16 +236,16 @@ module _ (table : Table) (side : Side) (items : List Item) (gone : List Message)
               rw (← is)
               (ap (list_any responds) (more_before side items gone otid own dialogue components) ∙ now asks))
 
-  -- ---- it goes on
+  -- ---- the Continue goes on
 
   abbrev continues : List Message
   continues = before side items gone otid own dialogue components
 
-  -- What was answered before is so with one message more.
+  -- An answer remains an answer with one more message.
   still_answered : list_any responds continues ≡ true → list_any responds (continues ++ m ∷ []) ≡ true
   still_answered is = list_any-append responds continues (m ∷ []) ∙ rw is refl
 
-  -- An active half receives it from its peer.
+  -- An active half receives the Continue from its peer.
   pub story_goes_on : (slot : Slot) (key : List ℕ) (h : Half) → h.phase ≡ phases.Active → h.own ≡ Some own
       → h.peer ≡ Some otid → IsKept slot key h → Story table side items gone slot key h
       → Story table side items (gone ++ m ∷ []) slot key (behind h)

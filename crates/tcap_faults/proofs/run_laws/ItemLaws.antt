@@ -1,4 +1,4 @@
--- One item more: what an end sent of it, told of it, and began by it.
+-- One more item: what an end sent and began with it.
 use Rattle.std.proofs.Common.{◌≡◌, ℕ, true, false, List, [], ◌∷◌, ◌++◌, Option, Some, None, refl, ap, ◌∙◌}
 use Rattle.std.specs.Prelude.{filter, ◌&&◌, is_none}
 use Rattle.std.specs.List.{find}
@@ -19,7 +19,7 @@ use Rattle.tcap_faults.proofs.story_laws.Stories.{told_to}
 
 -- ---- what an end sent
 
--- An end's message is the newest that it sent,
+-- The end's message is the last that it sent.
 pub sent_own : (side : Side) (m : Message) (items : List Item)
     → sent_by side (items ++ Sent side m ∷ []) ≡ sent_by side items ++ m ∷ []
 sent_own side m items = filter_map-append _ items (Sent side m ∷ []) ∙ ap (λ more. sent_by side items ++ more) one
@@ -27,7 +27,7 @@ sent_own side m items = filter_map-append _ items (Sent side m ∷ []) ∙ ap (�
     one : sent_by side (Sent side m ∷ []) ≡ m ∷ []
     one = rw (itself side) refl
 
--- and not one of the other's.
+-- A message of the other end is not the end's.
 pub sent_other : (side sender : Side) (m : Message) (items : List Item) → is_side side sender ≡ false
     → sent_by side (items ++ Sent sender m ∷ []) ≡ sent_by side items
 sent_other side sender m items apart =
@@ -37,15 +37,15 @@ sent_other side sender m items apart =
     none : sent_by side (Sent sender m ∷ []) ≡ []
     none = rw apart refl
 
--- ---- what it began, and told
+-- ---- what the end began and sent to an ID
 
--- It began what it began, where it sent more.
+-- The end keeps its Begins if it only sends more.
 pub begins_kept : (side : Side) (items later : List Item) (more : List Message)
     → sent_by side later ≡ sent_by side items ++ more → KeepsBegins side items later
 begins_kept side items later more is own begin found =
     ap (find (begins_from own)) is ∙ find-append (begins_from own) (sent_by side items) more ∙ rw found refl
 
--- The Begin from an ID that it had not begun is the newest.
+-- A Begin from an ID without a Begin is that ID's Begin.
 pub begins_now : (side : Side) (items : List Item) (m : Message) (own : List ℕ) → begin_from side own items ≡ None
     → is_a forms.Begin m ≡ true → is_id own (otid_in m) ≡ true
     → begin_from side own (items ++ Sent side m ∷ []) ≡ Some m
@@ -53,7 +53,7 @@ begins_now side items m own none begins from =
     ap (find (begins_from own)) (sent_own side m items) ∙ find-append (begins_from own) (sent_by side items) (m ∷ [])
     ∙ rw (none, begins, from) refl
 
--- What it tells an ID it told it last,
+-- A message to an ID is the last to it.
 pub told_now : (side : Side) (items : List Item) (m : Message) (id : List ℕ) → is_id id (dtid_in m) ≡ true
     → cause_in m ≡ None → told side id (items ++ Sent side m ∷ []) ≡ told side id items ++ m ∷ []
 told_now side items m id to no_cause =
@@ -63,7 +63,7 @@ told_now side items m id to no_cause =
     one : filter (tells_to id) (m ∷ []) ≡ m ∷ []
     one = rw (to, no_cause) refl
 
--- and no other ID.
+-- A message to another ID changes nothing.
 pub told_not : (side : Side) (items : List Item) (m : Message) (id : List ℕ)
     → (is_id id (dtid_in m) && is_none (cause_in m)) ≡ false
     → told side id (items ++ Sent side m ∷ []) ≡ told side id items
@@ -74,7 +74,7 @@ told_not side items m id apart =
     none : filter (tells_to id) (m ∷ []) ≡ []
     none = rw apart refl
 
--- Where it sent nothing more it told nothing more.
+-- If the end sent nothing more, it sent nothing more to the peer.
 pub told_same : (side : Side) (items later : List Item) (peer : Option (List ℕ))
     → sent_by side later ≡ sent_by side items
     → told_to side later peer ≡ told_to side items peer

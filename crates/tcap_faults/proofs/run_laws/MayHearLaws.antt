@@ -1,5 +1,5 @@
--- What a half may have heard, of the messages that are no longer on their way: it grows with them, and with what its
--- own end sends.
+-- What a half may have heard grows with the messages that are no longer on their way, and with what its own end
+-- sends.
 use Rattle.std.proofs.Common.{◌≡◌, ◌≤◌, ◌+◌, arith, ℕ, Bool, true, false, cond, List, [], ◌∷◌, ◌++◌, Option, Some, None, refl, sym, ap, subst, ◌∙◌}
 use Rattle.std.specs.Prelude.{filter}
 use Rattle.std.proofs.lemmas.Grind.{flat_map-append}
@@ -24,7 +24,7 @@ use Rattle.tcap_faults.proofs.list_laws.CountLaws.{count_both}
 
 -- ---- counts
 
--- how many components of these messages pass a test
+-- The number of components of these messages that pass a test.
 abbrev pub count_in : (Component → Bool) → List Message → ℕ
 count_in p messages = count p (components_of messages)
 
@@ -40,7 +40,7 @@ count_in_first p m xs = count_both p (components_in m) (components_of xs)
 pub count_in_one : (p : Component → Bool) (m : Message) → count_in p (m ∷ []) ≡ count p (components_in m)
 count_in_one p m = ap (count p) (append-nil (components_in m))
 
--- The first messages have no more components of any sort.
+-- The first messages have at most the components of the second, of every sort.
 abbrev pub HaveNoMore : List Message → List Message → Type 0
 HaveNoMore xs ys = (p : Component → Bool) → count_in p xs ≤ count_in p ys
 
@@ -59,12 +59,12 @@ no_more_both xs ys us vs first second p =
 
 -- ---- what is heard
 
--- The end began what it began.
+-- The end keeps its Begins.
 abbrev pub KeepsBegins : Side → List Item → List Item → Type 0
 KeepsBegins side items later =
     (own : List ℕ) (begin : Message) → begin_from side own items ≡ Some begin → begin_from side own later ≡ Some begin
 
--- From the first that passes on it is no less of more messages,
+-- More messages have more components from the first that passes on.
 first_grows : (p : Message → Bool) (xs ys : List Message) → HaveNoMore (from_first p xs) (from_first p (xs ++ ys))
 first_grows p [] ys = λ c. omega arith
 first_grows p (x ∷ xs) ys = by (p x) (first_grows p xs ys)
@@ -74,7 +74,7 @@ first_grows p (x ∷ xs) ys = by (p x) (first_grows p xs ys)
     by true rest = no_more_than_all (x ∷ xs) ys
     by false rest = rest
 
--- and so is what is heard of Continues, whatever the Begin,
+-- More Continues have more that is heard, with any Begin.
 behind_grows : (begin : Option Message) (xs ys : List Message)
     → HaveNoMore (heard_behind begin xs) (heard_behind begin (xs ++ ys))
 behind_grows None xs ys = no_more_self []
@@ -84,7 +84,7 @@ behind_grows (Some begin) xs ys = by (is_begin_with_request begin)
     by true = first_grows responds xs ys
     by false = no_more_than_all xs ys
 
--- and where the end began more.
+-- A half hears no less if the end keeps its Begins.
 behind_later : (side : Side) (items later : List Item) (own : List ℕ) (xs : List Message) → KeepsBegins side items later
     → HaveNoMore (heard_behind (begin_from side own items) xs) (heard_behind (begin_from side own later) xs)
 behind_later side items later own xs keeps = by (begin_from side own items) refl
@@ -110,7 +110,7 @@ continues_grow : (id : List ℕ) (gone more : List Message) (own : Option (List 
 continues_grow id gone more None = no_more_self []
 continues_grow id gone more (Some own) = filters_grow _ (goes_on_to own) gone more
 
--- It is no less of more messages,
+-- More messages mean that more may have been heard.
 pub heard_grows : (side : Side) (items : List Item) (gone more : List Message) (slot : Slot)
     (own peer : Option (List ℕ))
     → HaveNoMore (may_have_heard side items gone slot own peer) (may_have_heard side items (gone ++ more) slot own peer)
@@ -128,7 +128,7 @@ heard_grows side items gone more Begun (Some own) (Some id) =
     (sym (filters_append (λ m. is_id id (otid_in m)) (goes_on_to own) gone more))
     (behind_grows (begin_from side own items) (continues_to id gone (Some own)) (continues_to id more (Some own)))
 
--- and where its end sent more,
+-- If the end keeps its Begins, no less may have been heard.
 pub heard_later : (side : Side) (items later : List Item) (gone : List Message) (slot : Slot)
     (own peer : Option (List ℕ))
     → KeepsBegins side items later
@@ -142,7 +142,7 @@ heard_later side items later gone Begun None (Some id) keeps = no_more_self []
 heard_later side items later gone Begun (Some own) (Some id) keeps =
     behind_later side items later own (continues_to id gone (Some own)) keeps
 
--- and where a half that began by receiving chose its own ID.
+-- If an accepted half chooses an own ID, no less may have been heard.
 pub heard_chosen : (side : Side) (items : List Item) (gone : List Message) (own : List ℕ) (peer : Option (List ℕ))
     → HaveNoMore (may_have_heard side items gone Accepted None peer)
     (may_have_heard side items gone Accepted (Some own) peer)

@@ -1,4 +1,4 @@
--- Each open half of an end that keeps the rules has its story: what led to it, and what the list of messages tells of that.
+-- Each open half of an end that keeps the rules has its story: what led to it, and what the list has of that.
 use Rattle.std.proofs.Common.{◌≡◌, inl, inr, ℕ, Bool, true, false, List, [], ◌∷◌, ◌++◌, Option, Some, None, is_none, refl, sym, ap, subst, ◌∙◌, append_assoc}
 use Rattle.std.specs.Prelude.{Contains, ◌&&◌}
 use Rattle.std.proofs.lemmas.List.{append-nil}
@@ -30,15 +30,15 @@ use Rattle.tcap_faults.proofs.run_laws.EndReceivesLaws.{ToldNone, closed_stories
 use Rattle.tcap_faults.proofs.run_laws.EndSendsLaws.{BeganNone, HaveStories, sent_stories}
 use Rattle.tcap_faults.proofs.story_laws.Stories.{told_to}
 
--- ---- what is known of an end
+-- ---- what is known about an end
 
--- Its open halves have their stories; what its peer sent is no longer on its way, or comes yet.
+-- The open halves have their stories. What the peer sent is no longer on its way, or is still coming.
 pub record HasLives (table : Table) (side : Side) (e : End) (coming : List Message) (items : List Item) : Type 0 where
   pub gone : List Message
   pub split : sent_by (other side) items ≡ gone ++ coming
   pub stories : HaveStories table side items gone e
 
--- An ID that no half has it did not begin, and to one that no half has as its peer's it told nothing.
+-- The end sent no Begin from an ID that no half has, and nothing to an ID that no half has as its peer's.
 module _ {table : Table} {side : Side} {e : End} {coming : List Message} {items : List Item}
     (view : View table side e coming items) where
   began_none : BeganNone side items e
@@ -71,7 +71,7 @@ module _ (table : Table) (side : Side) where
     stories = stories_still table side items it.gone m e it.stories;
   }
 
-  -- The end's provider replies by an Abort, which has a cause, and is told to no half.
+  -- The end's provider replies with an Abort, which has a cause and goes over no half.
   has_cause : (e : End) (m abort : Message) → Refuses e m abort → is_none (cause_in abort) ≡ false
   has_cause e (Begin otid dialogue components) abort is = rw (is.0) refl
   has_cause e (Continue otid dtid dialogue components) abort is = rw (is.0) refl
@@ -97,7 +97,7 @@ module _ (table : Table) (side : Side) where
       untold None = refl
       untold (Some id) = told_not side items abort id (rw caused (never (is_id id (dtid_in abort))))
 
-  -- Its peer sends something, which comes yet.
+  -- The peer sends something, which is still coming.
   asks_lives : (e : End) (coming : List Message) (items : List Item) (m : Message) → HasLives table side e coming items
       → HasLives table side e (coming ++ m ∷ []) (items ++ Sent (other side) m ∷ [])
   asks_lives e coming items m it = record {
@@ -113,7 +113,7 @@ module _ (table : Table) (side : Side) where
         (it.stories g in_g is_open);
   }
 
-  -- Something happens unseen.
+  -- A hidden step.
   unseen_lives : (e next : End) (coming : List Message) (items : List Item) → IsEnd e → IsUnseen table e next
       → HasLives table side e coming items → HasLives table side next coming items
   unseen_lives e next coming items sound unseen it =
@@ -149,8 +149,8 @@ have_lives {table} {side} {e} {coming} {items} view = views_keep table side (Has
   asks = λ e coming items m view held. asks_lives table side e coming items m held;
 }) e coming items view
 
--- In each run in which an end keeps the rules, its open halves have their stories, by what was sent since the last quiet
--- mark.
+-- In each run in which an end keeps the rules, its open halves have their stories, by what was sent since the last
+-- quiet mark.
 pub lives : {table : Table} {side : Side} {e : End} {coming : List Message} {items : List Item}
     → View table side e coming items → (f : KeptHalf) → Has e f → is_closed f.half.phase ≡ false
     → Story table side items (sent_by (other side) items) f.slot f.key f.half

@@ -23,9 +23,9 @@ use Rattle.tcap_faults.specs.Told.{begin_from, goes_on_to}
 use Rattle.tcap_faults.proofs.story_laws.Stories.{continues_to, from, heard_behind, may_have_heard}
 use Rattle.tcap_faults.proofs.run_laws.MayHearLaws.{count_in, count_in_append, count_in_one}
 
--- ---- a message more
+-- ---- one more message
 
--- The second messages have the components of that message too.
+-- The second messages have the components of the first and of this message.
 abbrev pub HaveThatToo : Message → List Message → List Message → Type 0
 HaveThatToo m xs ys = (p : Component → Bool) → count_in p xs + count p (components_in m) ≤ count_in p ys
 
@@ -40,7 +40,7 @@ too_among m front xs ys has p =
     let left = count_in_append p front xs in
     let right = count_in_append p front ys in omega arith
 
--- What passes two tests of one message more.
+-- One more message that passes both tests.
 both_more : (p q : Message → Bool) (xs : List Message) (m : Message) → p m ≡ true → q m ≡ true
     → filter q (filter p (xs ++ m ∷ [])) ≡ filter q (filter p xs) ++ m ∷ []
 both_more p q xs m first second =
@@ -62,7 +62,7 @@ none_more p q xs m fails =
     none true is = rw (fails is) refl
     none false is = refl
 
--- From the first that passes on it is one more, where one passes.
+-- If a message passes, those from the first that passes on end with the new message.
 first_more : (p : Message → Bool) (xs : List Message) (m : Message) → list_any p (xs ++ m ∷ []) ≡ true
     → from_first p (xs ++ m ∷ []) ≡ from_first p xs ++ m ∷ []
 first_more p [] m is = by (p m) is
@@ -102,7 +102,7 @@ module _ (side : Side) (items : List Item) (gone : List Message) where
     abbrev pub goes : Message
     goes = Continue otid own dialogue components
 
-    -- A Continue that is taken may have been, by one that began by receiving,
+    -- A Continue that is taken may have been heard by an accepted half.
     pub heard_goes_too : HaveThatToo goes (may_have_heard side items gone Accepted (Some own) (Some otid))
         (may_have_heard side items (gone ++ goes ∷ []) Accepted (Some own) (Some otid))
     heard_goes_too =
@@ -113,14 +113,14 @@ module _ (side : Side) (items : List Item) (gone : List Message) where
         (too_among goes (filter (is_a forms.Begin) (from otid gone)) (continues_to otid gone (Some own)) _
         (too_behind goes (continues_to otid gone (Some own))))
 
-    -- the Continues before it
+    -- The Continues before it.
     abbrev pub before : List Message
     before = continues_to otid gone (Some own)
 
     pub more_before : continues_to otid (gone ++ goes ∷ []) (Some own) ≡ before ++ goes ∷ []
     more_before = both_more (λ n. is_id otid (otid_in n)) (goes_on_to own) gone goes (itself otid) (itself own)
 
-    -- or by one that began by sending, where what it asked for was answered.
+    -- A Continue that is taken may have been heard by a begun half, if its dialogue request was answered.
     pub heard_back_too : (begin : Message) → begin_from side own items ≡ Some begin
         → (is_begin_with_request begin ≡ true → list_any responds (before ++ goes ∷ []) ≡ true)
         → HaveThatToo goes (may_have_heard side items gone Begun (Some own) (Some otid))

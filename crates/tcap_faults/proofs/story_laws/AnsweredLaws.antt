@@ -1,5 +1,5 @@
--- Which invocations each sort of component takes of those that a half received, and which Invokes brought them (Q.774
--- 3.2, Q.771 3.1).
+-- Which received invocations each sort of sent component takes, and which Invokes brought them (Q.774 3.2, Q.771
+-- 3.1).
 use Rattle.std.proofs.Common.{◌≡◌, ◌⊎◌, inl, inr, ℤ, ◌+◌, ◌≤◌, arith, Bool, true, false, cond, List, Some, None, refl}
 use Rattle.std.specs.Prelude.{◌&&◌, ◌||◌, option_map}
 use Rattle.std.proofs.lemmas.Bool.{and_parts, or_cases, or_left, or_right}
@@ -21,9 +21,9 @@ use Rattle.tcap_faults.proofs.component_laws.CodeListLaws.{code_same}
 
 -- ---- codes
 
--- ---- what brings an invocation
+-- ---- which Invoke brings an invocation
 
--- One whose operation passes a test was brought by an Invoke of such an operation;
+-- An invocation whose operation passes was brought by an Invoke of such an operation.
 pub code_brought : (table : Table) (x : ℤ) (test : Code → Bool)
     → IsBrought table x (λ item. test item.code) (invokes_so x test)
 code_brought table x test h (Invoke id linked code parameter) = by (is_invoke_id x id)
@@ -34,7 +34,7 @@ code_brought table x test h (Invoke id linked code parameter) = by (is_invoke_id
     by false is = cc
 code_brought table x test h c = λ is. cc
 
--- any was by an Invoke.
+-- Each invocation was brought by an Invoke.
 pub any_brought : (table : Table) (x : ℤ) → IsBrought table x (λ item. true) (invokes x)
 any_brought table x h (Invoke id linked code parameter) = by (is_invoke_id x id)
   where
@@ -44,9 +44,9 @@ any_brought table x h (Invoke id linked code parameter) = by (is_invoke_id x id)
     by false is = cc
 any_brought table x h c = λ is. cc
 
--- ---- what takes an invocation
+-- ---- which component takes an invocation
 
--- A last Return Result takes one whose class reports success,
+-- A Return Result Last takes an invocation whose class reports success.
 pub result_takes : (table : Table) (x : ℤ)
     → IsTaking table x (is_last_result x) (λ item. class_reports table true item.code)
 result_takes table x (ReturnResult last id body) is =
@@ -54,13 +54,13 @@ result_takes table x (ReturnResult last id body) is =
     rw (is_last, here) (λ item fits. (and_parts (class_reports table true item.code) _ fits).0)
 result_takes table x c is = cc
 
--- a Return Error one whose class reports failure,
+-- A Return Error takes an invocation whose class reports failure.
 pub error_takes : (table : Table) (x : ℤ) → IsTaking table x (is_error x) (λ item. class_reports table false item.code)
 error_takes table x (ReturnError id code parameter) is =
     rw is (λ item fits. (and_parts (class_reports table false item.code) _ fits).0)
 error_takes table x c is = cc
 
--- a last Return Result that names an operation one of that operation,
+-- A Return Result Last that names an operation takes an invocation of that operation.
 pub named_takes : (table : Table) (x : ℤ) (code : Code)
     → IsTaking table x (is_result_of x code) (λ item. is_code code item.code)
 named_takes table x code (ReturnResult last id (Some body)) is =
@@ -71,7 +71,7 @@ named_takes table x code (ReturnResult last id (Some body)) is =
     (λ item fits. (and_parts (class_reports table true item.code) (is_code body.code item.code) fits).1)
 named_takes table x code c is = cc
 
--- a last Return Result or a Return Error one whose class reports either,
+-- A Return Result Last or a Return Error takes an invocation whose class reports success or failure.
 pub answer_takes : (table : Table) (x : ℤ) → IsTaking table x (λ c. is_last_result x c || is_error x c)
     (λ item. class_reports table true item.code || class_reports table false item.code)
 answer_takes table x (ReturnResult last id body) is = by (or_cases _ _ is)
@@ -88,7 +88,7 @@ answer_takes table x (ReturnError id code parameter) is =
     rw is (λ item fits. or_right _ _ ((and_parts (class_reports table false item.code) _ fits).0))
 answer_takes table x c is = cc
 
--- and these and a Reject with an invoke problem any.
+-- These, and a Reject with an invoke problem, take an invocation of any class.
 pub any_takes : (table : Table) (x : ℤ) → IsTaking table x (takes x) (λ item. true)
 any_takes table x (ReturnResult last id body) is = by last (is_invoke_id x id) is
   where
@@ -108,13 +108,13 @@ any_takes table x (Reject (Some id) (problems.Invoke n)) is =
     rw ((and_parts (is_invoke_id x id) true is).0) (λ item fits. refl)
 any_takes table x c is = cc
 
--- Nothing takes one where nothing is counted.
+-- A test that never holds takes none.
 pub none_takes : (table : Table) (x : ℤ) (passes : Invocation → Bool) → IsTaking table x (λ c. false) passes
 none_takes table x passes c is = cc
 
 -- ---- sorts of components
 
--- No component is of two sorts.
+-- No component is a Return Result Last and a Return Error.
 not_both : (x : ℤ) (c : Component) → is_last_result x c ≡ true → is_error x c ≡ true → ⊥
 not_both x (Invoke id linked code parameter) first second = cc
 not_both x (ReturnResult last id body) first second = cc
@@ -128,14 +128,14 @@ not_third x (ReturnResult last id body) first second = cc
 not_third x (ReturnError id code parameter) first second = cc
 not_third x (Reject id problem) first second = cc
 
--- So results and errors are counted together,
+-- Results and errors are counted together.
 pub count_answers : (x : ℤ) (cs : List Component)
     → count (is_last_result x) cs + count (is_error x) cs ≤ count (λ c. is_last_result x c || is_error x c) cs
 count_answers x cs =
     count_apart (is_last_result x) (is_error x) (λ c. is_last_result x c || is_error x c) cs (λ c is. or_left _ _ is)
     (λ c is. or_right _ _ is) (not_both x)
 
--- and with Rejects.
+-- Results, errors and Rejects are counted together.
 pub count_takes : (x : ℤ) (cs : List Component)
     → count (is_last_result x) cs + count (is_error x) cs + count (rejects_invoke x any_problem) cs ≤ count (takes x) cs
 count_takes x cs =
@@ -147,7 +147,7 @@ count_takes x cs =
           (λ c is. or_right (is_last_result x c || is_error x c) (rejects_invoke x any_problem c) is) (not_third x),
     )
 
--- Both are not more than each by itself.
+-- The count of all is at most the sum of the three counts.
 pub count_takes_all : (x : ℤ) (cs : List Component)
     → count (takes x) cs ≤ count (is_last_result x) cs + count (is_error x) cs + count (rejects_invoke x any_problem) cs
 count_takes_all x cs =

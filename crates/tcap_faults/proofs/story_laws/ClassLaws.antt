@@ -1,4 +1,4 @@
--- Invokes by the tests that their operations pass, and by the classes of these (Q.771 3.1).
+-- Counts of Invokes by tests and classes of their operations (Q.771 3.1).
 use Rattle.std.proofs.Common.{◌≡◌, ◌≢◌, ℕ, ℤ, ◌+◌, ◌≤◌, arith, Bool, true, false, cond, List, Option, Some, None, not, refl, sym, ◌∙◌}
 use Rattle.std.specs.Prelude.{◌&&◌, ◌||◌, ◌==◌}
 use Rattle.std.proofs.lemmas.Bool.{and_parts, both_ways, eqb-true, not-true, or_left, or_right}
@@ -22,14 +22,14 @@ both_and : (a b c : Bool) → (c ≡ true → b ≡ true) → (a && c) ≡ true 
 both_and true b c then_so is = then_so is
 both_and false b c then_so is = cc
 
--- An Invoke whose operation passes one test passes another that follows;
+-- An Invoke that passes a test of its operation passes a weaker one.
 pub invokes_weaker : (p r : Code → Bool) → ((code : Code) → p code ≡ true → r code ≡ true) → (x : ℤ) (c : Component)
     → invokes_so x p c ≡ true → invokes_so x r c ≡ true
 invokes_weaker p r weaker x (Invoke id linked code parameter) is =
     both_and (is_invoke_id x id) (r code) (p code) (weaker code) is
 invokes_weaker p r weaker x c is = cc
 
--- one of two, where one of them follows;
+-- If a test implies one of two, an Invoke that passes it passes one of them.
 invokes_covered : (p q r : Code → Bool) → ((code : Code) → r code ≡ true → (p code || q code) ≡ true) → (x : ℤ)
     (c : Component) → invokes_so x r c ≡ true → (invokes_so x p c || invokes_so x q c) ≡ true
 invokes_covered p q r covered x (Invoke id linked code parameter) is =
@@ -37,14 +37,14 @@ invokes_covered p q r covered x (Invoke id linked code parameter) is =
     (both_and (is_invoke_id x id) (p code || q code) (r code) (covered code) is)
 invokes_covered p q r covered x c is = cc
 
--- and not both, where operations do not.
+-- If two tests exclude each other, no Invoke passes both.
 invokes_apart : (p q : Code → Bool) → ((code : Code) → p code ≡ true → q code ≡ true → ⊥) → (x : ℤ) (c : Component)
     → invokes_so x p c ≡ true → invokes_so x q c ≡ true → ⊥
 invokes_apart p q apart x (Invoke id linked code parameter) first second =
     apart code (and_parts (is_invoke_id x id) (p code) first).1 (and_parts (is_invoke_id x id) (q code) second).1
 invokes_apart p q apart x c first second = cc
 
--- So they are counted.
+-- The counts that follow.
 module _ (p q r : Code → Bool) (x : ℤ) (cs : List Component) where
   pub codes_covered : ((code : Code) → r code ≡ true → (p code || q code) ≡ true)
       → count (invokes_so x r) cs ≤ count (invokes_so x p) cs + count (invokes_so x q) cs
@@ -58,7 +58,7 @@ module _ (p q r : Code → Bool) (x : ℤ) (cs : List Component) where
       count_apart (invokes_so x p) (invokes_so x q) (invokes_so x r) cs (invokes_weaker p r left x)
       (invokes_weaker q r right x) (invokes_apart p q apart x)
 
--- Each Invoke of the ID passes a test or its contrary.
+-- Each Invoke with the ID passes a test or its negation.
 pub codes_either : (p : Code → Bool) (x : ℤ) (cs : List Component)
     → count (invokes_so x p) cs + count (invokes_so x (λ code. not (p code))) cs ≡ count (invokes x) cs
 codes_either p x cs = omega (arith, above, below)
@@ -97,7 +97,7 @@ class_apart table m n other code = by (class_of table code)
     by None first second = cc
     by (Some k) first second = other (sym (eqb-true k m first) ∙ eqb-true k n second)
 
--- Success is reported by classes 1 and 3, failure by 1 and 2.
+-- Classes 1 and 3 report success, and classes 1 and 2 report failure.
 pub reports_class : (table : Table) (is_result : Bool) (code : Code) → class_reports table is_result code
     ≡ (has_class table 1 code || has_class table (cond is_result 3 2) code)
 reports_class table is_result code = by is_result (class_of table code)
@@ -112,7 +112,7 @@ reports_class table is_result code = by is_result (class_of table code)
     by true (Some n) = two (n == 1) (n == 3)
     by false (Some n) = two (n == 1) (n == 2)
 
--- So many Invokes are of operations that allow such an answer.
+-- The number of Invokes whose class allows such an answer.
 pub count_reports : (table : Table) (is_result : Bool) (x : ℤ) (cs : List Component)
     → count (invokes_so x (class_reports table is_result)) cs ≡ count_suited table is_result x cs
 count_reports table is_result x cs = omega (arith, above, below)
@@ -134,7 +134,7 @@ count_reports table is_result x cs = omega (arith, above, below)
         (λ code is. reports_class table is_result code ∙ or_right _ _ is)
         (class_apart table 1 other (not_one is_result))
 
--- Success or failure is reported by classes 1, 2 and 3.
+-- Classes 1, 2 and 3 report success or failure.
 pub count_reporting : (table : Table) (x : ℤ) (cs : List Component)
     → count (invokes_so x (λ code. class_reports table true code || class_reports table false code)) cs
     ≤ count_class table x 1 cs + count_class table x 2 cs + count_class table x 3 cs

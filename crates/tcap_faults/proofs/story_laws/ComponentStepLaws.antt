@@ -1,4 +1,4 @@
--- What a component that is sent or received does to what a half keeps of one invoke ID (Q.774 3.2).
+-- What a sent or received component changes in what a half keeps of one invoke ID (Q.774 3.2).
 use Rattle.std.proofs.Common.{◌≡◌, ℕ, ℤ, Bool, true, false, cond, Option, Some, None, Result, Ok, is_none, is_some, refl}
 use Rattle.std.specs.Prelude.{option_map}
 use Rattle.std.specs.BTreeMap.{insert_entry}
@@ -21,13 +21,13 @@ use Rattle.tcap_end.proofs.StepLaws.{none_is}
 use Rattle.tcap_refute.specs.Before.{is_invoke_id}
 use Rattle.tcap_faults.proofs.story_laws.InvokeListLaws.{Took, id_same, kept_inserted, took_of}
 
--- ---- the steps of sending, taken apart
+-- ---- the steps of sending
 
--- It is that half where the step was Ok.
+-- The step was Ok with this half.
 this : (x k : Half) → (let r : Result Half EndFault = Ok x in r) ≡ Ok k → x ≡ k
 this x k is = ok_same {F = EndFault} x k is
 
--- An Invoke is sent: its ID is free, and its linked ID names an invocation that is there.
+-- An Invoke is sent: its ID is free, and its linked ID names an invocation.
 pub record Invokes (table : Table) (h k : Half) (id : ℤ) (linked : Option ℤ) (code : Code) : Type 0 where
   pub free : own_invocation h id ≡ None
   pub may : may_link table h linked code ≡ true
@@ -41,7 +41,7 @@ invokes_step table h k id linked code is =
     let may = needs_ok (may_link table h linked code) faults.BadLink _ k free.1 in
     record { free = none_is (own_invocation h id) free.0; may = may.0; is = this _ k may.1 }
 
--- An answer is sent: an invocation that allows it is there, and is taken by the last one.
+-- An answer is sent: an invocation allows it, and the last answer takes the invocation.
 pub record Answers (table : Table) (h k : Half) (is_result last : Bool) (id : ℤ) (named : Option Code) : Type 0 where
   pub class : one_fits id (may_answer table is_result None) h.inn ≡ true
   pub fits : one_fits id (may_answer table is_result named) h.inn ≡ true
@@ -55,7 +55,7 @@ answers_step table h k is_result last id named is =
     let fits = needs_ok (one_fits id (may_answer table is_result named) h.inn) faults.WrongOperation _ k class.1 in
     record { class = class.0; fits = fits.0; is = this _ k fits.1 }
 
--- A Reject is sent: what allows its problem is there, and is taken.
+-- A Reject is sent: something allows its problem, and is taken.
 pub rejects_invoke_step : (h k : Half) (id : ℤ) (n : ℕ) → send_reject h (Some id) (problems.Invoke n) ≡ Ok k
     → (one_fits id (allows n) h.inn ≡ true) × (record h { inn = without_oldest_of id (allows n) h.inn } ≡ k)
 rejects_invoke_step h k id n is =
@@ -76,9 +76,9 @@ rejects_answer_step h k id false n is =
     let one = needs_ok (one_fits id (allows_for false n) h.grants) faults.RejectNotAllowed _ k is in
     (one.0, this _ k one.1)
 
--- ---- sending: invocations that were received
+-- ---- sending: received invocations
 
--- what a component takes of the invocations of an ID: the oldest that passes
+-- What a component takes from the invocations of an ID: the oldest that passes.
 abbrev pub takes_inn : Table → ℤ → Component → Option (Invocation → Bool)
 takes_inn table x (ReturnResult last id body) =
     cond last (cond (is_invoke_id x id) (Some (may_answer table true (option_map (λ b. b.code) body))) None) None
@@ -117,9 +117,9 @@ sent_inn table h k (Reject (Some id) (problems.ReturnError n)) x rises is =
     let (one, same) = rejects_answer_step h k id false n is in rw (← same) refl
 sent_inn table h k c x rises is = cc
 
--- ---- sending: answers that were received
+-- ---- sending: received answers
 
--- what it takes of the answers of an ID
+-- What a component takes from the answers of an ID.
 abbrev pub takes_grants : ℤ → Component → Option (Answer → Bool)
 takes_grants x (Reject (Some id) (problems.ReturnResult n)) = cond (is_invoke_id x id) (Some (allows_for true n)) None
 takes_grants x (Reject (Some id) (problems.ReturnError n)) = cond (is_invoke_id x id) (Some (allows_for false n)) None
@@ -157,12 +157,12 @@ sent_grants table h k c x rises is = cc
 
 -- ---- sending: own invocations
 
--- the operation that a component invokes by an ID
+-- The operation that a component invokes with this ID.
 abbrev pub invoked_by : ℤ → Component → Option Code
 invoked_by x (Invoke id linked code parameter) = cond (is_invoke_id x id) (Some code) None
 invoked_by x _ = None
 
--- An ID that was free is in Operation Sent, or is as it was.
+-- An ID was free and is now in Operation Sent, or it did not change.
 abbrev pub Began : Option Code → Option OwnInvocation → Option OwnInvocation → Type 0
 Began None was now = now ≡ was
 Began (Some code) was now = (was ≡ None) × (now ≡ Some (record { code = code; state = states.OperationSent }))

@@ -1,4 +1,4 @@
--- A message without destination ID: nothing came before what it invokes (Q.774 3.2).
+-- A message without destination ID: nothing came before its Invokes (Q.774 3.2).
 use Rattle.std.proofs.Common.{◌≡◌, ℕ, ℤ, arith, Bool, true, false, List, [], ◌∷◌, ◌++◌, Option, Some, None, Result, Ok, Err, is_none, is_some, not, refl, sym, ap, ◌∙◌}
 use Rattle.std.specs.Prelude.{◌||◌, ok_or}
 use Rattle.std.specs.List.{list_any}
@@ -34,11 +34,11 @@ use Rattle.tcap_faults.proofs.story_laws.ComponentStepLaws.{invokes_step}
 
 -- ---- a Begin
 
--- Sending leaves a half without invocations that were received so.
+-- Sending leaves a half without received invocations as it is.
 stays_none : (table : Table) (h g : Half) (c : Component) → send_component table h c ≡ Ok g → h.inn ≡ [] → g.inn ≡ []
 stays_none table h g c is none = (all_sends table (c ∷ []) h g (rw is refl)).inn none
 
--- Over a half that received nothing no Invoke is linked;
+-- Over a half that received nothing, no Invoke is linked.
 none_linked : (table : Table) (components : List Component) (h k : Half) → h.inn ≡ []
     → send_components table h components ≡ Ok k → list_any is_linked components ≡ true → ⊥
 none_linked table [] h k none is found = cc
@@ -55,7 +55,7 @@ none_linked table (c ∷ more) h k none is found =
         let bad = rw none at may in cc
     by c next first linked = cc
 
--- over any half no ID is invoked twice in one message.
+-- Over any half, no message has two Invokes with one ID.
 none_twice : (table : Table) (g : Half) (own : List Component) (h k : Half) (c : Component)
     → send_components table g own ≡ Ok h → send_component table h c ≡ Ok k → invokes_again own ([] ++ own) c ≡ true → ⊥
 none_twice table g own h k (Invoke id linked code parameter) was is again =
@@ -63,7 +63,7 @@ none_twice table g own h k (Invoke id linked code parameter) was is again =
     absurd (omega (arith, free, invoked_along table id own g h was, any_counts (invokes id) own again))
 none_twice table g own h k c was is again = cc
 
--- The components of a Begin are sent over a half that is new.
+-- The components of a Begin are sent over a new half.
 begin_sends : (table : Table) (e made : End) (otid : List ℕ) (dialogue : Option Dialogue) (components : List Component)
     → send_begin table e otid dialogue components ≡ Ok made → (k : Half)
     × (send_components table (fresh phases.Sent (Some otid) None (first_standing dialogue)) components ≡ Ok k)
@@ -92,7 +92,7 @@ begin_none_linked table e made otid dialogue components is =
 
 -- ---- a Unidirectional
 
--- An Invoke of it has no linked ID, and an ID that none before it has; so have the others.
+-- An Invoke of a Unidirectional has no linked ID, and no Invoke before it has its ID; so have the others.
 record IsFirstUni (table : Table) (ids : List ℤ) (id : ℤ) (linked : Option ℤ) (more : List Component) : Type 0 where
   free : has_id id ids ≡ false
   alone : linked ≡ None

@@ -1,5 +1,4 @@
--- What is kept of one invoke ID behind a change of what is kept of this or another: nothing, one item more, or all but
--- the oldest that fits.
+-- What is kept of one invoke ID after a change at this ID or another: no change, one more item, or one item less.
 use Rattle.std.proofs.Common.{◌≡◌, ◌≢◌, ◌⊎◌, inl, inr, ℤ, ◌+◌, ◌≤◌, arith, Bool, true, false, cond, List, [], ◌∷◌, ◌++◌, Option, Some, None, refl, sym, ap, ◌∙◌}
 use Rattle.std.specs.Prelude.{◌||◌}
 use Rattle.std.specs.List.{list_any}
@@ -21,15 +20,15 @@ use Rattle.tcap_faults.proofs.list_laws.CountLaws.{count_last, count_more, one}
 
 -- ---- invoke IDs
 
--- An ID is itself,
+-- An ID equals itself.
 pub id_itself : (id : ℤ) → is_invoke_id id id ≡ true
 id_itself id = rw (tied_itself int_cmp_total id) refl
 
--- and is another only where it is the same,
+-- IDs that compare as equal are equal.
 pub id_same : (x id : ℤ) → is_invoke_id x id ≡ true → x ≡ id
 id_same x id is = tells_apart exact_signed x id is
 
--- either way round.
+-- The comparison is symmetric.
 pub id_turned : (x id : ℤ) → is_invoke_id id x ≡ is_invoke_id x id
 id_turned x id = by (is_invoke_id id x) (is_invoke_id x id) refl refl
   where
@@ -41,9 +40,9 @@ id_turned x id = by (is_invoke_id id x) (is_invoke_id x id) refl refl
 apart : (x id : ℤ) → is_invoke_id x id ≡ false → x ≢ id
 apart x id other same = both_ways (is_invoke_id x id) other (rw same (id_itself id))
 
--- ---- what is kept
+-- ---- what is kept of an ID
 
--- behind an insertion,
+-- After an insertion.
 pub kept_inserted : {A : Type 0} (x id : ℤ) (v : A) (items : List (ℤ × A))
     → kept_at int_cmp (insert_entry int_cmp items id v) x ≡ cond (is_invoke_id x id) (Some v) (kept_at int_cmp items x)
 kept_inserted {A} x id v items = by (is_invoke_id x id) refl
@@ -69,7 +68,7 @@ kept_inserted {A} x id v items = by (is_invoke_id x id) refl
     by true here = let same = id_same x id here in rw same (found_new int_cmp_total id v items)
     by false other = elsewhere (apart x id other) found was refl refl
 
--- and where an entry was removed.
+-- After a removal.
 pub kept_removed : {A : Type 0} (x id : ℤ) (items : List (ℤ × A)) → Rises int_cmp items
     → kept_at int_cmp (remove_entry (is_at (int_cmp id)) items) x
     ≡ cond (is_invoke_id x id) None (kept_at int_cmp items x)
@@ -83,7 +82,7 @@ kept_removed x id items rises = left ∙ ap (λ b. cond b None (kept_at int_cmp 
     left = lookup-remove_entry (eq_by_cmp_equiv int_cmp_total) (is_at (int_cmp id)) one_key x items
         (IsDistinct-from_sorted int_cmp (keys_of items) rises)
 
--- What is listed of an ID where another list is put for one.
+-- After the list of one ID is replaced.
 pub listed_changed : {A : Type 0} (x id : ℤ) (list : List A) (items : List (ℤ × List A)) → Rises int_cmp items
     → listed x (with_listed id list items) ≡ cond (is_invoke_id x id) list (listed x items)
 listed_changed {A} x id [] items rises = ap listed_by (kept_removed x id items rises) ∙ by (is_invoke_id x id)
@@ -101,12 +100,12 @@ listed_changed {A} x id (first ∷ more) items rises =
 
 -- ---- one item less
 
--- What is left where the oldest that passes a test is taken, or nothing is.
+-- The list after the oldest element that passes a test is taken, or after none is.
 abbrev pub Took : {A : Type 0} → Option (A → Bool) → List A → List A → Type 0
 Took None xs ys = ys ≡ xs
 Took (Some fits) xs ys = (list_any fits xs ≡ true) × (ys ≡ without_oldest fits xs)
 
--- It is taken of one ID.
+-- The element is taken from the list of one ID.
 pub took_of : {A : Type 0} (x id : ℤ) (fits : A → Bool) (items : List (ℤ × List A)) → Rises int_cmp items
     → one_fits id fits items ≡ true
     → Took (cond (is_invoke_id x id) (Some fits) None) (listed x items) (listed x (without_oldest_of id fits items))
@@ -121,12 +120,12 @@ took_of {A} x id fits items rises one_is =
     by true here is = let same = id_same x id here in (rw same one_is, is ∙ rw same refl)
     by false other is = is
 
--- whether what the taken one passes shows a second test; nothing taken shows none
+-- Whether each element that may be taken passes a second test; false if none is taken.
 abbrev pub TakesWhat : {A : Type 0} → Option (A → Bool) → (A → Bool) → Type 0
 TakesWhat None passes = ⊥
 TakesWhat {A} (Some fits) passes = (a : A) → fits a ≡ true → passes a ≡ true
 
--- Where the oldest is taken, no more pass,
+-- After the oldest is taken, no more elements pass.
 fewer : {A : Type 0} (fits passes : A → Bool) (xs : List A) → count passes (without_oldest fits xs) ≤ count passes xs
 fewer fits passes [] = omega arith
 fewer {A} fits passes (x ∷ xs) = by (fits x) (fewer fits passes xs)
@@ -136,7 +135,7 @@ fewer {A} fits passes (x ∷ xs) = by (fits x) (fewer fits passes xs)
     by true rest = omega (arith, count_more passes x xs)
     by false rest = omega (arith, rest, count_more passes x xs, count_more passes x (without_oldest fits xs))
 
--- and one less, where it passed.
+-- After the oldest is taken, one less passes, if the taken one did.
 one_fewer : {A : Type 0} (fits passes : A → Bool) (xs : List A) → ((a : A) → fits a ≡ true → passes a ≡ true)
     → list_any fits xs ≡ true → 1 + count passes (without_oldest fits xs) ≤ count passes xs
 one_fewer fits passes [] shows found = cc
@@ -150,7 +149,7 @@ one_fewer {A} fits passes (x ∷ xs) shows found = by (fits x) refl found (one_f
     by false other is rest =
         omega (arith, rest is, count_more passes x xs, count_more passes x (without_oldest fits xs))
 
--- So where one that passes is taken for each that is so, one and those that are left are no more than there were.
+-- If an element that passes is taken whenever `b` holds, it and those that are left are at most those before.
 pub count_taken : {A : Type 0} (o : Option (A → Bool)) (passes : A → Bool) (b : Bool) (xs ys : List A) → Took o xs ys
     → (b ≡ true → TakesWhat o passes) → one b + count passes ys ≤ count passes xs
 count_taken None passes true xs ys took shows = absurd (shows refl)
@@ -161,12 +160,12 @@ count_taken (Some fits) passes false xs ys took shows =
 
 -- ---- one item more
 
--- One is added, the newest, or none is.
+-- One element is added as the newest, or none is.
 abbrev pub Gained : {A : Type 0} → Option A → List A → List A → Type 0
 Gained None xs ys = ys ≡ xs
 Gained (Some a) xs ys = ys ≡ xs ++ a ∷ []
 
--- It is added to one ID.
+-- The element is added to the list of one ID.
 pub gained_of : {A : Type 0} (x id : ℤ) (a : A) (items : List (ℤ × List A)) → Rises int_cmp items
     → Gained (cond (is_invoke_id x id) (Some a) None) (listed x items) (listed x (with_newest id a items))
 gained_of {A} x id a items rises = by (is_invoke_id x id) refl (listed_changed x id more items rises)
@@ -179,7 +178,7 @@ gained_of {A} x id a items rises = by (is_invoke_id x id) refl (listed_changed x
     by true here is = let same = id_same x id here in is ∙ rw same refl
     by false other is = is
 
--- whether what is added passes a test
+-- Whether the added element passes a test.
 abbrev pub gain : {A : Type 0} → (A → Bool) → Option A → Bool
 gain passes None = false
 gain passes (Some a) = passes a

@@ -1,5 +1,5 @@
--- Rejects with an invoke problem: which problems an invocation that a half received allows, and which Invokes show them
--- (Q.773 4.2.2, Q.774 3.2).
+-- Rejects with an invoke problem: which problems a received invocation allows, and which Invokes have them (Q.773
+-- 4.2.2, Q.774 3.2).
 use Rattle.std.proofs.Common.{◌≡◌, ℕ, ℤ, ◌+◌, ◌-◌, ◌≤◌, arith, Bool, true, false, cond, ltb, List, [], ◌∷◌, ◌++◌, Option, Some, None, Ok, is_some, refl, sym, ap, ◌∙◌}
 use Rattle.std.specs.Prelude.{◌||◌, ◌==◌}
 use Rattle.std.specs.List.{list_any}
@@ -27,7 +27,7 @@ use Rattle.tcap_refute.proofs.TestLaws.{or_none}
 
 -- ---- problems
 
--- A number that is one of these, and passes a test, is found by it.
+-- A test that one of these numbers passes finds it.
 pub one_found : (n : ℕ) (passes : ℕ → Bool) (numbers : List ℕ) → is_one_of n numbers ≡ true → passes n ≡ true
     → list_any passes numbers ≡ true
 one_found n passes [] is pass = cc
@@ -40,7 +40,7 @@ one_found n passes (first ∷ more) is pass = by (n == first) refl is (one_found
         let here : passes first ≡ true = ap passes (sym (eqb-true n first same)) ∙ pass in rw here refl
     by false other found later = or_right (passes first) (list_any passes more) (later found pass)
 
--- by which problems of a link an Invoke may be rejected that names an own invocation
+-- The problems of a link that an Invoke has, by the linked operations of the invocation that it names.
 abbrev pub link_problems_by : List (Code × Unit {0}) → Bool → List ℕ
 link_problems_by [] is_listed = 6 ∷ []
 link_problems_by (first ∷ more) is_listed = cond is_listed [] (7 ∷ [])
@@ -54,8 +54,8 @@ linked_are table code to = by (linked_of table to) (links table to code) refl re
     by [] b is is_listed = rw is refl
     by (first ∷ more) b is is_listed = rw is (ap (λ listed. cond listed [] (7 ∷ [])) is_listed)
 
--- A test that finds one of the problems of an Invoke finds 0, where another invocation has its ID, or one from 1 to 4,
--- or one of its link.
+-- A test finds a problem of an Invoke exactly if it finds a problem of its ID or of its link, if no problem from 1 to
+-- 4 passes.
 pub problem_found : (table : Table) (h : Half) (id : ℤ) (linked : Option ℤ) (code : Code) (passes : ℕ → Bool)
     → passes 1 ≡ false → passes 2 ≡ false → passes 3 ≡ false → passes 4 ≡ false
     → list_any passes (item_of table h id linked code).problems
@@ -78,7 +78,7 @@ problem_found table h id linked code passes not_1 not_2 not_3 not_4 = by (listed
         two true b = refl
         two false b = refl
 
--- A test of 0 alone finds nothing of a link;
+-- A test that no problem of a link passes finds none of a link.
 none_of_link : (table : Table) (h : Half) (linked : Option ℤ) (code : Code) (passes : ℕ → Bool) → passes 5 ≡ false
     → passes 6 ≡ false → passes 7 ≡ false → list_any passes (link_problems table h linked code) ≡ false
 none_of_link table h None code passes not_5 not_6 not_7 = refl
@@ -93,7 +93,7 @@ none_of_link table h (Some id) code passes not_5 not_6 not_7 = by (operation_sen
     by None = rw not_5 refl
     by (Some to) = ap (list_any passes) (linked_are table code to) ∙ by_list (linked_of table to) (links table to code)
 
--- one of others nothing of the ID.
+-- A test that 0 does not pass finds none of the ID.
 pub none_of_id : (list : List Invocation) (passes : ℕ → Bool) → passes 0 ≡ false
     → list_any passes (id_problems list) ≡ false
 none_of_id [] passes not_0 = refl
@@ -101,11 +101,11 @@ none_of_id (first ∷ more) passes not_0 = rw not_0 refl
 
 -- ---- what is taken and brought
 
--- an invocation that allows a problem which passes
+-- Whether an invocation allows a problem that passes.
 abbrev pub allows_so : (ℕ → Bool) → Invocation → Bool
 allows_so passes item = list_any passes item.problems
 
--- A Reject with a problem that passes takes one that allows such a problem.
+-- A Reject whose problem passes takes an invocation that allows such a problem.
 pub reject_takes : (table : Table) (x : ℤ) (passes : ℕ → Bool)
     → IsTaking table x (rejects_invoke x passes) (allows_so passes)
 reject_takes table x passes (Reject (Some id) (problems.Invoke n)) is =
@@ -113,7 +113,7 @@ reject_takes table x passes (Reject (Some id) (problems.Invoke n)) is =
     rw here (λ item fits. one_found n passes item.problems fits pass)
 reject_takes table x passes c is = cc
 
--- Where one allows a problem that passes, one allows such a problem.
+-- If an invocation allows this problem, and the problem passes, the invocation counts.
 pub fits_so : (h : Half) (id : ℤ) (problem : ℕ) (passes : ℕ → Bool) → one_fits id (allows problem) h.inn ≡ true
     → passes problem ≡ true → 1 ≤ count (allows_so passes) (listed id h.inn)
 fits_so h id problem passes fits pass =
@@ -154,7 +154,7 @@ brings_it table h x c passes = λ is. cc
 
 -- ---- problems of a link
 
--- One that allows a problem of a link was brought by a linked Invoke.
+-- An invocation that allows a problem of a link was brought by a linked Invoke.
 pub link_brought : (table : Table) (x : ℤ) → IsBrought table x (allows_so is_of_link) (invokes_linked x)
 link_brought table x h c gained =
     let it = brings_it table h x c (allows_so is_of_link) gained in
@@ -173,7 +173,7 @@ link_brought table x h c gained =
 abbrev pub over_7 : ℕ → Bool
 over_7 n = ltb 7 n
 
--- None allows one.
+-- No invocation allows a problem over 7.
 pub over_brought : (table : Table) (x : ℤ) → IsBrought table x (allows_so over_7) (λ c. false)
 over_brought table x h c gained =
     let it = brings_it table h x c (allows_so over_7) gained in
@@ -185,7 +185,7 @@ over_brought table x h c gained =
 -- ---- duplicateInvokeID (0)
 
 module _ (table : Table) (x : ℤ) where
-  -- An invocation that allows it was brought by an Invoke behind another of the ID.
+  -- An invocation that allows problem 0 was brought by an Invoke after another with the ID.
   second_brought : (h : Half) (c : Component) → gain (allows_so (is_problem 0)) (gains_inn table h x c) ≡ true
       → (invokes x c ≡ true) × (1 ≤ count (λ (item : Invocation). true) (listed x h.inn))
   second_brought h c gained = (rw (it.is) (it.here), rw (id_same x it.id it.here) (by (listed it.id h.inn) found))
@@ -205,7 +205,7 @@ module _ (table : Table) (x : ℤ) where
       by [] none = cc
       by (first ∷ more) some = omega (arith, count_more (λ (item : Invocation). true) first more)
 
-  -- So these, and the Rejects with it, are fewer than the Invokes of the ID, or none.
+  -- These invocations and the Rejects with problem 0 are fewer than the Invokes with the ID, or none.
   second : (past : List Happening) (h : Half) → IsLed table past h
       → count (rejects_invoke x (is_problem 0)) (sent_in past) + count (allows_so (is_problem 0)) (listed x h.inn)
       ≤ count (invokes x) (got_in past) - 1

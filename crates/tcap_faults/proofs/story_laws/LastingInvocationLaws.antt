@@ -1,4 +1,5 @@
--- Own invocations that do not expire: what was received ended each but one in Operation Sent (Q.774 3.2, Q.771 3.1).
+-- Own invocations that do not expire: each was ended by what was received, except one in Operation Sent (Q.774 3.2,
+-- Q.771 3.1).
 use Rattle.std.proofs.Common.{◌≡◌, ℤ, ◌+◌, ◌≤◌, arith, Bool, true, false, List, Some, None, not, refl, ap}
 use Rattle.std.specs.Prelude.{◌&&◌, ◌||◌}
 use Rattle.std.proofs.lemmas.Bool.{and_from, and_parts, not-true, or_left}
@@ -18,7 +19,7 @@ use Rattle.tcap_faults.proofs.list_laws.CountLaws.{one}
 use Rattle.tcap_faults.proofs.story_laws.ReceivedComponentLaws.{ends_by}
 use Rattle.tcap_faults.proofs.story_laws.OwnInvocationLaws.{is_sent_so, sent_ended}
 
--- What ends an invocation takes one.
+-- A component that ends an own invocation takes one.
 ends_takes : (table : Table) (x : ℤ) (c : Component) (code : Code) → ends_by table x c code ≡ true → takes x c ≡ true
 ends_takes table x (ReturnResult last id body) code is =
     or_left (is_last_result x (ReturnResult last id body) || false) false
@@ -28,7 +29,7 @@ ends_takes table x (ReturnError id error parameter) code is =
 ends_takes table x (Reject (Some id) (problems.Invoke n)) code is = and_from (is_invoke_id x id) true is refl
 ends_takes table x c code is = cc
 
--- Where nothing of the ID is in Operation Sent, no more that last were sent than what was heard takes.
+-- If the ID has nothing in Operation Sent, at most as many lasting Invokes were sent as heard components take.
 pub ended_any : (table : Table) (s : HalfOf) (past : List Happening) (g : Half) → Bounds s (sent_in past) (got_in past)
     → IsLed table past g → (x : ℤ) → operation_sent g x ≡ None
     → count_lasting table x (λ code. true) s.invoked

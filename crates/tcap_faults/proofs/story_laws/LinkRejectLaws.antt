@@ -1,5 +1,5 @@
--- Rejects with a problem of a link: an invocation that allows linkedResponseUnexpected (6) or unexpectedLinkedOperation
--- (7) was brought by an Invoke that names an own invocation of such an operation (Q.773 4.2.2, Q.774 3.2).
+-- Rejects with problem 6, linkedResponseUnexpected, or 7, unexpectedLinkedOperation. If an invocation allows such a
+-- problem, its Invoke names an own invocation of such an operation (Q.773 4.2.2, Q.774 3.2).
 use Rattle.std.proofs.Common.{◌≡◌, ◌⊎◌, inl, inr, ℕ, ℤ, ◌≤◌, arith, Bool, true, false, List, [], ◌∷◌, Option, Some, None, Ok, not, refl, sym, ap, ◌∙◌}
 use Rattle.std.specs.Prelude.{◌&&◌, ◌||◌, ◌==◌}
 use Rattle.std.specs.List.{list_any}
@@ -28,7 +28,7 @@ use Rattle.tcap_faults.proofs.story_laws.ReceivedInvocationLaws.{spent_along, in
 
 -- ---- what is linked
 
--- What names an own invocation among some names it among more.
+-- An Invoke whose linked ID is that of an own invocation among some components has one among more.
 linked_weaker : (names : Code → Code → Bool) (x : ℤ) (some more : List Component)
     → ((test : Component → Bool) → list_any test some ≡ true → list_any test more ≡ true) → (c : Component)
     → is_linked_to names some x c ≡ true → is_linked_to names more x c ≡ true
@@ -38,14 +38,14 @@ linked_weaker names x some more weaker (Invoke id (Some to) code parameter) is =
     (weaker (invokes_so to (λ of. names of code)) there)
 linked_weaker names x some more weaker c is = cc
 
--- The problem shows that the Invoke names an own invocation in Operation Sent whose operation, with the Invoke's,
--- passes a test.
+-- The problem shows that the Invoke names an own invocation in Operation Sent, and that the operations of both pass a
+-- test.
 abbrev pub Shows : Table → ℕ → (Code → Code → Bool) → Type 0
 Shows table n names =
     (code : Code) (o : Option Code) → list_any (is_problem n) (link_problems_of table code o) ≡ true
     → (to : Code) × (o ≡ Some to) × (names to code ≡ true)
 
--- It is not one that other Invokes have.
+-- The problem is not one that an Invoke has without a link.
 pub record IsOfLink (n : ℕ) : Type 0 where
   pub not_0 : is_problem n 0 ≡ false
   pub not_1 : is_problem n 1 ≡ false
@@ -55,7 +55,7 @@ pub record IsOfLink (n : ℕ) : Type 0 where
 
 module _ (table : Table) (n : ℕ) (names : Code → Code → Bool) (of_link : IsOfLink n) (shows : Shows table n names)
     (x : ℤ) where
-  -- So an invocation that allows it was brought by an Invoke that does.
+  -- The Invoke of an invocation that allows the problem names such an own invocation.
   linked_brought : (past : List Happening) (g : Half) (c : Component) → IsLed table past g
       → gain (allows_so (is_problem n)) (gains_inn table g x c) ≡ true → is_linked_to names (sent_in past) x c ≡ true
   linked_brought past g c led gained = rw (it.is) (by it.linked found)
@@ -97,7 +97,7 @@ module _ (table : Table) (n : ℕ) (names : Code → Code → Bool) (of_link : I
         count_more (is_linked_to names (sent_in past) x) c (got_in past),
       ))
 
-  -- One that names such an own invocation was heard.
+  -- An Invoke that names such an own invocation was heard.
   pub linked_within : (s : HalfOf) (past : List Happening) (g h : Half) (own : List Component)
       → Bounds s (sent_in past) (got_in past) → IsLed table past g → send_components table g own ≡ Ok h
       → 1 ≤ count (allows_so (is_problem n)) (listed x h.inn)
@@ -133,7 +133,7 @@ of_6 = record { not_0 = refl; not_1 = refl; not_2 = refl; not_3 = refl; not_4 = 
 of_7 : IsOfLink 7
 of_7 = record { not_0 = refl; not_1 = refl; not_2 = refl; not_3 = refl; not_4 = refl }
 
--- The first shows an own invocation of an operation that lists nothing,
+-- Problem 6 shows an own invocation of an operation that lists none.
 shows_6 : (table : Table) → Shows table 6 (λ to code. lists_nothing table to)
 shows_6 table code None found = cc
 shows_6 table code (Some to) found = (
@@ -149,7 +149,7 @@ shows_6 table code (Some to) found = (
     by (first ∷ more) true is found = cc
     by (first ∷ more) false is found = cc
 
--- the second one of an operation that lists others.
+-- Problem 7 shows an own invocation of an operation that lists others.
 shows_7 : (table : Table) → Shows table 7 (λ to code. not (lists_nothing table to) && not (links table to code))
 shows_7 table code None found = cc
 shows_7 table code (Some to) found = (
@@ -167,7 +167,7 @@ shows_7 table code (Some to) found = (
     by (first ∷ more) false is linked found =
         and_from (not (lists_nothing table to)) (not (links table to code)) (rw is refl) (ap not linked)
 
--- So a problem of a link that is allowed is shown by what was heard.
+-- If a problem of a link is allowed, what was heard has it.
 pub none_fine : (table : Table) (s : HalfOf) (past : List Happening) (g h : Half) (own : List Component)
     → Bounds s (sent_in past) (got_in past) → IsLed table past g → send_components table g own ≡ Ok h
     → (id : ℤ) (problem : ℕ) → one_fits id (allows problem) h.inn ≡ true → is_link_fine table s id problem ≡ true → ⊥

@@ -14,7 +14,7 @@ use Rattle.tcap_faults.specs.Components.{has_component}
 
 -- ---- tests
 
--- Where none of four is so, not one of them is.
+-- If none of four conditions holds, their disjunction does not.
 pub none_of_four : (a b c d : Bool) → (a ≡ true → ⊥) → (b ≡ true → ⊥) → (c ≡ true → ⊥) → (d ≡ true → ⊥)
     → (a || b || c || d) ≡ true → ⊥
 none_of_four true b c d first second third fourth is = first refl
@@ -24,7 +24,7 @@ none_of_four false false false d first second third fourth is = fourth is
 
 -- ---- one component after the other
 
--- What was sent, and one component more.
+-- After the components that were sent, one more is sent.
 pub sent_more : (table : Table) (own : List Component) (c : Component) (g h k : Half)
     → send_components table g own ≡ Ok h → send_component table h c ≡ Ok k
     → send_components table g (own ++ c ∷ []) ≡ Ok k
@@ -33,12 +33,12 @@ sent_more table (d ∷ own) c g h k is next =
     let (g', first, rest) = then_ok (send_component table g d) (λ n. send_components table n own) h is in
     rw first (sent_more table own c g' h k rest next)
 
--- Neither of two holds.
+-- If neither of two propositions holds, their sum does not.
 pub neither : {A B : Type 0} → A ⊎ B → (A → ⊥) → (B → ⊥) → ⊥
 neither (inl a) left right = left a
 neither (inr b) left right = right b
 
--- Where no component is so behind those before it, none of a message is.
+-- If no component passes a test with those before it, no component of a message passes.
 module _ (table : Table) (g : Half) (sent : List Component) (is_so : List Component → List Component → Component → Bool)
     (none : (own : List Component) (h k : Half) (c : Component) → send_components table g own ≡ Ok h
     → send_component table h c ≡ Ok k → is_so own (sent ++ own) c ≡ true → ⊥) where

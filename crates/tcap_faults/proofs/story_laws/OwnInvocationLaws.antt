@@ -23,14 +23,14 @@ use Rattle.tcap_faults.proofs.story_laws.ReceivedComponentLaws.{ends_by, got_out
 use Rattle.tcap_faults.proofs.story_laws.InvokeListLaws.{id_same}
 use Rattle.tcap_faults.proofs.story_laws.ComponentStepLaws.{Began, invoked_by, sent_out}
 
--- ---- what is in Operation Sent
+-- ---- Operation Sent
 
--- whether it is an operation that passes a test
+-- Whether an operation is there, and passes a test.
 abbrev pub sent_so : (Code → Bool) → Option Code → Bool
 sent_so passes None = false
 sent_so passes (Some code) = passes code
 
--- whether an own invocation of that ID is in Operation Sent, of an operation that passes
+-- Whether an own invocation of this ID is in Operation Sent, and its operation passes.
 abbrev pub is_sent_so : (Code → Bool) → Half → ℤ → Bool
 is_sent_so passes h x = sent_so passes (operation_sent h x)
 
@@ -41,7 +41,7 @@ sent_same passes x g h same = rw (same.0) refl
 pub sent_none : (passes : Code → Bool) (x : ℤ) (h : Half) → h.out ≡ [] → is_sent_so passes h x ≡ false
 sent_none passes x h none = rw none refl
 
--- An Invoke that is sent is there, where none was.
+-- An Invoke that is sent puts its ID in Operation Sent, if the ID was free.
 began_so : (passes : Code → Bool) (x : ℤ) (c : Component) (was now : Option OwnInvocation)
     → Began (invoked_by x c) was now
     → one (invokes_so x passes c) + one (sent_so passes (operation_sent_by was))
@@ -61,7 +61,7 @@ pub sent_began : (table : Table) (passes : Code → Bool) (x : ℤ) (g k : Half)
 sent_began table passes x g k c is =
     began_so passes x c (own_invocation g x) (own_invocation k x) (sent_out table g k c x is)
 
--- What ends is no longer there.
+-- An ended invocation leaves Operation Sent.
 pub stays_fewer : (passes ends : Code → Bool) (o : Option Code)
     → one (sent_so passes (stays ends o)) ≤ one (sent_so passes o)
 stays_fewer passes ends None = omega arith
@@ -71,7 +71,7 @@ stays_fewer passes ends (Some code) = by (ends code)
     by true = omega arith
     by false = omega arith
 
--- What is no longer there was ended by what shows it.
+-- An invocation that left Operation Sent was ended by a component that shows it.
 stays_ended : (passes ends : Code → Bool) (shown : Bool) (o : Option Code)
     → ((code : Code) → ends code ≡ true → o ≡ Some code → passes code ≡ true → shown ≡ true)
     → one (sent_so passes o) ≤ one shown + one (sent_so passes (stays ends o))
@@ -83,7 +83,7 @@ stays_ended passes ends shown (Some code) shows = by (ends code) refl
     by true is = let less = one_weaker (passes code) shown (shows code is refl) in omega (arith, less)
     by false is = omega arith
 
--- ---- an invocation that is there was sent
+-- ---- an invocation in Operation Sent was sent
 
 abbrev AreInvoked : (Code → Bool) → ℤ → List Happening → Half → Type 0
 AreInvoked passes x past h = one (is_sent_so passes h x) ≤ count (invokes_so x passes) (sent_in past)
@@ -106,9 +106,9 @@ pub sent_invoked : (table : Table) (passes : Code → Bool) (x : ℤ) (past : Li
     → IsLed table past h → one (is_sent_so passes h x) ≤ count (invokes_so x passes) (sent_in past)
 sent_invoked table passes x = holds table (AreInvoked passes x) (are_invoked table passes x)
 
--- ---- an invocation that is not there was ended
+-- ---- an invocation that is not in Operation Sent was ended
 
--- What ends unseen in Operation Sent is of an operation that expires.
+-- An invocation that expires in Operation Sent has an operation that expires.
 expires_sent : (table : Table) (o : Option OwnInvocation) (code : Code) → operation_sent_by o ≡ Some code
     → may_expire table o ≡ true → expires_of table code ≡ true
 expires_sent table None code is may = cc
@@ -120,7 +120,7 @@ expires_sent table (Some own) code is may = by own.code own.state is may
     by operation states.OperationSent is may = let same : operation ≡ code = cc in rw same at may
     by operation states.WaitForReject is may = cc
 
--- Of operations that do not expire, each of whose ends is shown by what was received.
+-- Operations that do not expire, if received components show each of their ends.
 module _ (table : Table) (passes : Code → Bool) (shows : Component → Bool) (x : ℤ)
     (lasts : (code : Code) → passes code ≡ true → expires_of table code ≡ false)
     (shown : (c : Component) (code : Code) → ends_by table x c code ≡ true → passes code ≡ true → shows c ≡ true) where
@@ -166,7 +166,7 @@ began_any x (Invoke id linked code parameter) was now began = by (is_invoke_id x
     by false same = rw same (omega arith)
 began_any x c was now began = rw began (omega arith)
 
--- An ID that it invokes was free, and is not.
+-- An ID that a message invokes was free before, and is not free after.
 pub invoked_along : (table : Table) (x : ℤ) (own : List Component) (g h : Half) → send_components table g own ≡ Ok h
     → count (invokes x) own + one (is_some (own_invocation g x)) ≡ one (is_some (own_invocation h x))
 invoked_along table x [] g h is = let same = ok_same {F = EndFault} g h is in rw (same) (omega arith)

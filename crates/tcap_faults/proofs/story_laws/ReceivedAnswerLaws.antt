@@ -1,4 +1,4 @@
--- The answers that a half received: what it sent rejected some of them, and which problems the others allow (Q.773
+-- The answers that a half received: its Rejects took some of them, and the others allow certain problems (Q.773
 -- 4.2.2, Q.774 3.2).
 use Rattle.std.proofs.Common.{◌≡◌, ℕ, ℤ, ◌+◌, ◌≤◌, arith, Bool, true, false, cond, List, [], ◌∷◌, Option, Some, None, not, refl, ap}
 use Rattle.std.specs.Prelude.{◌&&◌, option_map}
@@ -24,25 +24,25 @@ use Rattle.tcap_faults.proofs.story_laws.InvokeRejectLaws.{one_found}
 use Rattle.tcap_faults.proofs.story_laws.ComponentStepLaws.{takes_grants}
 use Rattle.tcap_faults.proofs.story_laws.ReceivedInvocationLaws.{grants_of, spent, spent_shown}
 
--- ---- the two sorts: Return Results (true), and Return Errors
+-- ---- two sorts of answers: Return Results (`true`) and Return Errors
 
--- a Reject of an answer of that ID, with a problem that passes
+-- A Reject of an answer with this ID, whose problem passes.
 abbrev pub rejects_of : Bool → ℤ → (ℕ → Bool) → Component → Bool
 rejects_of true x passes c = rejects_result x passes c
 rejects_of false x passes c = rejects_error x passes c
 
--- an answer of that ID
+-- An answer with this ID.
 abbrev pub answers_of : Bool → ℤ → Component → Bool
 answers_of true x c = is_result x c
 answers_of false x c = is_error x c
 
--- an answer that was received and allows a problem that passes
+-- A received answer that allows a problem that passes.
 abbrev pub grant_so : Bool → (ℕ → Bool) → Answer → Bool
 grant_so sort passes answer = cond sort answer.is_result (not answer.is_result) && list_any passes answer.problems
 
--- ---- what takes an answer
+-- ---- which component takes an answer
 
--- A Reject with a problem that passes takes one that allows such a problem.
+-- A Reject whose problem passes takes an answer that allows such a problem.
 pub grant_found : (sort : Bool) (n : ℕ) (passes : ℕ → Bool) → passes n ≡ true → (answer : Answer)
     → allows_for sort n answer ≡ true → grant_so sort passes answer ≡ true
 grant_found sort n passes pass answer is =
@@ -59,10 +59,10 @@ grant_takes false x passes (Reject (Some id) (problems.ReturnError n)) is =
 grant_takes true x passes c is = cc
 grant_takes false x passes c is = cc
 
--- ---- what brings an answer
+-- ---- which component brings an answer
 
--- One that allows a problem that passes was brought by an answer of its sort, and the operation that it is for shows
--- such a problem.
+-- An answer that allows a problem that passes was brought by a component of its sort, and its operation allows the
+-- problem.
 pub granted : (table : Table) (h : Half) (x : ℤ) (c : Component) (sort : Bool) (passes : ℕ → Bool)
     → gain (grant_so sort passes) (gains_grants table h x c) ≡ true → (answers_of sort x c ≡ true)
     × (list_any passes (problems_of sort (answered_by table (operation_sent h x))) ≡ true)
@@ -88,7 +88,7 @@ granted table h x c sort passes = λ is. cc
 
 -- ---- what a problem shows
 
--- Another problem than 0 and 1 shows that the class reports such an answer;
+-- A problem other than 0 and 1 shows that the class reports such an answer.
 pub shows_reported : (table : Table) (sort : Bool) (passes : ℕ → Bool) (o : Option Code) → passes 0 ≡ false
     → passes 1 ≡ false → list_any passes (problems_of sort (answered_by table o)) ≡ true
     → (sent_so (class_reports table sort) o ≡ true) × (list_any passes (answer_problems sort) ≡ true)
@@ -106,7 +106,7 @@ shows_reported table sort passes (Some code) not_0 not_1 found = by (class_of ta
     by None found = let bad = rw not_0 at found in cc
     by (Some class) found = by_reports class (reports sort class) refl found
 
--- 1 that it reports none.
+-- Problem 1 shows that the class does not report such an answer.
 pub shows_other : (table : Table) (sort : Bool) (o : Option Code)
     → list_any (is_problem 1) (problems_of sort (answered_by table o)) ≡ true
     → sent_so (λ code. not (class_reports table sort code)) o ≡ true
@@ -131,7 +131,7 @@ shows_other table sort (Some code) found = by (class_of table code) found
 -- ---- along what happened to a half
 
 module _ (table : Table) (x : ℤ) (sort : Bool) (passes : ℕ → Bool) where
-  -- Rejects, and the answers that are there, are no more than the answers that were received;
+  -- Rejects and the answers that are left are at most the answers that were received.
   pub rejected : (past : List Happening) (h : Half) → IsLed table past h
       → count (rejects_of sort x passes) (sent_in past) + count (grant_so sort passes) (listed x h.grants)
       ≤ count (answers_of sort x) (got_in past)
@@ -139,7 +139,7 @@ module _ (table : Table) (x : ℤ) (sort : Bool) (passes : ℕ → Bool) where
       spent table (grants_of table x) (rejects_of sort x passes) (grant_so sort passes) (grant_takes sort x passes)
       (answers_of sort x) (λ h c gained. (granted table h x c sort passes gained).0)
 
-  -- and an answer that is there shows an own invocation of an operation that passes, where its problem does.
+  -- If the problem of a left answer shows an operation that passes, an own invocation has such an operation.
   pub shown : (test : Code → Bool) → ((o : Option Code)
       → list_any passes (problems_of sort (answered_by table o)) ≡ true → sent_so test o ≡ true)
       → (past : List Happening) (h : Half) → IsLed table past h

@@ -1,4 +1,4 @@
--- What a component that is received does to what a half keeps of one invoke ID (Q.774 3.2).
+-- What a received component changes in what a half keeps of one invoke ID (Q.774 3.2).
 use Rattle.std.proofs.Common.{◌≡◌, ℕ, ℤ, Bool, true, false, cond, List, [], ◌∷◌, ◌++◌, Option, Some, None, refl, sym, ap, ◌∙◌}
 use Rattle.std.specs.Prelude.{◌&&◌, option_map}
 use Rattle.std.specs.BTreeMap.{insert_entry, is_at}
@@ -19,9 +19,9 @@ use Rattle.tcap_end.specs.Sound.{Rises}
 use Rattle.tcap_refute.specs.Before.{is_invoke_id}
 use Rattle.tcap_faults.proofs.story_laws.InvokeListLaws.{Gained, gained_of, id_same, kept_inserted, kept_removed}
 
--- ---- the answers of one sort that are received
+-- ---- received answers of one sort
 
--- the operation that an answer is for, and its class
+-- The operation that an answer is for, with its class.
 abbrev pub answered_by : Table → Option Code → Option (Code × ℕ)
 answered_by table None = None
 answered_by table (Some code) = option_map (λ class. (code, class)) (class_of table code)
@@ -34,7 +34,7 @@ answered_is table h id = by (operation_sent h id) refl
     by None is = rw is refl
     by (Some code) is = rw is refl
 
--- by which problems the answer may be rejected
+-- The problems with which the answer may be rejected.
 abbrev pub problems_of : Bool → Option (Code × ℕ) → List ℕ
 problems_of is_result None = 0 ∷ []
 problems_of is_result (Some (code, class)) = cond (reports is_result class) (answer_problems is_result) (1 ∷ [])
@@ -42,12 +42,12 @@ problems_of is_result (Some (code, class)) = cond (reports is_result class) (ans
 abbrev pub grant_of : Table → Bool → Option Code → Answer
 grant_of table is_result o = record { is_result = is_result; problems = problems_of is_result (answered_by table o) }
 
--- whether it ends the invocation that it is for
+-- Whether the answer ends its invocation.
 abbrev ends_it : Bool → Bool → Option (Code × ℕ) → Bool
 ends_it is_result last None = false
 ends_it is_result last (Some (code, class)) = last && reports is_result class
 
--- What it does to the lists; the code is any where it ends nothing.
+-- What the answer changes; if it ends nothing, the code means nothing.
 record AnswerDoes (h g : Half) (is_result last : Bool) (id : ℤ) (o : Option (Code × ℕ)) : Type 0 where
   inn : g.inn ≡ h.inn
   grants : g.grants ≡ with_newest id (record { is_result = is_result; problems = problems_of is_result o }) h.grants
@@ -84,15 +84,15 @@ answer_does h is_result false id (Some (code, class)) = by (reports is_result cl
     by true is = record { inn = rw is refl; grants = rw is refl; out = λ x. rw is refl }
     by false is = record { inn = rw is refl; grants = rw is refl; out = λ x. rw is refl }
 
--- ---- what is left in Operation Sent
+-- ---- what remains in Operation Sent
 
--- what is left of one where those that pass end
+-- The operation that remains, if those that pass end.
 abbrev pub stays : (Code → Bool) → Option Code → Option Code
 stays ends None = None
 stays ends (Some code) = cond (ends code) None (Some code)
 
--- whether a component ends an own invocation of an ID, by its operation: its last Return Result or its Return Error,
--- where the class reports it, or a Reject with an invoke problem
+-- Whether a component ends an own invocation of an ID with this operation: a Return Result Last or a Return Error
+-- that the class reports, or a Reject with an invoke problem.
 abbrev pub ends_by : Table → ℤ → Component → Code → Bool
 ends_by table x (ReturnResult last id body) code = last && is_invoke_id x id && class_reports table true code
 ends_by table x (ReturnError id error parameter) code = is_invoke_id x id && class_reports table false code
@@ -103,7 +103,7 @@ stays_all : (o : Option Code) → stays (λ code. false) o ≡ o
 stays_all None = refl
 stays_all (Some code) = refl
 
--- An answer ends what the class of its operation says.
+-- An answer ends an invocation if the class of its operation says so.
 ends_class : (table : Table) (is_result last : Bool) (o : Option Code)
     → cond (ends_it is_result last (answered_by table o)) None o
     ≡ stays (λ code. last && class_reports table is_result code) o
@@ -166,7 +166,7 @@ removed_out h id x rises = ap operation_sent_by (kept_removed x id h.out rises) 
     by true = ended (operation_sent h x)
     by false = sym (stays_all (operation_sent h x))
 
--- What is in Operation Sent behind a component that is received is what it does not end,
+-- What a received component does not end remains in Operation Sent.
 pub got_out : (table : Table) (h : Half) (c : Component) (x : ℤ) → Rises int_cmp h.out
     → operation_sent (receive_component table h c) x ≡ stays (ends_by table x c) (operation_sent h x)
 got_out table h (ReturnResult last id body) x rises = answer_out table h true last id x
@@ -174,21 +174,21 @@ got_out table h (ReturnError id code parameter) x rises = answer_out table h fal
 got_out table h (Reject (Some id) (problems.Invoke n)) x rises = removed_out h id x rises
 got_out table h c x rises = sym (stays_all (operation_sent h x))
 
--- and behind the end of an invocation what has another ID.
+-- After an own invocation ends, those of other IDs remain in Operation Sent.
 pub without_out : (h : Half) (id x : ℤ) → Rises int_cmp h.out
     → operation_sent (without_invocation id h) x ≡ stays (λ code. is_invoke_id x id) (operation_sent h x)
 without_out h id x rises = removed_out h id x rises
 
--- ---- invocations and answers that are received
+-- ---- received invocations and answers
 
--- what is kept of an Invoke
+-- What is kept of an Invoke.
 abbrev pub item_of : Table → Half → ℤ → Option ℤ → Code → Invocation
 item_of table h id linked code = record {
   code = code;
   problems = id_problems (listed id h.inn) ++ 1 ∷ 2 ∷ 3 ∷ 4 ∷ [] ++ link_problems table h linked code;
 }
 
--- what a component adds to the invocations of an ID
+-- What a component adds to the invocations of an ID.
 abbrev pub gains_inn : Table → Half → ℤ → Component → Option Invocation
 gains_inn table h x (Invoke id linked code parameter) =
     cond (is_invoke_id x id) (Some (item_of table h id linked code)) None
@@ -207,7 +207,7 @@ got_inn table h (Reject (Some id) (problems.Invoke n)) x rises = refl
 got_inn table h (Reject (Some id) (problems.ReturnResult n)) x rises = refl
 got_inn table h (Reject (Some id) (problems.ReturnError n)) x rises = refl
 
--- what it adds to the answers of an ID
+-- What a component adds to the answers of an ID.
 abbrev pub gains_grants : Table → Half → ℤ → Component → Option Answer
 gains_grants table h x (ReturnResult last id body) =
     cond (is_invoke_id x id) (Some (grant_of table true (operation_sent h id))) None

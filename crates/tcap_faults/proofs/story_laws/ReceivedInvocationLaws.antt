@@ -1,5 +1,5 @@
--- What a half received by invoke IDs, invocations and answers: what it sent took some of them, each one that allows it, and
--- the others are there (Q.774 3.2).
+-- The invocations and answers that a half received, by invoke ID: each sent component took one that allows it, and
+-- the others remain (Q.774 3.2).
 use Rattle.std.proofs.Common.{◌≡◌, ℤ, ◌+◌, ◌≤◌, arith, Bool, true, List, [], ◌∷◌, Ok, ℕ, Option, ap, refl, false}
 use Rattle.tcap_parts.specs.declared.component.Component.{Component}
 use Rattle.tcap_end.specs.declared.fault.EndFault.{EndFault}
@@ -20,7 +20,7 @@ use Rattle.tcap_faults.proofs.story_laws.ComponentStepLaws.{sent_inn, takes_inn,
 
 -- ---- what is kept of an ID
 
--- What is kept of an ID: what a component that is sent takes of it, and what one that is received adds.
+-- A list that is kept of an ID, what a sent component takes from it, and what a received one adds.
 pub record IsLedger (table : Table) (A : Type 0) : Type 0 where
   pub of : Half → List A
   pub takes : Component → Option (A → Bool)
@@ -31,7 +31,7 @@ pub record IsLedger (table : Table) (A : Type 0) : Type 0 where
   pub got : (g : Half) (c : Component) → IsRisen g → Gained (gains g c) (of g) (of (receive_component table g c))
   pub ends : (h : Half) (id : ℤ) → of (without_invocation id h) ≡ of h
 
--- The invocations of it that were received,
+-- The received invocations of the ID.
 abbrev pub inn_of : (table : Table) → ℤ → IsLedger table Invocation
 inn_of table x = record {
   of = λ h. listed x h.inn;
@@ -44,7 +44,7 @@ inn_of table x = record {
   ends = λ h id. refl;
 }
 
--- and the answers.
+-- The received answers of the ID.
 abbrev pub grants_of : (table : Table) → ℤ → IsLedger table Answer
 grants_of table x = record {
   of = λ h. listed x h.grants;
@@ -57,13 +57,13 @@ grants_of table x = record {
   ends = λ h id. refl;
 }
 
--- ---- in general
+-- ---- laws for both lists
 
 -- Each component that is counted takes an invocation of the ID that passes.
 abbrev pub IsTaking : Table → ℤ → (Component → Bool) → (Invocation → Bool) → Type 0
 IsTaking table x spends passes = (c : Component) → spends c ≡ true → TakesWhat (takes_inn table x c) passes
 
--- Each invocation of the ID that is kept and passes is brought by a component that is counted.
+-- Each kept invocation of the ID that passes was brought by a component that is counted.
 abbrev pub IsBrought : Table → ℤ → (Invocation → Bool) → (Component → Bool) → Type 0
 IsBrought table x passes brings =
     (h : Half) (c : Component) → gain passes (gains_inn table h x c) ≡ true → brings c ≡ true
@@ -81,7 +81,7 @@ module _ {A : Type 0} (table : Table) (kept : IsLedger table A) (spends : Compon
   got_gains g c risen =
       count_gained (kept.gains g c) passes (kept.of g) (kept.of (receive_component table g c)) (kept.got g c risen)
 
-  -- As many are gone as components of a message take one.
+  -- The components of a message take one element each.
   pub spent_along : (own : List Component) (g h : Half) → IsRisen g → send_components table g own ≡ Ok h
       → count spends own + count passes (kept.of h) ≤ count passes (kept.of g)
   spent_along [] g h risen is = let same = ok_same {F = EndFault} g h is in rw same (omega arith)
@@ -90,7 +90,8 @@ module _ {A : Type 0} (table : Table) (kept : IsLedger table A) (spends : Compon
       let later = spent_along more next h (risen_sends table g next c first risen) rest in
       omega (arith, sent_spends g next c risen first, later, count_more spends c more)
 
-  -- What was sent that takes one, and those that are there, are no more than what grows with each that is added,
+  -- The components that were sent and take one, and the elements that are left, are at most a number that grows with
+  -- each that is added.
   module _ (most : List Happening → ℕ) (most_sent : (past : List Happening) (c : Component) → most past ≤ most (Sends c ∷ past))
       (most_got : (past : List Happening) (g : Half) (c : Component) → IsLed table past g
       → most past + one (gain passes (kept.gains g c)) ≤ most (Gets c ∷ past))
@@ -112,7 +113,7 @@ module _ {A : Type 0} (table : Table) (kept : IsLedger table A) (spends : Compon
         → count spends (sent_in past) + count passes (kept.of h) ≤ most past
     spent_most = holds table AreSpent are_spent
 
-  -- as than what was received that brings one.
+  -- They are at most the received components that bring one.
   module _ (brings : Component → Bool)
       (brought : (h : Half) (c : Component) → gain passes (kept.gains h c) ≡ true → brings c ≡ true) where
     pub spent : (past : List Happening) (h : Half) → IsLed table past h
@@ -125,7 +126,7 @@ module _ {A : Type 0} (table : Table) (kept : IsLedger table A) (spends : Compon
           one_weaker (gain passes (kept.gains g c)) (brings c) (brought g c),
         )) (λ past id. omega arith)
 
-    -- So it is behind some components of a message, by what is known of the half.
+    -- This holds after some components of a message, by what is known about the half.
     pub spent_within : (s : HalfOf) (past : List Happening) (g h : Half) (own : List Component)
         → Bounds s (sent_in past) (got_in past) → IsLed table past g → send_components table g own ≡ Ok h
         → count spends s.told + count spends own + count passes (kept.of h) ≤ count brings s.heard
@@ -138,7 +139,7 @@ module _ {A : Type 0} (table : Table) (kept : IsLedger table A) (spends : Compon
           bounds.heard brings,
         )
 
-  -- Where one is there, there is what each that is added shows, and what stays.
+  -- If an element is there, what each added element shows holds, if it remains true.
   module _ (shown : List Happening → ℕ) (shown_sent : (past : List Happening) (c : Component) → shown past ≤ shown (Sends c ∷ past))
       (shown_got : (past : List Happening) (c : Component) → shown past ≤ shown (Gets c ∷ past))
       (shown_ended : (past : List Happening) (id : ℤ) → shown past ≤ shown (Ends id ∷ past))

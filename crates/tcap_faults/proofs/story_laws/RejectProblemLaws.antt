@@ -1,4 +1,4 @@
--- No Reject that a half sends has a problem that nothing which the half received has (Q.773 4.2.2, Q.774 3.2).
+-- No Reject that a half sends has F13: something that the half received has its problem (Q.773 4.2.2, Q.774 3.2).
 use Rattle.std.proofs.Common.{◌≡◌, ℕ, ℤ, ◌+◌, ◌≤◌, arith, Bool, true, false, cond, eqb, leb, ltb, List, [], ◌∷◌, ◌++◌, Option, Some, Ok, not, refl, ap}
 use Rattle.std.specs.Prelude.{◌&&◌, nat_le, nat_lt}
 use Rattle.std.specs.List.{list_any}
@@ -35,13 +35,13 @@ module _ (table : Table) (s : HalfOf) (past : List Happening) (g : Half)
     (bounds : Bounds s (sent_in past) (got_in past))
     (led : IsLed table past g) (own : List Component) (h k : Half) (id : ℤ) (n : ℕ)
     (was : send_components table g own ≡ Ok h) where
-  -- ---- of an invocation
+  -- ---- a Reject of an invocation
 
   module _ (is : send_component table h (Reject (Some id) (problems.Invoke n)) ≡ Ok k) where
     abbrev reject : Component
     reject = Reject (Some id) (problems.Invoke n)
 
-    -- Behind the Reject it is counted.
+    -- The Reject is counted with those before it.
     behind : send_components table g (own ++ reject ∷ []) ≡ Ok k
     behind = sent_more table own reject g h k was is
 
@@ -55,7 +55,7 @@ module _ (table : Table) (s : HalfOf) (past : List Happening) (g : Half)
           count_last passes own reject,
         )
 
-    -- duplicateInvokeID: so many Invokes of the ID were heard, and one more;
+    -- duplicateInvokeID: more Invokes of the ID were heard than such Rejects were sent.
     none_second : (eqb n 0 && leb (count (invokes id) s.heard)
         (count (rejects_invoke id (is_problem 0)) (s.told ++ own ++ reject ∷ []))) ≡ true → ⊥
     none_second so =
@@ -70,7 +70,7 @@ module _ (table : Table) (s : HalfOf) (past : List Happening) (g : Half)
           second_within table id s past g k (own ++ reject ∷ []) bounds led behind,
         ))
 
-    -- a problem of a link: so many linked Invokes;
+    -- A problem of a link: as many linked Invokes were heard as such Rejects were sent, or more.
     none_linked : (is_of_link n && ltb (count (invokes_linked id) s.heard)
         (count (rejects_invoke id is_of_link) (s.told ++ own ++ reject ∷ []))) ≡ true → ⊥
     none_linked so =
@@ -82,7 +82,7 @@ module _ (table : Table) (s : HalfOf) (past : List Happening) (g : Half)
               (invokes_linked id) (link_brought table id) s past g k (own ++ reject ∷ []) bounds led behind,
         ))
 
-    -- no problem over 7.
+    -- The problem is not over 7.
     none_over : ltb 7 n ≡ true → ⊥
     none_over so =
         let (fits, same) = rejects_invoke_step h k id n is in
@@ -99,7 +99,7 @@ module _ (table : Table) (s : HalfOf) (past : List Happening) (g : Half)
         none_of_four _ _ _ _ none_second none_linked
         (none_fine table s past g h own bounds led was id n (rejects_invoke_step h k id n is).0) none_over
 
-  -- ---- of an answer
+  -- ---- a Reject of an answer
 
   module _ (sort : Bool) (is : send_component table h (Reject (Some id) (answer_problem sort n)) ≡ Ok k) where
     abbrev answer_reject : Component
@@ -124,7 +124,7 @@ module _ (table : Table) (s : HalfOf) (past : List Happening) (g : Half)
               (grant_takes sort id passes) own g h (risen table past g led) was,
         )
 
-    -- No more are rejected than were heard;
+    -- At most as many answers are rejected as were heard.
     none_more : ltb (count (answers_of sort id) s.heard)
         (count (rejects_of sort id any_problem) (s.told ++ own ++ answer_reject ∷ [])) ≡ true → ⊥
     none_more so =
@@ -142,7 +142,7 @@ module _ (table : Table) (s : HalfOf) (past : List Happening) (g : Half)
           bounds.heard (answers_of sort id),
         ))
 
-    -- the problem is an answer's;
+    -- The problem is an answer's.
     none_higher : ltb (cond sort 2 4) n ≡ true → ⊥
     none_higher so =
         absurd (omega (
@@ -177,7 +177,7 @@ module _ (table : Table) (s : HalfOf) (past : List Happening) (g : Half)
             none (Invoke other linked code parameter) is = (and_parts (is_invoke_id id other) false is).1
             none c is = is
 
-    -- 1 where an own invocation allows no such answer;
+    -- With problem 1, an answer can be unexpected.
     none_unexpected : (eqb n 1 && is_expected table s sort id) ≡ true → ⊥
     none_unexpected so =
         let (is_1, expected) = and_parts (eqb n 1) _ so in
@@ -195,7 +195,7 @@ module _ (table : Table) (s : HalfOf) (past : List Happening) (g : Half)
           bounds.all (invokes_so id (λ code. not (class_reports table sort code))),
         ))
 
-    -- others where one allows it.
+    -- With problem 2 or more, the class of an own invocation allows such an answer.
     none_suited : (nat_le 2 n && eqb (count_suited table sort id s.invoked) 0) ≡ true → ⊥
     none_suited so =
         let (high, none) = and_parts (nat_le 2 n) _ so in

@@ -1,4 +1,4 @@
--- What happened to the components of a half, and what the list of messages tells of it.
+-- What happened to the components of a half, and what the list of messages has of it.
 use Rattle.std.proofs.Common.{◌≡◌, ℕ, ℤ, ◌≤◌, Bool, true, List, [], ◌∷◌, ◌++◌, filter, Option, Some, None, Ok}
 use Rattle.tcap_parts.specs.declared.component.Component.{Component}
 use Rattle.tcap_msg.specs.declared.kind.Kind.TheVariants as forms
@@ -20,17 +20,17 @@ use Rattle.tcap_faults.specs.Told.{begin_from, goes_on_to, told}
 
 -- ---- a half's own story
 
--- A component was sent, or received, or an own invocation ended unseen.
+-- A component was sent, one was received, or an own invocation expired.
 pub data Happening : Type 0 where
   Sends : Component → Happening
   Gets : Component → Happening
   Ends : ℤ → Happening
 
--- They have the same invocations and answers.
+-- Both halves have the same invocations and answers.
 abbrev pub SameLists : Half → Half → Type 0
 SameLists g h = (h.out ≡ g.out) × (h.inn ≡ g.inn) × (h.grants ≡ g.grants)
 
--- A half is what these happenings, the newest first, made of one without invocations and answers; its IDs, its phase and its
+-- These happenings, the newest first, made the half from one without invocations and answers; its IDs, phase and
 -- dialogue may be any.
 abbrev pub IsLed : Table → List Happening → Half → Type 0
 IsLed table [] h = (h.out ≡ []) × (h.inn ≡ []) × (h.grants ≡ [])
@@ -40,50 +40,51 @@ IsLed table (Gets c ∷ past) h = (g : Half) × IsLed table past g × SameLists 
 IsLed table (Ends id ∷ past) h =
     (g : Half) × IsLed table past g × (may_expire table (own_invocation g id) ≡ true) × SameLists (without_invocation id g) h
 
--- the components that were sent, and those that were received
+-- The components that were sent.
 abbrev pub sent_in : List Happening → List Component
 sent_in [] = []
 sent_in (Sends c ∷ past) = c ∷ sent_in past
 sent_in (Gets c ∷ past) = sent_in past
 sent_in (Ends id ∷ past) = sent_in past
 
+-- The components that were received.
 abbrev pub got_in : List Happening → List Component
 got_in [] = []
 got_in (Sends c ∷ past) = got_in past
 got_in (Gets c ∷ past) = c ∷ got_in past
 got_in (Ends id ∷ past) = got_in past
 
--- ---- what is told of it
+-- ---- what the list has of a half
 
--- No more of any sort stand in the first list.
+-- The first list has at most the components of the second, of every sort.
 abbrev pub AreWithin : List Component → List Component → Type 0
 AreWithin xs ys = (passes : Component → Bool) → count passes xs ≤ count passes ys
 
--- What is told of a half bounds what was sent and received over it.
+-- What the list has of a half bounds what was sent and received over it.
 pub record Bounds (s : HalfOf) (sent got : List Component) : Type 0 where
   pub heard : AreWithin got s.heard
   pub told : AreWithin s.told sent
   pub invoked : AreWithin s.invoked sent
   pub all : AreWithin sent s.invoked
 
--- ---- what the list tells of a half, since the last quiet mark
+-- ---- what the list has of a half, since the last quiet mark
 
--- what was sent from that ID
+-- The messages from this ID.
 abbrev pub from : List ℕ → List Message → List Message
 from id messages = filter (λ m. is_id id (otid_in m)) messages
 
--- the Continues from its peer's ID to its own
+-- The Continues from the peer's ID to the own ID.
 abbrev pub continues_to : List ℕ → List Message → Option (List ℕ) → List Message
 continues_to id gone None = []
 continues_to id gone (Some own) = filter (goes_on_to own) (from id gone)
 
--- what a half heard of these Continues that began by this Begin, once it is there
+-- What a half with this Begin, if it is known, heard of these Continues.
 abbrev pub heard_behind : Option Message → List Message → List Message
 heard_behind None continues = []
 heard_behind (Some begin) continues = heard_of (Some begin) continues
 
--- What a half may have heard of these messages of its peer: the Begin, where it began by receiving one, and the Continues
--- from its peer's ID to its own.
+-- What a half may have heard of these messages of its peer: the Begin that an accepted half received, and the
+-- Continues from its peer's ID to its own.
 abbrev pub may_have_heard : Side → List Item → List Message → Slot → Option (List ℕ) → Option (List ℕ) → List Message
 may_have_heard side items gone slot own None = []
 may_have_heard side items gone Accepted own (Some id) =

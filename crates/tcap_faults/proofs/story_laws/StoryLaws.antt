@@ -1,4 +1,4 @@
--- Along what happened to a half: what each happening keeps holds behind all of them.
+-- Induction over what happened to a half: what each happening keeps holds after all of them.
 use Rattle.std.proofs.Common.{◌≡◌, ℤ, true, List, [], ◌∷◌, Ok, refl}
 use Rattle.std.specs.List.Sorted.{IsStrictlySortedBy}
 use Rattle.std.specs.BTreeMap.{is_at}
@@ -16,7 +16,7 @@ use Rattle.tcap_faults.proofs.story_laws.Stories.{Ends, Gets, Happening, IsLed, 
 
 -- ---- the order of invoke IDs
 
--- Its own invocations, and the invocations and answers that it received, stand in the order of their IDs.
+-- The half's own invocations, and its received invocations and answers, are in the order of their IDs.
 pub record IsRisen (h : Half) : Type 0 where
   pub out : Rises int_cmp h.out
   pub inn : IsListed h.inn
@@ -56,7 +56,7 @@ risen table (Ends id ∷ past) h (g, led, may, same) =
 
 -- ---- what each happening keeps
 
--- It holds of a half without invocations and answers, and behind each happening, and speaks of these alone.
+-- `P` depends on the invocations and answers alone. It holds for a half without any, and each happening keeps it.
 pub record IsKept (table : Table) (P : List Happening → Half → Type 0) : Type 0 where
   pub same : (past : List Happening) (g h : Half) → SameLists g h → P past g → P past h
   pub start : (h : Half) → h.out ≡ [] → h.inn ≡ [] → h.grants ≡ [] → P [] h

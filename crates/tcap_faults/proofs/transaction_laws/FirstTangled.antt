@@ -1,4 +1,4 @@
--- The first tangled ID that a message goes over: there is one exactly where it goes over tangled IDs, and by what is kept it is found.
+-- There is a first tangled ID exactly if a message goes over tangled IDs, and it is found from what is kept.
 use Rattle.std.proofs.Common.{◌≡◌, ◌⊎◌, inl, inr, ℕ, Bool, true, false, cond, ◌||◌, List, [], ◌∷◌, ◌++◌, Option, Some, None, is_some, refl, sym, ap, ap₂, ◌∙◌}
 use Rattle.std.specs.Prelude.{Contains, ◌&&◌, nat_le}
 use Rattle.std.specs.List.{flat_map, list_any}
@@ -38,7 +38,7 @@ or_else_all : {A : Type 0} (a b c : Option A) → or_else (or_else a b) c ≡ or
 or_else_all None b c = refl
 or_else_all (Some a) b c = refl
 
--- An own ID has a reason exactly where it is tangled,
+-- An own ID has a reason exactly if it is tangled.
 own_has : (side : Side) (items : List Item) (own : List ℕ) → is_some (tangle_of_own side items own) ≡ is_own_tangled side items own
 own_has side items own = by (is_own_tangled side items own)
   where
@@ -46,7 +46,7 @@ own_has side items own = by (is_own_tangled side items own)
     by true = refl
     by false = refl
 
--- and one of the peer.
+-- An ID of the peer has a reason exactly if it is tangled.
 peer_has : (side : Side) (items : List Item) (id : List ℕ) → is_some (tangle_of_peer side items id) ≡ is_peer_tangled side items id
 peer_has side items id =
     by (two_differ (owns_of side items id)) (nat_le 2 (count (is_a forms.Begin) (asked side id items)))
@@ -68,19 +68,19 @@ module _ (of : Side) where
   for_has id (Some why) = refl
 
   module _ (why : List ℕ → Option Tangle) (p : List ℕ → Bool) (is : (id : List ℕ) → is_some (why id) ≡ p id) where
-    -- One of these is tangled exactly where a first one is,
+    -- There is a first tangled ID among some IDs exactly if one of them is tangled.
     first_any : (ids : List (List ℕ)) → is_some (first_tangled of why ids) ≡ list_any p ids
     first_any [] = refl
     first_any (id ∷ more) =
         either_some (tangled_for of id (why id)) (first_tangled of why more)
         ∙ ap₂ (λ a b. a || b) (for_has id (why id) ∙ is id) (first_any more)
 
-    -- so there is none where none is.
+    -- If none of them is tangled, there is no first.
     first_not : (ids : List (List ℕ)) → list_any p ids ≡ false → first_tangled of why ids ≡ None
     first_not ids none = none_from (first_tangled of why ids) (first_any ids ∙ none)
 
   module _ (why : List ℕ → Option Tangle) where
-    -- Of these and more it is the first of these, if there is one.
+    -- The first of two joined lists is the first of the first list, or else of the second.
     first_both : (xs ys : List (List ℕ))
         → first_tangled of why (xs ++ ys) ≡ or_else (first_tangled of why xs) (first_tangled of why ys)
     first_both [] ys = refl
@@ -88,7 +88,7 @@ module _ (of : Side) where
         ap (or_else (tangled_for of x (why x))) (first_both xs ys)
         ∙ sym (or_else_all (tangled_for of x (why x)) (first_tangled of why xs) (first_tangled of why ys))
 
-    -- Where all are one and the same it is that one.
+    -- If all IDs are equal, the first tangled ID is any of them, if it is tangled.
     first_same : (ids : List (List ℕ)) (x : List ℕ) → Contains ids x → two_differ ids ≡ false
         → first_tangled of why ids ≡ tangled_for of x (why x)
     first_same [] x has same = has_not x has
@@ -112,7 +112,7 @@ module _ (of : Side) where
             rw (none, left) refl
         by (Some t) some = rw some refl
 
-    -- So by one of them, if there is any.
+    -- So it is found from one of them, if there is one.
     pub first_one_of : (ids : List (List ℕ)) (x : List ℕ) → IsOneOf ids (Some x) → two_differ ids ≡ false
         → tangled_for of x (why x) ≡ first_tangled of why ids
     first_one_of ids x has same = sym (first_same ids x has same)
@@ -142,14 +142,14 @@ first_is of why (id ∷ more) t is = by (λ rest. first_is of why more t rest) (
         let (end, here, so) = for_is of id (why id) t (found ∙ ap Some same) in
         (end, rw here (has_first id more), ap why here ∙ so)
 
--- what the first of three has that has anything, one of them has
+-- The first value of three is one of them.
 one_has : (a b c : Option TangledId) (t : TangledId) → or_else a (or_else b c) ≡ Some t
     → (a ≡ Some t) ⊎ ((b ≡ Some t) ⊎ (c ≡ Some t))
 one_has (Some x) b c t is = inl is
 one_has None (Some x) c t is = inr (inl is)
 one_has None None c t is = inr (inr is)
 
--- The first tangled ID is one that the message goes over, and tangled for the reason that is given.
+-- The message goes over the first tangled ID, and the ID is tangled for the given reason.
 pub first_over : (side : Side) (items : List Item) (own : List (List ℕ)) (id : List ℕ) (t : TangledId)
     → tangled_id side items own id ≡ Some t → IsOver side items own id t
 first_over side items own id t is = by
@@ -170,9 +170,9 @@ first_over side items own id t is = by
         first_is (other side) (tangle_of_peer side items) (flat_map (peers_of side items) (near side items own id)) t found in
         inr (end, has_later id _ t.id has, so)
 
--- ---- what a message goes over
+-- ---- the IDs that a message goes over
 
--- Near an ID of the peer, or behind it, is a first tangled ID exactly where one is tangled;
+-- There is a first tangled ID near an ID of the peer, or beyond, exactly if one is tangled.
 pub id_told : (side : Side) (items : List Item) (own : List (List ℕ)) (id : List ℕ)
     → is_some (tangled_id side items own id) ≡ are_tangled side items own id
 id_told side items own id =
@@ -191,7 +191,7 @@ id_told side items own id =
     turned false true c = refl
     turned false false c = refl
 
--- and so of a message.
+-- There is a first tangled ID of a message exactly if it goes over tangled IDs.
 pub tangled_told : (side : Side) (items : List Item) (m : Message)
     → is_some (tangled_in side items m) ≡ goes_over_tangled side items m
 tangled_told side items m = by (dtid_in m) refl
@@ -200,7 +200,7 @@ tangled_told side items m = by (dtid_in m) refl
     by None none = rw none refl
     by (Some id) to = rw to (id_told side items (own_of_continue m) id)
 
--- It is one that the message goes over.
+-- The message goes over the first tangled ID.
 pub tangled_over : (side : Side) (items : List Item) (m : Message) (t : TangledId) → tangled_in side items m ≡ Some t
     → (id : List ℕ) × (dtid_in m ≡ Some id) × IsOver side items (own_of_continue m) id t
 tangled_over side items m t is = by (dtid_in m) refl
@@ -209,15 +209,15 @@ tangled_over side items m t is = by (dtid_in m) refl
     by None none = let bad : None ≡ Some t = rw none at is in cc
     by (Some id) to = (id, to, first_over side items (own_of_continue m) id t (rw to at is))
 
--- ---- by what is kept
+-- ---- from what is kept
 
 module _ (side : Side) (items : List Item) (id : List ℕ) where
-  -- An ID of the peer that is tangled is the first.
+  -- If the peer's ID is tangled, it is the first.
   pub tangled_first : (t : TangledId) (own : List (List ℕ))
       → Some t ≡ tangled_for (other side) id (tangle_of_peer side items id) → Some t ≡ tangled_id side items own id
   tangled_first t own is = rw (← is) refl
 
-  -- Where it is not, one own ID at the most is joined with it,
+  -- If the peer's ID is not tangled, at most one own ID is joined with it.
   plain : tangled_for (other side) id (tangle_of_peer side items id) ≡ None → is_peer_tangled side items id ≡ false
   plain none =
       sym (peer_has side items id) ∙ sym (for_has (other side) id (tangle_of_peer side items id)) ∙ ap is_some none
@@ -226,7 +226,7 @@ module _ (side : Side) (items : List Item) (id : List ℕ) where
   one_near none = plain_same side items id (plain (sym none))
 
   module _ (none : None ≡ tangled_for (other side) id (tangle_of_peer side items id)) where
-    -- and that one is the first, where it is tangled;
+    -- If that own ID is tangled, it is the first.
     pub tangled_joined : (t : TangledId) (own : List (List ℕ))
         → Some t ≡ first_tangled side (tangle_of_own side items) (owns_of side items id) → Some t ≡ tangled_id side items own id
     tangled_joined t own is =
@@ -248,12 +248,12 @@ module _ (side : Side) (items : List Item) (id : List ℕ) where
           (list_any (is_own_tangled side items) (near side items [] id)) _
           (sym (plain_joined side items id (plain (sym none)) none_own))).1).1)
 
-      -- else there is none where no own ID is near besides;
+      -- Otherwise, without an additional own ID, there is none.
       pub tangled_alone : None ≡ tangled_id side items [] id
       tangled_alone =
           rw (← none, append-nil (owns_of side items id), ← no_own) (sym none_behind)
 
-      -- nor where that is one of those that are joined with it;
+      -- If the additional own ID is the joined one, there is none.
       pub tangled_itself : (own : List ℕ) → Contains (owns_of side items id) own → None ≡ tangled_id side items (own ∷ []) id
       tangled_itself own has =
           sym (none_from (tangled_id side items (own ∷ []) id)
@@ -265,7 +265,7 @@ module _ (side : Side) (items : List Item) (id : List ℕ) where
           first_both side (tangle_of_own side items) (owns_of side items id) (own ∷ [])
           ∙ ap (λ o. or_else o (or_else (tangled_for side own (tangle_of_own side items own)) None)) (sym no_own)
 
-      -- and else it is that, or the first of the peer's that are joined with it.
+      -- Otherwise the first is the additional own ID, or the first ID of the peer that is joined with it.
       pub tangled_besides : (own : List ℕ) (t : TangledId) → Some t ≡ tangled_for side own (tangle_of_own side items own)
           → Some t ≡ tangled_id side items (own ∷ []) id
       tangled_besides own t is = rw (← none, near_besides own, ← is) refl
@@ -285,7 +285,7 @@ module _ (side : Side) (items : List Item) (id : List ℕ) where
             append-nil (peers_of side items own),
           ) refl)
 
--- One of the peer's at the most is joined with an own ID that is not tangled.
+-- At most one ID of the peer is joined with an own ID that is not tangled.
 pub one_behind : (side : Side) (items : List Item) (own : List ℕ) → None ≡ tangled_for side own (tangle_of_own side items own)
     → two_differ (peers_of side items own) ≡ false
 one_behind side items own none =

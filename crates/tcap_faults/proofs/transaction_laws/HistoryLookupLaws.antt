@@ -1,4 +1,4 @@
--- What is looked up of what an end sent says what the definitions say of its messages.
+-- What is looked up in a history agrees with the messages.
 use Rattle.std.proofs.Common.{◌≡◌, ℕ, Bool, true, false, not, ◌&&◌, List, [], Option, Some, None, is_some, filter, refl, sym, ap, ◌∙◌}
 use Rattle.std.specs.Prelude.{is_none}
 use Rattle.std.specs.List.{find, list_any}
@@ -59,7 +59,7 @@ module _ {table : Table} {side : Side} {items : List Item} {facts : SideFacts} (
 -- ---- what was sent from an ID
 
 module _ (table : Table) (side : Side) (items : List Item) (id : List ℕ) where
-  -- What F2 to F7 ask of it.
+  -- What F2 to F7 need of it.
   pub first_there : (kept : SentFrom) → IsFromWhole table (sent_from side items id) kept → (fact : FromFact)
       → tells_from fact kept.first ≡ told_since table side items (From id fact)
   first_there kept is fact =
@@ -71,7 +71,7 @@ module _ (table : Table) (side : Side) (items : List Item) (id : List ℕ) where
       ap (list_any (shows_from table fact)) (sym none)
       ∙ any_both (λ m. is_id id (otid_in m)) (shows_from table fact) (sent_by side items)
 
--- Something is kept where something was sent.
+-- Something is kept exactly if something was sent.
 kept_where : (table : Table) (p : Message → Bool) (ms : List Message) (o : Option SentFrom)
     → IsFromAt table (filter p ms) o → is_some o ≡ list_any p ms
 kept_where table p ms None is = sym (any_kept p ms ∙ ap (λ kept. not (is_nothing kept)) is)
@@ -85,7 +85,7 @@ pub used_is : {table : Table} {side : Side} {items : List Item} {facts : SideFac
     → (id : List ℕ) → is_some (lookup (is_at (octets_cmp id)) facts.from.entries) ≡ has_used side items id
 used_is {table} {side} {items} {facts} is id = used_at table side items id _ (is.from id)
 
--- It is there where the Begin is.
+-- Something is kept of the Begin exactly if there is one.
 pub begin_there : (table : Table) (o : Option Message) (kept : Option FirstBegin) → IsFirstBegin table o kept
     → is_some kept ≡ is_some o
 begin_there table None None is = refl
@@ -98,7 +98,7 @@ pub begin_is : (side : Side) (items : List Item) (id : List ℕ)
     → find (is_a forms.Begin) (sent_from side items id) ≡ begin_from side id items
 begin_is side items id = found_both (λ m. is_id id (otid_in m)) (is_a forms.Begin) (sent_by side items)
 
--- The peer began an ID where a Begin was asked from there.
+-- The peer began an ID exactly if it sent a Begin from it.
 pub began_asked : (side : Side) (items : List Item) (id : List ℕ)
     → began (other side) id items ≡ has_a forms.Begin (asked side id items)
 began_asked side items id =
@@ -113,7 +113,7 @@ module _ (table : Table) (side : Side) (items : List Item) (id : List ℕ) where
   began_nowhere none =
       ap (λ ms. is_some (find (is_a forms.Begin) ms)) (sym none) ∙ ap is_some (begin_is side items id)
 
--- A Continue to an ID is kept where one was sent.
+-- A Continue to an ID is kept exactly if one was sent.
 came_where : (table : Table) (p : Message → Bool) (ms : List Message) (o : Option Came)
     → IsCameAt table (filter p ms) o → is_some o ≡ list_any p ms
 came_where table p ms None is = sym (any_kept p ms ∙ ap (λ kept. not (is_nothing kept)) is)
@@ -123,9 +123,9 @@ pub goes_there : (table : Table) (ms : List Message) (kept : SentFrom) → IsFro
     → is_some (lookup (is_at (octets_cmp id)) kept.came.entries) ≡ list_any (goes_on_to id) ms
 goes_there table ms kept is id = came_where table (goes_on_to id) ms _ (is.came id)
 
--- ---- what was sent to one
+-- ---- what was sent to an ID
 
--- What was told is what was sent there, without the Aborts of the provider.
+-- What was sent to an ID, without the Aborts of the provider.
 pub told_is : (side : Side) (items : List Item) (id : List ℕ) → of_user (sent_to side items id) ≡ told side id items
 told_is side items id = filter_both (λ m. is_id id (dtid_in m)) (λ m. is_none (cause_in m)) (sent_by side items)
 
@@ -133,7 +133,7 @@ pub silenced_is : (side : Side) (items : List Item) (id : List ℕ)
     → list_any silences (sent_to side items id) ≡ list_any (ends_to id) (sent_by side items)
 silenced_is side items id = any_turned (λ m. is_id id (dtid_in m)) silences (sent_by side items)
 
--- What ends an ID goes there.
+-- A message that ends an ID goes to it.
 ends_it : (id : List ℕ) (m : Message) → (is_id id (dtid_in m) && ends m) ≡ is_id id (ended_by m)
 ends_it id (Continue otid dtid dialogue components) = and_false (is_id id (Some dtid))
 ends_it id (EndMessage dtid dialogue components) = and_true (is_id id (Some dtid))

@@ -1,4 +1,4 @@
--- What is kept of both ends is of a message more too, which one of them sent.
+-- The histories of both ends after one more message of one of them.
 use Rattle.std.proofs.Common.{◌≡◌, ℕ, Bool, true, false, not, ◌&&◌, ◌||◌, List, [], ◌∷◌, ◌++◌, Option, Some, None, bytes_eq, refl, sym, ap, ◌∙◌}
 use Rattle.std.specs.Prelude.{filter}
 use Rattle.std.specs.List.{list_any}
@@ -54,7 +54,7 @@ module _ (table : Table) (side : Side) (items : List Item) (m : Message) (own pe
 
   -- ---- joined IDs
 
-  -- Nothing is joined or ended;
+  -- The message joins and ends nothing.
   pub joined_nothing : otid_in m ≡ None → ended_by m ≡ None → IsJoined side items m own own peer peer
   joined_nothing otid ends_not = record {
     own_joined = λ id. rw (own_joined_same side items m (end_only m otid) id) (was.joined id);
@@ -71,7 +71,7 @@ module _ (table : Table) (side : Side) (items : List Item) (m : Message) (own pe
     peer_rest = refl;
   }
 
-  -- an ID is ended;
+  -- The message ends an ID.
   pub joined_end : (to : List ℕ) → otid_in m ≡ None → dtid_in m ≡ Some to → ends m ≡ true → (now : SideFacts)
       → HasMore (λ id. not (has_ended side items to) && list_any (bytes_eq id) (owns_of side items to)) own.over now.over
       → now ≡ record own { over = now.over } → IsJoined side items m own now peer peer
@@ -91,7 +91,7 @@ module _ (table : Table) (side : Side) (items : List Item) (m : Message) (own pe
     peer_rest = refl;
   }
 
-  -- an own ID is used;
+  -- The message uses an own ID.
   module _ (from : List ℕ) (otid : otid_in m ≡ Some from) where
     abbrev first : List ℕ → Bool
     first id =
@@ -136,7 +136,7 @@ module _ (table : Table) (side : Side) (items : List Item) (m : Message) (own pe
             (sym (ap (λ (s : SideFacts). s.over) their_rest));
       }
 
-      -- and its end goes on from there.
+      -- The message is a Continue from the own ID.
       pub joined_continue : (to : List ℕ) → dtid_in m ≡ Some to → (over used peer_over : Bool)
           → over ≡ has_ended side items to → used ≡ has_used (other side) items to
           → peer_over ≡ (has_used (other side) items to && has_ended (other side) items from)
@@ -177,7 +177,7 @@ module _ (table : Table) (side : Side) (items : List Item) (m : Message) (own pe
               let it : id ≡ to = (bytes_eq-Decides id to).0 same in
               rw (otid, it) peer_is
 
-  -- ---- all that is kept
+  -- ---- the whole histories
 
   module _ (one there : SideFacts) (j : IsJoined side items m own one peer there) where
     pub from_was : AreFrom table (sent_from side items) one.from
@@ -186,7 +186,7 @@ module _ (table : Table) (side : Side) (items : List Item) (m : Message) (own pe
     pub to_was : AreTo table (sent_to side items) one.to
     to_was id = rw (ap (λ (s : SideFacts). s.to) j.own_rest) (was.to id)
 
-    -- of the end that sent the message,
+    -- The history of the end that sent the message.
     pub own_sent : (froms : BTreeMap (List ℕ) SentFrom) (tos : BTreeMap (List ℕ) SentTo)
         (guessed_now closed_now : BTreeSet (List ℕ)) (again : Bool) (closed : Option (List ℕ))
         → AreFrom table (with_more otid_in m (sent_from side items)) froms
@@ -231,7 +231,7 @@ module _ (table : Table) (side : Side) (items : List Item) (m : Message) (own pe
         here : uses_again table side items m ≡ is_used_again table side items (Sent side m)
         here = rw (itself side) refl
 
-    -- and of its peer.
+    -- The history of its peer.
     pub peer_sent : IsSide table (other side) (items ++ Sent side m ∷ []) there
     peer_sent = record {
       from = λ id. rw (from_theirs side items m id, ap (λ (s : SideFacts). s.from) j.peer_rest) (their.from id);

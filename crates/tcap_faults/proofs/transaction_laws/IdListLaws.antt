@@ -1,4 +1,4 @@
--- Transaction IDs that are kept, with one more.
+-- A list of kept IDs after one more ID.
 use Rattle.std.proofs.Common.{◌≡◌, ◌⊎◌, inl, inr, ℕ, ◌+◌, ◌-◌, ◌≤◌, ◌<◌, Bool, true, false, cond, ◌||◌, not, List, [], ◌∷◌, ◌++◌, length, drop, get_or, Option, Some, None, bytes_eq, refl, sym, ap, ◌∙◌, arith}
 use Rattle.std.specs.Prelude.{Contains, slice_get}
 use Rattle.std.specs.Option.{option_or}
@@ -15,7 +15,7 @@ use Rattle.tcap_faults.specs.Ids.{AreIds, ids_first, ids_kept}
 use Rattle.tcap_faults.specs.Tangled.{two_differ}
 use Rattle.tcap_faults.proofs.list_laws.OneMoreLaws.{any_more, something}
 
--- ---- the last one that is kept
+-- ---- the last kept ID
 
 pub record IsLast (first : List ℕ) (more : List (List ℕ)) (last : List ℕ) : Type 0 where
   pub among : Contains (first ∷ more) last
@@ -36,9 +36,9 @@ last_of_more first (id ∷ more) last is = record {
   only = λ none. cc;
 }
 
--- ---- one more
+-- ---- one more ID
 
--- One that is there already is not the first that passes.
+-- An ID that is already there is not the first that passes.
 found_again : (p : List ℕ → Bool) (ids : List (List ℕ)) (id : List ℕ) → Contains ids id
     → find p (ids ++ id ∷ []) ≡ find p ids
 found_again p ids id has = find-append p ids (id ∷ []) ∙ by (find p ids) (p id) refl refl
@@ -74,7 +74,7 @@ module _ (id : List ℕ) (ids : List (List ℕ)) (old : Ids) (was : AreIds ids o
           let same : first ≡ x = cc in
           rw same (any_more (λ other. not (bytes_eq x other)) ids id)
 
-  -- One that is the last again;
+  -- The ID repeats the last one.
   pub ids_again : not (bytes_eq last id) ≡ false → AreIds (ids ++ id ∷ []) old
   ids_again again = record {
     first = first_stays;
@@ -96,7 +96,7 @@ module _ (id : List ℕ) (ids : List (List ℕ)) (old : Ids) (was : AreIds ids o
       several [] only = rw (← only refl, again) refl
       several (x ∷ more) only = refl
 
-  -- and one that differs from it.
+  -- The ID differs from the last one.
   pub ids_other : (new : Ids) → not (bytes_eq last id) ≡ true → new.first ≡ old.first
       → new.more.items ≡ old.more.items ++ id ∷ [] → AreIds (ids ++ id ∷ []) new
   ids_other new differs stays grows = record {
@@ -125,10 +125,10 @@ module _ (id : List ℕ) (ids : List (List ℕ)) (old : Ids) (was : AreIds ids o
       several [] only = rw (← only refl, differs) refl
       several (x ∷ more) only = refl
 
--- ---- the first that passes
+-- ---- the first ID that passes
 
 module _ (p : List ℕ → Bool) (xs : List (List ℕ)) (i : ℕ) where
-  -- It is the first of what is left, or behind it;
+  -- The first that passes is the next one, or the first of those after it.
   left_is : (x : List ℕ) → i < length xs → x ≡ get_or xs i x
       → find p (drop i xs) ≡ cond (p x) (Some x) (find p (drop (i + 1) xs))
   left_is x within at =
@@ -141,12 +141,12 @@ module _ (p : List ℕ → Bool) (xs : List (List ℕ)) (i : ℕ) where
       → find p (drop i xs) ≡ find p (drop (i + 1) xs)
   left_on x within at passes = left_is x within at ∙ rw passes refl
 
-  -- nothing is left at the end.
+  -- At the end, nothing is left.
   pub left_nothing : length xs ≤ i → find p (drop i xs) ≡ None
   left_nothing long = at_drop_all (find p) xs i long
 
 module _ (p : List ℕ → Bool) (ids : List (List ℕ)) (kept : Ids) (are : AreIds ids kept) where
-  -- Where none are kept, there is none;
+  -- If no ID is kept, none passes.
   pub found_nothing : None ≡ kept.first → None ≡ find p ids
   found_nothing none = ap (λ o. find p (ids_kept o kept.more.items)) none ∙ are.found p
 
@@ -154,7 +154,7 @@ module _ (p : List ℕ → Bool) (ids : List (List ℕ)) (kept : Ids) (are : Are
     with_first : find p (first ∷ kept.more.items) ≡ find p ids
     with_first = ap (λ o. find p (ids_kept o kept.more.items)) (sym is) ∙ are.found p
 
-    -- else it is the first that is kept, or it is behind that.
+    -- Otherwise the first that passes is the first kept ID, or one after it.
     pub found_first : p first ≡ true → Some first ≡ find p ids
     found_first passes = sym (ap (λ b. cond b (Some first) (find p kept.more.items)) passes) ∙ with_first
 

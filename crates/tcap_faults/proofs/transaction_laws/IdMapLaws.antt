@@ -1,4 +1,4 @@
--- Maps by transaction IDs, of which each value is of a list of messages, with a message more at an ID of it.
+-- Maps by transaction ID whose values summarize lists of messages, after one more message.
 use Rattle.std.proofs.Common.{◌≡◌, ℕ, Bool, true, false, cond, List, [], ◌∷◌, ◌++◌, Option, Some, None, is_some, refl, sym, ap}
 use Rattle.std.specs.BTreeMap.{BTreeMap, WritesThrough, is_at}
 use Rattle.std.specs.Map.{lookup}
@@ -12,7 +12,7 @@ use Rattle.tcap_faults.specs.Noting.{with_more, AreAt}
 use Rattle.tcap_faults.proofs.transaction_laws.KeyLaws.{at_other}
 use Rattle.tcap_faults.proofs.list_laws.OneMoreLaws.{something}
 
--- The value at one key became another.
+-- The value at one key changed.
 abbrev pub Puts : {X : Type 0} → List (List ℕ × X) → List (List ℕ × X) → List ℕ → X → Type 0
 Puts old new id s = (key : List ℕ)
     → lookup (is_at (octets_cmp key)) new
@@ -34,7 +34,7 @@ module _ {X : Type 0} (of : List Message → X → Type 0) (id_in : Message → 
           rw (← one) (something (lists to) m, is)
       by false apart = rw (append-nil (lists id)) (are id)
 
-  -- What was kept there is of that ID's messages, and was written;
+  -- If something was kept of the ID, it is of the ID's messages, and was overwritten.
   pub was_kept : (old : List (List ℕ × X)) (was : X) → Some was ≡ lookup (is_at (octets_cmp to)) old
       → ((id : List ℕ) → IsAt of (lists id) (lookup (is_at (octets_cmp id)) old))
       → of (lists to) was
@@ -49,7 +49,7 @@ module _ {X : Type 0} (of : List Message → X → Type 0) (id_in : Message → 
   noted_written old new was s there writes are is =
       put old.entries new.entries s (writes.3 (sym (ap is_some there))).0 are is
 
-  -- or there was nothing, and what is made is put there.
+  -- If nothing was kept of the ID, the new value is put there.
   pub noted_made : (old new : BTreeMap (List ℕ) X) (s : X) → None ≡ lookup (is_at (octets_cmp to)) old.entries
       → Puts old.entries new.entries to s
       → AreAt of lists old

@@ -30,7 +30,7 @@ use Rattle.tcap_faults.proofs.transaction_laws.JoinedIdsLaws.{bytes_turned, gets
 use Rattle.tcap_faults.proofs.transaction_laws.HistoryLookupLaws.{other_twice}
 use Rattle.tcap_refute.proofs.TestLaws.{and_true}
 
--- What holds of each where a call succeeds.
+-- If a call succeeds, all that holds then holds together.
 pub on_ok_each : {A E X : Type 0} (r : Result A E) (P : X → Type 0) → ((x : X) → OnOk r (P x))
     → OnOk r ((x : X) → P x)
 on_ok_each (Ok a) P each = each
@@ -56,7 +56,7 @@ module _ (side : Side) (items : List Item) (id : List ℕ) where
       → list_any p (otids_of (sent_to (other side) items id)) ≡ false
   came_none none p = rw none refl
 
-  -- Nothing was sent to it,
+  -- If nothing was sent to the ID, nothing changes.
   pub first_gets_none : sent_to (other side) items id ≡ [] → (old : BTreeMap (List ℕ) Ids)
       → GetsMore (λ key. not (has_used side items id)
       && list_any (bytes_eq key) (otids_of (sent_to (other side) items id))) id old old
@@ -67,7 +67,7 @@ module _ (side : Side) (items : List Item) (id : List ℕ) where
       && list_any (has_ended side items) (otids_of (sent_to (other side) items id))) old old
   first_has_none none old = has_none _ old (λ key. and_right _ _ (came_none none (has_ended side items)))
 
-  -- or it was not used before.
+  -- If the ID was not used before.
   module _ (fresh : has_used side items id ≡ false) where
     pub first_gets : (old new : BTreeMap (List ℕ) Ids)
         → GetsMore (λ key. list_any (bytes_eq key) (otids_of (sent_to (other side) items id))) id old new
@@ -93,10 +93,10 @@ pub continue_gets : (from to : List ℕ) (used : Bool) → used ≡ true → (ol
 continue_gets from to used is old new gets =
     gets_same to _ _ old new (λ key. bytes_turned from key ∙ rw is (sym (and_true (bytes_eq key from)))) gets
 
--- ---- an end
+-- ---- a user's end
 
 module _ (side : Side) (items : List Item) (id : List ℕ) where
-  -- those from which the end went on to it, and those to which its peer went on from there
+  -- The own IDs from which the end sent Continues to the ID, and those to which the peer sent Continues from it.
   pub end_more : has_ended side items id ≡ false → (old mid new : BTreeSet (List ℕ))
       → HasMore (λ own. list_any (bytes_eq own) (otids_of (sent_to side items id))) old mid
       → HasMore (λ own. list_any (bytes_eq own)

@@ -1,4 +1,4 @@
--- Which IDs are joined, and whether those that a message goes over are tangled, by what is kept of both ends.
+-- Which IDs are joined, and whether the IDs that a message goes over are tangled, from what is kept of both ends.
 use Rattle.std.proofs.Common.{◌≡◌, ◌⊎◌, inl, inr, ℕ, Bool, true, false, cond, ◌&&◌, ◌||◌, List, [], ◌∷◌, ◌++◌, Option, Some, bytes_eq, filter, refl, sym, ap, subst, ◌∙◌, ap₂, None}
 use Rattle.std.specs.Prelude.{Contains, filter_map, nat_le}
 use Rattle.std.specs.List.{flat_map, list_any}
@@ -31,9 +31,9 @@ use Rattle.tcap_faults.proofs.transaction_laws.HistoryLookupLaws.{other_twice}
 use Rattle.tcap_faults.proofs.transaction_laws.TangledLaws.{all_same, began_used}
 use Rattle.tcap_faults.proofs.list_laws.TwoTests.{and_turned, any_agree, any_both, any_id, filter_map_is, flat_map_is, filter_turned, none_passes, passes_not}
 
--- ---- by what is kept
+-- ---- from what is kept
 
--- Where an end went on from an ID, and from where it went on to one.
+-- The destination IDs of an end's Continues from an ID, and the originating IDs of those to an ID.
 pub dtids_are : (side : Side) (items : List Item) (id : List ℕ)
     → dtids_of (sent_from side items id) ≡ filter_map dtid_in (filter (goes_on_from id) (sent_by side items))
 dtids_are side items id =
@@ -59,10 +59,10 @@ module _ (side : Side) (items : List Item) where
       ap₂ (λ a b. a ++ cond (has_used side items own) b []) (dtids_are side items own)
       (otids_are (other side) items own)
 
--- ---- one own ID that is joined with one of the peer
+-- ---- an own ID that is joined with an ID of the peer
 
 module _ (side : Side) (items : List Item) (own id : List ℕ) where
-  -- By what the end sent,
+  -- By a Continue of the end.
   joined_sent : list_any (bytes_eq own) (filter_map otid_in (filter (goes_on_to id) (sent_by side items)))
       ≡ list_any (goes_on_to id) (sent_from side items own)
   joined_sent =
@@ -71,7 +71,7 @@ module _ (side : Side) (items : List Item) (own id : List ℕ) where
       ∙ any_agree _ _ (sent_by side items) (λ m. and_turned (goes_on_to id m) (is_id own (otid_in m)))
       ∙ sym (any_both (λ m. is_id own (otid_in m)) (goes_on_to id) (sent_by side items))
 
-  -- and by what the peer sent to it.
+  -- By a Continue of the peer.
   joined_heard : list_any (bytes_eq own) (filter_map dtid_in (filter (goes_on_from id) (sent_by (other side) items)))
       ≡ list_any (goes_on_to own) (sent_from (other side) items id)
   joined_heard =
@@ -87,7 +87,7 @@ module _ (side : Side) (items : List Item) (own id : List ℕ) where
       parts false true d = refl
       parts false false d = refl
 
-  -- What the end used is among those that it used.
+  -- An ID that the end used is among some IDs exactly if it is among the used ones.
   among_used : has_used side items own ≡ true → (ids : List (List ℕ))
       → list_any (bytes_eq own) (filter (has_used side items) ids) ≡ list_any (bytes_eq own) ids
   among_used used ids =
@@ -119,7 +119,7 @@ pub it_is : (id : List ℕ) (o : Option (List ℕ)) → is_id id o ≡ true → 
 it_is id None is = cc
 it_is id (Some x) is = ap (λ x. Some x) (sym ((bytes_eq-Decides id x).0 is))
 
--- There is a Continue from an ID to another among these.
+-- These messages have a Continue from one ID to the other.
 pub record Goes (ms : List Message) (from to : List ℕ) : Type 0 where
   pub message : Message
   pub there : Contains ms message
@@ -152,7 +152,7 @@ module _ (ms : List Message) (from to : List ℕ) where
       filter_map_has otid_in (filter (goes_on_to to) ms) g.message from
       (filter_has (goes_on_to to) ms g.message g.there (and_from _ _ g.goes (rw g.dtid (is_it to)))) g.otid
 
--- An own ID that is joined with an ID of the peer has it joined with itself.
+-- If an own ID is joined with an ID of the peer, that ID is joined with the own ID.
 pub joined_back : (side : Side) (items : List Item) (own id : List ℕ) → Contains (owns_of side items id) own
     → Contains (peers_of side items own) id
 joined_back side items own id has =
@@ -172,10 +172,10 @@ joined_back side items own id has =
         Contains-append_right (filter_map dtid_in (filter (goes_on_from own) (sent_by side items))) _ id
         (rw used back)
 
--- ---- an ID of the peer that is of both
+-- ---- an ID of the peer that both ends began
 
 module _ (side : Side) (items : List Item) where
-  -- The end began one of those to which these Continues go.
+  -- The end began the destination ID of one of these Continues.
   begun_among : (ms : List Message)
       → list_any (λ own. began side own items) (filter (has_used side items) (dtids_of ms))
       ≡ list_any (goes_to_begun side items) ms
@@ -192,7 +192,7 @@ module _ (side : Side) (items : List Item) where
       of (Continue otid dtid dialogue components ∷ ns) = ap (λ b. began side dtid items || b) (of ns)
       of (m ∷ ns) = of ns
 
-  -- where two own IDs that are joined do not differ, those that the peer goes on to do not.
+  -- If all joined own IDs are equal, so are the destination IDs of the peer's Continues.
   pub heard_same : (id : List ℕ) → two_differ (owns_of side items id) ≡ false
       → two_differ (filter (has_used side items) (dtids_of (sent_from (other side) items id))) ≡ false
   heard_same id none =
@@ -206,7 +206,7 @@ module _ (side : Side) (items : List Item) where
       ≡ list_any (goes_to_begun side items) (asked side id items)
   of_both id = begun_among (sent_from (other side) items id)
 
-  -- What the peer keeps of them it keeps of those that its peer's peer used.
+  -- The peer's used destination IDs are those that the end used.
   pub heard_among : (id : List ℕ) (o : Option Ids)
       → AreAmong (filter (has_used (other (other side)) items) (dtids_of (sent_from (other side) items id))) o
       → AreAmong (filter (has_used side items) (dtids_of (sent_from (other side) items id))) o
@@ -214,10 +214,10 @@ module _ (side : Side) (items : List Item) where
       subst (λ (s : Side). AreAmong (filter (has_used s items) (dtids_of (sent_from (other side) items id))) o)
       (other_twice side) are
 
--- ---- near an ID of the peer, and behind
+-- ---- IDs near an ID of the peer, and beyond
 
 module _ (side : Side) (items : List Item) (id : List ℕ) where
-  -- One own ID at the most is joined with what is not tangled.
+  -- All own IDs that are joined with an ID that is not tangled are equal.
   pub plain_same : is_peer_tangled side items id ≡ false → two_differ (owns_of side items id) ≡ false
   plain_same plain =
       let (three, guessed) = or_parts (two_differ (owns_of side items id)
@@ -228,10 +228,10 @@ module _ (side : Side) (items : List Item) (id : List ℕ) where
       || nat_le 2 (count (is_a forms.Begin) (asked side id items))) _ three in
       (or_parts (two_differ (owns_of side items id)) _ two).0
 
-  -- So what is near it besides is to be looked at, and what is behind that.
+  -- So only an additional own ID, and the IDs that are joined with it, are left to check.
   module _ (plain : is_peer_tangled side items id ≡ false)
       (none_own : list_any (is_own_tangled side items) (owns_of side items id) ≡ false) where
-    -- behind each own ID that is joined with it is it alone
+    -- With each joined own ID, only the peer's ID is joined.
     behind_plain : (own peer : List ℕ) → Contains (owns_of side items id) own → Contains (peers_of side items own) peer
         → is_peer_tangled side items peer ≡ false
     behind_plain own peer has_own has_peer =
@@ -279,7 +279,7 @@ module _ (side : Side) (items : List Item) (id : List ℕ) where
           ≡ are_tangled side items (own ∷ []) id
       plain_besides = sym (ap₂ (λ a b. a || b) near_besides (ap₂ (λ a b. a || b) plain behind_besides))
 
-      -- Where that is one of those that are joined with it, there is nothing besides.
+      -- If the additional own ID is one of these, it adds nothing.
       pub plain_itself : Contains (owns_of side items id) own → false ≡ are_tangled side items (own ∷ []) id
       plain_itself has =
           sym (

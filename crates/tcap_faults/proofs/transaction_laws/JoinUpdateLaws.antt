@@ -1,4 +1,4 @@
--- What is kept of an end and of its peer is of a message more too.
+-- The histories of an end and of its peer after one more message: joined and ended IDs.
 use Rattle.std.proofs.Common.{◌≡◌, ◌⊎◌, inl, inr, ℕ, Bool, true, false, cond, not, ◌&&◌, ◌||◌, List, [], ◌∷◌, ◌++◌, Some, None, bytes_eq, refl, sym, ap, ◌∙◌}
 use Rattle.std.specs.Prelude.{Contains, filter}
 use Rattle.std.specs.List.{list_any}
@@ -76,10 +76,10 @@ peer_bools true a u b r x on = rw (on refl) (by a u b x)
     by false false b x = refl
 
 module _ (side : Side) (items : List Item) (m : Message) where
-  -- ---- own IDs whose peers the end ended
+  -- ---- own IDs that are joined with an ID that the end ended
 
-  -- A message that ends nothing: where its end uses an own ID first, those that the peer joined before count; where it
-  -- goes on from there, its destination ID.
+  -- A message that ends nothing. If it is the first use of an own ID, the IDs that the peer joined before count; if
+  -- it is a Continue, its destination ID counts.
   pub own_over_more : ended_by m ≡ None → (e first : List ℕ → Bool) (g : Bool)
       → ((id : List ℕ) → is_id id (otid_in m) ≡ e id)
       → ((id : List ℕ) → e id ≡ true
@@ -104,7 +104,7 @@ module _ (side : Side) (items : List Item) (m : Message) where
       same : (x : List ℕ) → has_ended side (items ++ Sent side m ∷ []) x ≡ has_ended side items x
       same x = ended_own side items m x ∙ rw ends_not (sym (or_none (has_ended side items x)))
 
-  -- One that has no originating ID changes no IDs that are joined.
+  -- A message without originating ID changes no joined IDs.
   peers_stay : otid_in m ≡ None → is_a forms.Continue m ≡ false → (p : List ℕ → Bool) (id : List ℕ)
       → list_any p (peers_of side (items ++ Sent side m ∷ []) id) ≡ list_any p (peers_of side items id)
   peers_stay none stays p id =
@@ -112,7 +112,7 @@ module _ (side : Side) (items : List Item) (m : Message) where
       ∙ rw (none, stays, ← or_none (list_any p (fronts side items id)), ← or_none (has_used side items id)) refl
       ∙ sym (peers_any p side items id)
 
-  -- One that ends an ID: all that are joined with it count.
+  -- A message that ends an ID: all own IDs that are joined with it count.
   pub own_over_ended : (to : List ℕ) → ended_by m ≡ Some to → otid_in m ≡ None → is_a forms.Continue m ≡ false
       → (old new : BTreeSet (List ℕ))
       → ((id : List ℕ) → set.contains octets_cmp old id ≡ list_any (has_ended side items) (peers_of side items id))
@@ -147,9 +147,9 @@ module _ (side : Side) (items : List Item) (m : Message) where
       by true ended false is = refl
       by true ended true is = rw (there ended is) refl
 
-  -- ---- IDs of the peer whose peers it ended
+  -- ---- IDs of the peer that are joined with an own ID that it ended
 
-  -- Where the end goes on to one that the peer used, the own ID counts.
+  -- A Continue to an ID that the peer used: the own ID counts.
   pub peer_over_more : (e : List ℕ → Bool) (r : Bool) → ((id : List ℕ) → goes_on_to id m ≡ e id)
       → ((id : List ℕ) → e id ≡ true
       → r ≡ (has_used (other side) items id && passes_of (has_ended (other side) items) (otid_in m)))
@@ -170,9 +170,9 @@ module _ (side : Side) (items : List Item) (m : Message) where
       ∙ peers_theirs side items m (has_ended (other side) items) id
       ∙ rw (goes id) refl)
 
-  -- ---- IDs of the peer that are joined with an own one
+  -- ---- IDs of the peer that are joined with an own ID
 
-  -- A Continue to one that the peer used;
+  -- A Continue to an ID that the peer used.
   pub own_joined_more : (from to : List ℕ) (used : Bool) → is_a forms.Continue m ≡ true → otid_in m ≡ Some from
       → dtid_in m ≡ Some to → used ≡ has_used (other side) items to → (old new : BTreeMap (List ℕ) Ids)
       → GetsMore (λ key. bytes_eq key from && used) to old new
@@ -190,7 +190,7 @@ module _ (side : Side) (items : List Item) (m : Message) where
       by true = rw (goes, dtid) refl
       by false = refl
 
-  -- what is no Continue changes nothing.
+  -- A message that is no Continue changes nothing.
   pub own_joined_same : is_a forms.Continue m ≡ false → (id : List ℕ)
       → dtids_of (sent_from side (items ++ Sent side m ∷ []) id) ≡ dtids_of (sent_from side items id)
   own_joined_same stays id =
@@ -202,7 +202,7 @@ module _ (side : Side) (items : List Item) (m : Message) where
       by true = rw stays refl
       by false = refl
 
-  -- The first use of an own ID joins it with those from which the peer went on to it.
+  -- The first use of an own ID joins it with the IDs from which the peer sent Continues to it.
   module _ (from : List ℕ) (otid : otid_in m ≡ Some from) (id : List ℕ) where
     abbrev gone : List (List ℕ)
     gone = dtids_of (sent_from (other side) items id)

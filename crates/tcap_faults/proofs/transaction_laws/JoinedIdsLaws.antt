@@ -1,4 +1,4 @@
--- What is kept of IDs that are joined, with one more; and which IDs are joined.
+-- What is kept of joined IDs after one more ID, and which IDs are joined.
 use Rattle.std.proofs.Common.{◌≡◌, ◌⊎◌, inl, inr, ℕ, Bool, true, false, cond, ◌&&◌, ◌||◌, List, [], ◌∷◌, ◌++◌, Option, Some, None, is_some, bytes_eq, refl, sym, ap, ◌∙◌}
 use Rattle.std.specs.Prelude.{Contains, ◌+◌, ◌<◌, ◌≤◌, filter, filter_map, get_or, length, take}
 use Rattle.std.specs.List.{list_any}
@@ -48,7 +48,7 @@ module _ {A : Type 0} (p q : A → Bool) where
       by false true false d = refl
       by false false c d = refl
 
--- ---- the same IDs
+-- ---- lists with the same members
 
 pub same_itself : (xs : List (List ℕ)) → AreSame xs xs
 same_itself xs = record { there = λ id has. has; back = λ id has. has }
@@ -75,7 +75,7 @@ any_same p xs ys same =
     both_so _ _ (λ is. let (x, has, passes) = any_is p xs is in any_has p ys x (same.there x has) passes)
     (λ is. let (x, has, passes) = any_is p ys is in any_has p xs x (same.back x has) passes)
 
--- What is kept of IDs is kept of the same in another order.
+-- What is kept of a list is kept of a list with the same members.
 pub among_same : (xs ys : List (List ℕ)) (o : Option Ids) → AreSame xs ys → AreAmong xs o → AreAmong ys o
 among_same xs ys None same none = none_same ys (rw none at same)
 among_same xs ys (Some kept) same (those, are, so) = (those, are, same_again those xs ys so same)
@@ -86,7 +86,7 @@ any_kept p ids kept (those, are, same) =
     any_same p (ids_kept kept.first kept.more.items) those (record { there = are.back; back = are.there })
     ∙ any_same p those ids same
 
--- ---- an ID more at a key
+-- ---- one more ID at a key
 
 twice_same : (ids : List (List ℕ)) (id : List ℕ) (a b : Bool)
     → AreSame ((ids ++ id_if a id) ++ id_if b id) (ids ++ id_if (a || b) id)
@@ -110,14 +110,14 @@ module _ (id : List ℕ) where
       → GetsMore so id old new → GetsMore now id old new
   gets_same so now old new same gets = λ key ids are. rw (← same key) (gets key ids are)
 
-  -- in two steps
+  -- In two steps.
   pub gets_both : (first second : List ℕ → Bool) (a b c : BTreeMap (List ℕ) Ids) → GetsMore first id a b
       → GetsMore second id b c → GetsMore (λ key. first key || second key) id a c
   gets_both first second a b c one two = λ key ids are.
       among_same ((ids ++ id_if (first key) id) ++ id_if (second key) id) (ids ++ id_if (first key || second key) id) _
       (twice_same ids id (first key) (second key)) (two key (ids ++ id_if (first key) id) (one key ids are))
 
-  -- What was kept at a key was written, or is new there.
+  -- The value at the key was overwritten, or is new.
   gets_at : (key : List ℕ) (old new : BTreeMap (List ℕ) Ids) (now : Ids) → Puts old.entries new.entries key now
       → ((ids : List (List ℕ)) → AreAmong ids (lookup (is_at (octets_cmp key)) old.entries)
       → AreAmong (ids ++ id ∷ []) (Some now))
@@ -154,7 +154,7 @@ module _ (id : List ℕ) where
   gets_made key old new now nothing puts is =
       gets_at key old new now puts (λ ids are. among_first ids now is (rw (← nothing) at are))
 
--- ---- an ID more in a set
+-- ---- one more ID in a set
 
 pub has_none : (so : List ℕ → Bool) (kept : BTreeSet (List ℕ)) → ((id : List ℕ) → so id ≡ false)
     → HasMore so kept kept
@@ -168,7 +168,7 @@ has_if id so is old new puts = λ other.
     set_more id old new puts other
     ∙ rw is (ap (λ b. set.contains octets_cmp old other || b) (sym (and_true (bytes_eq other id))))
 
--- ---- those that are kept, one after the other
+-- ---- a loop over kept IDs
 
 pub bytes_turned : (a b : List ℕ) → bytes_eq a b ≡ bytes_eq b a
 bytes_turned a b =
@@ -176,22 +176,22 @@ bytes_turned a b =
     (λ is. (bytes_eq-Decides a b).1 (sym ((bytes_eq-Decides b a).0 is)))
 
 module _ (p : List ℕ → Bool) (kept : Ids) (those : List (List ℕ)) where
-  -- There are none without a first;
+  -- If there is no first ID, there are none.
   pub none_at_all : None ≡ kept.first → AreAmong those (Some kept) → list_any p those ≡ false
   none_at_all none are = sym (any_kept p those kept are) ∙ rw (← none) refl
 
-  -- all of them,
+  -- After the loop, all were checked.
   pub any_all : (xs : List (List ℕ)) (i : ℕ) → xs ≡ kept.more.items → length xs ≤ i → AreAmong those (Some kept)
       → list_any p (ids_kept kept.first (take i xs)) ≡ list_any p those
   any_all xs i is long are = rw (take_all i xs long, is) (any_kept p those kept are)
 
 module _ (p : List ℕ → Bool) (kept : Option (List ℕ)) (first : List ℕ) (is : kept ≡ Some first)
     (xs : List (List ℕ)) where
-  -- the first,
+  -- Before the loop, the first was checked.
   pub any_first : list_any p (ids_kept kept (take 0 xs)) ≡ p first
   any_first = rw is (sym (or_none (p first)))
 
-  -- and one more.
+  -- One more was checked.
   pub any_next : (i : ℕ) (x : List ℕ) → i < length xs → x ≡ get_or xs i x
       → list_any p (ids_kept kept (take (i + 1) xs)) ≡ (list_any p (ids_kept kept (take i xs)) || p x)
   any_next i x within at =
@@ -245,7 +245,7 @@ module _ (kept : Option (List ℕ)) (first : List ℕ) (is : kept ≡ Some first
 -- ---- which IDs are joined
 
 module _ (side : Side) (items : List Item) (own id : List ℕ) where
-  -- An own ID is joined with one of the peer where that is joined with it.
+  -- If an ID of the peer is joined with an own ID, that own ID is joined with it.
   owns : Contains (peers_of side items own) id → Contains (owns_of side items id) own
   owns has =
       by (Contains-append_cases (filter_map dtid_in (filter (goes_on_from own) (sent_by side items)))

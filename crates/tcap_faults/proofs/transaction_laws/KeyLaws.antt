@@ -15,7 +15,7 @@ at_id a b = is_eq-slice_cmp a b
 pub at_other : (a b : List ℕ) → is_at (octets_cmp a) b ≡ bytes_eq b a
 at_other a b = (eq_by_cmp_equiv nat_list_cmp_total).symm a b ∙ at_id b a
 
--- A set with an ID more.
+-- A set with one more ID.
 pub set_more : (id : List ℕ) (old new : BTreeSet (List ℕ))
     → ((key : List ℕ) → set.contains octets_cmp new key
     ≡ cond (is_at (octets_cmp id) key) true (set.contains octets_cmp old key))

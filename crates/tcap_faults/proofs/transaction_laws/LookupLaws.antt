@@ -1,4 +1,4 @@
--- IDs of a message, as they are found.
+-- What is found of the IDs of a message.
 use Rattle.std.proofs.Common.{◌≡◌, Bor, ℕ, Bool, true, false, not, ◌&&◌, List, [], ◌∷◌, Option, Some, None, is_some, bytes_eq, refl, sym, ap}
 use Rattle.std.specs.Prelude.{option_copied}
 use Rattle.std.specs.List.{list_any}
@@ -19,13 +19,13 @@ use Rattle.tcap_faults.specs.declared.transaction.lookup.Own.{Own}
 use Rattle.tcap_faults.specs.declared.transaction.lookup.There.{There}
 use Rattle.tcap_faults.specs.Found.{IsOwn, IsOwnAt, IsThere, IsThereAt}
 
--- What is lent is there where what it stands for is.
+-- A reference is there exactly if its value is.
 pub some_lent : {X : Type 0} (o : Option (Bor X)) → is_some o ≡ is_some (option_copied o)
 some_lent None = refl
 some_lent (Some lent) = refl
 
 module _ (table : Table) (side : Side) (items : List Item) where
-  -- Where one is found there is an ID,
+  -- If an own ID is found, the message has one.
   pub own_is : (o : Option (List ℕ)) (own : Own) → IsOwnAt table side items o (Some own)
       → (id : List ℕ) × (o ≡ Some id) × IsOwn table side items id own
   own_is None own is = absurd is
@@ -36,7 +36,7 @@ module _ (table : Table) (side : Side) (items : List Item) where
   there_is None there is = absurd is
   there_is (Some id) there is = (id, refl, is)
 
-  -- and else there is none.
+  -- If none is found, the message has none.
   pub own_none : (o : Option (List ℕ)) → IsOwnAt table side items o None → o ≡ None
   own_none None is = refl
   own_none (Some id) is = absurd is
@@ -64,10 +64,10 @@ module _ (side : Side) (items : List Item) where
   pub over_nothing : (m : Message) → dtid_in m ≡ None → None ≡ tangled_in side items m
   over_nothing m none = rw none refl
 
--- ---- one that uses an own ID again
+-- ---- a message that uses an own ID again
 
 module _ (table : Table) (side : Side) (items : List Item) where
-  -- It was not used before, or its transaction is not over;
+  -- The ID was not used before, or its transaction is not over: the message does not use it again.
   pub again_not : (m : Message) (own : List ℕ) → otid_in m ≡ Some own
       → (has_used side items own && may_be_over table side items own) ≡ false → false ≡ uses_again table side items m
   again_not (Begin otid dialogue components) own it not_over =
@@ -77,14 +77,14 @@ module _ (table : Table) (side : Side) (items : List Item) where
       rw (same, not_over) refl
   again_not m own it not_over = cc
 
-  -- or else a Begin uses it again,
+  -- Otherwise a Begin uses it again.
   pub again_begin : (m : Message) (own : List ℕ) → otid_in m ≡ Some own → dtid_in m ≡ None
       → has_used side items own ≡ true → may_be_over table side items own ≡ true → true ≡ uses_again table side items m
   again_begin (Begin otid dialogue components) own it none used over =
       let same : otid ≡ own = cc in rw (same, over, used) refl
   again_begin m own it none used over = cc
 
-  -- and a Continue that answers anew.
+  -- Otherwise a Continue uses it again exactly if it is the first message to an ID that the peer began.
   pub again_continue : (m : Message) (own id : List ℕ) → otid_in m ≡ Some own → dtid_in m ≡ Some id
       → has_used side items own ≡ true → may_be_over table side items own ≡ true → (anew : Bool)
       → anew

@@ -1,4 +1,4 @@
--- What a message more does to what was sent, to which IDs are joined, and to what is kept of an end and of its peer.
+-- What one more message changes in what was sent, and in which IDs are joined.
 use Rattle.std.proofs.Common.{◌≡◌, ℕ, Bool, true, false, cond, ◌&&◌, ◌||◌, List, [], ◌∷◌, ◌++◌, Option, Some, None, is_some, refl, sym, ap, ◌∙◌}
 use Rattle.std.specs.Prelude.{filter, filter_map, is_none}
 use Rattle.std.specs.List.{list_any}
@@ -26,7 +26,7 @@ use Rattle.tcap_faults.proofs.list_laws.OneMoreLaws.{any_more, filter_more}
 
 -- ---- messages
 
--- A message with no destination ID is no Continue, nor is one with no originating ID; one with both is.
+-- A message without a destination ID, or without an originating ID, is no Continue; a message with both is one.
 pub begin_only : (m : Message) → dtid_in m ≡ None → is_a forms.Continue m ≡ false
 begin_only (Continue otid dtid dialogue components) none = cc
 begin_only m none = refl
@@ -40,7 +40,7 @@ pub goes_both : (m : Message) (from to : List ℕ) → otid_in m ≡ Some from �
 goes_both (Continue otid dtid dialogue components) from to otid_is dtid_is = refl
 goes_both m from to otid_is dtid_is = cc
 
--- One with an originating ID ends nothing, nor does one with no destination ID;
+-- A message with an originating ID, or without a destination ID, ends nothing.
 pub ends_none : (m : Message) (from : List ℕ) → otid_in m ≡ Some from → ended_by m ≡ None
 ends_none (EndMessage dtid dialogue components) from is = cc
 ends_none (Abort dtid reason) from is = cc
@@ -51,7 +51,7 @@ ends_nowhere (EndMessage dtid dialogue components) none = cc
 ends_nowhere (Abort dtid reason) none = cc
 ends_nowhere m none = refl
 
--- else it ends its destination ID, if any.
+-- Another message that ends something ends its destination ID.
 pub ends_it : (m : Message) (to : List ℕ) → dtid_in m ≡ Some to → is_some (ended_by m) ≡ true → ended_by m ≡ Some to
 ends_it (EndMessage dtid dialogue components) to is ends = is
 ends_it (Abort dtid reason) to is ends = by (is_none (reason_cause reason)) refl ends
@@ -66,9 +66,9 @@ pub ends_not : {A : Type 0} (o : Option A) → is_some o ≡ false → o ≡ Non
 ends_not None none = refl
 ends_not (Some x) none = cc
 
--- ---- lists of them
+-- ---- lists of joined IDs
 
--- whether there is something that passes
+-- Whether there is a value, and it passes.
 abbrev pub passes_of : {B : Type 0} → (B → Bool) → Option B → Bool
 passes_of p None = false
 passes_of p (Some x) = p x
@@ -88,10 +88,11 @@ any_mapped {A} {B} p f q xs x =
     by true None is = rw is refl
     by true (Some y) is = rw is (sym (or_none (p y)))
 
--- the IDs of the peer that are joined with an own one by Continues of the end, and those by Continues of the peer
+-- The IDs of the peer that Continues of the end join with an own ID.
 abbrev pub fronts : Side → List Item → List ℕ → List (List ℕ)
 fronts side items own = filter_map dtid_in (filter (goes_on_from own) (sent_by side items))
 
+-- The IDs of the peer that Continues of the peer join with an own ID.
 abbrev pub backs : Side → List Item → List ℕ → List (List ℕ)
 backs side items own = filter_map otid_in (filter (goes_on_to own) (sent_by (other side) items))
 
@@ -108,7 +109,7 @@ peers_any p side items own =
 
 -- ---- what was sent
 
--- the peer of the peer is the end
+-- The peer's peer is the end.
 pub twice_own : (side : Side) (m : Message) (items : List Item)
     → sent_by (other (other side)) (items ++ Sent side m ∷ []) ≡ sent_by (other (other side)) items ++ m ∷ []
 twice_own sides.A m items = sent_own sides.A m items

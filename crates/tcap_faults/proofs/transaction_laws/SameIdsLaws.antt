@@ -1,4 +1,4 @@
--- Transaction IDs that are the same as others, in some order, and whether two of them differ.
+-- Lists of transaction IDs with the same members, and whether two of the IDs differ.
 use Rattle.std.proofs.Common.{◌≡◌, ◌⊎◌, inl, inr, ℕ, Bool, true, false, not, List, [], ◌∷◌, ◌++◌, Option, Some, None, bytes_eq, refl, sym, ap, ◌∙◌}
 use Rattle.std.specs.Prelude.{Contains}
 use Rattle.std.specs.List.{list_any}
@@ -15,11 +15,11 @@ use Rattle.tcap_faults.proofs.list_laws.TwoTests.{none_passes}
 
 -- ---- whether two differ
 
--- All are one and the same.
+-- All IDs are equal.
 abbrev pub AreOne : List (List ℕ) → Type 0
 AreOne ids = (x y : List ℕ) → Contains ids x → Contains ids y → x ≡ y
 
--- None differs from another where all are one.
+-- If all IDs are equal, no two differ.
 pub none_differ : (ids : List (List ℕ)) → AreOne ids → two_differ ids ≡ false
 none_differ [] one = refl
 none_differ (id ∷ more) one = none_passes _ more same
@@ -28,11 +28,11 @@ none_differ (id ∷ more) one = none_passes _ more same
     same other has =
         ap not ((bytes_eq-Decides id other).1 (one id other (has_first id more) (has_later id more other has)))
 
--- Where two differ they are not all one.
+-- If not all IDs are equal, two differ.
 pub some_differ : (ids : List (List ℕ)) → (AreOne ids → ⊥) → two_differ ids ≡ true
 some_differ ids apart = true_from_ne_false _ (λ none. apart (λ x y. all_same ids x y none))
 
--- It depends only on which are there.
+-- Whether two IDs differ depends on the members alone.
 pub differ_so : (xs ys : List (List ℕ)) → ((id : List ℕ) → Contains xs id → Contains ys id)
     → two_differ ys ≡ false → two_differ xs ≡ false
 differ_so xs ys there none =
@@ -47,7 +47,7 @@ differ_same xs ys same = by (two_differ xs) refl (two_differ ys) refl
     by true is_x false is_y = sym is_x ∙ differ_so xs ys same.there is_y
     by false is_x true is_y = sym (differ_so ys xs same.back is_x) ∙ is_y
 
--- What holds of one holds of all, where all are one.
+-- If all IDs are equal, what holds for one holds for all.
 pub any_one : (p : List ℕ → Bool) (ids : List (List ℕ)) (x : List ℕ) → Contains ids x → two_differ ids ≡ false
     → list_any p ids ≡ p x
 any_one p ids x has none = by (p x) refl
@@ -56,14 +56,14 @@ any_one p ids x has none = by (p x) refl
     by true so = any_has p ids x has so
     by false so = none_passes p ids (λ y has_y. ap p (all_same ids y x none has_y has) ∙ so)
 
--- ---- what is kept of them
+-- ---- what is kept of a list
 
--- Of none that are the same as these there are none.
+-- A list without members is empty.
 pub none_same : (ids : List (List ℕ)) → AreSame [] ids → ids ≡ []
 none_same [] same = refl
 none_same (id ∷ more) same = has_not id (same.back id (has_first id more))
 
--- The first is one of them.
+-- The first ID is a member.
 pub first_has : (ids : List (List ℕ)) (x : List ℕ) → ids_first ids ≡ Some x → Contains ids x
 first_has [] x first = cc
 first_has (id ∷ more) x first = let same : id ≡ x = cc in rw (← same) (has_first id more)
@@ -72,26 +72,26 @@ pub first_none : (ids : List (List ℕ)) → ids_first ids ≡ None → ids ≡ 
 first_none [] first = refl
 first_none (id ∷ more) first = cc
 
--- The IDs of which it is kept are among themselves.
+-- What is kept of a list has the same members.
 pub among_these : (ids : List (List ℕ)) (kept : Ids) → AreIds ids kept → AreAmong ids (Some kept)
 among_these ids kept are = (ids, are, record { there = λ id has. has; back = λ id has. has })
 
 module _ {ids : List (List ℕ)} {kept : Ids} where
-  -- What says of the IDs of which it is kept whether two differ says so of these,
+  -- Whether two IDs differ is the same for every list that is kept so.
   pub among_differ : (b : Bool) → ((those : List (List ℕ)) → AreIds those kept → b ≡ two_differ those)
       → AreAmong ids (Some kept) → b ≡ two_differ ids
   among_differ b says (those, are, same) = says those are ∙ differ_same those ids same
 
-  -- and their first is one of these.
+  -- The first kept ID is a member of the list.
   pub among_one : (o : Option (List ℕ)) → ((those : List (List ℕ)) → AreIds those kept → o ≡ ids_first those)
       → AreAmong ids (Some kept) → IsOneOf ids o
   among_one None says (those, are, same) = none_same ids (rw (first_none those (sym (says those are))) at same)
   among_one (Some x) says (those, are, same) = same.there x (first_has those x (sym (says those are)))
 
--- ---- of two lists
+-- ---- two joined lists
 
 module _ (xs ys : List (List ℕ)) where
-  -- Two differ of both where two do of one,
+  -- If two IDs of one list differ, two of the joined list differ.
   pub left_differ : two_differ xs ≡ true → two_differ (xs ++ ys) ≡ true
   left_differ some =
       true_from_ne_false _
@@ -102,7 +102,7 @@ module _ (xs ys : List (List ℕ)) where
       true_from_ne_false _
       (λ none. both_ways _ (differ_so ys (xs ++ ys) (Contains-append_right xs ys) none) some)
 
-  -- and else where one of these differs from one of those.
+  -- Otherwise two of the joined list differ exactly if an ID of one differs from an ID of the other.
   pub both_differ : two_differ xs ≡ false → two_differ ys ≡ false → (x y : List ℕ) → Contains xs x → Contains ys y
       → not (bytes_eq x y) ≡ two_differ (xs ++ ys)
   both_differ none_x none_y x y has_x has_y = by (bytes_eq x y) refl
@@ -123,7 +123,7 @@ module _ (xs ys : List (List ℕ)) where
           both_ways _ apart ((bytes_eq-Decides x y).1
           (one x y (Contains-append_left xs ys x has_x) (Contains-append_right xs ys y has_y)))))
 
-  -- Where there are none of one they differ where the others do.
+  -- If one list is empty, the other decides.
   pub left_none : xs ≡ [] → two_differ ys ≡ two_differ (xs ++ ys)
   left_none none = rw none refl
 

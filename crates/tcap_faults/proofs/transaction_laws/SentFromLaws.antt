@@ -1,4 +1,4 @@
--- What is kept of what was sent from an ID, with a message more.
+-- The summary of what was sent from an ID, after one more message.
 use Rattle.std.proofs.Common.{◌≡◌, ◌⊎◌, inl, inr, ◌+◌, ℕ, Bool, true, false, cond, ◌||◌, List, [], ◌∷◌, ◌++◌, length, Option, Some, None, refl, sym, ap, ◌∙◌, arith}
 use Rattle.std.specs.Prelude.{filter, is_some, nat_le}
 use Rattle.std.specs.List.{find, list_any}
@@ -37,9 +37,9 @@ use Rattle.tcap_faults.proofs.list_laws.OneMoreLaws.{any_more, components_more, 
 use Rattle.tcap_faults.proofs.transaction_laws.HistoryLookupLaws.{begin_there}
 use Rattle.tcap_faults.proofs.list_laws.CountLaws.{count_last}
 
--- ---- a Continue more to an ID
+-- ---- one more Continue to an ID
 
--- whether one of these answers, or that one
+-- Whether one of these messages, or this message, answers a request.
 abbrev answered : List Message → Message → Bool
 answered ms m = list_any responds ms || responds m
 
@@ -70,7 +70,7 @@ module _ (table : Table) (ms : List Message) (m : Message) (old new : Came) (was
   answers : answered ms m ≡ new.answered
   answers = rw (is, was.answered) refl
 
-  -- The request was answered, now or sooner;
+  -- The request was answered, now or before.
   pub came_since : new.answered ≡ true → new.sooner ≡ old.sooner
       → IsTally table (components_of (from_first responds ms) ++ components_in m) new.since
       → IsCame table (ms ++ m ∷ []) new
@@ -82,7 +82,7 @@ module _ (table : Table) (ms : List Message) (m : Message) (old new : Came) (was
         since = rw (first_more ms m, now, components_more (from_first responds ms) m) since;
       }
 
-  -- or it was not.
+  -- The request was not answered.
   pub came_sooner : new.answered ≡ false → new.since ≡ old.since
       → IsTally table (components_of (before_response ms) ++ components_in m) new.sooner
       → IsCame table (ms ++ m ∷ []) new
@@ -105,11 +105,11 @@ pub continue_only : (m : Message) → is_a forms.Continue m ≡ true → is_a fo
 continue_only (Continue otid dtid dialogue components) is = refl
 continue_only m is = cc
 
--- neither a Begin nor a Continue
+-- The message is neither a Begin nor a Continue.
 abbrev pub IsNeither : Message → Type 0
 IsNeither m = (is_a forms.Begin m ≡ false) × (is_a forms.Continue m ≡ false)
 
--- What is of neither kind is neither.
+-- A message of another form is neither.
 pub neither : (kind : Form) (m : Message) → kind ≡ kind_in m → (kind ≡ forms.Begin → ⊥) → (kind ≡ forms.Continue → ⊥)
     → IsNeither m
 neither kind (Begin otid dialogue components) is no_begin no_continue = absurd (no_begin is)
@@ -126,7 +126,7 @@ module _ {A : Type 0} (p : A → Bool) where
       by None = refl
       by (Some y) = refl
 
-  -- With one more there are two where there is one,
+  -- With one more Begin, there are two exactly if there was one.
   two_with_one : (xs : List A) → nat_le 2 (count p xs + 1) ≡ is_some (find p xs)
   two_with_one [] = refl
   two_with_one (x ∷ xs) = by (p x) (two_with_one xs)
@@ -136,7 +136,7 @@ module _ {A : Type 0} (p : A → Bool) where
       by true rest = grind (arith, nat_tests)
       by false rest = rest
 
-  -- and where there is none, there are no two.
+  -- If there was none, there are no two.
   no_two : (xs : List A) → is_some (find p xs) ≡ false → nat_le 2 (count p xs) ≡ false
   no_two [] none = refl
   no_two (x ∷ xs) none = by (p x) none (no_two xs)
@@ -147,9 +147,9 @@ module _ {A : Type 0} (p : A → Bool) where
       by true bad rest = cc
       by false none rest = rest none
 
--- ---- what F2 to F7 ask
+-- ---- the notes for F2 to F7
 
--- The rest says nothing of it.
+-- The rest of the summary does not depend on them.
 pub from_same : (table : Table) (ms : List Message) (old : SentFrom) → IsFrom table ms old → (first : FromId)
     → IsFrom table ms (record old { first = first })
 from_same table ms old was first =
@@ -165,13 +165,13 @@ first_noted table ms m old new was told fact =
     ∙ ap (λ b. list_any (shows_from table fact) ms || b) (or_none (shows_from table fact m))
     ∙ sym (list_any-append (shows_from table fact) ms (m ∷ []))
 
--- ---- a message more
+-- ---- one more message
 
 module _ (table : Table) (ms : List Message) (m : Message) (old : SentFrom) (was : IsFrom table ms old) where
   is_begun : is_some (find (is_a forms.Begin) ms) ≡ is_some old.begin
   is_begun = sym (begin_there table (find (is_a forms.Begin) ms) old.begin was.begin)
 
-  -- What is no Begin, or comes behind one, changes nothing of the first.
+  -- A message that is no Begin, or that comes after one, does not change the first Begin.
   begin_stays : (is_a forms.Begin m ≡ false) ⊎ (is_some old.begin ≡ true)
       → IsFirstBegin table (find (is_a forms.Begin) (ms ++ m ∷ [])) old.begin
   begin_stays why =
@@ -202,7 +202,7 @@ module _ (table : Table) (ms : List Message) (m : Message) (old : SentFrom) (was
     no_continue : is_a forms.Continue m ≡ false
     no_continue = (begin_only m it).0
 
-    -- It says nothing of the Continues.
+    -- A Begin changes nothing of the Continues.
     from_begin_as : (new : SentFrom) → IsFirstBegin table (find (is_a forms.Begin) (ms ++ m ∷ [])) new.begin
         → new.begun_twice ≡ is_some old.begin → new.continues ≡ old.continues → new.to ≡ old.to → new.came ≡ old.came
         → IsFrom table (ms ++ m ∷ []) new
@@ -217,18 +217,18 @@ module _ (table : Table) (ms : List Message) (m : Message) (old : SentFrom) (was
           (was.came own);
     }
 
-    -- One behind another,
+    -- A Begin after another.
     pub from_begun : is_some old.begin ≡ true → IsFrom table (ms ++ m ∷ []) (record old { begun_twice = true })
     from_begun some = from_begin_as _ (begin_stays (inr some)) (sym some) refl refl refl
 
-    -- and the first.
+    -- The first Begin.
     pub from_begin : is_some old.begin ≡ false → (kept : FirstBegin) → IsFirstBegin table (Some m) (Some kept)
         → IsFrom table (ms ++ m ∷ []) (record old { begin = Some kept })
     from_begin none kept is =
         from_begin_as _ (begin_first kept it none is)
         (was.twice ∙ no_two (is_a forms.Begin) ms (is_begun ∙ none) ∙ sym none) refl refl refl
 
-  -- ---- what is no Begin
+  -- ---- a message that is no Begin
 
   from_other : (new : SentFrom) → is_a forms.Begin m ≡ false → new.begin ≡ old.begin
       → new.begun_twice ≡ old.begun_twice
@@ -254,7 +254,7 @@ module _ (table : Table) (ms : List Message) (m : Message) (old : SentFrom) (was
   -- ---- a Continue
 
   module _ (it : is_a forms.Continue m ≡ true) where
-    -- It is counted, and its destination ID noted, if it has one;
+    -- A Continue is counted, and its destination ID is noted.
     pub record IsContinued (new : SentFrom) : Type 0 where
       pub begin : new.begin ≡ old.begin
       pub twice : new.begun_twice ≡ old.begun_twice
@@ -282,7 +282,7 @@ module _ (table : Table) (ms : List Message) (m : Message) (old : SentFrom) (was
       came = refl;
     }
 
-    -- and it goes there.
+    -- The Continue is kept at its destination ID.
     pub from_continue : (new : SentFrom) (came : BTreeMap (List ℕ) Came) → IsContinued new
         → AreCame table (with_more dtid_in m (λ own. filter (goes_on_to own) ms)) came
         → IsFrom table (ms ++ m ∷ []) (record new { came = came })

@@ -1,4 +1,4 @@
--- What is kept of what was sent to an ID, with a message more.
+-- The summary of what was sent to an ID, after one more message.
 use Rattle.std.proofs.Common.{◌≡◌, ◌⊎◌, inl, ℕ, true, false, ◌||◌, List, [], ◌∷◌, ◌++◌, Some, None, refl, ◌∙◌}
 use Rattle.std.specs.Prelude.{is_none}
 use Rattle.std.proofs.lemmas.List.{append-nil}
@@ -25,24 +25,24 @@ no_continue : (m : Message) (cause : ℕ) → cause_in m ≡ Some cause → is_a
 no_continue (Continue otid dtid dialogue components) cause is = cc
 no_continue m cause is = refl
 
--- ---- a message more
+-- ---- one more message
 
 module _ (table : Table) (ms : List Message) (m : Message) where
-  -- What is no Abort of the provider is the user's.
+  -- A message that is no Abort of the provider is kept as the user's.
   user_more : cause_in m ≡ None → of_user (ms ++ m ∷ []) ≡ of_user ms ++ m ∷ []
   user_more none = filter_more (λ m. is_none (cause_in m)) ms m ∙ rw none refl
 
   user_same : (cause : ℕ) → cause_in m ≡ Some cause → of_user (ms ++ m ∷ []) ≡ of_user ms
   user_same cause it = filter_more (λ m. is_none (cause_in m)) ms m ∙ rw it (append-nil (of_user ms))
 
-  -- Whether it ends anything is kept first.
+  -- The summary, with whether the message ends something.
   abbrev pub ended_more : SentTo → SentTo
   ended_more old = record old { ended = old.ended || ends m; silenced = old.silenced || silences m }
 
-  -- ---- what is told
+  -- ---- a message of the user
 
   module _ (old : SentTo) where
-    -- It speaks, and its originating ID is noted where it is a Continue;
+    -- The message is noted, and its originating ID if it is a Continue.
     pub record HasSpoken (new : SentTo) : Type 0 where
       pub spoke : new.spoke ≡ true
       pub from : AreIds (otids_of (ms ++ m ∷ [])) new.from
@@ -76,7 +76,7 @@ module _ (table : Table) (ms : List Message) (m : Message) where
       components = refl;
     }
 
-    -- and its components are.
+    -- The components of the message are counted.
     pub told : (new : SentTo) (parts : Tally) → cause_in m ≡ None → HasSpoken new
         → IsTally table (components_of (of_user ms) ++ components_in m) parts
         → IsTold table ms m old (record new { components = parts })
@@ -90,10 +90,10 @@ module _ (table : Table) (ms : List Message) (m : Message) where
       silenced = is.silenced;
     }
 
-  -- ---- what is kept
+  -- ---- the whole summary
 
   module _ (old : SentTo) (was : IsTo table ms old) where
-    -- An Abort of the provider says nothing else there.
+    -- An Abort of the provider changes its cause's fields alone.
     pub to_cause : (new : SentTo) (cause : ℕ) → cause_in m ≡ Some cause → IsCaused cause (ended_more old) new
         → IsTo table (ms ++ m ∷ []) new
     to_cause new cause it is = record {
@@ -106,7 +106,7 @@ module _ (table : Table) (ms : List Message) (m : Message) where
       components = rw (is.components, user_same cause it) was.components;
     }
 
-    -- What is no such Abort speaks.
+    -- Another message is the user's.
     pub to_user : (new : SentTo) → cause_in m ≡ None → IsTold table ms m (ended_more old) new
         → IsTo table (ms ++ m ∷ []) new
     to_user new none is = record {

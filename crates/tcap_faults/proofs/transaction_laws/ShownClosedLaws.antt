@@ -1,4 +1,4 @@
--- What a message shows to be closed, and what it guesses, by what is kept.
+-- Which own ID a message shows to be closed, and which ID it guesses, from what is kept.
 use Rattle.std.proofs.Common.{◌≡◌, ℕ, Bool, true, false, not, ◌&&◌, ◌||◌, List, [], ◌∷◌, Some, None, bytes_eq, refl, sym, ap, ◌∙◌}
 use Rattle.std.specs.List.{list_any}
 use Rattle.std.proofs.lemmas.Bool.{and_from, and_left, and_right}
@@ -25,7 +25,7 @@ use Rattle.tcap_faults.proofs.transaction_laws.HistoryLookupLaws.{began_asked, o
 
 -- ---- messages that all go to one ID
 
--- these IDs are all that one, and there are some
+-- There are IDs, and all of them equal this ID.
 abbrev all_to : List ℕ → List (List ℕ) → Bool
 all_to own ids = not (is_nothing ids) && not (list_any (λ x. not (bytes_eq own x)) ids)
 
@@ -77,7 +77,7 @@ all_one own x (y ∷ more) differ first =
     by true same = let one : own ≡ y = (bytes_eq-Decides own y).0 same in rw (one, ← differ) refl
 
 module _ (own : List ℕ) (ms : List Message) (used : List ℕ → Bool) where
-  -- There is none;
+  -- There are no Continues.
   pub closed_none : dtids_of ms ≡ [] → false ≡ (all_go_on_to own ms && used own)
   closed_none none = sym (and_left _ _ (all_go own ms ∙ ap (all_to own) none))
 
@@ -86,7 +86,7 @@ module _ (own : List ℕ) (ms : List Message) (used : List ℕ → Bool) where
     kept_go b says =
         all_go own ms ∙ sym (all_same own are.0 (dtids_of ms) are.2) ∙ says are.0 are.1
 
-    -- they go to several;
+    -- The Continues go to several IDs.
     pub closed_several : ((ids : List (List ℕ)) → AreIds ids kept → true ≡ two_differ ids)
         → false ≡ (all_go_on_to own ms && used own)
     closed_several differ = sym (and_left _ _ (kept_go false (λ ids is. all_differ own ids (differ ids is))))
@@ -95,7 +95,7 @@ module _ (own : List ℕ) (ms : List Message) (used : List ℕ → Bool) where
         → false ≡ (all_go_on_to own ms && used own)
     closed_first_none none = sym (and_left _ _ (kept_go false (λ ids is. all_none own ids (none ids is))))
 
-    -- they go to one, which was used or not.
+    -- All Continues go to one ID, which was used or not.
     module _ (x : List ℕ) (differ : (ids : List (List ℕ)) → AreIds ids kept → false ≡ two_differ ids)
         (first : (ids : List (List ℕ)) → AreIds ids kept → Some x ≡ ids_first ids) where
       goes : all_go_on_to own ms ≡ bytes_eq own x
@@ -142,7 +142,7 @@ module _ (side : Side) (items : List Item) (m : Message) (from to : List ℕ) (o
       by false apart = refl
       by true same = let one : id ≡ from = (bytes_eq-Decides id from).0 same in rw one is
 
--- What is no Continue guesses nothing.
+-- A message that is no Continue guesses nothing.
 pub guesses_not : (side : Side) (items : List Item) (m : Message) → is_a forms.Continue m ≡ false → (id : List ℕ)
     → guesses (other side) id items (Sent side m) ≡ false
 guesses_not side items m stays id = rw (other_twice side, itself side, stays) refl

@@ -1,4 +1,4 @@
--- Of a message that goes over no tangled IDs: how the peer's ID that it goes to stands.
+-- What holds for the destination ID of a message that goes over no tangled IDs.
 use Rattle.std.proofs.Common.{◌≡◌, ◌⊎◌, inl, inr, ℕ, ◌<◌, Bool, true, false, List, [], ◌∷◌, Option, Some, None, not, is_some, refl, sym, ◌∙◌}
 use Rattle.std.specs.Prelude.{Contains, filter, filter_map, ◌&&◌, ◌||◌, nat_le}
 use Rattle.std.specs.List.{list_any}
@@ -21,7 +21,7 @@ use Rattle.tcap_faults.specs.Told.{began, begin_from, begins_from, goes_on_from,
 use Rattle.tcap_faults.specs.Tangled.{are_tangled, goes_over_tangled, goes_to_begun, is_own_tangled, is_peer_tangled, near, own_of_continue, owns_of, two_differ}
 use Rattle.tcap_faults.proofs.list_laws.FindLaws.{filter_is, find_has}
 
--- None of these IDs differs from another.
+-- If no two IDs differ, any two are equal.
 pub all_same : (ids : List (List ℕ)) (x y : List ℕ) → two_differ ids ≡ false → Contains ids x → Contains ids y → x ≡ y
 all_same [] x y same has_x has_y = has_not x has_x
 all_same (first ∷ more) x y same has_x has_y =
@@ -36,14 +36,14 @@ all_same (first ∷ more) x y same has_x has_y =
         of false apart =
             absurd (both_ways _ same (any_has (λ other. not (bytes_eq first other)) more z there (rw apart refl)))
 
--- How an ID of the peer stands that is not tangled.
+-- A plain ID of the peer: what holds if it is not tangled.
 pub record IsPlain (side : Side) (items : List Item) (id : List ℕ) : Type 0 where
-  -- it was begun once at the most,
+  -- The peer sent at most one Begin from it.
   pub few : count (is_a forms.Begin) (asked side id items) < 2
-  -- and where it was, no Continue from there went to an ID that the end began;
+  -- If the peer sent a Begin from it, the peer sent no Continue from it to an ID that the end began.
   pub none_begun : has_a forms.Begin (asked side id items) ≡ true → (m : Message) → Contains (asked side id items) m
       → goes_to_begun side items m ≡ true → ⊥
-  -- one own ID at the most is joined with it.
+  -- At most one own ID is joined with it.
   pub one_own : (x y : List ℕ) → Contains (owns_of side items id) x → Contains (owns_of side items id) y → x ≡ y
 
 pub plain_peer : (side : Side) (items : List Item) (id : List ℕ) → is_peer_tangled side items id ≡ false
@@ -64,7 +64,7 @@ plain_peer side items id plain =
       one_own = λ x y has_x has_y. all_same (owns_of side items id) x y same has_x has_y;
     }
 
--- The ID that a message goes to is so, where it goes over no tangled IDs.
+-- The destination ID of a message that goes over no tangled IDs is plain.
 pub plain_to : (side : Side) (items : List Item) (m : Message) (id : List ℕ) → dtid_in m ≡ Some id
     → goes_over_tangled side items m ≡ false → IsPlain side items id
 plain_to side items m id to over =
@@ -72,9 +72,9 @@ plain_to side items m id to over =
     let (own, peers) = or_parts (list_any (is_own_tangled side items) (near side items (own_of_continue m) id)) _ so in
     plain_peer side items id (or_parts (is_peer_tangled side items id) _ peers).0
 
--- ---- what is joined
+-- ---- joined IDs
 
--- What the end began it used.
+-- The end used each ID that it began.
 pub began_used : (side : Side) (items : List Item) (own : List ℕ) → began side own items ≡ true
     → has_used side items own ≡ true
 began_used side items own begun = by (begin_from side own items) refl begun
@@ -86,7 +86,7 @@ began_used side items own begun = by (begin_from side own items) refl begun
         any_has (λ m. is_id own (otid_in m)) (sent_by side items) b has
         (and_parts (is_a forms.Begin b) (is_id own (otid_in b)) passes).1
 
--- A Continue of the peer to an ID that the end used joins it.
+-- A Continue of the peer to an ID that the end used joins both IDs.
 pub joins : (side : Side) (items : List Item) (id own : List ℕ) (m : Message) → Contains (asked side id items) m
     → is_a forms.Continue m ≡ true → dtid_in m ≡ Some own → has_used side items own ≡ true
     → Contains (owns_of side items id) own

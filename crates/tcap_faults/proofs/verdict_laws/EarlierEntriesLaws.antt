@@ -1,4 +1,4 @@
--- What is kept of the entries before one, and in which of them an own ID was used again.
+-- The history before an entry, and the entries in which an own ID was used again.
 use Rattle.std.proofs.Common.{◌≡◌, ℕ, ◌+◌, ◌≤◌, ◌<◌, ◌^◌, arith, Bool, true, false, cond, ◌||◌, List, [], ◌∷◌, ◌++◌, length, map, take, Option, Some, None, is_some, Result, Ok, Err, refl, sym, ap, ap₂, subst, ◌∙◌}
 use Rattle.std.specs.Prelude.{slice_get}
 use Rattle.std.specs.Option.{option_or}
@@ -31,7 +31,7 @@ among_both [] ys = refl
 among_both (Ok item ∷ xs) ys = ap (λ items. item ∷ items) (among_both xs ys)
 among_both (Err reason ∷ xs) ys = among_both xs ys
 
--- those since the last quiet mark, behind these
+-- The items since the last quiet mark, after these items.
 abbrev seen_behind : List Item → List (Result Item Reason) → List Item
 seen_behind seen [] = seen
 seen_behind seen (Err reason ∷ more) = seen_behind seen more
@@ -51,7 +51,7 @@ seen_is items (Ok (Sent sender m) ∷ xs) =
     ∙ seen_is (items ++ Sent sender m ∷ []) xs
     ∙ ap (λ seen. seen_behind seen xs) (since_more sender m items)
 
--- ---- one entry more
+-- ---- one more entry
 
 module _ (entries : List Entry) (number : ℕ) (entry : Entry) (there : slice_get entries number ≡ Some entry) where
   within : number < length entries
@@ -65,9 +65,9 @@ module _ (entries : List Entry) (number : ℕ) (entry : Entry) (there : slice_ge
   pub one_item : items_up_to entries (number + 1) ≡ items_up_to entries number ++ items_among (item_of entry ∷ [])
   one_item = ap items_among one_entry ∙ among_both (map item_of (take number entries)) (item_of entry ∷ [])
 
--- ---- the first of them in which an own ID was used again
+-- ---- the first entry in which an own ID was used again
 
--- one more in which none was
+-- In one more entry, no own ID is used again.
 first_stays : (first : Option ℕ) (again : Bool) (k : ℕ) → is_some first ≡ again
     → first ≡ cond again (or_else first (Some k)) None
 first_stays None true k so = cc
@@ -75,7 +75,7 @@ first_stays None false k so = refl
 first_stays (Some n) true k so = refl
 first_stays (Some n) false k so = cc
 
--- one more, in which one may have been
+-- In one more entry, an own ID may be used again.
 first_more : (first : Option ℕ) (again now : Bool) (k : ℕ) → is_some first ≡ again
     → or_else first (cond now (Some k) None) ≡ cond (again || now) (or_else first (Some k)) None
 first_more None true now k so = cc
@@ -98,7 +98,7 @@ module _ (table : Table) (side : Side) where
       ≡ (has_used_again table side seen || is_used_again table side seen item)
   again_more seen item = one_more (is_used_again table side) [] seen item
 
-  -- Behind one more it is that one, where none was before, and an own ID has been used again now.
+  -- The first entry is the new one if there was none before and an own ID is used again now.
   again_next : (k number : ℕ) (xs : List (Result Item Reason)) (x : Result Item Reason) (seen : List Item) (first : Option ℕ)
       → k ≡ number + length xs → is_some first ≡ has_used_again table side seen
       → again_behind table side number (xs ++ x ∷ []) seen first
@@ -118,7 +118,7 @@ module _ (table : Table) (side : Side) where
       (some_more first (has_used_again table side seen) (is_used_again table side seen (Sent sender m)) number so
       ∙ sym (again_more seen (Sent sender m)))
 
--- ---- what is kept, entry by entry
+-- ---- the history, entry by entry
 
 pub replayed_none : (table : Table) (side : Side) (entries : List Entry) (kept : Facts) → IsKept table [] kept
     → IsReplayed table side entries 0 (record { kept = kept; again = None })
@@ -126,7 +126,7 @@ replayed_none table side entries kept are = record { are = are; counted = none_c
 
 module _ (table : Table) (side : Side) (entries : List Entry) (number : ℕ) (old : Replay)
     (so_far : IsReplayed table side entries number old) where
-  -- All entries are kept.
+  -- All entries are noted.
   pub replayed_all : (to : ℕ) → length entries ≤ number → number ≤ to → IsReplayed table side entries to old
   replayed_all to up on = record {
     are = subst (λ (es : List Entry). IsKept table (items_among (map item_of es)) old.kept) same so_far.are;
@@ -145,7 +145,7 @@ module _ (table : Table) (side : Side) (entries : List Entry) (number : ℕ) (ol
 
   module _ (entry : Entry) (there : slice_get entries number ≡ Some entry) (count : ℕ)
       (counted : (item : Item) → item_of entry ≡ Ok item → components_in_all (item ∷ []) ≤ count) (small : count < 2 ^ 63) where
-    -- The next entry is kept,
+    -- The next entry is noted.
     pub replayed_more : (new : Replay)
         → IsKept table (items_up_to entries number ++ items_among (item_of entry ∷ [])) new.kept
         → new.again ≡ cond (has_used_again table side (since_quiet (items_up_to entries number ++ items_among (item_of entry ∷ []))))
@@ -180,7 +180,7 @@ module _ (table : Table) (side : Side) (entries : List Entry) (number : ℕ) (ol
             subst (λ (items : List Item). AreCounted items (number + 1)) (sym (append-nil (items_up_to entries number)))
             (still_counted (items_up_to entries number) number so_far.counted)
 
-    -- and there is room for it.
+    -- The history has room for the next entry.
     pub replayed_roomy : number < 2 ^ 63 → (item : Item) → item_of entry ≡ Ok item
         → AreRoomy (items_up_to entries number ++ item ∷ [])
     replayed_roomy few item good =

@@ -1,4 +1,5 @@
--- The lowest of all kinds of a message, by the first ones and the further ones; and the lowest further kind over a half.
+-- The lowest kind of a message is the lowest first kind or else the lowest further kind; and the lowest further kind
+-- over a half.
 use Rattle.std.proofs.Common.{◌≡◌, ℕ, Bool, true, false, cond, not, ◌&&◌, ◌||◌, List, [], ◌∷◌, ◌++◌, Option, Some, None, is_some, refl, sym, ap, ap₂, ◌∙◌}
 use Rattle.std.specs.List.{find, list_any}
 use Rattle.std.proofs.Math.Bool.{or-false}
@@ -39,14 +40,14 @@ half_found table side items m id there is =
 
 -- ---- over a half
 
--- the lowest kind over a half, by what is wrong
+-- The lowest kind over a half, from the conditions of each kind.
 abbrev by_half : Bool → Bool → Bool → Bool → Bool → Bool → Option Kind
 by_half half dialogue busy linked answered rejected =
     cond half (Some kinds.WrongHalf)
     (cond (not half && dialogue) (Some kinds.WrongDialogue)
     (kind_of_components (not half && busy) (not half && linked) (not half && answered) (not half && rejected)))
 
--- the same of a message over a half, by whether the half and the dialogue portion are wrong
+-- The lowest kind of a message over a half, from whether it has F8 and F9.
 abbrev kind_by : Table → HalfOf → Message → Bool → Bool → Option Kind
 kind_by table h m half dialogue =
     by_half half dialogue (has_component (invokes_busy table h (h.told ++ components_in m)) [] h.told (components_in m))
@@ -59,14 +60,14 @@ found_over : (table : Table) (side : Side) (id : List ℕ) (items : List Item) (
     ≡ kind_by table h m (is_wrong_half side items m h) (is_wrong_dialogue side items id m h)
 found_over table side id items m h = refl
 
--- Where the half fits, and the dialogue portion does not.
+-- If F8 does not hold and F9 does.
 pub kind_of_dialogue : (table : Table) (side : Side) (id : List ℕ) (items : List Item) (m : Message) (h : HalfOf)
     → false ≡ is_wrong_half side items m h → true ≡ is_wrong_dialogue side items id m h
     → Some kinds.WrongDialogue ≡ find (is_of_half_kind table side id items m h) further_kinds
 kind_of_dialogue table side id items m h half dialogue =
     ap₂ (λ a b. kind_by table h m a b) half dialogue ∙ sym (found_over table side id items m h)
 
--- Where both fit.
+-- If neither F8 nor F9 holds.
 pub kind_last : (table : Table) (side : Side) (id : List ℕ) (items : List Item) (m : Message) (h : HalfOf) (k : Option Kind)
     → false ≡ is_wrong_half side items m h → false ≡ is_wrong_dialogue side items id m h
     → k ≡ kind_of_components
@@ -80,7 +81,7 @@ kind_last table side id items m h k half dialogue is =
 
 -- ---- the components
 
--- A message over a half has a kind where one of its components was found to be so;
+-- A message over a half has a kind exactly if a component with the kind was found.
 pub kinds_found : (table : Table) (h : HalfOf) (cs : List Component) (found : ComponentFaults)
     → ((kind : Kind) → component_at kind found ≡ half_component table h cs kind)
     → kind_of_components (is_some found.busy) (is_some found.badly_linked) (is_some found.answered_already)
@@ -104,7 +105,7 @@ kinds_found table h cs found are = λ i. kind_of_components (busy i) (linked i) 
     rejected : is_some found.wrongly_rejected ≡ has_component (rejects_wrongly table h) [] h.told cs
     rejected = ap is_some (are kinds.RejectNotAllowed) ∙ some_component (rejects_wrongly table h) 0 [] h.told cs
 
--- and one without destination ID.
+-- A message without destination ID has a kind exactly if a component with the kind was found.
 pub alone_found : (table : Table) (side : Side) (items : List Item) (m : Message) (found : ComponentFaults)
     → None ≡ dtid_in m → ((kind : Kind) → component_at kind found ≡ alone_component (components_in m) kind)
     → kind_of_components (is_some found.busy) (is_some found.badly_linked) (is_some found.answered_already)
@@ -142,12 +143,12 @@ find_two p (x ∷ xs) ys = by (p x) (find_two p xs ys)
     by true rest = refl
     by false rest = rest
 
--- the kinds of a message that goes over no tangled IDs
+-- The kinds of a message that goes over no tangled IDs.
 abbrev either_kind : Table → Side → List Item → Message → Option (List ℕ) → Kind → Bool
 either_kind table side items m id kind =
     is_of_first_kind table side items m kind || is_of_further_kind table side items m id kind
 
--- None of the first kinds is a further one.
+-- No first kind is a further one.
 no_further : (table : Table) (side : Side) (items : List Item) (m : Message) (id : Option (List ℕ)) (cause : Option ℕ)
     → cause_in m ≡ cause
     → find (either_kind table side items m id) first_kinds
@@ -169,12 +170,12 @@ first_alone table side items m =
     no_further table side items m (dtid_in m) (cause_in m) refl
     ∙ same_find _ _ first_kinds (λ kind. or-false (is_of_first_kind table side items m kind))
 
--- None of the further kinds is a first one.
+-- No further kind is a first one.
 further_alone : (table : Table) (side : Side) (items : List Item) (m : Message) (id : Option (List ℕ))
     → find (either_kind table side items m id) further_kinds ≡ find (is_of_further_kind table side items m id) further_kinds
 further_alone table side items m id = refl
 
--- Over no tangled IDs the lowest of all kinds is the lowest of the first ones, or else the lowest further one.
+-- Over no tangled IDs, the lowest kind is the lowest first kind, or else the lowest further one.
 pub fault_found : (table : Table) (side : Side) (items : List Item) (m : Message) → goes_over_tangled side items m ≡ false
     → find (is_fault table side items m) (first_kinds ++ further_kinds)
     ≡ or_else (find (is_of_first_kind table side items m) first_kinds)
@@ -184,7 +185,7 @@ fault_found table side items m plain =
     ∙ find_two (either_kind table side items m (dtid_in m)) first_kinds further_kinds
     ∙ ap₂ or_else (first_alone table side items m) (further_alone table side items m (dtid_in m))
 
--- Over tangled ones there is none.
+-- Over tangled IDs, a message has no kind.
 pub none_found : (table : Table) (side : Side) (items : List Item) (m : Message) → goes_over_tangled side items m ≡ true
     → find (is_fault table side items m) (first_kinds ++ further_kinds) ≡ None
 none_found table side items m over =

@@ -1,4 +1,4 @@
--- What the next item is to an end, by what is kept; and what is kept behind it.
+-- The kind of the next item for an end, from the history; and the history after it.
 use Rattle.std.proofs.Common.{◌≡◌, Bool, true, false, cond, not, ◌&&◌, ◌||◌, List, [], ◌∷◌, ◌++◌, Option, Some, None, Result, Ok, Err, refl, sym, ap, subst, ◌∙◌, ap₂, is_some}
 use Rattle.std.specs.Prelude.{IfOk}
 use Rattle.std.specs.List.{find}
@@ -33,7 +33,7 @@ again_more table side items m =
     one_more (is_used_again table side) [] items (Sent side m)
     ∙ ap (λ b. has_used_again table side items || (b && uses_again table side items m)) (itself side)
 
--- ---- the lowest kind of an own message
+-- ---- the lowest kind of the end's message
 
 fault_is : (table : Table) (side : Side) (items : List Item) (m : Message)
     → fault_since table side items (Sent side m)
@@ -43,7 +43,7 @@ fault_is table side items m =
     ap₂ (λ b c. cond (b && not c) (find (is_fault table side items m) (first_kinds ++ further_kinds)) None)
     (itself side) (again_more table side items m)
 
--- Where an own ID is used again, or the message goes over tangled IDs, there is none.
+-- If an own ID was used again, or the message goes over tangled IDs, it has no kind.
 pub no_fault : (table : Table) (side : Side) (items : List Item) (m : Message)
     → (has_used_again table side items || uses_again table side items m || goes_over_tangled side items m) ≡ true
     → None ≡ fault_since table side items (Sent side m)
@@ -57,7 +57,7 @@ no_fault table side items m is =
     by false true same so = none_found table side items m same
     by false false same so = cc
 
--- Else it is the lowest of the first ones, or else of the further ones.
+-- Otherwise it has the lowest first kind, or else the lowest further one.
 either_fault : (table : Table) (side : Side) (items : List Item) (m : Message)
     → (has_used_again table side items || uses_again table side items m || goes_over_tangled side items m) ≡ false
     → fault_since table side items (Sent side m)
@@ -75,7 +75,7 @@ either_fault table side items m is =
     by false true same so = cc
     by false false same so = fault_found table side items m same
 
--- one of three, or none
+-- The first of three conditions makes their disjunction hold.
 pub first_so : (a b c : Bool) → a ≡ true → (a || b || c) ≡ true
 first_so true b c is = refl
 first_so false b c is = cc
@@ -121,7 +121,7 @@ peer_alone table side sender items m is =
     ap (λ b. cond (b && not (has_used_again table side (items ++ Sent sender m ∷ [])))
     (find (is_fault table side items m) (first_kinds ++ further_kinds)) None) is
 
--- ---- what is kept behind one item more
+-- ---- the history after one more item
 
 pub kept_more : (table : Table) (sender : Side) (items : List Item) (m : Message) (kept : Facts)
     → AreFacts table (since_quiet items ++ Sent sender m ∷ []) kept
@@ -133,7 +133,7 @@ pub kept_mark : (table : Table) (items : List Item) (kept : Facts) → AreFacts 
     → IsKept table (items ++ Item.Quiet ∷ []) kept
 kept_mark table items kept facts = subst (λ (xs : List Item). AreFacts table xs kept) (sym (since_mark items)) facts
 
--- A message goes over tangled IDs where there is a first one.
+-- A message goes over tangled IDs exactly if a first tangled ID is found.
 pub over : (table : Table) (side : Side) (items : List Item) (m : Message) (o : Option TangledId) (found : Bool)
     → o ≡ tangled_in side items m → found ≡ is_some o → goes_over_tangled side items m ≡ found
 over table side items m o found is so = sym (so ∙ ap is_some is ∙ tangled_told side items m)

@@ -1,4 +1,4 @@
--- What is kept of a record for one half, entry by entry.
+-- The history for one half, entry by entry.
 use Rattle.std.proofs.Common.{◌≡◌, ℕ, ◌+◌, ◌<◌, ◌≤◌, ◌^◌, arith, true, false, cond, List, [], ◌∷◌, ◌++◌, length, filter, map, Option, Some, None, Result, Ok, Err, refl, sym, ap, subst, ◌∙◌}
 use Rattle.std.specs.Prelude.{OnOk, slice_get}
 use Rattle.std.proofs.lemmas.List.{append-nil, take_all}
@@ -24,7 +24,7 @@ pub on_ok_then : {A E P Q : Type 0} (r : Result A E) → (P → Q) → OnOk r P 
 on_ok_then (Ok a) next so = next so
 on_ok_then (Err e) next so = so
 
--- There is room for an entry behind what is kept.
+-- The history has room for an entry.
 pub noted_roomy : (table : Table) (items : List Item) (number : ℕ) (kept : Facts) → IsNoted table items number kept
     → number < 2 ^ 63 → (count : ℕ) → count < 2 ^ 63 → (entry : Entry)
     → ((item : Item) → item_of entry ≡ Ok item → components_in_all (item ∷ []) ≤ count)
@@ -32,7 +32,7 @@ pub noted_roomy : (table : Table) (items : List Item) (number : ℕ) (kept : Fac
 noted_roomy table items number kept noted few count small entry counted item good =
     counted_roomy items number noted.counted item count (counted item good) small few
 
--- Nothing matters for what is no message.
+-- If an entry is no message, no items matter for it.
 pub none_for_bad : (side : Side) (items : List Item) (entry : Entry) → ((m : Message) → entry.body ≡ Good m → ⊥)
     → those_for_entry side (item_of entry) items ≡ []
 none_for_bad side items entry never = by entry.side entry.body never
@@ -53,7 +53,7 @@ none_from_no_end side items entry none = rw none (by entry.body)
     by (Bad fault) = refl
     by QuietMark = refl
 
--- Where none of the items matter, nothing has to be kept.
+-- If no items matter, nothing has to be kept.
 pub noted_nothing : (table : Table) (items : List Item) (number : ℕ) (kept : Facts) → items ≡ [] → IsKept table [] kept
     → IsNoted table items number kept
 noted_nothing table items number kept none are =
@@ -94,7 +94,7 @@ module _ (table : Table) (side : Side) (id : List ℕ) (entries : List Entry) wh
         ap (filter (matters side id)) (one_item entries number entry there)
         ∙ filter-append (matters side id) (items_up_to entries number) (items_among (item_of entry ∷ []))
 
-    -- An entry that does not matter is passed over,
+    -- An entry that does not matter is skipped.
     pub passed_over : ((item : Item) → item_of entry ≡ Ok item → matters side id item ≡ false)
         → IsNotedFor table side id entries (number + 1) old
     passed_over not = record {
@@ -111,7 +111,7 @@ module _ (table : Table) (side : Side) (id : List ℕ) (entries : List Entry) wh
         same : filter (matters side id) (items_up_to entries (number + 1)) ≡ before
         same = one_those ∙ ap (λ items. before ++ items) (none (item_of entry) not) ∙ append-nil before
 
-    -- and one that does is kept.
+    -- An entry that matters is noted.
     pub noted_more : (count : ℕ) → ((item : Item) → item_of entry ≡ Ok item → components_in_all (item ∷ []) ≤ count)
         → count < 2 ^ 63 → ((item : Item) → item_of entry ≡ Ok item → matters side id item ≡ true) → (new : Facts)
         → IsKept table (before ++ items_among (item_of entry ∷ [])) new

@@ -1,4 +1,4 @@
--- What matters for a half tells of it what all items tell.
+-- The items that matter for a half give the half that all items give.
 use Rattle.std.proofs.Common.{◌≡◌, ℕ, Bool, true, false, cond, ◌&&◌, ◌||◌, List, [], ◌∷◌, ◌++◌, filter, Option, Some, None, Result, Ok, refl, sym, ap, ap₂, ◌∙◌}
 use Rattle.std.specs.Prelude.{is_some, not}
 use Rattle.std.specs.List.{cons_option, find}
@@ -34,9 +34,9 @@ use Rattle.tcap_faults.proofs.verdict_laws.SubjectLaws.{alone_is, half_is}
 use Rattle.tcap_faults.proofs.list_laws.TwoTests.{any_kept}
 use Rattle.std.proofs.lemmas.Bool.{and_parts, or_right}
 
--- ---- tests, and what passes
+-- ---- tests
 
--- What is found is told by those that pass.
+-- The first of what passes a test depends on what passes alone.
 abbrev first_of : List Message → Option Message
 first_of [] = None
 first_of (m ∷ ms) = Some m
@@ -60,7 +60,7 @@ module _ (side : Side) (id : List ℕ) where
   abbrev those : List Item → List Item
   those items = filter (matters side id) items
 
-  -- ---- quiet marks stay
+  -- ---- quiet marks are kept
 
   quiet_stays : (items : List Item) → has_quiet (those items) ≡ has_quiet items
   quiet_stays [] = refl
@@ -94,7 +94,7 @@ module _ (side : Side) (id : List ℕ) where
 
   -- ---- what each end sent
 
-  -- Where all that pass a test matter, those that pass are the same.
+  -- If each message that passes matters, the same messages pass among those that matter.
   module _ (test : Message → Bool) where
     passed : (end : Side)
         → ((m : Message) (sender : Side) → test m ≡ true → is_side end sender ≡ true → matters side id (Sent sender m) ≡ true)
@@ -222,7 +222,7 @@ module _ (side : Side) (id : List ℕ) where
 -- ---- the component
 
 module _ (of_one : Bool) (table : Table) (side : Side) where
-  -- The first component is the same where the same components answer nothing, and are of a wrong operation.
+  -- The first component is the same if the tests of components agree.
   same_first : (xs ys : List Item) (m : Message) (kind : Kind)
       → ((c : Component) → answers_nothing_in of_one side xs m c ≡ answers_nothing_in of_one side ys m c)
       → ((c : Component) → is_wrong_in table side xs m c ≡ is_wrong_in table side ys m c)
@@ -232,7 +232,7 @@ module _ (of_one : Bool) (table : Table) (side : Side) where
   same_first xs ys m kind answers wrong = refl
 
   module _ (items : List Item) where
-    -- A message with that destination ID: what was asked from there tells it.
+    -- The messages of the peer from the destination ID decide the first component.
     asked_first : (id : List ℕ) (m : Message) (kind : Kind) → Some id ≡ dtid_in m
         → first_component of_one table side (those side id items) m kind ≡ first_component of_one table side items m kind
     asked_first id m kind to = same_first (those side id items) items m kind (answers m to) (wrong m to)
@@ -274,7 +274,7 @@ module _ (of_one : Bool) (table : Table) (side : Side) where
         })
         ∙ half_is of_one table side items kind m id to
 
-    -- Without a destination ID nothing matters.
+    -- Without a destination ID, nothing matters.
     alone_same : (m : Message) (kind : Kind) → None ≡ dtid_in m
         → subject of_one table side [] m kind ≡ subject of_one table side items m kind
     alone_same m kind none =
@@ -298,7 +298,7 @@ module _ (of_one : Bool) (table : Table) (side : Side) where
         wrong (Begin otid dialogue components) none c = refl
         wrong m none c = cc
 
-  -- What a message is about, behind what matters for its half, is what it is about behind all.
+  -- The subject of a message after the items that matter is its subject after all items.
   matters_for : (items : List Item) (m : Message) (kind : Kind) (o : Option (List ℕ)) → o ≡ dtid_in m
       → subject of_one table side (since_quiet (those_for side o items)) m kind
       ≡ subject of_one table side (since_quiet items) m kind

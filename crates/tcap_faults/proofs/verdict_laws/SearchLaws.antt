@@ -1,4 +1,4 @@
--- A search over the entries, one entry more.
+-- The search over the entries, after one more entry.
 use Rattle.std.proofs.Common.{◌≡◌, ℕ, suc, ◌+◌, ◌≤◌, ◌<◌, ◌^◌, Bool, true, false, cond, not, ◌||◌, List, [], ◌∷◌, ◌++◌, length, map, drop, Option, Some, None, Result, Ok, Err, refl, sym, ap, subst, ◌∙◌}
 use Rattle.std.specs.Prelude.{get_or}
 use Rattle.std.proofs.Math.Numerals.{suc-eq-add-one}
@@ -27,21 +27,21 @@ use Rattle.tcap_faults.proofs.verdict_laws.NextEntryLaws.{peer_alone}
 abbrev look : Bool → Option Refutation → Looking
 look is_over found = record { is_over = is_over; found = found }
 
--- ---- an item is looked at
+-- ---- an item is judged
 
--- Where an item is no fault of an end, nothing becomes another.
+-- If an item is no fault of an end, the state does not change.
 still : (number : ℕ) (kind : Option Kind) (is_over : Bool) (found : Option Refutation) → kind ≡ None
     → looking_on number kind (look is_over found) ≡ look is_over found
 still number kind true found none = refl
 still number kind false found none = ap (λ k. looking_with number k (look false found)) none
 
--- Where its search is over, nothing becomes another.
+-- If the search is over, the state does not change.
 over_still : (table : Table) (items : List Item) (number : ℕ) (item : Item) (side : Side) (looking : Looking)
     → looking.is_over ≡ true → looking_behind table items number item side looking ≡ looking
 over_still table items number item side looking over =
     ap (λ b. cond b looking (looking_with number (fault_since table side (since_quiet items) item) looking)) over
 
--- Else what was found is in the item.
+-- Otherwise the state has what was found in the item.
 looked_on : (table : Table) (items : List Item) (number : ℕ) (item : Item) (side : Side) (looking : Looking)
     (kind : Option Kind) → looking.is_over ≡ false → kind ≡ fault_since table side (since_quiet items) item
     → looking_behind table items number item side looking ≡ looking_with number kind looking
@@ -56,7 +56,7 @@ peer_still table items number sender m side looking is =
 
 -- ---- a message of an end
 
--- What was found of its sender is as it should be, and what was found of the other is as it was.
+-- The state of the sender is updated, and that of the other end did not change.
 pub record IsLookedAt (table : Table) (items : List Item) (number : ℕ) (sender : Side) (m : Message) (old new : SearchState) : Type 0 where
   pub kept : new.kept ≡ old.kept
   pub own : looking_at sender new ≡ looking_behind table items number (Sent sender m) sender (looking_at sender old)
@@ -77,7 +77,7 @@ put_peer sides.A sides.B looking old is = refl
 put_peer sides.B sides.A looking old is = refl
 put_peer sides.B sides.B looking old is = cc
 
--- Where the search for the sender is not over.
+-- If the search for the sender is not over.
 pub looked_put : (table : Table) (items : List Item) (number : ℕ) (sender : Side) (m : Message) (old : SearchState)
     (looking with_it : Looking) (kind : Option Kind) → looking ≡ looking_at sender old → looking.is_over ≡ false
     → kind ≡ fault_since table sender (since_quiet items) (Sent sender m) → with_it ≡ looking_with number kind looking
@@ -92,7 +92,7 @@ looked_put table items number sender m old looking with_it kind same over is put
   peer = λ side apart. put_peer side sender with_it old apart;
 }
 
--- Where it is.
+-- If the search for the sender is over.
 pub looked_over : (table : Table) (items : List Item) (number : ℕ) (sender : Side) (m : Message) (old : SearchState)
     (looking : Looking) → looking ≡ looking_at sender old → looking.is_over ≡ true
     → IsLookedAt table items number sender m old old
@@ -141,11 +141,11 @@ mark_taken table items number old kept a b are is_a is_b = record {
 
 -- ---- the entries
 
--- the entries, each with its end
+-- The entries, each with its end.
 abbrev told : List Entry → List (Option Side × Result Item Reason)
 told entries = map (λ e. (e.side, item_of e)) entries
 
--- what the next entry is, and what is left behind it
+-- The next entry, with those after it.
 abbrev told_at : List Entry → ℕ → Entry → List (Option Side × Result Item Reason)
 told_at entries number entry = (entry.side, item_of entry) ∷ told (drop (number + 1) entries)
 
@@ -175,13 +175,13 @@ module _ (table : Table) (side : Side) (entries : List Entry) (items : List Item
   end_found false found (none, left) nothing =
       none ∙ sym (ap (λ xs. blamed_behind table side items number (told xs)) nothing) ∙ left
 
-  -- The next entry decides where nothing was found before.
+  -- If nothing was found before, the next entry decides.
   module _ (entry : Entry) (there : number < length entries) (is : entry ≡ get_or entries number entry) where
     next_left : blamed_behind table side items number (told (drop number entries)) ≡ blamed table side entries
         → blamed_behind table side items number (told_at entries number entry) ≡ blamed table side entries
     next_left left = sym (ap (blamed_behind table side items number) (next_told entries number entry there is)) ∙ left
 
-    -- It is no item.
+    -- The next entry is no item.
     bad_found : (reason : Reason) → item_of entry ≡ Err reason → (is_over : Bool) (found : Option Refutation) (new : Looking)
         → IsFound table side entries items number (look is_over found)
         → new ≡ looking_bad number entry.side reason side (look is_over found) → new.found ≡ blamed table side entries
@@ -196,7 +196,7 @@ module _ (table : Table) (side : Side) (entries : List Entry) (items : List Item
         by None = none
         by (Some kind) = refl
 
-    -- It is an item.
+    -- The next entry is an item.
     next_found : (item : Item) → item_of entry ≡ Ok item → (is_over : Bool) (found : Option Refutation) (new : Looking)
         → IsFound table side entries items number (look is_over found)
         → new ≡ looking_behind table items number item side (look is_over found)
@@ -219,7 +219,7 @@ module _ (table : Table) (side : Side) (entries : List Entry) (items : List Item
 
 -- ---- the search
 
--- What is known of the ends that are asked about, behind so many entries.
+-- What is known of the ends that are asked for, after `number` entries.
 pub record IsSearched (table : Table) (entries : List Entry) (a b : Bool) (number : ℕ) (state : SearchState) : Type 0 where
   pub items : List Item
   pub are : IsKept table items state.kept
@@ -242,14 +242,14 @@ started table entries asked_a asked_b kept a b are is_a is_b = record {
 
 module _ (table : Table) (entries : List Entry) (a b : Bool) (number : ℕ) (state : SearchState)
     (so_far : IsSearched table entries a b number state) where
-  -- what is said of the next entry
+  -- The history has room for the next entry.
   pub roomy_next : number < 2 ^ 63 → (count : ℕ) → count < 2 ^ 63 → (entry : Entry)
       → ((item : Item) → item_of entry ≡ Ok item → components_in_all (item ∷ []) ≤ count)
       → (item : Item) → item_of entry ≡ Ok item → AreRoomy (so_far.items ++ item ∷ [])
   roomy_next few count small entry counted item is =
       counted_roomy so_far.items number so_far.counted item count (counted item is) small few
 
-  -- There is none.
+  -- There is no next entry.
   pub all_searched : length entries ≤ number
       → (a ≡ true → state.a.found ≡ blamed table sides.A entries) × (b ≡ true → state.b.found ≡ blamed table sides.B entries)
   all_searched up = (
@@ -262,7 +262,7 @@ module _ (table : Table) (entries : List Entry) (a b : Bool) (number : ℕ) (sta
   module _ (entry : Entry) (there : number < length entries) (is : entry ≡ get_or entries number entry) (new : SearchState)
       (count : ℕ) (counted : (item : Item) → item_of entry ≡ Ok item → components_in_all (item ∷ []) ≤ count)
       (small : count < 2 ^ 63) where
-    -- It is an item.
+    -- The next entry is an item.
     item_taken : (item : Item) → item_of entry ≡ Ok item → IsTaken table so_far.items number item state new
         → IsSearched table entries a b (number + 1) new
     item_taken item good taken = record {
@@ -275,7 +275,7 @@ module _ (table : Table) (entries : List Entry) (a b : Bool) (number : ℕ) (sta
           state.b.found new.b (so_far.of_b asked) (taken.looking sides.B);
     }
 
-    -- One behind it is looked at.
+    -- The search goes on.
     pub searched_on : Takes table so_far.items number entry true state new → IsSearched table entries a b (number + 1) new
     searched_on takes = by (item_of entry) refl
       where
@@ -289,7 +289,7 @@ module _ (table : Table) (entries : List Entry) (a b : Bool) (number : ℕ) (sta
             → looking_at side new ≡ looking_bad number entry.side reason side (looking_at side state)) = rw bad at takes in
             let (never, looking) = so in cc
 
-    -- None behind it is.
+    -- The search stops.
     pub searched_up : Takes table so_far.items number entry false state new
         → (a ≡ true → new.a.found ≡ blamed table sides.A entries) × (b ≡ true → new.b.found ≡ blamed table sides.B entries)
     searched_up takes = by (item_of entry) refl

@@ -1,4 +1,4 @@
--- What a fault is about is read off what is kept of the entries before it.
+-- The subject of a fault is read from the history before it.
 use Rattle.std.proofs.Common.{◌≡◌, ℕ, arith, Bool, List, [], ◌∷◌, ◌++◌, Option, Some, None, Result, Ok, length-append, refl, sym, ap, ap₂, ◌∙◌}
 use Rattle.std.specs.Prelude.{option_map, slice_get}
 use Rattle.std.specs.Option.{option_or}
@@ -29,7 +29,7 @@ use Rattle.tcap_faults.specs.Searching.{AreRoomy, IsKept}
 use Rattle.tcap_faults.specs.Subject.{alone_component, half_component, items_among, no_subject, subject, subject_by, subject_of}
 use Rattle.tcap_faults.proofs.component_laws.FewComponentsLaws.{all_more}
 
--- ---- of a message
+-- ---- a message
 
 pub either : {A : Type 0} (a b : Option A) → option_or a b ≡ or_else a b
 either None b = refl
@@ -59,7 +59,7 @@ module _ (of_one : Bool) (table : Table) (side : Side) (items : List Item) (kind
   half_is m id to = cc
 
   module _ (m : Message) (first rest : Option ℕ) (is_first : first ≡ first_component of_one table side items m kind) where
-    -- Without a destination ID,
+    -- A message without destination ID.
     pub alone_subject : None ≡ dtid_in m → rest ≡ alone_component (components_in m) kind
         → record { how = Nowhere; own = None; component = option_or first rest } ≡ subject of_one table side items m kind
     alone_subject none is_rest =
@@ -70,7 +70,7 @@ module _ (of_one : Bool) (table : Table) (side : Side) (items : List Item) (kind
         })
         ∙ alone_is m none
 
-    -- and over a half.
+    -- A message over a half.
     pub half_subject : (id : List ℕ) (how : How) (own : Option (List ℕ)) → Some id ≡ dtid_in m
         → how ≡ (half_of side items id).how → own ≡ (half_of side items id).own
         → rest ≡ half_component table (half_of side items id) (components_in m) kind
@@ -83,9 +83,9 @@ module _ (of_one : Bool) (table : Table) (side : Side) (items : List Item) (kind
         })
         ∙ half_is m id to
 
--- ---- of an entry
+-- ---- an entry
 
--- It is asked of an end which may not be the one that sent the message.
+-- The end that is asked about need not be the sender.
 pub roomy_of : (items : List Item) (sender side : Side) (m : Message) → AreRoomy (items ++ Sent sender m ∷ [])
     → AreRoomy (items ++ Sent side m ∷ [])
 roomy_of items sender side m roomy =
@@ -97,7 +97,7 @@ roomy_of items sender side m roomy =
     let f = roomy.components in
     record { few = omega (arith, a, b, e); components = omega (arith, c, d, f) }
 
--- What is said of a message is said of its entry,
+-- The subject of a message is that of its entry.
 pub sent_subject : (of_one : Bool) (table : Table) (side : Side) (items : List Item) (entry : Entry) (sender : Side)
     (m : Message) (kind : Kind) (r : Result Subject AllocError) → entry.side ≡ Some sender → entry.body ≡ Good m
     → ((item : Item) → item_of entry ≡ Ok item → AreRoomy (items ++ item ∷ []))
@@ -106,15 +106,15 @@ pub sent_subject : (of_one : Bool) (table : Table) (side : Side) (items : List I
 sent_subject of_one table side items entry sender m kind r from is roomy so =
     rw (from, is) (so (roomy_of items sender side m (roomy (Sent sender m) (rw (from, is) refl))))
 
--- and a quiet mark is one more item.
+-- A quiet mark is one more item.
 pub mark_noted : (table : Table) (items : List Item) (entry : Entry) (kept : Facts) → entry.side ≡ None → entry.body ≡ Quiet
     → IsKept table (items ++ Item.Quiet ∷ []) kept → IsKept table (items ++ items_among (item_of entry ∷ [])) kept
 mark_noted table items entry kept from is are = rw (from, is) are
 
--- ---- of the entry of a record
+-- ---- an entry of a record
 
 module _ (of_one : Bool) (table : Table) (side : Side) (entries : List Entry) (r : Refutation) where
-  -- It is there,
+  -- The entry exists.
   pub subject_there : (entry : Entry) → slice_get entries r.entry ≡ Some entry
       → subject_by of_one table side (since_quiet (items_up_to entries r.entry)) (Some (item_of entry)) r.kind
       ≡ subject_of of_one table side entries r
@@ -122,7 +122,7 @@ module _ (of_one : Bool) (table : Table) (side : Side) (entries : List Entry) (r
       sym (ap (λ e. subject_by of_one table side (since_quiet (items_up_to entries r.entry)) e r.kind)
       (slice_get-map item_of entries r.entry ∙ ap (option_map item_of) there))
 
-  -- or there is none.
+  -- The entry does not exist.
   pub subject_nowhere : slice_get entries r.entry ≡ None → no_subject ≡ subject_of of_one table side entries r
   subject_nowhere none =
       sym (ap (λ e. subject_by of_one table side (since_quiet (items_up_to entries r.entry)) e r.kind)

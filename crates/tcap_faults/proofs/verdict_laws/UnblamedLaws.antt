@@ -1,4 +1,4 @@
--- Why nothing is blamed on an end at an entry that is no quiet mark, by what is kept of the entries up to it.
+-- The reason why nothing is blamed on an end at an entry that is no quiet mark, from the history up to the entry.
 use Rattle.std.proofs.Common.{◌≡◌, ℕ, ◌+◌, Bool, false, cond, List, Option, Some, option_map, sym, ap, ap₂, ◌∙◌}
 use Rattle.std.specs.Prelude.{slice_get}
 use Rattle.std.proofs.lemmas.Option.{slice_get-map}

@@ -1,5 +1,4 @@
--- How a half that began by receiving stands to the list: the Begin that was asked of it, and the Continue by which it
--- answered.
+-- An accepted half and the list: the Begin that its peer sent, and the Continue with which it answered.
 use Rattle.std.proofs.Common.{◌≡◌, ◌⊎◌, inl, inr, true, List, [], ◌∷◌, Some, refl, sym, ap, ◌∙◌}
 use Rattle.std.specs.Prelude.{Contains, ◌&&◌}
 use Rattle.std.proofs.lemmas.Bool.{and_from}
@@ -31,7 +30,7 @@ use Rattle.tcap_faults.proofs.view_laws.ViewLaws.{View}
 
 -- ---- the Begin
 
--- A Begin was asked from its peer, and the dialogue stands as that says.
+-- The peer sent a Begin, and the dialogue has the state that the Begin gives.
 pub record IsAskedBy (side : Side) (items : List Item) (f : KeptHalf) : Type 0 where
   pub begin : Message
   pub was_asked : Contains (asked side f.key items) begin
@@ -79,7 +78,7 @@ all_asked {table} {side} {e} {coming} {items} view =
 
 -- ---- its answer
 
--- It told its peer a Continue from its own ID.
+-- The half sent its peer a Continue from its own ID.
 pub record HasTold (side : Side) (items : List Item) (f : KeptHalf) : Type 0 where
   pub message : Message
   pub was_told : Contains (told side f.key items) message

@@ -1,4 +1,4 @@
--- What each step of one end makes of its halves, case by case; and a message that was sent has its half.
+-- What each step of an end changes in its halves, case by case; and each sent message has its half.
 use Rattle.std.proofs.Common.{◌≡◌, inl, inr, Bool, true, false, cond, ℕ, ℤ, List, [], Option, Some, None, Result, Ok, Err, is_none, not, refl, sym, subst, ◌∙◌}
 use Rattle.std.specs.Prelude.{ok_or}
 use Rattle.tcap_parts.specs.declared.component.Component.{Component}
@@ -31,7 +31,7 @@ use Rattle.tcap_refute.proofs.BeforeLaws.{is_that_id}
 use Rattle.tcap_refute.proofs.HalfLawsTurns.{Accepts, Acts, Deed, Heard, Said, Starts, Turned, Unseen, acts_nowhere, answers, closes, learns, stays, new_acts, put_acts}
 use Rattle.tcap_refute.proofs.OverLaws.{IsOver, follows_stays, over, own_is}
 
--- The end acts so, where the step was Ok with it.
+-- The end acts so if the step was Ok with it.
 acts_this : {table : Table} {deed : Deed} (e x next : End) → Acts table deed e x
     → (let r : Result End EndFault = Ok x in r) ≡ Ok next → Acts table deed e next
 acts_this {table} {deed} e x next acts is =
@@ -77,7 +77,7 @@ module _ (table : Table) (e next : End) (sound : IsEnd e) where
       (new_acts e f (λ g had slots keys. none_own e otid g new.free had (rw (slots, keys) at (sound.kept g had)))
       (inl new))
 
-  -- A message with a destination ID makes something of the half over which it goes.
+  -- A message with a destination ID changes the half over which it goes.
   over_acts : (m : Message) (id : List ℕ) → send table e m ≡ Ok next → dtid_in m ≡ Some id → Acts table (Said m) e next
   over_acts m id is to =
       let half : IsOver table e m id = over table e next sound m id is to in
@@ -100,7 +100,7 @@ module _ (table : Table) (e next : End) (sound : IsEnd e) where
 -- ---- receiving
 
 module _ (table : Table) (e next : End) (sound : IsEnd e) where
-  -- A Begin makes a half that accepts it;
+  -- A received Begin makes a half that accepts it.
   accept_acts : (otid : List ℕ) (dialogue : Option Dialogue) (components : Option (List Component))
       → receive table e (Begin otid dialogue components) ≡ Ok next
       → Acts table (Heard (Begin otid dialogue components)) e next
@@ -127,7 +127,7 @@ module _ (table : Table) (e next : End) (sound : IsEnd e) where
       start : Half
       start = fresh phases.Received None (Some otid) (first_standing dialogue)
 
-  -- a Continue answers a half's Begin, or goes on with it;
+  -- A received Continue answers a half's Begin, or goes on with the half.
   module _ (otid dtid : List ℕ) (dialogue : Option Dialogue) (components : Option (List Component)) (f : KeptHalf)
       (found : with_own e dtid ≡ Some f) where
     abbrev said : Deed
@@ -175,7 +175,7 @@ module _ (table : Table) (e next : End) (sound : IsEnd e) where
       let (f, ok, step) = then_ok (ok_or (with_own e dtid) faults.NoTransaction) _ next is in
       over_heard otid dtid dialogue components f (some_ok _ _ f ok) f.half.phase refl step
 
-  -- and what ends a dialogue closes the open half that has its destination ID.
+  -- A received End or Abort closes the open half with its destination ID.
   end_heard : (m : Message) (id : List ℕ) → ends_to id m ≡ true → (o : Option KeptHalf) → with_own e id ≡ o
       → (let r : Result End EndFault = Ok (receive_end e o) in r) ≡ Ok next → Acts table (Heard m) e next
   end_heard m id ends None found is = acts_this e e next (acts_nowhere table (Heard m) e) is
@@ -205,13 +205,13 @@ module _ (table : Table) (e next : End) (sound : IsEnd e) where
   heard_acts (Abort dtid reason) is =
       end_heard (Abort dtid reason) dtid (is_that_id dtid (Some dtid) refl) (with_own e dtid) refl is
 
--- ---- unseen
+-- ---- hidden steps
 
 may_close_open : (table : Table) (p : Phase) → may_close table p ≡ true → is_closed p ≡ false
 may_close_open table phases.Closed is = cc
 may_close_open table phase is = refl
 
--- An invocation ends, and the half stays as it is;
+-- An invocation expires, and the half stays as it is.
 pub expired_acts : (table : Table) (e next : End) (name : HalfName) (id : ℤ) → IsEnd e
     → expire table e name id ≡ Ok next → Acts table Unseen e next
 expired_acts table e next name id sound is =
@@ -222,7 +222,7 @@ expired_acts table e next name id sound is =
     (put_acts e f _ (named_has e name sound f (some_ok _ _ f ok))
     (stays (record { phase = refl; own = refl; peer = refl; standing = refl }))) may.1
 
--- or it closes.
+-- A half closes.
 pub closed_acts : (table : Table) (e next : End) (name : HalfName) → IsEnd e → close table e name ≡ Ok next
     → Acts table Unseen e next
 closed_acts table e next name sound is =
@@ -241,8 +241,8 @@ closed_acts table e next name sound is =
 
 -- ---- what a message needs
 
--- A message that was sent has its half: a Begin, what began by sending with its ID; a Continue, one that has both its
--- IDs; what ends a dialogue, one whose peer has its destination ID.
+-- Each sent message has its half. A Begin has a begun half with its ID, a Continue a half with both its IDs, and a
+-- message that ends a dialogue a half whose peer has its destination ID.
 abbrev pub Uses : End → Message → Type 0
 Uses e (Unidirectional dialogue components) = Unit {0}
 Uses e (Begin otid dialogue components) = (h : Half) × Has e (record { slot = Begun; key = otid; half = h })
@@ -251,7 +251,7 @@ Uses e (Continue otid dtid dialogue components) =
 Uses e (EndMessage dtid dialogue components) = (f : KeptHalf) × Has e f × (f.half.peer ≡ Some dtid)
 Uses e (Abort dtid reason) = reason_cause reason ≡ None → (f : KeptHalf) × Has e f × (f.half.peer ≡ Some dtid)
 
--- At once the half of a Continue is active.
+-- Directly after a Continue, its half is active.
 abbrev pub IsActiveFor : End → Message → Type 0
 IsActiveFor e (Continue otid dtid dialogue components) =
     (f : KeptHalf) × Has e f × (f.half.own ≡ Some otid) × (f.half.peer ≡ Some dtid) × (f.half.phase ≡ phases.Active)
@@ -271,7 +271,7 @@ module _ {table : Table} {deed : Deed} {h g : Half} where
   keeps_peer id (answers it) peer = it.peer ∙ sym it.peer_was ∙ peer
   keeps_peer id (learns it) peer = let none = it.peer_was in cc
 
--- What was used is used still.
+-- What was used is still used.
 module _ {table : Table} {deed : Deed} {e next : End} (acts : Acts table deed e next) where
   still_peer : (id : List ℕ) → (f : KeptHalf) × Has e f × (f.half.peer ≡ Some id)
       → (f : KeptHalf) × Has next f × (f.half.peer ≡ Some id)
@@ -288,7 +288,7 @@ module _ {table : Table} {deed : Deed} {e next : End} (acts : Acts table deed e 
   still_uses (EndMessage dtid dialogue components) uses = still_peer dtid uses
   still_uses (Abort dtid reason) uses = λ none. still_peer dtid (uses none)
 
--- What is said is used at once.
+-- What a sent message needs is there directly after it.
 module _ (table : Table) (e next : End) (sound : IsEnd e) where
   over_there : (m : Message) (id : List ℕ) → send table e m ≡ Ok next → (half : IsOver table e m id)
       → Has next (record half.kept { half = half.now })
@@ -322,7 +322,7 @@ module _ (table : Table) (e next : End) (sound : IsEnd e) where
   said_uses (Abort dtid reason) is =
       let m = Abort dtid reason in (λ none. ends_used m dtid is (over table e next sound m dtid is refl), tt)
 
-  -- What an end sends has no cause.
+  -- A message that an end sends has no cause.
   pub said_causeless : (m : Message) → send table e m ≡ Ok next → cause_in m ≡ None
   said_causeless (Abort dtid reason) is = (over table e next sound (Abort dtid reason) dtid is refl).no_cause
   said_causeless m is = refl

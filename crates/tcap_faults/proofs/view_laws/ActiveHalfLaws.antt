@@ -1,5 +1,4 @@
--- A half that sent a Continue is open until its dialogue is ended, by a message that the list tells, or by
--- prearrangement.
+-- A half that sent a Continue is open until its dialogue is ended by a message in the list, or by prearrangement.
 use Rattle.std.proofs.Common.{◌≡◌, ◌⊎◌, inl, inr, Bool, true, false, ℕ, List, [], ◌∷◌, Option, Some, None, not, refl, sym, ap, subst, ◌∙◌}
 use Rattle.std.specs.Prelude.{Contains, ◌&&◌}
 use Rattle.std.specs.List.{find, list_any}
@@ -32,14 +31,14 @@ use Rattle.tcap_faults.proofs.list_laws.FindLaws.{any_is, find_has}
 use Rattle.tcap_faults.proofs.view_laws.GrowthLaws.{mine_still, theirs_still}
 use Rattle.tcap_faults.proofs.view_laws.ViewLaws.{View}
 
--- A dialogue with these IDs may be ended: by prearrangement, by a message from the peer, or by one to it.
+-- A dialogue with these IDs may be ended: by prearrangement, by a message from the peer, or by one to the peer.
 abbrev IsShut : Table → Side → List Item → List ℕ → List ℕ → Type 0
 IsShut table side items own to =
     (table.prearranged ≡ true)
     ⊎ ((list_any (ends_to own) (sent_by (other side) items) ≡ true)
     ⊎ (has_ended side items to ≡ true))
 
--- A half is active, or closed, and then its dialogue may be ended.
+-- The half is active; or it is closed, and its dialogue may be ended.
 abbrev IsOpenOrShut : Table → Side → List Item → List ℕ → List ℕ → Half → Type 0
 IsOpenOrShut table side items own to h =
     (h.phase ≡ phases.Active) ⊎ ((h.phase ≡ phases.Closed) × IsShut table side items own to)
@@ -58,7 +57,7 @@ AllOpened table side e items = (m : Message) → Contains (sent_by side items) m
 
 module _ {table : Table} {side : Side} (e next : End) (items after : List Item)
     (step : Advance table side e next items after) (own to : List ℕ) where
-  -- What ended a dialogue stands there still.
+  -- A message that ended a dialogue is still in the list.
   still_shut : IsShut table side items own to → IsShut table side after own to
   still_shut (inl prearranged) = inl prearranged
   still_shut (inr (inl theirs)) =
@@ -68,7 +67,7 @@ module _ {table : Table} {side : Side} (e next : End) (items after : List Item)
       let (m, has, ends) = any_is (λ m. is_id to (ended_by m)) (sent_by side items) mine in
       inr (inr (any_has (λ m. is_id to (ended_by m)) (sent_by side after) m (mine_still step.grows m has) ends))
 
-  -- A half closes where it was ended so.
+  -- A half that closes was ended so.
   now_shut : (h : Half) → h.phase ≡ phases.Active → h.own ≡ Some own → h.peer ≡ Some to → IsEnded table step.deed h
       → IsShut table side after own to
   now_shut h active of_own of_peer ended = by step.deed refl ended
@@ -133,17 +132,17 @@ all_opened {table} {side} {e} {coming} {items} view =
 
 -- ---- halves that are surely open
 
--- A half with that own ID is active.
+-- The half with this own ID is active.
 abbrev pub IsActiveAt : End → List ℕ → Type 0
 IsActiveAt e own = (f : KeptHalf) × Has e f × (f.half.own ≡ Some own) × (f.half.phase ≡ phases.Active)
 
--- Nothing is so where one part is not.
+-- A conjunction with a part that is false does not hold.
 never : {P : Type 0} (a b : Bool) → (a && false && b) ≡ true → P
 never a b is = let no = and_parts a false (and_parts (a && false) b is).0 in cc
 
 module _ {table : Table} {side : Side} {e : End} {coming : List Message} {items : List Item}
     (view : View table side e coming items) (own : List ℕ) where
-  -- A half is active where the list tells of no end of its dialogue.
+  -- A half is active if the list has no end of its dialogue.
   is_active : (m : Message) (to : List ℕ) → Contains (sent_by side items) m → is_a forms.Continue m ≡ true
       → otid_in m ≡ Some own → dtid_in m ≡ Some to → (IsShut table side items own to → ⊥) → IsActiveAt e own
   is_active (Continue id peer dialogue components) to has goes_on from dtid none =
@@ -162,7 +161,7 @@ module _ {table : Table} {side : Side} {e : End} {coming : List Message} {items 
   is_active (Abort dtid reason) to has goes_on from of_dtid none = cc
   is_active m to has goes_on from dtid none = cc
 
-  -- the first Continue from that ID
+  -- Whether a message is a Continue from this ID.
   abbrev is_from : Message → Bool
   is_from m = is_a forms.Continue m && is_id own (otid_in m)
 

@@ -1,4 +1,4 @@
--- One step of an end that keeps the rules, and of what the list tells: what became of the halves, and what was sent.
+-- One step of an end that keeps the rules, in its halves and in the list.
 use Rattle.std.proofs.Common.{◌≡◌, ◌⊎◌, inl, inr, Bool, true, false, List, [], ◌∷◌, ◌++◌, Some, None, Ok, is_ok, is_none, not, refl, sym, ap, subst}
 use Rattle.std.specs.Prelude.{Contains, ◌||◌}
 use Rattle.std.proofs.lemmas.Bool.{not-true}
@@ -29,8 +29,8 @@ use Rattle.tcap_faults.proofs.view_laws.ViewLaws.{View, view_comes, view_sound}
 
 -- ---- replies
 
--- What a provider's Abort refuses: a Begin, where no half has its peer; or a Continue, where no open half has its own
--- ID.
+-- What an Abort of the provider refuses: a Begin, if no half has its peer; or a Continue, if no open half has its
+-- destination ID as its own.
 abbrev pub Refuses : End → Message → Message → Type 0
 Refuses e (Begin otid dialogue components) abort = (abort ≡ provider_abort otid 4) × (with_peer e otid ≡ None)
 Refuses e (Continue otid dtid dialogue components) abort =
@@ -59,7 +59,7 @@ refuses e (Continue otid dtid dialogue components) abort is =
     (sym same, not-true _ shut)
 refuses e m abort is = cc
 
--- It is an Abort with a cause, and needs no half.
+-- Such an Abort has a cause, and needs no half.
 refused_uses : (e : End) (m abort : Message) → Refuses e m abort → Uses e abort × IsActiveFor e abort
 refused_uses e (Begin otid dialogue components) abort is = rw (is.0) ((λ none. cc), tt)
 refused_uses e (Continue otid dtid dialogue components) abort is = rw (is.0) ((λ none. cc), tt)
@@ -67,8 +67,8 @@ refused_uses e m abort is = absurd is
 
 -- ---- steps
 
--- What the end did, and what became of its halves and of the list: what it said joined it, what it heard stood there,
--- and what is new of it has its half.
+-- What the end did, and what changed in its halves and in the list. A sent message was added, a received one was in
+-- the list, and each new message has its half.
 pub record Advance (table : Table) (side : Side) (e next : End) (items after : List Item) : Type 0 where
   pub deed : Deed
   pub acts : Acts table deed e next

@@ -1,5 +1,5 @@
--- What a half was begun or answered by, what a provider refused, and what is still on its way, was asked: counts of
--- Begins and of Continues from one ID of the peer.
+-- Each Begin and each Continue of the peer is used once: it made or answered a half, was refused, or is still on its
+-- way. Both are counted for one ID of the peer.
 use Rattle.std.proofs.Common.{◌≡◌, ◌⊎◌, inl, inr, ℕ, ◌+◌, ◌≤◌, arith, Bool, true, false, cond, List, [], ◌∷◌, ◌++◌, Some, None, refl, sym, ap, ◌∙◌}
 use Rattle.std.specs.Prelude.{◌&&◌}
 use Rattle.std.proofs.lemmas.List.{append-nil}
@@ -32,10 +32,10 @@ use Rattle.tcap_faults.proofs.run_laws.ItemLaws.{sent_own}
 use Rattle.tcap_faults.proofs.view_laws.GrowthLaws.{own_same, their_same}
 use Rattle.tcap_faults.proofs.view_laws.ViewLaws.{View, view_sound}
 
--- ---- what is counted
+-- ---- the counts
 
--- Begins, each of which makes a half that began by receiving, or is refused with cause 4; or Continues, each of which
--- may tell a half that began by sending its peer's ID, or is refused with cause 1.
+-- Begins: each makes an accepted half, or is refused with cause 4. Continues: each may give a begun half its peer's
+-- ID, or is refused with cause 1.
 pub data Count : Type 0 where
   OfBegins : Count
   OfContinues : Count
@@ -48,25 +48,25 @@ abbrev pub cause_of : Count → ℕ
 cause_of OfBegins = 4
 cause_of OfContinues = 1
 
--- A half was made so, or learned so, from that ID.
+-- The half was made by a Begin from this ID, or got its peer's ID by a Continue from it.
 abbrev pub IsOfCount : Count → List ℕ → KeptHalf → Type 0
 IsOfCount OfBegins id f = (f.slot ≡ Accepted) × (f.key ≡ id)
 IsOfCount OfContinues id f = (f.slot ≡ Begun) × (f.half.peer ≡ Some id)
 
--- a Begin, or a Continue, from that ID
+-- A Begin or a Continue from this ID.
 abbrev pub comes_from : Count → List ℕ → Message → Bool
 comes_from c id m = is_a (form_of c) m && is_id id (otid_in m)
 
--- what was refused, or is on its way
+-- The number that was refused or is on its way.
 abbrev pub taken : Side → Count → List ℕ → List Message → List Item → ℕ
 taken side c id coming items =
     count (is_abort_with (cause_of c) id) (sent_by side items) + count (comes_from c id) coming
 
--- what was asked
+-- The number that the peer sent.
 abbrev pub given : Side → Count → List ℕ → List Item → ℕ
 given side c id items = count (is_a (form_of c)) (asked side id items)
 
--- No more was taken than given, a half counted.
+-- At most as many are refused or on their way as were sent, also if a half counts as one.
 pub record IsPaid (side : Side) (e : End) (coming : List Message) (items : List Item) (c : Count) (id : List ℕ)
     : Type 0 where
   pub all : taken side c id coming items ≤ given side c id items
@@ -75,10 +75,10 @@ pub record IsPaid (side : Side) (e : End) (coming : List Message) (items : List 
 abbrev AllPaid : Side → End → List Message → List Item → Type 0
 AllPaid side e coming items = (c : Count) (id : List ℕ) → IsPaid side e coming items c id
 
--- ---- what a step does to these numbers
+-- ---- what a step changes in these numbers
 
 module _ (side : Side) (c : Count) (id : List ℕ) where
-  -- A message of the end with no cause refuses nothing,
+  -- A message of the end without cause refuses nothing.
   taken_said : (coming : List Message) (items : List Item) (m : Message) → cause_in m ≡ None
       → taken side c id coming (items ++ Sent side m ∷ []) ≡ taken side c id coming items
   taken_said coming items m none =
@@ -90,17 +90,17 @@ module _ (side : Side) (c : Count) (id : List ℕ) where
       none_of true = refl
       none_of false = refl
 
-  -- and is none that was asked.
+  -- A message of the end is none that the peer sent.
   given_said : (items : List Item) (m : Message)
       → given side c id (items ++ Sent side m ∷ []) ≡ given side c id items
   given_said items m = rw (their_same side m items) refl
 
-  -- What is taken from the channel is there no longer.
+  -- A message that is taken from the channel is no longer on its way.
   pub taken_head : (coming : List Message) (items : List Item) (m : Message)
       → taken side c id (m ∷ coming) items ≡ one (comes_from c id m) + taken side c id coming items
   taken_head coming items m = let more = count_more (comes_from c id) m coming in omega arith
 
-  -- An Abort of the provider is counted in the place of what it refuses.
+  -- An Abort of the provider counts instead of what it refuses.
   taken_refused : (coming : List Message) (items : List Item) (m abort : Message)
       → is_abort_with (cause_of c) id abort ≡ comes_from c id m
       → taken side c id coming (items ++ Sent side abort ∷ []) ≡ taken side c id (m ∷ coming) items
@@ -110,7 +110,7 @@ module _ (side : Side) (c : Count) (id : List ℕ) where
       let ones = ap one same in
       rw (sent_own side abort items) (omega arith)
 
-  -- What the peer sends joins both.
+  -- A message of the peer is added to both numbers.
   taken_asked : (coming : List Message) (items : List Item) (m : Message)
       → taken side c id (coming ++ m ∷ []) (items ++ Sent (other side) m ∷ [])
       ≡ taken side c id coming items + one (comes_from c id m)
@@ -138,16 +138,16 @@ module _ (side : Side) (c : Count) (id : List ℕ) where
           let ones = ap one (and_false (is_a (form_of c) m)) in
           let none : one false ≡ 0 = refl in rw (append-nil was) (omega arith)
 
--- ---- what a step does to halves
+-- ---- what a step changes in halves
 
--- It was heard in a step.
+-- The message was received in this step.
 abbrev WasHeard : Deed → Count → List ℕ → Type 0
 WasHeard deed c id = (m : Message) × (deed ≡ Heard m) × (comes_from c id m ≡ true)
 
 abbrev WasThere : End → Count → List ℕ → Type 0
 WasThere e c id = (f : KeptHalf) × Has e f × IsOfCount c id f
 
--- A half that is counted is one by what was heard, or was one.
+-- A half that counts was made by the received message, or counted before.
 module _ {table : Table} {deed : Deed} (e next : End) (acts : Acts table deed e next) (is_end : IsEnd e) (id : List ℕ)
     (g : KeptHalf) (had : Has next g) where
   accepted_so : g.slot ≡ Accepted → g.key ≡ id → WasHeard deed OfBegins id ⊎ WasThere e OfBegins id
@@ -192,7 +192,7 @@ module _ {table : Table} {deed : Deed} (e next : End) (acts : Acts table deed e 
 -- ---- each step
 
 module _ (table : Table) (side : Side) where
-  -- A message is said,
+  -- A message is sent.
   said_paid : (e next : End) (coming : List Message) (items : List Item) (m : Message) → cause_in m ≡ None → IsEnd e
       → Acts table (Said m) e next → AllPaid side e coming items → AllPaid side next coming (items ++ Sent side m ∷ [])
   said_paid e next coming items m none is_end acts held c id =
@@ -211,7 +211,7 @@ module _ (table : Table) (side : Side) where
           let given_same = given_said side c id items m in
           let old = (held c id).half f there is in omega arith
 
-  -- heard,
+  -- A message is received.
   heard_paid : (e next : End) (coming : List Message) (items : List Item) (m : Message) → IsEnd e
       → Acts table (Heard m) e next → AllPaid side e (m ∷ coming) items → AllPaid side next coming items
   heard_paid e next coming items m is_end acts held c id =
@@ -232,7 +232,7 @@ module _ (table : Table) (side : Side) where
           let head = taken_head side c id coming items m in
           let old = (held c id).half f there is in omega arith
 
-  -- or refused;
+  -- A message is refused.
   refused_same : (e : End) (c : Count) (id : List ℕ) (m abort : Message) → Refuses e m abort
       → is_abort_with (cause_of c) id abort ≡ comes_from c id m
   refused_same e OfBegins id (Begin otid dialogue components) abort it = rw (it.0) (and_true (is_id id (Some otid)))
@@ -253,7 +253,7 @@ module _ (table : Table) (side : Side) where
         half = λ g had is. let old = (held c id).half g had is in omega arith;
       }
 
-  -- something happens unseen;
+  -- A hidden step.
   unseen_paid : (e next : End) (coming : List Message) (items : List Item) → IsEnd e → Acts table Unseen e next
       → AllPaid side e coming items → AllPaid side next coming items
   unseen_paid e next coming items is_end acts held c id = record {
@@ -265,7 +265,7 @@ module _ (table : Table) (side : Side) where
       by (inl (n, heard, comes)) = cc
       by (inr (f, there, is)) = (held c id).half f there is
 
-  -- a message is lost, or asked.
+  -- A message is lost.
   lost_paid : (e : End) (coming : List Message) (items : List Item) (m : Message) → AllPaid side e (m ∷ coming) items
       → AllPaid side e coming items
   lost_paid e coming items m held c id =
@@ -275,6 +275,7 @@ module _ (table : Table) (side : Side) where
         half = λ g had is. let old = (held c id).half g had is in omega arith;
       }
 
+  -- The peer sends a message.
   asked_paid : (e : End) (coming : List Message) (items : List Item) (m : Message) → AllPaid side e coming items
       → AllPaid side e (coming ++ m ∷ []) (items ++ Sent (other side) m ∷ [])
   asked_paid e coming items m held c id =
@@ -285,7 +286,7 @@ module _ (table : Table) (side : Side) where
         half = λ g had is. let old = (held c id).half g had is in omega arith;
       }
 
--- So no more was taken than given, in each run.
+-- In each run, the numbers agree.
 pub all_paid : {table : Table} {side : Side} {e : End} {coming : List Message} {items : List Item}
     → View table side e coming items → (c : Count) (id : List ℕ) → IsPaid side e coming items c id
 all_paid {table} {side} {e} {coming} {items} view = views_keep table side (AllPaid side) (record {

@@ -1,5 +1,5 @@
--- What an end that keeps the rules sent has its half; and how a half that began by sending stands to the list: its
--- Begin, and the Continue by which its peer answered.
+-- Each message of an end that keeps the rules has its half; and a begun half and the list: its Begin, and the
+-- Continue with which its peer answered.
 use Rattle.std.proofs.Common.{◌≡◌, ◌⊎◌, inl, inr, Bool, true, false, cond, ℕ, List, [], ◌∷◌, Option, Some, None, refl, sym, ap, ◌∙◌}
 use Rattle.std.specs.Prelude.{Contains, filter}
 use Rattle.std.specs.Option.{option_or}
@@ -63,7 +63,7 @@ all_use {table} {side} {e} {coming} {items} view =
     advances_keep table side (AllUse side) (λ m has. has_not m has)
     (λ e next coming items after view step. uses_then e next items after step) e coming items view
 
--- What it told has its half with that peer.
+-- If the end sent a message to an ID, it has a half with this peer.
 pub told_half : {table : Table} {side : Side} {e : End} {coming : List Message} {items : List Item}
     → View table side e coming items → (m : Message) (id : List ℕ) → Contains (told side id items) m
     → (f : KeptHalf) × Has e f × (f.half.peer ≡ Some id)
@@ -79,16 +79,16 @@ told_half {side = side} {e = e} {items = items} view m id has =
     by (Abort dtid reason) to causeless uses = let (f, had, peer) = uses causeless in (f, had, peer ∙ to)
     by m to causeless uses = cc
 
--- ---- how a dialogue stands
+-- ---- the state of a dialogue
 
--- how the dialogue of a half stands in each phase, where it began with this portion
+-- The state of a half's dialogue in each phase, if the half began with this portion.
 abbrev pub standing_of : Phase → Option Dialogue → Standing
 standing_of phases.Sent dialogue = first_standing dialogue
 standing_of phases.Received dialogue = first_standing dialogue
 standing_of phases.Active dialogue = confirm (first_standing dialogue)
 standing_of phases.Closed dialogue = standings.Without
 
--- Each step leaves it so.
+-- Each step keeps this.
 pub stands_on : {table : Table} {deed : Deed} (h g : Half) (dialogue : Option Dialogue) → Turned table deed h g
     → h.standing ≡ standing_of h.phase dialogue → g.standing ≡ standing_of g.phase dialogue
 stands_on h g dialogue (stays it) stands = rw (it.standing, it.phase) stands
@@ -98,9 +98,9 @@ stands_on h g dialogue (answers it) stands =
 stands_on h g dialogue (learns it) stands =
     let first : h.standing ≡ first_standing dialogue = rw (it.was) at stands in rw (it.standing, it.phase, first) refl
 
--- ---- halves that began by sending
+-- ---- begun halves
 
--- Its Begin is the one that the list tells, and the dialogue stands as that says.
+-- The half's Begin is that of the list, and the dialogue has the state that the Begin gives.
 pub record IsBegunBy (side : Side) (items : List Item) (f : KeptHalf) : Type 0 where
   pub begin : Message
   pub is_begun : begin_from side f.key items ≡ Some begin
@@ -120,7 +120,7 @@ begin_used e id m is_end none from uses = cc
 
 module _ {table : Table} {side : Side} (e next : End) (coming : List Message) (items after : List Item)
     (view : View table side e coming items) (step : Advance table side e next items after) where
-  -- From an ID that no half has none was sent, so it begins with what is said now.
+  -- If no half has the ID, no Begin was sent from it, so the half begins with the message that is sent now.
   started : (g : KeptHalf) → Starts step.deed e g → IsBegunBy side after g
   started g it = record {
     begin = m;
@@ -165,7 +165,7 @@ all_begun {table} {side} {e} {coming} {items} view =
 
 -- ---- their peers
 
--- The peer of such a half answered it: the half heard a Continue from there to its own ID.
+-- The peer answered the half: the half heard a Continue from the peer's ID to its own.
 pub record CameBack (side : Side) (items : List Item) (f : KeptHalf) (id : List ℕ) : Type 0 where
   pub message : Message
   pub was_heard : Contains (heard_behind (begin_from side f.key items) (filter (goes_on_to f.key) (asked side id items)))
@@ -175,7 +175,7 @@ abbrev AllBack : Side → End → List Item → Type 0
 AllBack side e items =
     (f : KeptHalf) (id : List ℕ) → Has e f → f.slot ≡ Begun → f.half.peer ≡ Some id → CameBack side items f id
 
--- What may answer a half in Sent answers its Begin.
+-- A message that may answer a half in Sent answers its Begin.
 answers_begin : (begin m : Message) (standing : Standing) (dialogue : Option Dialogue) → is_a forms.Begin begin ≡ true
     → standing ≡ first_standing (dialogue_in begin) → answers_request standing dialogue ≡ true → dialogue_in m ≡ dialogue
     → (is_begin_with_request begin ≡ false) ⊎ (responds m ≡ true)

@@ -35,7 +35,7 @@ use Rattle.tcap_faults.proofs.view_laws.BegunHalfLaws.{all_use}
 use Rattle.tcap_faults.proofs.view_laws.InvariantLaws.{views_keep}
 use Rattle.tcap_faults.proofs.view_laws.ViewLaws.{View, view_comes, view_sound}
 
--- A half with that own ID is closed.
+-- The half with this own ID is closed.
 abbrev pub IsClosedAt : End → List ℕ → Type 0
 IsClosedAt e own = (f : KeptHalf) × Has e f × (f.half.own ≡ Some own) × (f.half.phase ≡ phases.Closed)
 
@@ -44,20 +44,20 @@ AllClosed side e coming items = (own : List ℕ) → was_closed side items (Some
 
 -- ---- what shows it
 
--- A message without cause does not show it,
+-- A message without cause does not show it.
 shows_by_cause : (side : Side) (own : List ℕ) (seen : List Item) (m : Message) → cause_in m ≡ None
     → shows_closed side own seen (Sent side m) ≡ true → ⊥
 shows_by_cause side own seen m none is =
     let bad : false ≡ true = rw (itself side, none) at is in cc
 
--- nor does one of the peer.
+-- A message of the peer does not show it.
 shows_by_own : (side : Side) (own : List ℕ) (seen : List Item) (m : Message)
     → shows_closed side own seen (Sent (other side) m) ≡ true → ⊥
 shows_by_own side own seen m is = let bad : false ≡ true = rw (apart side) at is in cc
 
 -- ---- one step
 
--- A half that is closed stays so.
+-- A closed half stays closed.
 still_closed : {table : Table} {deed : Deed} (e next : End) (own : List ℕ) → Acts table deed e next → IsClosedAt e own
     → IsClosedAt next own
 still_closed {table} {deed} e next own acts (f, had, of_own, closed) =
@@ -78,7 +78,7 @@ uses_own e own (Begin otid dialogue components) is_end (h, had) from =
 uses_own e own (Continue otid dtid dialogue components) is_end (f, had, of_own, peer) from = (f, had, of_own ∙ from)
 uses_own e own m is_end uses from = cc
 
--- A half that is had, and found closed.
+-- A half that is found not open is closed.
 found_closed : (e : End) (own : List ℕ) (f : KeptHalf) → IsEnd e → Has e f → f.half.own ≡ Some own
     → is_open (with_own e own) ≡ false → IsClosedAt e own
 found_closed e own f is_end had of_own shut = by (with_own e own) refl shut
@@ -92,7 +92,7 @@ found_closed e own f is_end had of_own shut = by (with_own e own) refl shut
     by (Some g) some is = (g, own_has e own is_end g some, own_is e own g some, closed_phase g.half.phase is)
 
 module _ {table : Table} {side : Side} (e : End) (coming : List Message) (items : List Item) where
-  -- A provider's Abort shows it where all Continues from there go to the half that it found closed.
+  -- An Abort of the provider shows it if all Continues from the ID go to the half that was found closed.
   continue_shows : (own otid dtid : List ℕ) (m : Message) → View table side e (m ∷ coming) items
       → is_a forms.Continue m ≡ true → otid_in m ≡ Some otid → dtid_in m ≡ Some dtid
       → is_open (with_own e dtid) ≡ false → all_go_on_to own (asked side otid items) ≡ true

@@ -1,4 +1,4 @@
--- What the list tells grows with it: what was sent, asked, told, begun and heard.
+-- What the list has grows with it: what was sent, begun and heard.
 use Rattle.std.proofs.Common.{◌≡◌, ◌⊎◌, inl, inr, Bool, true, false, cond, ℕ, List, [], ◌∷◌, ◌++◌, Option, Some, None, refl, sym, ap, ◌∙◌}
 use Rattle.std.specs.Prelude.{Contains, filter}
 use Rattle.std.proofs.lemmas.List.{append-nil}
@@ -23,7 +23,7 @@ use Rattle.tcap_model.proofs.WorldLaws.{apart}
 
 -- ---- what is heard
 
--- What stands behind the first that passes stands there behind more,
+-- A message from the first that passes on is still so in a longer list.
 first_still : (p : Message → Bool) (xs ys : List Message) (m : Message) → Contains (from_first p xs) m
     → Contains (from_first p (xs ++ ys)) m
 first_still p [] ys m has = has_not m has
@@ -35,7 +35,7 @@ first_still p (x ∷ xs) ys m has = by (p x) has (first_still p xs ys m)
     by true has rest = Contains-append_left (x ∷ xs) ys m has
     by false has rest = rest has
 
--- what passes stands there,
+-- A message that passes is among those from the first that passes on.
 first_has : (p : Message → Bool) (xs : List Message) (m : Message) → Contains xs m → p m ≡ true
     → Contains (from_first p xs) m
 first_has p [] m has so = has
@@ -47,7 +47,7 @@ first_has p (x ∷ xs) m has so = by (p x) refl (contains_first x xs m has) (fir
     by false is (inl same) rest = let bad : false ≡ true = sym is ∙ ap p same ∙ so in cc
     by false is (inr there) rest = rest there so
 
--- and what stands there is among these.
+-- Those from the first that passes on are among all.
 first_among : (p : Message → Bool) (xs : List Message) (m : Message) → Contains (from_first p xs) m → Contains xs m
 first_among p [] m has = has
 first_among p (x ∷ xs) m has = by (p x) has (first_among p xs m)
@@ -72,7 +72,7 @@ pub not_other : (side : Side) → is_side (other side) side ≡ false
 not_other sides.A = refl
 not_other sides.B = refl
 
--- What the peer sends is not sent by the end, and the other way round.
+-- What the peer sends, the end does not send, and conversely.
 pub own_same : (side : Side) (m : Message) (items : List Item)
     → sent_by side (items ++ Sent (other side) m ∷ []) ≡ sent_by side items
 own_same side m items = sent_other side (other side) m items (apart side)
@@ -83,7 +83,7 @@ their_same side m items = sent_other (other side) side m items (not_other side)
 
 -- ---- what grows
 
--- Each end sent these messages more.
+-- Each end sent these additional messages.
 pub record Grows (side : Side) (items after : List Item) : Type 0 where
   pub mine : List Message
   pub theirs : List Message
@@ -116,14 +116,14 @@ grows_theirs side m items = record {
 }
 
 module _ {side : Side} {items after : List Item} (grows : Grows side items after) where
-  -- What was sent was sent still,
+  -- A message that was sent is still in the list.
   pub mine_still : (m : Message) → Contains (sent_by side items) m → Contains (sent_by side after) m
   mine_still m has = rw (grows.mine_is) (Contains-append_left (sent_by side items) grows.mine m has)
 
   pub theirs_still : (m : Message) → Contains (sent_by (other side) items) m → Contains (sent_by (other side) after) m
   theirs_still m has = rw (grows.theirs_is) (Contains-append_left (sent_by (other side) items) grows.theirs m has)
 
-  -- and what was asked, told and begun too.
+  -- A message from an ID, to an ID, or a Begin is still in the list.
   pub asked_more : (id : List ℕ)
       → asked side id after ≡ asked side id items ++ filter (λ m. is_id id (otid_in m)) grows.theirs
   asked_more id =
@@ -141,7 +141,7 @@ module _ {side : Side} {items after : List Item} (grows : Grows side items after
       → begin_from side id after ≡ Some begin
   begin_still id begin is = rw (grows.mine_is, find-append _ (sent_by side items) grows.mine, is) refl
 
-  -- What was heard of a Begin was heard still.
+  -- A message that a half heard after its Begin is still heard.
   pub heard_still : (own id : List ℕ) (m : Message)
       → Contains (heard_behind (begin_from side own items) (filter (goes_on_to own) (asked side id items))) m
       → Contains (heard_behind (begin_from side own after) (filter (goes_on_to own) (asked side id after))) m
@@ -166,7 +166,7 @@ module _ {side : Side} {items after : List Item} (grows : Grows side items after
       by None none has = has_not m has
       by (Some begin) found has = rw (begin_still own begin found, now) (of (is_begin_with_request begin) has)
 
--- A Continue that was asked, to an ID that the end began, is heard there: one that answers the request, if there was one.
+-- A Continue of the peer to an ID that the end began is heard, if it answers the request or there was none.
 pub heard_now : (side : Side) (items : List Item) (id own : List ℕ) (m begin : Message)
     → Contains (asked side id items) m → goes_on_to own m ≡ true → begin_from side own items ≡ Some begin
     → (is_begin_with_request begin ≡ false) ⊎ (responds m ≡ true)

@@ -21,19 +21,19 @@ use Rattle.tcap_faults.proofs.view_laws.ViewLaws.{IsKeptBy, IsSeen, IsUnseen, Vi
 
 -- ---- along a run
 
--- What holds of what is seen holds of the world,
+-- What holds for the view holds for the world.
 of_seen : (side : Side) (Holds : End → List Message → List Item → Type 0) (w : World) (e : End) (coming : List Message)
     (items : List Item) → IsSeen side w e coming items → Holds e coming items
     → Holds (end_at side w) (coming_to side w) (since_quiet w.sent)
 of_seen side Holds w e coming items seen holds = rw (seen.end_is, seen.coming_is, seen.items_is) holds
 
--- and the other way round.
+-- What holds for the world holds for the view.
 to_seen : (side : Side) (Holds : End → List Message → List Item → Type 0) (w : World) (e : End) (coming : List Message)
     (items : List Item) → IsSeen side w e coming items
     → Holds (end_at side w) (coming_to side w) (since_quiet w.sent) → Holds e coming items
 to_seen side Holds w e coming items seen holds = rw (← seen.end_is, ← seen.coming_is, ← seen.items_is) holds
 
--- One step more of a run in which the end keeps the rules.
+-- One more step of a run in which the end keeps the rules.
 module _ (table : Table) (side : Side) (Holds : End → List Message → List Item → Type 0)
     (kept : IsKeptBy table side Holds) (before : List Event) (w next : World) (runs : Runs table before w)
     (keeps : KeepsRules side before) (held : Holds (end_at side w) (coming_to side w) (since_quiet w.sent)) where
@@ -174,7 +174,7 @@ module _ (table : Table) (side : Side) (Holds : End → List Message → List It
       let (kept_rules, told) = kept_before side before event keeps in
       step_keeps table side Holds kept before w next runs kept_rules (held kept_rules) event is told
 
-  -- So it holds of what is seen behind each run.
+  -- It holds for the view after each run.
   pub views_keep : (e : End) (coming : List Message) (items : List Item) → View table side e coming items
       → Holds e coming items
   views_keep e coming items view =

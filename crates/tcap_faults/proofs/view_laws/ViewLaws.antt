@@ -1,5 +1,5 @@
--- What one end and the list see of a run: the halves of the end, what is on its way to it, and the items since the last
--- quiet mark.
+-- What one end and the list see of a run: the halves of the end, what is on its way to it, and the items since the
+-- last quiet mark.
 use Rattle.std.proofs.Common.{◌≡◌, ◌⊎◌, inl, inr, ℤ, List, [], ◌∷◌, ◌++◌, map, Some, Ok, refl, subst}
 use Rattle.std.specs.Prelude.{Contains}
 use Rattle.std.specs.List.{AllByRecursion}
@@ -30,17 +30,17 @@ use Rattle.tcap_refute.proofs.HalfLawsTurns.{Acts, Unseen}
 abbrev pub messages_of : List OnItsWay → List Message
 messages_of = map (λ m. m.message)
 
--- what is on its way to an end
+-- The messages that are on their way to an end.
 abbrev pub coming_to : Side → World → List Message
 coming_to side w = messages_of (channel_from (other side) w)
 
--- A world looks so from that end.
+-- This is what the end sees of a world.
 pub record IsSeen (side : Side) (w : World) (e : End) (coming : List Message) (items : List Item) : Type 0 where
   pub end_is : end_at side w ≡ e
   pub coming_is : coming_to side w ≡ coming
   pub items_is : since_quiet w.sent ≡ items
 
--- Behind a run in which the end keeps the rules it does.
+-- This is what the end sees after a run in which it keeps the rules.
 pub record View (table : Table) (side : Side) (e : End) (coming : List Message) (items : List Item) : Type 0 where
   pub events : List Event
   pub world : World
@@ -59,11 +59,11 @@ view_of table side events w runs keeps = record {
 }
 
 module _ {table : Table} {side : Side} {e : End} {items : List Item} where
-  -- The end is as every end is,
+  -- The end is sound.
   pub view_sound : {coming : List Message} → View table side e coming items → IsEnd e
   view_sound view = subst IsEnd view.seen.end_is (sound table view.events view.world view.runs side)
 
-  -- and what is on its way was sent.
+  -- A message that is on its way was sent.
   pub view_comes : {coming : List Message} → (m : Message) → View table side e (m ∷ coming) items
       → Contains (sent_by (other side) items) m
   view_comes {coming} m view =
@@ -80,14 +80,14 @@ module _ {table : Table} {side : Side} {e : End} {items : List Item} where
 
 -- ---- what the steps keep
 
--- An own invocation ends, or a half closes.
+-- A hidden step: an own invocation expires, or a half closes.
 abbrev pub IsUnseen : Table → End → End → Type 0
 IsUnseen table e next =
     ((name : HalfName) × (id : ℤ) × (expire table e name id ≡ Ok next))
     ⊎ ((name : HalfName) × (close table e name ≡ Ok next))
 
--- It holds of nothing, and behind a message that the end says, hears or refuses, behind what happens unseen, where a
--- message to it is lost, and where its peer sends one.
+-- A property that holds at the start, and that each step keeps: the end sends, receives or refuses a message, takes a
+-- hidden step, loses a message to it, or its peer sends one.
 pub record IsKeptBy (table : Table) (side : Side) (Holds : End → List Message → List Item → Type 0) : Type 0 where
   pub blank : Holds nothing [] []
   pub says : (e next : End) (coming : List Message) (items : List Item) (m : Message) → View table side e coming items
@@ -107,20 +107,20 @@ pub record IsKeptBy (table : Table) (side : Side) (Holds : End → List Message 
 
 -- ---- what each step looks like
 
--- An end is that one or the other.
+-- An end is this one or the other.
 pub which : (side place : Side) → (place ≡ side) ⊎ (place ≡ other side)
 which sides.A sides.A = inl refl
 which sides.A sides.B = inr refl
 which sides.B sides.A = inr refl
 which sides.B sides.B = inl refl
 
--- A message is said by the end,
+-- The end sends a message.
 pub said_here : (side : Side) (m : Message) (e : End) (w : World)
     → IsSeen side (joined side m (with_end side e w)) e (coming_to side w) (since_quiet w.sent ++ Sent side m ∷ [])
 said_here sides.A m e w = record { end_is = refl; coming_is = refl; items_is = since_more sides.A m w.sent }
 said_here sides.B m e w = record { end_is = refl; coming_is = refl; items_is = since_more sides.B m w.sent }
 
--- or by its peer;
+-- The peer sends a message.
 pub said_there : (side : Side) (m : Message) (e : End) (w : World)
     → IsSeen side (joined (other side) m (with_end (other side) e w)) (end_at side w) (coming_to side w ++ m ∷ [])
     (since_quiet w.sent ++ Sent (other side) m ∷ [])
@@ -137,7 +137,7 @@ told_there sides.A m w =
 told_there sides.B m w =
     record { end_is = refl; coming_is = map-append _ w.from_a _; items_is = since_more sides.A m w.sent }
 
--- one is heard;
+-- The end receives a message.
 pub heard_here : (side : Side) (more : List OnItsWay) (e : End) (w : World)
     → IsSeen side (with_end side e (with_channel (other side) more w)) e (messages_of more) (since_quiet w.sent)
 heard_here sides.A more e w = record { end_is = refl; coming_is = refl; items_is = refl }
@@ -149,7 +149,7 @@ pub heard_there : (side : Side) (more : List OnItsWay) (e : End) (w : World)
 heard_there sides.A more e w = record { end_is = refl; coming_is = refl; items_is = refl }
 heard_there sides.B more e w = record { end_is = refl; coming_is = refl; items_is = refl }
 
--- one is refused;
+-- The provider refuses a message.
 pub refused_here : (side : Side) (m : Message) (more : List OnItsWay) (w : World)
     → IsSeen side (joined side m (with_channel (other side) more w)) (end_at side w) (messages_of more)
     (since_quiet w.sent ++ Sent side m ∷ [])
@@ -164,7 +164,7 @@ refused_there sides.A m more w =
 refused_there sides.B m more w =
     record { end_is = refl; coming_is = map-append _ w.from_a _; items_is = since_more sides.A m w.sent }
 
--- one is lost;
+-- A message is lost.
 pub lost_here : (side : Side) (more : List OnItsWay) (w : World)
     → IsSeen side (with_channel (other side) more w) (end_at side w) (messages_of more) (since_quiet w.sent)
 lost_here sides.A more w = record { end_is = refl; coming_is = refl; items_is = refl }
@@ -175,7 +175,7 @@ pub lost_there : (side : Side) (more : List OnItsWay) (w : World)
 lost_there sides.A more w = record { end_is = refl; coming_is = refl; items_is = refl }
 lost_there sides.B more w = record { end_is = refl; coming_is = refl; items_is = refl }
 
--- or something happens unseen.
+-- A hidden step.
 pub unseen_here : (side : Side) (e : End) (w : World)
     → IsSeen side (with_end side e w) e (coming_to side w) (since_quiet w.sent)
 unseen_here sides.A e w = record { end_is = refl; coming_is = refl; items_is = refl }

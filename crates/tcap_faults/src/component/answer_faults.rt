@@ -1,4 +1,4 @@
-//! Answers to invocations that were answered already (Q.774 3.2; Q.771, operation classes).
+//! F12: answers to an invocation that was answered already (Q.774 3.2; Q.771, operation classes).
 
 ghost use Rattle.std.specs.Prelude.{◌≡◌, Some, option_map};
 ghost use Rattle.tcap_parts.specs.Meaning.{body_of, component_of, problem_of};
@@ -12,7 +12,8 @@ use crate::component::several_tallies::{invokes_of, results_of};
 use tcap_parts::{ComponentView, ProblemView, ResultBodyView};
 
 impl Before<'_> {
-    /// Whether so many Return Results, Return Errors and Rejects are more than the invocations of that ID allow.
+    /// Returns whether so many Return Results, Return Errors and Rejects answer more than the invocations of this ID
+    /// allow.
     fn is_more_answered(&self, id: i8, results: u128, errors: u128, rejects: u128) -> bool
         ensures { result ≡ more_answered_by (counted self.now).heard id results errors rejects }
     {
@@ -26,7 +27,8 @@ impl Before<'_> {
             || self.heard(id, Sort::Invokes(Class::Any)) < more(answers, rejects)
     }
 
-    /// Whether those that were told are, with so many more.
+    /// Returns whether the end sent more than the invocations of this ID allow, if it sends so many more Return
+    /// Results, Return Errors and Rejects.
     fn is_overspent(&self, id: i8, results: u128, errors: u128, rejects: u128) -> bool
         ensures { result ≡ is_overspent_by (counted self.now) id results errors rejects }
     {
@@ -38,7 +40,8 @@ impl Before<'_> {
         )
     }
 
-    /// Whether a Return Result names an operation, and as many last ones of it were told as invocations of it heard.
+    /// Returns whether a Return Result names an operation, and at least as many Return Results Last of it were sent
+    /// as invocations of it were heard.
     fn is_operation_overspent(&self, id: i8, body: Option<ResultBodyView>) -> bool
         ensures { result ≡ is_operation_overspent_by (counted self.now) id (option_map body_of body.entry) }
     {
@@ -52,7 +55,7 @@ impl Before<'_> {
         }
     }
 
-    /// Whether a Reject of that ID, with that problem, rejects an invocation that was answered already.
+    /// Returns whether a Reject rejects an invocation that was answered already.
     fn rejects_again(&self, id: i8, problem: ProblemView) -> bool
         ensures { result ≡ answers_again_by (counted self.now) (Reject (Some id) (problem_of problem)) }
     {
@@ -62,7 +65,7 @@ impl Before<'_> {
         }
     }
 
-    /// Whether a component answers an invocation that was answered already.
+    /// Returns whether a component answers or rejects an invocation that was answered already.
     pub(crate) fn answers_again(&self, component: ComponentView) -> bool
         ensures { result ≡ answers_again_by (counted self.now) (component_of component.entry) }
     {

@@ -1,4 +1,4 @@
-//! Counts by classes of operations.
+//! Counts by operation class.
 
 ghost use Rattle.std.specs.Prelude.{◌≡◌};
 ghost use Rattle.tcap_faults.specs.declared.component.component_sort.Class.{Class as Classes};
@@ -9,10 +9,10 @@ ghost use Rattle.tcap_faults.specs.Noted.{is_of};
 use crate::component::component_sort::Class;
 use crate::component::saturating_sum::more;
 
-/// Counts by classes of operations (Q.771 3.1).
+/// Counts by operation class (Q.771 3.1).
 #[derive(Clone, Copy)]
 pub(crate) struct ByClass {
-    /// Of operations that the table lacks, too.
+    /// The count for all operations, also those that the table lacks.
     pub(crate) all: u128,
     pub(crate) one: u128,
     pub(crate) two: u128,
@@ -20,7 +20,7 @@ pub(crate) struct ByClass {
 }
 
 impl ByClass {
-    /// None.
+    /// Creates counts of 0.
     pub(crate) fn new() -> ByClass
         ensures { (class : Classes) → count_of_class class result ≡ 0 }
     {
@@ -32,7 +32,7 @@ impl ByClass {
         }
     }
 
-    /// How many are of that class.
+    /// Returns the count for this class.
     pub(crate) fn count(&self, class: Class) -> u128
         ensures { result ≡ count_of_class class self.now }
     {
@@ -44,7 +44,7 @@ impl ByClass {
         }
     }
 
-    /// One more of an operation of that class, where the table has it.
+    /// Counts an operation of this class, or an operation that the table lacks.
     pub(crate) fn add(&mut self, class: Option<u8>)
         ensures { (of : Classes) → count_of_class of self.new ≡ more_if (is_of of class) (count_of_class of self.old) }
     {

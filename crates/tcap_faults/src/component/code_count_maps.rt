@@ -1,4 +1,4 @@
-//! How often many operation codes were counted.
+//! The counts of many operation codes.
 
 ghost use Rattle.tcap_faults.specs.Listed.{AreListed};
 
@@ -11,13 +11,13 @@ use tcap_ber::ObjectIdView;
 use tcap_end::Table;
 use tcap_parts::{Code, CodeView};
 
-/// How often operation codes were counted, local and global ones.
+/// The counts of local and global operation codes.
 #[derive(Drop)]
 pub(crate) struct ManyCodes {
     pub(crate) locals: BTreeMap<i32, u128>,
-    /// By the octets of global codes.
+    /// The counts of global codes, by their octets.
     pub(crate) globals: BTreeMap<Vec<u8>, u128>,
-    /// Each code that was counted.
+    /// Each code that was counted, once.
     pub(crate) codes: Vec<Code>,
     ghost listed: { AreListed locals.entries globals.entries codes.items },
 }
@@ -33,7 +33,7 @@ impl ManyCodes {
     ghost use Rattle.tcap_faults.specs.Tallied.{more_if};
     ghost use Rattle.tcap_faults.specs.Tallies.{count_among};
 
-    /// None.
+    /// Creates counts of no codes.
     pub(crate) fn new(alloc: Global) -> ManyCodes
         ensures counts { (code : Coded) → count_among code result ≡ 0 }
         ensures codes { result.codes.items ≡ [] }
@@ -45,7 +45,7 @@ impl ManyCodes {
         }
     }
 
-    /// How often a code was counted.
+    /// Returns the count of a code.
     pub(crate) fn count(&self, code: CodeView) -> u128
         ensures { result ≡ count_among (code_of code.entry) self.now }
     {
@@ -59,7 +59,7 @@ impl ManyCodes {
         }
     }
 
-    /// One local code more.
+    /// Counts a local code. Fails if memory runs out.
     fn add_local(&mut self, local: i32) -> Result<(), AllocError>
         ensures counts { OnOk result ((other : Coded) → count_among other self.new
             ≡ more_if (is_code other (Local local)) (count_among other self.old)) }
@@ -76,7 +76,7 @@ impl ManyCodes {
         Ok(())
     }
 
-    /// One global code more.
+    /// Counts a global code. Fails if memory runs out.
     fn add_global(&mut self, alloc: Global, id: ObjectIdView) -> Result<(), AllocError>
         ensures counts { OnOk result ((other : Coded) → count_among other self.new
             ≡ more_if (is_code other (GlobalCode id.entry.octets.now)) (count_among other self.old)) }
@@ -93,7 +93,7 @@ impl ManyCodes {
         Ok(())
     }
 
-    /// One code more.
+    /// Counts a code. Fails if memory runs out.
     pub(crate) fn add(&mut self, alloc: Global, code: CodeView) -> Result<(), AllocError>
         ensures counts { OnOk result ((other : Coded) → count_among other self.new
             ≡ more_if (is_code other (code_of code.entry)) (count_among other self.old)) }
@@ -106,8 +106,9 @@ impl ManyCodes {
         }
     }
 
-    /// Whether that is what may be linked to one that was counted. The place of the first such one is told, as one behind that of
-    /// the first code of all (`CodeCounts::at`).
+    /// Returns whether a counted operation may have linked what `linkable` describes.
+    ///
+    /// Sets `found` to the place of the first such operation, in the numbering of `CodeCounts::at`.
     pub(crate) fn links_as(&self, table: &Table, linkable: Linkable, found: &Cell<usize>) -> bool
         ensures { result ≡ list_any (links_as table.now linkable.entry) self.now.codes.items }
     {

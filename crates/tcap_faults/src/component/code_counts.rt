@@ -1,4 +1,4 @@
-//! How often operation codes were counted.
+//! The counts of operation codes.
 
 ghost use Rattle.std.specs.Prelude.{◌≡◌, ◌||◌, true, false, Bool, OnOk};
 ghost use Rattle.tcap_parts.specs.declared.code.Code.{Code};
@@ -17,19 +17,19 @@ use std::cell::Cell;
 use tcap_end::Table;
 use tcap_parts::CodeView;
 
-/// How often operation codes were counted. Most often there is one code, a local one, which takes no memory.
+/// The counts of operation codes. Most often there is one local code, which needs no allocation.
 #[derive(Drop)]
 pub(crate) struct CodeCounts {
-    /// The local code that came first.
+    /// The first code, if it is local.
     pub(crate) first: Option<i32>,
-    /// How often it was counted.
+    /// The count of the first code.
     pub(crate) times: u128,
-    /// The others.
+    /// The other codes.
     pub(crate) others: Option<Box<ManyCodes>>,
 }
 
 impl CodeCounts {
-    /// None.
+    /// Creates counts of no codes, without an allocation.
     pub(crate) fn new() -> CodeCounts
         ensures counts { (code : Code) → count_of code result ≡ 0 }
         ensures codes { (passes : Code → Bool) → codes_any passes result ≡ false }
@@ -41,7 +41,7 @@ impl CodeCounts {
         }
     }
 
-    /// Whether it is the local code that came first.
+    /// Returns whether this is the code `first`.
     fn is_first(&self, code: CodeView) -> bool
         ensures { result ≡ is_first (code_of code.entry) self.now.first }
     {
@@ -51,7 +51,7 @@ impl CodeCounts {
         }
     }
 
-    /// How often a code was counted.
+    /// Returns the count of a code.
     pub(crate) fn count(&self, code: CodeView) -> u128
         ensures { result ≡ count_of (code_of code.entry) self.now }
     {
@@ -64,7 +64,7 @@ impl CodeCounts {
         }
     }
 
-    /// One code more, which is not the first.
+    /// Counts a code that is not the first. Fails if memory runs out.
     fn add_other(&mut self, alloc: Global, code: CodeView) -> Result<(), AllocError>
         requires { is_first (code_of code) self.old.first ≡ false }
         ensures counts { OnOk result ((other : Code) → count_of other self.new
@@ -81,7 +81,7 @@ impl CodeCounts {
         Ok(())
     }
 
-    /// One code more.
+    /// Counts a code. Fails if memory runs out.
     pub(crate) fn add(&mut self, alloc: Global, code: CodeView) -> Result<(), AllocError>
         ensures counts { OnOk result ((other : Code) → count_of other self.new
             ≡ more_if (is_code other (code_of code.entry)) (count_of other self.old)) }
@@ -102,7 +102,7 @@ impl CodeCounts {
         }
     }
 
-    /// Whether a code was counted.
+    /// Returns whether a code was counted.
     pub(crate) fn counts_some(&self) -> bool
         ensures { result ≡ codes_any (λ code. true) self.now }
     {
@@ -113,7 +113,9 @@ impl CodeCounts {
         }
     }
 
-    /// Whether that is what may be linked to an operation that was counted. The place of the first such one is told.
+    /// Returns whether a counted operation may have linked what `linkable` describes.
+    ///
+    /// Sets `found` to the place of the first such operation.
     pub(crate) fn links_as(&self, table: &Table, linkable: Linkable, found: &Cell<usize>) -> bool
         ensures { result ≡ codes_any (links_as table.now linkable.entry) self.now }
     {
@@ -129,7 +131,7 @@ impl CodeCounts {
         }
     }
 
-    /// The code at that place, if there is one: the first is at 0, the others behind it.
+    /// Returns the code at a place, if there is one: `first` is at 0, and the others follow from 1 on.
     pub(crate) fn at(&self, place: usize) -> Option<CodeView<'_>>
         ensures { (passes : Code → Bool) → holds (λ code. passes (code_of code)) result ≡ true
             → codes_any passes self.now ≡ true }
@@ -140,7 +142,7 @@ impl CodeCounts {
         }
     }
 
-    /// Whether that is what may be linked to the operation at that place.
+    /// Returns whether the operation at a place may have linked what `linkable` describes.
     pub(crate) fn links_as_at(&self, table: &Table, linkable: Linkable, place: usize) -> bool
         ensures { result ≡ true → codes_any (links_as table.now linkable.entry) self.now ≡ true }
     {

@@ -1,4 +1,4 @@
-//! Components that the half over which they would be sent does not allow (Q.774 3.2; Q.771 3.1).
+//! F10 to F13: the components that a half does not allow (Q.774 3.2; Q.771 3.1).
 
 ghost use Rattle.std.specs.Prelude.{◌≡◌, List, ◌++◌, IfOk, OnOk, filter, option_map, option_to_list};
 ghost use Rattle.tcap_parts.specs.declared.component.Component.{Component};
@@ -24,20 +24,20 @@ use tcap_msg::MessageParts;
 use tcap_parts::{ComponentView, Components};
 use tcap_refute::Kind;
 
-/// Of the components of a message the numbers of the first that are so.
+/// The numbers of the first components of a message with F10, F11, F12 and F13.
 #[derive(Clone, Copy)]
 pub(crate) struct ComponentFaults {
-    /// An Invoke of an ID that is in use.
+    /// F10: an Invoke of an ID that is in use.
     pub(crate) busy: Option<u64>,
-    /// An Invoke whose linked ID is that of no invocation that is there.
+    /// F11: an Invoke with a bad linked ID.
     pub(crate) badly_linked: Option<u64>,
-    /// An answer to an invocation that was answered already.
+    /// F12: an answer to an invocation that was answered already.
     pub(crate) answered_already: Option<u64>,
-    /// A Reject with a problem that nothing has.
+    /// F13: a Reject with a problem that nothing has.
     pub(crate) wrongly_rejected: Option<u64>,
 }
 
-/// The first that is so: the one that was found, or else that of this number, where it is so.
+/// Returns `first` if it is a number; else `number`, if `so` holds.
 fn first_or(first: Option<u64>, so: bool, number: u64) -> Option<u64>
     ensures { result ≡ first_or first so number }
 {
@@ -49,7 +49,7 @@ fn first_or(first: Option<u64>, so: bool, number: u64) -> Option<u64>
 }
 
 impl ComponentFaults {
-    /// Of no components.
+    /// Creates the faults of no components.
     fn none() -> ComponentFaults
         ensures { IsFaultless result }
     {
@@ -61,7 +61,7 @@ impl ComponentFaults {
         }
     }
 
-    /// The component by which the message has that kind, F10 to F13.
+    /// Returns the number of the component with this kind, F10 to F13.
     pub(crate) fn component(self, kind: Kind) -> Option<u64>
         ensures { result ≡ component_at kind self }
     {
@@ -74,7 +74,7 @@ impl ComponentFaults {
         }
     }
 
-    /// With what is so of one component more, of that number.
+    /// Returns these faults with those of the next component, which has this number.
     fn with(
         self,
         table: &Table,
@@ -96,7 +96,9 @@ impl ComponentFaults {
         }
     }
 
-    /// With what is so of one more of a message without destination ID, behind Invokes of these IDs.
+    /// Notes the next component of a message without destination ID. `ids` are the IDs of the Invokes before it.
+    ///
+    /// Fails if memory runs out.
     fn note_first(
         &mut self,
         ids: &mut BTreeSet<i8>,
@@ -115,7 +117,7 @@ impl ComponentFaults {
     }
 }
 
-/// A component more, if there is one.
+/// Counts a component, if there is one. Fails if memory runs out.
 fn note_last(
     own: &mut Tally,
     alloc: Global,
@@ -131,7 +133,7 @@ fn note_last(
     Ok(())
 }
 
-/// The Rejects among the components of a message, counted.
+/// Counts the Rejects among components. Fails if memory runs out.
 fn count_rejects(alloc: Global, table: &Table, components: Components) -> Result<Tally, AllocError>
     ensures { IfOk result (λ tally. IsTally table.now (filter is_reject (components_left components.entry)) tally) }
 {
@@ -145,8 +147,10 @@ fn count_rejects(alloc: Global, table: &Table, components: Components) -> Result
     Ok(rejects)
 }
 
-/// What is so of the components of a message that goes over a half. Its Rejects are counted first, for one that stands behind an
-/// Invoke may end an own invocation of that ID.
+/// Finds the faults of the components of a message that goes over a half. Fails if memory runs out.
+///
+/// All Rejects of the message are counted first, because a Reject may end an own invocation of an ID that an Invoke
+/// before it has.
 pub(crate) fn faults_of<M: MessageParts>(
     alloc: Global,
     table: &Table,
@@ -159,7 +163,7 @@ pub(crate) fn faults_of<M: MessageParts>(
         → component_at kind f ≡ half_component table.now h (components_in (M.meaning message.now)) kind) }
 {
     let rejects = count_rejects(alloc, table, message.components())?;
-    // It bounds how many components there are, so that their numbers fit.
+    // Bounds the number of components, so that their numbers fit.
     let _count = message.count();
     let mut own = Tally::new(alloc);
     let mut last = None;
@@ -179,7 +183,9 @@ pub(crate) fn faults_of<M: MessageParts>(
     Ok(faults)
 }
 
-/// What is so of the components of a message without destination ID: of two Invokes of one ID the second, and a linked one.
+/// Finds the faults of the components of a message without destination ID. Fails if memory runs out.
+///
+/// They are the second of two Invokes with one ID, and a linked Invoke.
 pub(crate) fn first_faults<M: MessageParts>(
     alloc: Global,
     message: &M,
@@ -187,7 +193,7 @@ pub(crate) fn first_faults<M: MessageParts>(
     ensures { IfOk result (λ f. (kind : FaultKind)
         → component_at kind f ≡ alone_component (components_in (M.meaning message.now)) kind) }
 {
-    // It bounds how many components there are, so that their numbers fit.
+    // Bounds the number of components, so that their numbers fit.
     let _count = message.count();
     let mut ids = BTreeSet::new(alloc);
     let mut faults = ComponentFaults::none();

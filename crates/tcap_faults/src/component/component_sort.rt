@@ -1,32 +1,32 @@
-//! Sorts of components that are counted.
+//! The sorts of components that are counted.
 
-/// A class of operations (Q.771 3.1), or any.
+/// An operation class (Q.771 3.1), or any class.
 #[derive(Clone, Copy, Debug)]
 pub enum Class {
-    /// Any.
+    /// Any class.
     Any,
-    /// 1: success and failure are reported.
+    /// Class 1: success and failure are reported.
     One,
-    /// 2: failure alone is.
+    /// Class 2: only failure is reported.
     Two,
-    /// 3: success alone is.
+    /// Class 3: only success is reported.
     Three,
 }
 
-/// A sort of components of an invoke ID (Q.773 4.2.2).
+/// A sort of components with an invoke ID (Q.773 4.2.2).
 #[derive(Clone, Copy, Debug)]
 pub enum Sort {
-    /// Invokes of operations of that class.
+    /// Invokes of operations of this class.
     Invokes(Class),
-    /// Those of operations that do not expire.
+    /// Invokes of operations of this class that do not expire.
     Lasting(Class),
     /// Linked Invokes.
     Linked,
     /// Return Results.
     Results,
-    /// Last ones.
+    /// Return Results Last.
     LastResults,
-    /// Others.
+    /// Return Results Not Last.
     NotLasts,
     /// Return Errors.
     Errors,
@@ -36,7 +36,7 @@ pub enum Sort {
     InvokeRejects,
     /// Rejects with duplicateInvokeID.
     DuplicateRejects,
-    /// Rejects with a problem of a link.
+    /// Rejects with a problem of a link, 5 to 7.
     LinkRejects,
     /// Rejects with a return result problem.
     ResultRejects,

@@ -1,4 +1,4 @@
-//! Invokes that a half does not allow: of an ID that is in use, or linked to what is not there (Q.774 3.2; Q.771 3.1).
+//! F10 and F11: Invokes of an ID that is in use, and Invokes with a bad linked ID (Q.774 3.2; Q.771 3.1).
 
 ghost use Rattle.std.specs.Prelude.{◌≡◌};
 ghost use Rattle.tcap_parts.specs.Meaning.{code_of, component_of};
@@ -11,21 +11,22 @@ use crate::component::several_tallies::lists;
 use tcap_end::Table;
 use tcap_parts::{CodeView, ComponentView};
 
-/// Components by which own invocations of an ID can have ended.
+/// The counts of components by which own invocations of an ID can have ended.
 #[derive(Clone, Copy)]
 struct Ended {
-    /// Those that were heard: last Return Results, Return Errors, and Rejects with an invoke or a general problem.
+    /// The heard Return Results Last, Return Errors, and Rejects with an invoke or a general problem.
     heard: u128,
-    /// Those that were told: Rejects with a return result problem,
+    /// The own Rejects with a return result problem.
     result_rejects: u128,
-    /// or a general one.
+    /// The own Rejects with a general problem.
     general_rejects: u128,
-    /// Return Results that are not the last, which may be rejected.
+    /// The heard Return Results Not Last, which may be rejected.
     not_lasts: u128,
 }
 
 impl Ended {
-    /// Whether they are fewer than the invocations that last, of class 1 and 3, or of all classes.
+    /// Returns whether they cannot have ended all lasting invocations: those of class 1 and 3, or those of all
+    /// classes.
     fn is_less(&self, all: u128, of_1: u128, of_3: u128) -> bool
         ensures { result ≡ more_last_by all of_1 of_3 self.now.heard self.now.result_rejects self.now.general_rejects
             self.now.not_lasts }
@@ -36,7 +37,7 @@ impl Ended {
 }
 
 impl Before<'_> {
-    /// How many components that were heard can have ended an own invocation of that ID.
+    /// Returns the number of heard components that can have ended an own invocation of this ID.
     fn ends(&self, id: i8) -> u128
         ensures { result ≡ ends_by (counted self.now).heard id }
     {
@@ -47,7 +48,7 @@ impl Before<'_> {
         more(more(more(results, errors), rejects), generals)
     }
 
-    /// Whether an own invocation of that ID lasts.
+    /// Returns whether an own invocation of this ID lasts.
     fn is_busy(&self, id: i8) -> bool
         ensures { result ≡ is_busy_by (counted self.now) id }
     {
@@ -66,7 +67,7 @@ impl Before<'_> {
         ended.is_less(all, of_1, of_3)
     }
 
-    /// Whether a component is an Invoke of an ID that is in use.
+    /// Returns whether a component is an Invoke of an ID that is in use.
     pub(crate) fn invokes_busy(&self, component: ComponentView) -> bool
         ensures { result ≡ invokes_busy_by (counted self.now) (component_of component.entry) }
     {
@@ -78,7 +79,7 @@ impl Before<'_> {
         }
     }
 
-    /// How many invocations of that ID were taken away.
+    /// Returns the number of invocations of this ID that were taken.
     fn taken(&self, id: i8) -> u128
         ensures { result ≡ taken_by (counted self.now).told id }
     {
@@ -88,7 +89,7 @@ impl Before<'_> {
         more(more(results, errors), rejects)
     }
 
-    /// Whether all invocations of that ID are taken, or none of them lists the operation.
+    /// Returns whether all invocations of this ID are taken, or none has an operation that lists this one.
     fn is_badly_linked(&self, table: &Table, id: i8, code: CodeView) -> bool
         ensures { result ≡ is_badly_linked_by table.now (counted self.now) id (code_of code.entry) }
     {
@@ -96,7 +97,7 @@ impl Before<'_> {
             || !lists(&self.half.heard, table, id, code)
     }
 
-    /// Whether a component is an Invoke whose linked ID is that of no invocation that is there.
+    /// Returns whether a component is an Invoke with a bad linked ID.
     pub(crate) fn links_badly(&self, table: &Table, component: ComponentView) -> bool
         ensures { result ≡ links_badly_by table.now (counted self.now) (component_of component.entry) }
     {

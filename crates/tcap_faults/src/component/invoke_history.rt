@@ -1,4 +1,4 @@
-//! Components of an invoke ID that are counted.
+//! The counts of components with one invoke ID.
 
 ghost use Rattle.std.specs.Prelude.{◌≡◌, ◌||◌, ℤ, Bool, OnOk, option_map};
 ghost use Rattle.std.specs.List.{list_any};
@@ -19,20 +19,20 @@ use std::collections::BTreeMap;
 use tcap_end::Table;
 use tcap_parts::{CodeView, ComponentView, ProblemView, ResultBodyView};
 
-/// Components of an invoke ID that are counted.
+/// The counts of components with an invoke ID.
 #[derive(Drop)]
 pub(crate) struct OfId {
     /// Invokes.
     pub(crate) invokes: ByClass,
-    /// Those of operations that do not expire.
+    /// Invokes of operations that do not expire.
     pub(crate) lasting: ByClass,
     /// Linked Invokes.
     pub(crate) linked: u128,
     /// Return Results.
     pub(crate) results: u128,
-    /// Last ones.
+    /// Return Results Last.
     pub(crate) last_results: u128,
-    /// Others.
+    /// Return Results Not Last.
     pub(crate) not_lasts: u128,
     /// Return Errors.
     pub(crate) errors: u128,
@@ -42,7 +42,7 @@ pub(crate) struct OfId {
     pub(crate) invoke_rejects: u128,
     /// Rejects with duplicateInvokeID.
     pub(crate) duplicate_rejects: u128,
-    /// Rejects with a problem of a link.
+    /// Rejects with a problem of a link, 5 to 7.
     pub(crate) link_rejects: u128,
     /// Rejects with a return result problem.
     pub(crate) result_rejects: u128,
@@ -50,21 +50,22 @@ pub(crate) struct OfId {
     pub(crate) error_rejects: u128,
     /// Invokes, by their operations.
     pub(crate) operations: CodeCounts,
-    /// Last Return Results, by the operations that they name.
+    /// Return Results Last, by the operations that they name.
     pub(crate) named: CodeCounts,
     /// All Return Results, by the operations that they name.
     pub(crate) answered: CodeCounts,
     /// Linked Invokes, by their linked IDs and their operations.
     pub(crate) by_link: BTreeMap<i8, CodeCounts>,
-    /// The place, among the operations, of the last to which a linked Invoke was found to be allowed. It is a hint for speed alone.
+    /// The place, among the operations, of the last that was found to list a linked Invoke. It is a hint for speed
+    /// alone.
     pub(crate) listing: Cell<usize>,
-    /// Which of the linked Invokes was found to have problem 6.
+    /// A linked Invoke that was found to have problem 6.
     pub(crate) response: FoundLink,
-    /// Which of them to have problem 7.
+    /// A linked Invoke that was found to have problem 7.
     pub(crate) operation: FoundLink,
 }
 
-/// One linked Invoke more.
+/// Counts a linked Invoke. Fails if memory runs out.
 fn add_link(
     alloc: Global,
     by_link: &mut BTreeMap<i8, CodeCounts>,
@@ -84,7 +85,7 @@ fn add_link(
 }
 
 impl OfId {
-    /// None.
+    /// Creates counts of no components.
     pub(crate) fn new(alloc: Global) -> OfId
         ensures { IsNothing result }
     {
@@ -112,7 +113,7 @@ impl OfId {
         }
     }
 
-    /// An Invoke of that operation.
+    /// Counts an Invoke of this operation. Fails if memory runs out.
     fn note_invoke(
         &mut self,
         alloc: Global,
@@ -135,7 +136,7 @@ impl OfId {
         Ok(())
     }
 
-    /// A Return Result that carries that.
+    /// Counts a Return Result with this body. Fails if memory runs out.
     fn note_result(
         &mut self,
         alloc: Global,
@@ -159,7 +160,7 @@ impl OfId {
         Ok(())
     }
 
-    /// A Reject with an invoke problem.
+    /// Counts a Reject with this invoke problem.
     fn note_invoke_reject(&mut self, problem: u8)
         ensures { self.new ≡ invoke_rejected problem self.old }
     {
@@ -171,7 +172,7 @@ impl OfId {
         }
     }
 
-    /// A Reject.
+    /// Counts a Reject with this problem.
     fn note_reject(&mut self, problem: ProblemView)
         ensures { self.new ≡ rejected (problem_of problem) self.old }
     {
@@ -183,7 +184,7 @@ impl OfId {
         }
     }
 
-    /// A component of the ID.
+    /// Counts a component with the ID. Fails if memory runs out.
     pub(crate) fn note(
         &mut self,
         alloc: Global,
@@ -203,7 +204,7 @@ impl OfId {
         Ok(())
     }
 
-    /// How many are of a sort.
+    /// Returns the number of components of a sort.
     pub(crate) fn count(&self, sort: Sort) -> u128
         ensures { result ≡ count_in sort self.now }
     {
@@ -224,7 +225,7 @@ impl OfId {
         }
     }
 
-    /// Where a linked Invoke with that problem was found.
+    /// Returns the hint for a linked Invoke with this problem.
     pub(crate) fn found(&self, problem: LinkProblem) -> &FoundLink {
         match problem {
             LinkProblem::Response => &self.response,

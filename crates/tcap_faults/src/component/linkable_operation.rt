@@ -1,4 +1,4 @@
-//! What may be linked to an operation (Q.771 3.1).
+//! The operations that may be linked to an operation (Q.771 3.1).
 
 ghost use Rattle.std.specs.Prelude.{◌≡◌};
 ghost use Rattle.tcap_parts.specs.Meaning.{code_of};
@@ -7,19 +7,19 @@ ghost use Rattle.tcap_faults.specs.Linking.{links_as};
 use tcap_end::Table;
 use tcap_parts::CodeView;
 
-/// What may be linked to an operation (Q.771 3.1).
+/// A condition on the linked operations of an operation (Q.771 3.1).
 #[derive(Clone, Copy)]
 pub(crate) enum Linkable<'a> {
-    /// That operation.
+    /// It lists this operation.
     This(CodeView<'a>),
-    /// None.
+    /// It lists none.
     Nothing,
-    /// Others, but not that one.
+    /// It lists others, but not this operation.
     OtherThan(CodeView<'a>),
 }
 
 impl Linkable<'_> {
-    /// Whether it is what may be linked to that operation.
+    /// Returns whether the condition holds for the operation `to`.
     pub(crate) fn is_of(self, table: &Table, to: CodeView) -> bool
         ensures { result ≡ links_as table.now self.entry (code_of to.entry) }
     {

@@ -1,5 +1,5 @@
-//! Linked Invokes with a problem (Q.773 4.2.2). A Reject may ask for one again and again, so it is kept where one was found, and
-//! that one is looked at first.
+//! Linked Invokes with problem 6 or 7 (Q.773 4.2.2). Many Rejects may look for the same Invoke, so the last one that
+//! was found is remembered, and checked first.
 
 ghost use Rattle.std.specs.Prelude.{◌≡◌, true, map};
 ghost use Rattle.std.specs.List.{list_any};
@@ -16,9 +16,9 @@ use std::collections::BTreeMap;
 use tcap_end::Table;
 use tcap_parts::{Code, CodeView};
 
-// ---- all that were invoked are looked at
+// ---- the search of all linked Invokes
 
-/// Whether that is what may be linked to the operation of an Invoke of that ID. The place of the operation is told.
+/// Returns whether an invocation of this ID has an operation that meets `linkable`. Sets `found` to its place.
 fn has_operation(
     tallies: &[&Tally],
     table: &Table,
@@ -36,7 +36,7 @@ fn has_operation(
     false
 }
 
-/// Whether an operation was counted, and none may be linked to an operation of that ID.
+/// Returns whether an operation was counted, and an invocation of this ID has an operation that lists none.
 fn one_is_none(
     counts: &CodeCounts,
     invoked: &[&Tally],
@@ -50,7 +50,8 @@ fn one_is_none(
     counts.counts_some() && has_operation(invoked, table, id, Linkable::Nothing, &found.operation)
 }
 
-/// Whether others, but not one of these operations, may be linked to an operation of that ID.
+/// Returns whether, for one of these codes, an invocation of this ID has an operation that lists others, but not the
+/// code.
 fn any_is_other(
     codes: &[Code],
     invoked: &[&Tally],
@@ -70,7 +71,8 @@ fn any_is_other(
     false
 }
 
-/// Whether others, but not one of the operations that were counted, may be linked to an operation of that ID.
+/// Returns whether, for one of the counted operations, an invocation of this ID has an operation that lists others,
+/// but not that one.
 fn one_is_other(
     counts: &CodeCounts,
     invoked: &[&Tally],
@@ -93,7 +95,7 @@ fn one_is_other(
     }
 }
 
-/// Whether an Invoke that is linked to that ID, of one of the operations that were counted, has that problem.
+/// Returns whether an Invoke of a counted operation that is linked to this ID has the problem.
 fn one_has(
     counts: &CodeCounts,
     invoked: &[&Tally],
@@ -110,7 +112,7 @@ fn one_has(
     }
 }
 
-/// Whether one of the linked Invokes does. Where it stands is told.
+/// Returns whether a linked Invoke has the problem. Sets `found` to the first that does.
 fn any_has(
     by_link: &BTreeMap<i8, CodeCounts>,
     invoked: &[&Tally],
@@ -130,7 +132,7 @@ fn any_has(
     false
 }
 
-/// Whether a linked Invoke of that ID, among those heard, does. Where it stands is kept.
+/// Returns whether a heard linked Invoke with this ID has the problem, and remembers the first that does.
 fn links_so(heard: &Tally, invoked: &[&Tally], table: &Table, id: i8, problem: LinkProblem) -> bool
     ensures { result ≡ (tally_of heard.now).has_link id
         (names_so table.now (tallies_of (map (λ b. b.now) invoked.now)) problem) }
@@ -141,7 +143,7 @@ fn links_so(heard: &Tally, invoked: &[&Tally], table: &Table, id: i8, problem: L
     }
 }
 
-/// Whether one of several tallies has such a one: all are looked at.
+/// Returns whether a tally has a linked Invoke with this ID and the problem. Looks at all of them.
 fn one_links_so(
     heard: &[&Tally],
     invoked: &[&Tally],
@@ -160,9 +162,9 @@ fn one_links_so(
     false
 }
 
-// ---- what was found is looked at
+// ---- the check of the linked Invoke that was found last
 
-/// Whether that is what may be linked to an operation at that place, of the Invokes of that ID.
+/// Returns whether the operation at this place, of the invocations with this ID, meets `linkable`.
 fn has_operation_at(
     tallies: &[&Tally],
     table: &Table,
@@ -181,7 +183,7 @@ fn has_operation_at(
     false
 }
 
-/// Whether the linked Invoke that was found has that problem.
+/// Returns whether the linked Invoke that was found last has the problem.
 fn found_has(
     by_link: &BTreeMap<i8, CodeCounts>,
     invoked: &[&Tally],
@@ -204,7 +206,7 @@ fn found_has(
     has_operation_at(invoked, table, linked, linkable, found.operation.get())
 }
 
-/// Whether the one of that ID does, among those heard.
+/// Returns whether the heard linked Invoke with this ID that was found last has the problem.
 fn links_so_again(
     heard: &Tally,
     invoked: &[&Tally],
@@ -221,7 +223,7 @@ fn links_so_again(
     }
 }
 
-/// Whether one of several tallies has such a one: in each tally one is looked at.
+/// Returns whether a tally has such a linked Invoke. Looks at one in each tally.
 fn one_links_so_again(
     heard: &[&Tally],
     invoked: &[&Tally],
@@ -240,7 +242,7 @@ fn one_links_so_again(
     false
 }
 
-/// Whether a linked Invoke of that ID, among those heard, has that problem, by the invocations among those invoked.
+/// Returns whether a heard linked Invoke with this ID has the problem, judged by the own invocations in `invoked`.
 pub(crate) fn has_link_problem(
     heard: &[&Tally],
     invoked: &[&Tally],

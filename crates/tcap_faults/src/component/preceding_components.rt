@@ -1,4 +1,4 @@
-//! What stands before a component of a message, as it is counted.
+//! The counts before a component of a message.
 
 ghost use Rattle.std.specs.Prelude.{◌≡◌};
 ghost use Rattle.tcap_faults.specs.ByTallies.{counted};
@@ -9,39 +9,39 @@ use crate::component::several_tallies::count;
 use crate::component::tally::Tally;
 use crate::dialogue::half::Half;
 
-/// What stands before a component: what the half heard, invoked and told, and the components of the message.
+/// The counts before a component: those of its half, and those of its message.
 #[derive(Clone, Copy)]
 pub(crate) struct Before<'a> {
     pub(crate) half: &'a Half<'a>,
-    /// Those of the message before that one.
+    /// The components of the message before this one.
     pub(crate) own: &'a Tally,
     /// All Rejects of the message.
     pub(crate) rejects: &'a Tally,
 }
 
 impl Before<'_> {
-    /// How many of that invoke ID the half heard, of a sort.
+    /// Returns the number of components with this invoke ID and of this sort that the half heard.
     pub(crate) fn heard(&self, id: i8, sort: Sort) -> u128
         ensures { result ≡ (counted self.now).heard.count id sort }
     {
         count(&self.half.heard, id, sort)
     }
 
-    /// How many it invoked.
+    /// Returns the number of such components among which its own invocations are.
     pub(crate) fn invoked(&self, id: i8, sort: Sort) -> u128
         ensures { result ≡ (counted self.now).invoked.count id sort }
     {
         count(&self.half.invoked, id, sort)
     }
 
-    /// How many it told, with those of the message before that one.
+    /// Returns the number of such components that it sent, with those of the message before this one.
     pub(crate) fn told(&self, id: i8, sort: Sort) -> u128
         ensures { result ≡ (counted self.now).told.count id sort }
     {
         more(count(&self.half.told, id, sort), self.own.count(id, sort))
     }
 
-    /// How many it told, with all Rejects of the message.
+    /// Returns the number of such components that it sent, with all Rejects of the message.
     pub(crate) fn all_told(&self, id: i8, sort: Sort) -> u128
         ensures { result ≡ (counted self.now).all_told.count id sort }
     {

@@ -1,4 +1,4 @@
-//! Rejects with a problem that nothing has (Q.774 3.2; problems: Q.773 4.2.2).
+//! F13: Rejects with a problem that nothing has (Q.774 3.2; problems: Q.773 4.2.2).
 
 ghost use Rattle.std.specs.Prelude.{◌≡◌};
 ghost use Rattle.tcap_parts.specs.Meaning.{component_of};
@@ -14,7 +14,7 @@ use crate::component::several_tallies::is_of_no_operation;
 use tcap_end::Table;
 use tcap_parts::{ComponentView, ProblemView};
 
-/// Rejects of Return Results, or of Return Errors.
+/// Returns the sort of Rejects of Return Results, or of Return Errors.
 fn rejects_of(of_result: bool) -> Sort
     ensures { result ≡ rejects_of of_result }
 {
@@ -25,7 +25,7 @@ fn rejects_of(of_result: bool) -> Sort
     }
 }
 
-/// Return Results, or Return Errors.
+/// Returns the sort of Return Results, or of Return Errors.
 fn answers_of(of_result: bool) -> Sort
     ensures { result ≡ answers_of of_result }
 {
@@ -37,7 +37,7 @@ fn answers_of(of_result: bool) -> Sort
 }
 
 impl Before<'_> {
-    /// Whether a linked Invoke of that ID has that problem, as far as own invocations tell.
+    /// Returns whether a linked Invoke with this ID has the problem, judged by own invocations.
     fn has_link_problem(&self, table: &Table, id: i8, problem: LinkProblem) -> bool
         ensures { result ≡ (counted self.now).heard.has_link id
             (names_so table.now (counted self.now).invoked problem) }
@@ -45,7 +45,7 @@ impl Before<'_> {
         has_link_problem(&self.half.heard, &self.half.invoked, table, id, problem)
     }
 
-    /// Whether no linked Invoke of that ID has that problem, as far as own invocations tell.
+    /// Returns whether the problem is 6 or 7, and no linked Invoke with this ID has it.
     fn is_link_fine(&self, table: &Table, id: i8, problem: u8) -> bool
         ensures { result ≡ is_link_fine_by table.now (counted self.now) id problem }
     {
@@ -56,7 +56,7 @@ impl Before<'_> {
         }
     }
 
-    /// Whether no Invoke of that ID can be rejected with that problem.
+    /// Returns whether no Invoke with this ID can be rejected with this problem.
     fn is_invoke_reject_wrong(&self, table: &Table, id: i8, problem: u8) -> bool
         ensures { result ≡ is_invoke_reject_wrong_by table.now (counted self.now) id problem }
     {
@@ -73,7 +73,7 @@ impl Before<'_> {
         }
     }
 
-    /// How many own invocations have a class that allows such an answer.
+    /// Returns the number of own invocations whose class allows such an answer.
     fn suited(&self, of_result: bool, id: i8) -> u128
         ensures { result ≡ suited_by of_result (counted self.now).invoked id }
     {
@@ -82,8 +82,10 @@ impl Before<'_> {
         more(of_1, self.invoked(id, Sort::Invokes(class)))
     }
 
-    /// Whether no such answer of that ID can be unexpected: each own invocation has such a class, fewer than two answers
-    /// were heard, and none is of an operation that no invocation has.
+    /// Returns whether no such answer can be unexpected.
+    ///
+    /// The class of each own invocation allows it, fewer than two answers were heard, and none names an operation
+    /// that no own invocation has.
     fn is_expected(&self, of_result: bool, id: i8) -> bool
         ensures { result ≡ is_expected_by (counted self.now) of_result id }
     {
@@ -92,7 +94,7 @@ impl Before<'_> {
             && !is_of_no_operation(&self.half.heard, &self.half.invoked, id)
     }
 
-    /// Whether no such answer of that ID has that problem, as far as own invocations tell.
+    /// Returns whether own invocations rule out this problem for such an answer.
     fn is_known_wrong(&self, of_result: bool, id: i8, problem: u8) -> bool
         ensures { result ≡ is_known_wrong_by (counted self.now) of_result id problem }
     {
@@ -103,7 +105,7 @@ impl Before<'_> {
         }
     }
 
-    /// Whether no such answer of that ID can be rejected with that problem.
+    /// Returns whether no such answer with this ID can be rejected with this problem.
     fn is_answer_reject_wrong(&self, of_result: bool, id: i8, problem: u8) -> bool
         ensures { result ≡ is_answer_reject_wrong_by (counted self.now) of_result id problem }
     {
@@ -113,7 +115,7 @@ impl Before<'_> {
             || self.is_known_wrong(of_result, id, problem)
     }
 
-    /// Whether a component is a Reject with a problem that nothing has.
+    /// Returns whether a component is a Reject with a problem that nothing has.
     pub(crate) fn rejects_wrongly(&self, table: &Table, component: ComponentView) -> bool
         ensures { result ≡ rejects_wrongly_by table.now (counted self.now) (component_of component.entry) }
     {

@@ -1,4 +1,4 @@
-//! Several tallies, taken together.
+//! Several tallies, read as one.
 
 ghost use Rattle.std.specs.Prelude.{◌≡◌, ◌==◌, true, map};
 ghost use Rattle.std.specs.List.{list_any};
@@ -14,7 +14,7 @@ use crate::component::tally::Tally;
 use tcap_end::Table;
 use tcap_parts::{Code, CodeView};
 
-/// How many of that invoke ID are of a sort.
+/// Returns the number of components with this invoke ID and of this sort.
 pub(crate) fn count(tallies: &[&Tally], id: i8, sort: Sort) -> u128
     ensures { result ≡ (tallies_of (map (λ b. b.now) tallies.now)).count id sort }
 {
@@ -25,7 +25,7 @@ pub(crate) fn count(tallies: &[&Tally], id: i8, sort: Sort) -> u128
     all
 }
 
-/// How many Invokes of that ID are of an operation.
+/// Returns the number of Invokes with this ID and of this operation.
 pub(crate) fn invokes_of(tallies: &[&Tally], id: i8, code: CodeView) -> u128
     ensures { result ≡ (tallies_of (map (λ b. b.now) tallies.now)).invokes_of id (code_of code.entry) }
 {
@@ -36,7 +36,7 @@ pub(crate) fn invokes_of(tallies: &[&Tally], id: i8, code: CodeView) -> u128
     all
 }
 
-/// How many last Return Results of that ID name an operation.
+/// Returns the number of Return Results Last with this ID that name this operation.
 pub(crate) fn results_of(tallies: &[&Tally], id: i8, code: CodeView) -> u128
     ensures { result ≡ (tallies_of (map (λ b. b.now) tallies.now)).results_of id (code_of code.entry) }
 {
@@ -47,7 +47,7 @@ pub(crate) fn results_of(tallies: &[&Tally], id: i8, code: CodeView) -> u128
     all
 }
 
-/// Whether an Invoke of that ID is of an operation to which that one may be linked (Q.771 3.1): all are looked at.
+/// Returns whether an Invoke with this ID has an operation that lists this one (Q.771 3.1). Looks at all of them.
 fn one_lists(tallies: &[&Tally], table: &Table, id: i8, code: CodeView) -> bool
     ensures { result ≡ (tallies_of (map (λ b. b.now) tallies.now)).has_operation id
         (λ to. links table.now to (code_of code.entry)) }
@@ -60,7 +60,7 @@ fn one_lists(tallies: &[&Tally], table: &Table, id: i8, code: CodeView) -> bool
     false
 }
 
-/// Whether one of those that were found last is: in each tally one is looked at.
+/// Returns whether such an Invoke was found last. Looks at one in each tally.
 fn one_lists_again(tallies: &[&Tally], table: &Table, id: i8, code: CodeView) -> bool
     ensures { result ≡ true → (tallies_of (map (λ b. b.now) tallies.now)).has_operation id
         (λ to. links table.now to (code_of code.entry)) ≡ true }
@@ -73,7 +73,7 @@ fn one_lists_again(tallies: &[&Tally], table: &Table, id: i8, code: CodeView) ->
     false
 }
 
-/// Whether an Invoke of that ID is of an operation to which that one may be linked (Q.771 3.1).
+/// Returns whether an Invoke with this ID has an operation that lists this one (Q.771 3.1).
 pub(crate) fn lists(tallies: &[&Tally], table: &Table, id: i8, code: CodeView) -> bool
     ensures { result ≡ (tallies_of (map (λ b. b.now) tallies.now)).has_operation id
         (λ to. links table.now to (code_of code.entry)) }
@@ -81,7 +81,7 @@ pub(crate) fn lists(tallies: &[&Tally], table: &Table, id: i8, code: CodeView) -
     one_lists_again(tallies, table, id, code) || one_lists(tallies, table, id, code)
 }
 
-/// Whether one of these operations is that of no invocation of that ID.
+/// Returns whether one of these operations is that of no invocation with this ID.
 fn any_is_of_none(codes: &[Code], invoked: &[&Tally], id: i8) -> bool
     ensures { result ≡ list_any (is_of_none (tallies_of (map (λ b. b.now) invoked.now)) id) codes.now }
 {
@@ -93,7 +93,7 @@ fn any_is_of_none(codes: &[Code], invoked: &[&Tally], id: i8) -> bool
     false
 }
 
-/// Whether one of the operations that were counted is that of no invocation of that ID.
+/// Returns whether one of the counted operations is that of no invocation with this ID.
 fn one_is_of_none(counts: &CodeCounts, invoked: &[&Tally], id: i8) -> bool
     ensures { result ≡ codes_any (is_of_none (tallies_of (map (λ b. b.now) invoked.now)) id) counts.now }
 {
@@ -108,7 +108,7 @@ fn one_is_of_none(counts: &CodeCounts, invoked: &[&Tally], id: i8) -> bool
     }
 }
 
-/// Whether a Return Result of that ID names an operation of which no invocation of the ID is.
+/// Returns whether a Return Result with this ID names an operation that no invocation with the ID has.
 fn answers_none(heard: &Tally, invoked: &[&Tally], id: i8) -> bool
     ensures { result ≡ (tally_of heard.now).has_result id
         (is_of_none (tallies_of (map (λ b. b.now) invoked.now)) id) }
@@ -119,8 +119,7 @@ fn answers_none(heard: &Tally, invoked: &[&Tally], id: i8) -> bool
     }
 }
 
-/// Whether a Return Result of that ID, among those heard, names an operation of which no invocation of the ID, among those
-/// invoked, is.
+/// Returns whether a heard Return Result with this ID names an operation that no own invocation with the ID has.
 pub(crate) fn is_of_no_operation(heard: &[&Tally], invoked: &[&Tally], id: i8) -> bool
     ensures { result ≡ (tallies_of (map (λ b. b.now) heard.now)).has_result id
         (λ code. (tallies_of (map (λ b. b.now) invoked.now)).invokes_of id code == 0) }

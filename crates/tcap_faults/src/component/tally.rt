@@ -1,4 +1,4 @@
-//! Components that are counted, by their invoke IDs.
+//! The counts of components by invoke ID.
 
 ghost use Rattle.std.specs.Prelude.{◌≡◌, [], ◌∷◌, ◌++◌, List, OnOk, Some, option_copied, true};
 ghost use Rattle.tcap_parts.specs.declared.component.Component.{Component};
@@ -18,13 +18,13 @@ use std::collections::BTreeMap;
 use tcap_end::Table;
 use tcap_parts::{CodeView, ComponentView, Components};
 
-/// Components that are counted, by their invoke IDs (Q.773 4.2.2).
+/// The counts of components, by their invoke IDs (Q.773 4.2.2).
 #[derive(Drop)]
 pub(crate) struct Tally {
     pub(crate) ids: BTreeMap<i8, Box<OfId>>,
 }
 
-/// The invoke ID of a component.
+/// Returns the invoke ID of a component.
 fn invoke_id(component: &ComponentView) -> Option<i8>
     ensures { result ≡ invoke_id (component_of component.now) }
 {
@@ -37,7 +37,7 @@ fn invoke_id(component: &ComponentView) -> Option<i8>
 }
 
 impl Tally {
-    /// That of no components.
+    /// Creates a tally of no components.
     pub(crate) fn new(alloc: Global) -> Tally
         ensures { (table : Table) → IsTally table [] result }
     {
@@ -46,7 +46,7 @@ impl Tally {
         }
     }
 
-    /// One component more of that invoke ID.
+    /// Counts a component with this invoke ID. Fails if memory runs out.
     fn note_of_id(
         &mut self,
         alloc: Global,
@@ -67,7 +67,7 @@ impl Tally {
         Ok(())
     }
 
-    /// One component more. One without an invoke ID is not counted.
+    /// Counts a component, if it has an invoke ID. Fails if memory runs out.
     pub(crate) fn note(
         &mut self,
         alloc: Global,
@@ -83,7 +83,7 @@ impl Tally {
         }
     }
 
-    /// Components more, one after the other.
+    /// Counts components in order. Fails if memory runs out.
     pub(crate) fn note_all(
         &mut self,
         alloc: Global,
@@ -99,7 +99,7 @@ impl Tally {
         Ok(())
     }
 
-    /// What is kept of that invoke ID.
+    /// Returns the counts for this invoke ID, if there are any.
     pub(crate) fn of_id(&self, id: i8) -> Option<&OfId>
         ensures { option_copied result ≡ kept_of id self.now }
     {
@@ -109,7 +109,7 @@ impl Tally {
         }
     }
 
-    /// How many of that invoke ID are of a sort.
+    /// Returns the number of components with this invoke ID and of this sort.
     pub(crate) fn count(&self, id: i8, sort: Sort) -> u128
         ensures { result ≡ (tally_of self.now).count id sort }
     {
@@ -119,7 +119,7 @@ impl Tally {
         }
     }
 
-    /// How many Invokes of that ID are of an operation.
+    /// Returns the number of Invokes with this ID and of this operation.
     pub(crate) fn invokes_of(&self, id: i8, code: CodeView) -> u128
         ensures { result ≡ (tally_of self.now).invokes_of id (code_of code.entry) }
     {
@@ -129,7 +129,7 @@ impl Tally {
         }
     }
 
-    /// How many last Return Results of that ID name an operation.
+    /// Returns the number of Return Results Last with this ID that name this operation.
     pub(crate) fn results_of(&self, id: i8, code: CodeView) -> u128
         ensures { result ≡ (tally_of self.now).results_of id (code_of code.entry) }
     {
@@ -139,7 +139,7 @@ impl Tally {
         }
     }
 
-    /// Whether that is what may be linked to the operation of an Invoke of that ID. The place of the operation is told.
+    /// Returns whether an Invoke with this ID has an operation that meets `linkable`. Sets `found` to its place.
     pub(crate) fn has_operation(
         &self,
         table: &Table,
@@ -155,7 +155,7 @@ impl Tally {
         }
     }
 
-    /// Whether it is what may be linked to the operation at that place.
+    /// Returns whether the operation at this place meets `linkable`.
     pub(crate) fn has_operation_at(
         &self,
         table: &Table,
@@ -171,7 +171,8 @@ impl Tally {
         }
     }
 
-    /// Whether an Invoke of that ID is of an operation to which that one may be linked (Q.771 3.1). Its place is kept.
+    /// Returns whether an Invoke with this ID has an operation that lists this one (Q.771 3.1), and remembers its
+    /// place.
     pub(crate) fn lists(&self, table: &Table, id: i8, code: CodeView) -> bool
         ensures { result ≡ (tally_of self.now).has_operation id (λ to. links table.now to (code_of code.entry)) }
     {
@@ -184,7 +185,7 @@ impl Tally {
         }
     }
 
-    /// Whether the one at the place that was kept last is of such an operation.
+    /// Returns whether the operation that was found last lists this one.
     pub(crate) fn lists_again(&self, table: &Table, id: i8, code: CodeView) -> bool
         ensures { result ≡ true
             → (tally_of self.now).has_operation id (λ to. links table.now to (code_of code.entry)) ≡ true }

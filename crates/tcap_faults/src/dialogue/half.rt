@@ -1,4 +1,4 @@
-//! The half of an end with an ID of its peer, as it is kept: what it heard, told and invoked is counted.
+//! The half of an end with an ID of its peer, with the counts of its components.
 
 use crate::component::tally::Tally;
 use crate::dialogue::half_origin::How;
@@ -8,14 +8,14 @@ use tcap_msg::TransactionId;
 #[derive(Drop)]
 pub(crate) struct Half<'a> {
     pub(crate) how: How,
-    /// Its own ID, where that is known.
+    /// Its own ID, if it is known.
     pub(crate) own: Option<TransactionId>,
-    /// Whether the Begin by which it began has a dialogue request.
+    /// True if the Begin that began it has a dialogue request.
     pub(crate) requests: bool,
     /// The components that it heard.
     pub(crate) heard: Vec<&'a Tally>,
-    /// Those that it told the peer before.
+    /// The components that it sent to the peer before.
     pub(crate) told: Vec<&'a Tally>,
-    /// Those among which its own invocations are.
+    /// The components among which its own invocations are.
     pub(crate) invoked: Vec<&'a Tally>,
 }

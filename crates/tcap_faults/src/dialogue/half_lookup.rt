@@ -1,4 +1,4 @@
-//! The half of an end with an ID of its peer, read off what is kept, and messages that do not fit it (Q.774 3.2, 3.3).
+//! The half of an end with an ID of its peer, from what is kept; and F8 (Q.774 3.2, 3.3).
 
 ghost use Rattle.std.specs.Prelude.{◌≡◌, ◌&&◌, ℕ, Bool, List, [], ◌∷◌, ◌++◌, Option, Some, None, false, map, IfOk, OnOk, option_copied, option_map};
 ghost use Rattle.std.specs.List.{find};
@@ -34,21 +34,21 @@ use std::alloc::{AllocError, Global};
 use tcap_msg::{Kind as Form, MessageParts, TransactionId};
 use tcap_parts::DialogueView;
 
-/// Whether it is an ABRT whose source is the provider.
+/// Returns whether this is an ABRT whose source is the provider.
 fn is_provider_abort(dialogue: Option<DialogueView>) -> bool
     ensures { result ≡ is_provider_abort (option_map dialogue_of dialogue.entry) }
 {
     matches!(dialogue, Some(DialogueView::Abort { source, .. }) if source.number == 1)
 }
 
-/// Whether a message is an Abort with such an ABRT.
+/// Returns whether a message is an Abort with an ABRT whose source is the provider.
 fn is_abort_of_provider<M: MessageParts>(message: &M) -> bool
     ensures { result ≡ (is_a forms.Abort (M.meaning message.now) && is_provider_abort (dialogue_in (M.meaning message.now))) }
 {
     matches!(message.kind(), Form::Abort) && is_provider_abort(message.dialogue())
 }
 
-/// The components of all Continues.
+/// Adds the tallies of all Continues from one ID to another. Fails if memory runs out.
 fn push_came<'a>(tallies: &mut Vec<&'a Tally>, came: Option<&'a Came>) -> Result<(), AllocError>
     ensures { OnOk result (map (λ b. b.now) tallies.new.items
         ≡ map (λ b. b.now) tallies.old.items ++ came_counted (option_copied came.entry)) }
@@ -60,7 +60,7 @@ fn push_came<'a>(tallies: &mut Vec<&'a Tally>, came: Option<&'a Came>) -> Result
     Ok(())
 }
 
-/// What was told, behind that.
+/// Returns the tallies of a Begin, if there is one, and of what was sent after it. Fails if memory runs out.
 fn told_behind<'a>(
     alloc: Global,
     first: Option<&'a FirstBegin>,
@@ -79,7 +79,7 @@ fn told_behind<'a>(
     Ok(tallies)
 }
 
-/// No half.
+/// Returns the value that means no half.
 fn no_half<'a>(alloc: Global) -> Half<'a>
     ensures { (table : Table) → IsHalf table no_half result }
 {
@@ -93,7 +93,8 @@ fn no_half<'a>(alloc: Global) -> Half<'a>
     }
 }
 
-/// What a half heard that began by sending a Begin: all Continues, or those from the first on that answers its request.
+/// Returns the tallies of what a begun half heard: all Continues or, if its Begin has an AARQ, those from the first
+/// with an AARE on. Fails if memory runs out.
 fn heard_back<'a>(
     alloc: Global,
     begin: &FirstBegin,
@@ -110,7 +111,7 @@ fn heard_back<'a>(
 }
 
 impl<'a> There<'a> {
-    /// The half that accepted a Begin from that ID, or whose provider refused it.
+    /// Returns the half that the peer's Begin from this ID began, accepted or refused. Fails if memory runs out.
     fn accepted_half(
         self,
         alloc: Global,
@@ -150,7 +151,8 @@ impl<'a> There<'a> {
         })
     }
 
-    /// The half that began an own ID, to which Continues came from there.
+    /// Returns the half that the end's Begin from `own` began, to which Continues came from this ID. Fails if memory
+    /// runs out.
     fn begun_half(
         self,
         alloc: Global,
@@ -180,7 +182,7 @@ impl<'a> There<'a> {
 }
 
 impl<'a> Ends<'a> {
-    /// Of these IDs the first that the end began.
+    /// Returns the first of these IDs that the end began.
     fn first_begun(self, ids: &Ids) -> Option<TransactionId>
         ensures { (table : Table) (side : Side) (items : List Item) (those : List (List ℕ))
             → IsSide table side items self.entry.own.now → AreIds those ids.now
@@ -200,8 +202,9 @@ impl<'a> Ends<'a> {
         None
     }
 
-    /// The own ID of the half with an ID of the peer that did not begin it, if there is such a half. Only where several own IDs are
-    /// joined with it are the destination IDs of its Continues looked through.
+    /// Returns the own ID of the half with an ID that the peer did not begin, if there is such a half.
+    ///
+    /// Only if several own IDs are joined with the ID, this searches the destination IDs of its Continues.
     fn begun_own(self, there: There, asked: &SentFrom) -> Option<TransactionId>
         ensures { (table : Table) (side : Side) (items : List Item) → IsSide table side items self.entry.own.now
             → IsThere table side items there.entry.id.now there.entry
@@ -215,7 +218,7 @@ impl<'a> Ends<'a> {
         }
     }
 
-    /// The half with an ID of the peer that did not begin it.
+    /// Returns the half with an ID that the peer did not begin. Fails if memory runs out.
     fn other_half(
         self,
         alloc: Global,
@@ -243,7 +246,7 @@ impl<'a> Ends<'a> {
         }
     }
 
-    /// The half with an ID of the peer.
+    /// Returns the half with an ID of the peer. Fails if memory runs out.
     pub(crate) fn half(self, alloc: Global, there: There<'a>) -> Result<Half<'a>, AllocError>
         ensures { (table : Table) (side : Side) (items : List Item) → IsSide table side items self.entry.own.now
             → IsThere table side items there.entry.id.now there.entry
@@ -260,7 +263,7 @@ impl<'a> Ends<'a> {
 
     // ---- F8
 
-    /// Whether a message goes from an ID that its half does not have.
+    /// Returns whether a Continue goes from an ID that is not its half's.
     fn goes_from_other<M: MessageParts>(self, message: &M, half: &Half) -> bool
         ensures { (table : Table) (side : Side) (items : List Item) (h : HalfOf)
             → IsSide table side items self.entry.own.now → IsHalf table h half.now
@@ -280,7 +283,7 @@ impl<'a> Ends<'a> {
         }
     }
 
-    /// Whether the half was answered as closed.
+    /// Returns whether the end answered its half with this own ID as closed.
     fn was_closed(self, own: Option<&TransactionId>) -> bool
         ensures { (table : Table) (side : Side) (items : List Item) → IsSide table side items self.entry.own.now
             → result ≡ was_closed side items (option_copied own.entry) }
@@ -291,7 +294,7 @@ impl<'a> Ends<'a> {
         }
     }
 
-    /// Whether no half may send the message, or another half.
+    /// Returns whether the message has F8: the half may not send it.
     pub(crate) fn is_wrong_half<M: MessageParts>(self, message: &M, half: &Half) -> bool
         ensures { (table : Table) (side : Side) (items : List Item) (h : HalfOf)
             → IsSide table side items self.entry.own.now → IsHalf table h half.now

@@ -1,15 +1,15 @@
-//! How a half began.
+//! The ways in which a half can begin.
 
-/// How the half of an end began that has an ID of the peer (Q.774 3.3), as a list of messages tells.
+/// The way in which the half with an ID of the peer began (Q.774 3.3), as far as a list of messages shows it.
 #[derive(Clone, Copy, Debug, PartialEq, Eq)]
 pub enum How {
     /// The peer sent a Begin, and the end's provider did not refuse it.
     Accepted,
-    /// Its provider refused the peer's Begin (P-Abort cause 4).
+    /// The peer sent a Begin, and the end's provider refused it (P-Abort cause 4).
     Refused,
-    /// The end sent a Begin, and the peer answered it by a Continue.
+    /// The end sent a Begin, and a Continue of the peer answered it.
     Begun,
-    /// The end sent a Begin, and of the Continues that the peer sent to it none can be received as an answer.
+    /// The end sent a Begin, and none of the peer's Continues can be received as an answer.
     Unanswered,
     /// There is no such half.
     Nowhere,

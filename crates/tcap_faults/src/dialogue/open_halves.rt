@@ -1,4 +1,5 @@
-//! Aborts of the provider that answer nothing that is left, and halves that are open at a quiet mark (Q.774 3.3).
+//! F14 and F15: Aborts of the provider that answer nothing that is left, and halves that are open at a quiet mark
+//! (Q.774 3.3).
 
 ghost use Rattle.std.specs.Prelude.{◌≡◌, ◌≤◌, ◌+◌, ◌^◌, ◌||◌, ℕ, List, Some, length, nat_lt, not};
 ghost use Rattle.std.specs.List.{list_any};
@@ -27,7 +28,7 @@ use tcap_msg::TransactionId;
 use tcap_record::End;
 
 impl Ends<'_> {
-    /// Whether the half with that own ID is surely open, of which that is kept.
+    /// Returns whether the half with this own ID is surely open. `kept` is what the end sent from the ID.
     fn is_open(self, table: &Table, own: &TransactionId, kept: &SentFrom) -> bool
         ensures { (side : Side) (items : List Item) → IsSide table.now side items self.entry.own.now
             → IsSide table.now (other side) items self.entry.peer.now → IsKeptFrom table.now side items own.now kept.now
@@ -41,7 +42,7 @@ impl Ends<'_> {
         }
     }
 
-    /// Whether the half with that own ID is.
+    /// Returns whether the half with this own ID is surely open.
     fn is_surely_open(self, table: &Table, own: &TransactionId) -> bool
         ensures { (side : Side) (items : List Item) → IsSide table.now side items self.entry.own.now
             → IsSide table.now (other side) items self.entry.peer.now
@@ -53,7 +54,7 @@ impl Ends<'_> {
         }
     }
 
-    /// Whether one of these own IDs is that of a half that is not surely open.
+    /// Returns whether one of these own IDs has a half that is not surely open.
     fn goes_to_shut(self, table: &Table, ids: &Ids) -> bool
         ensures { (side : Side) (items : List Item) (those : List (List ℕ)) → IsSide table.now side items self.entry.own.now
             → IsSide table.now (other side) items self.entry.peer.now → AreAmong those (Some ids.now)
@@ -73,7 +74,7 @@ impl Ends<'_> {
         false
     }
 
-    /// Whether a Continue was sent from an ID of the peer, and all go to halves that are surely open.
+    /// Returns whether the peer sent a Continue from an ID, and all its Continues go to halves that are surely open.
     fn all_go_to_open(self, table: &Table, id: &TransactionId) -> bool
         ensures { (side : Side) (items : List Item) → IsSide table.now side items self.entry.own.now
             → IsSide table.now (other side) items self.entry.peer.now
@@ -85,7 +86,7 @@ impl Ends<'_> {
         }
     }
 
-    /// Whether the end accepted a Begin from an ID of the peer.
+    /// Returns whether the end accepted a Begin from an ID of the peer.
     fn has_accepted(self, id: &TransactionId) -> bool
         ensures { (table : Table) (side : Side) (items : List Item) → IsSide table side items self.entry.own.now
             → IsSide table (other side) items self.entry.peer.now
@@ -100,7 +101,8 @@ impl Ends<'_> {
         }
     }
 
-    /// Whether more Continues would be answered or received than were sent from there.
+    /// Returns whether one more Abort with cause 1 to this ID is too many: with the Continues that the end received,
+    /// they are more than the Continues from the ID.
     fn answers_too_many(self, id: &TransactionId) -> bool
         ensures { (table : Table) (side : Side) (items : List Item) → IsSide table side items self.entry.own.now
             → IsSide table (other side) items self.entry.peer.now → length items ≤ 2 ^ 63
@@ -124,7 +126,7 @@ impl Ends<'_> {
         continues.saturating_sub(received) <= unknown
     }
 
-    /// Whether an Abort of the provider to that ID, with that cause, answers nothing that is left.
+    /// Returns whether an Abort of the provider with this cause has F14: it answers nothing that is left.
     pub(crate) fn is_wrong_reply(self, table: &Table, id: &TransactionId, cause: SmallView) -> bool
         ensures { (side : Side) (items : List Item) → IsSide table.now side items self.entry.own.now
             → IsSide table.now (other side) items self.entry.peer.now → length items ≤ 2 ^ 63
@@ -137,7 +139,8 @@ impl Ends<'_> {
         }
     }
 
-    /// Whether the half with that own ID, of which that is kept, is left open over no tangled IDs.
+    /// Returns whether the half with this own ID is surely open, over no tangled IDs. `kept` is what the end sent
+    /// from the ID.
     fn is_left_open(self, table: &Table, end: End, own: &TransactionId, kept: &SentFrom) -> bool
         ensures { (items : List Item) → IsSide table.now end items self.entry.own.now
             → IsSide table.now (other end) items self.entry.peer.now → IsKeptFrom table.now end items own.now kept.now
@@ -155,7 +158,7 @@ impl Ends<'_> {
         }
     }
 
-    /// Whether a half is, where a quiet mark stands behind.
+    /// Returns whether a quiet mark has F15: a half of the end is open.
     pub(crate) fn is_open_at_mark(self, table: &Table, end: End) -> bool
         ensures { (items : List Item) → IsSide table.now end items self.entry.own.now
             → IsSide table.now (other end) items self.entry.peer.now

@@ -1,4 +1,4 @@
-//! Dialogue portions that do not fit the dialogue of the half over which a message goes (Q.774 3.2).
+//! F9: dialogue portions that do not fit the dialogue of the half (Q.774 3.2).
 
 ghost use Rattle.std.specs.Prelude.{◌≡◌, ℕ, Bool, List, option_map};
 ghost use Rattle.tcap_parts.specs.DialogueMeaning.{dialogue_of};
@@ -18,14 +18,14 @@ use crate::transaction::sent_from_id::is_response;
 use tcap_msg::{Kind as Form, MessageParts};
 use tcap_parts::DialogueView;
 
-/// Whether it is an ABRT of the user.
+/// Returns whether this is an ABRT of the user.
 fn is_user_abort(dialogue: Option<DialogueView>) -> bool
     ensures { result ≡ is_user_abort (option_map dialogue_of dialogue.entry) }
 {
     matches!(dialogue, Some(DialogueView::Abort { source, .. }) if source.number == 0)
 }
 
-/// Whether a dialogue portion does not fit in a Continue or an End.
+/// Returns whether a dialogue portion does not fit in a Continue or an End.
 fn is_wrong_going_on(is_first: bool, has_request: bool, dialogue: Option<DialogueView>) -> bool
     ensures { result ≡ is_wrong_going_on is_first has_request (option_map dialogue_of dialogue.entry) }
 {
@@ -36,7 +36,7 @@ fn is_wrong_going_on(is_first: bool, has_request: bool, dialogue: Option<Dialogu
     }
 }
 
-/// Whether it does not fit in an Abort.
+/// Returns whether a dialogue portion does not fit in an Abort.
 fn is_wrong_aborting(is_first: bool, has_request: bool, dialogue: Option<DialogueView>) -> bool
     ensures { result ≡ is_wrong_aborting is_first has_request (option_map dialogue_of dialogue.entry) }
 {
@@ -44,7 +44,7 @@ fn is_wrong_aborting(is_first: bool, has_request: bool, dialogue: Option<Dialogu
 }
 
 impl There<'_> {
-    /// Whether a message to it would be the first answer to the peer's Begin.
+    /// Returns whether a message to this ID is the first answer to the peer's Begin.
     fn is_first_answer(self, half: &Half) -> bool
         ensures { (table : Table) (side : Side) (items : List Item) (h : HalfOf)
             → IsThere table side items self.entry.id.now self.entry → IsHalf table h half.now
@@ -59,7 +59,7 @@ impl There<'_> {
         }
     }
 
-    /// Whether the dialogue portion of a message to it does not fit the dialogue of its half.
+    /// Returns whether a message to this ID has F9: its dialogue portion does not fit.
     pub(crate) fn is_wrong_dialogue<M: MessageParts>(self, message: &M, half: &Half) -> bool
         ensures { (table : Table) (side : Side) (items : List Item) (h : HalfOf)
             → IsThere table side items self.entry.id.now self.entry → IsHalf table h half.now

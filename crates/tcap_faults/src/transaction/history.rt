@@ -1,4 +1,4 @@
-//! What is kept of what both ends sent, since the last quiet mark.
+//! What is kept of both ends since the last quiet mark.
 
 ghost use Rattle.std.specs.Prelude.{◌≡◌, ℕ, List, [], not, option_copied};
 ghost use Rattle.std.specs.List.{list_any};
@@ -25,26 +25,26 @@ use tcap_msg::{TransactionId, TransactionIdView};
 use tcap_record::End;
 use tcap_refute::FromId;
 
-/// What is kept of an end.
+/// The history of one end.
 #[derive(Drop)]
 pub(crate) struct SideFacts {
-    /// What it sent, by originating IDs.
+    /// The messages that it sent, by originating ID.
     pub(crate) from: BTreeMap<TransactionId, SentFrom>,
-    /// What it sent, by destination IDs.
+    /// The messages that it sent, by destination ID.
     pub(crate) to: BTreeMap<TransactionId, SentTo>,
-    /// Of the destination IDs of its Continues from an ID those that the other end used.
+    /// For each ID, the destination IDs of its Continues from there that the other end used.
     pub(crate) joined: BTreeMap<TransactionId, Ids>,
-    /// Its IDs from which, behind a Begin, it went on to an ID that the other end had not used.
+    /// Its IDs from which, after a Begin, it sent a Continue to an ID that the other end had not used.
     pub(crate) guessed: BTreeSet<TransactionId>,
-    /// Its IDs that it answered as closed: by an Abort with cause 1 that can answer no other.
+    /// Its IDs that it answered as closed, by an Abort with cause 1 that can answer no other.
     pub(crate) closed: BTreeSet<TransactionId>,
-    /// Its IDs that are joined with one to which it sent an End, or an Abort without cause.
+    /// Its IDs that are joined with an ID to which it sent an End, or an Abort without cause.
     pub(crate) over: BTreeSet<TransactionId>,
-    /// Whether it used an ID of its own again.
+    /// True if it used an own ID again.
     pub(crate) again: bool,
 }
 
-/// What is kept of both ends.
+/// The history of both ends.
 #[derive(Drop)]
 pub(crate) struct Facts {
     pub(crate) a: SideFacts,
@@ -52,7 +52,7 @@ pub(crate) struct Facts {
 }
 
 impl SideFacts {
-    /// That of nothing.
+    /// Creates the history of an end that sent nothing.
     fn new(alloc: Global) -> SideFacts
         ensures { (table : Table) (side : Side) → IsSide table side [] result }
     {
@@ -67,7 +67,7 @@ impl SideFacts {
         }
     }
 
-    /// What F2 to F7 ask of what the end sent from an ID, where there is one.
+    /// Returns what F2 to F7 need of what the end sent from an ID, if there is one.
     pub(crate) fn first_from(&self, id: Option<TransactionIdView>) -> Option<&FromId>
         ensures { (table : Table) (side : Side) (items : List Item) (fact : FromFact) → IsSide table side items self.now
             → told_by_from (option_copied result) fact ≡ told_from (told_since table side items) (id_of id.entry) fact }
@@ -78,7 +78,7 @@ impl SideFacts {
         }
     }
 
-    /// Whether the end used an ID: it sent a Begin or a Continue from there.
+    /// Returns whether the end used an ID: it sent a Begin or a Continue from it.
     pub(crate) fn has_used(&self, id: &TransactionId) -> bool
         ensures { (table : Table) (side : Side) (items : List Item) → IsSide table side items self.now
             → result ≡ has_used side items id.now }
@@ -86,7 +86,7 @@ impl SideFacts {
         self.from.contains_key(id)
     }
 
-    /// Whether it sent a Begin from there.
+    /// Returns whether the end sent a Begin from an ID.
     pub(crate) fn began(&self, id: &TransactionId) -> bool
         ensures { (table : Table) (side : Side) (items : List Item) → IsSide table side items self.now
             → result ≡ began side id.now items }
@@ -94,7 +94,8 @@ impl SideFacts {
         begins(self.from.get(id))
     }
 
-    /// Whether, behind a Begin from there, it went on to an ID that the other end had not used.
+    /// Returns whether the end, after a Begin from an ID, sent a Continue from it to an ID that the other end had not
+    /// used.
     pub(crate) fn has_guessed(&self, id: &TransactionId) -> bool
         ensures { (table : Table) (side : Side) (items : List Item) → IsSide table side items self.now
             → result ≡ one_passes (guesses (other side) id.now) [] items }
@@ -102,7 +103,7 @@ impl SideFacts {
         self.guessed.contains(id)
     }
 
-    /// Whether it told an ID something that is no Abort of the provider.
+    /// Returns whether the end sent a message to an ID that is no Abort of the provider.
     pub(crate) fn has_spoken_to(&self, id: &TransactionId) -> bool
         ensures { (table : Table) (side : Side) (items : List Item) → IsSide table side items self.now
             → result ≡ not (is_nothing (told side id.now items)) }
@@ -110,7 +111,7 @@ impl SideFacts {
         tells(self.to.get(id))
     }
 
-    /// Whether it sent an End or an Abort to an ID.
+    /// Returns whether the end sent an End or an Abort to an ID.
     pub(crate) fn has_silenced(&self, id: &TransactionId) -> bool
         ensures { (table : Table) (side : Side) (items : List Item) → IsSide table side items self.now
             → result ≡ list_any (ends_to id.now) (sent_by side items) }
@@ -118,7 +119,7 @@ impl SideFacts {
         is_silenced(self.to.get(id))
     }
 
-    /// Whether it sent an End, or an Abort without cause, to an ID.
+    /// Returns whether the end sent an End, or an Abort without cause, to an ID.
     pub(crate) fn has_ended(&self, id: &TransactionId) -> bool
         ensures { (table : Table) (side : Side) (items : List Item) → IsSide table side items self.now
             → result ≡ has_ended side items id.now }
@@ -128,7 +129,7 @@ impl SideFacts {
 }
 
 impl Facts {
-    /// That of nothing.
+    /// Creates the history of ends that sent nothing.
     pub(crate) fn new(alloc: Global) -> Facts
         ensures { (table : Table) → AreFacts table [] result }
     {
@@ -138,7 +139,7 @@ impl Facts {
         }
     }
 
-    /// What is kept of an end.
+    /// Returns the history of this end.
     pub(crate) fn of(&self, side: End) -> &SideFacts
         ensures { (table : Table) (items : List Item) → AreFacts table items self.now
             → IsSide table side items result.now }

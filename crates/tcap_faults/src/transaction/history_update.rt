@@ -1,4 +1,4 @@
-//! What is kept behind a message more.
+//! What is kept after one more message.
 
 ghost use Rattle.std.specs.Prelude.{◌≡◌, ℕ, List, [], ◌∷◌, ◌++◌, ◌&&◌, Some, not, option_copied, OnOk};
 ghost use Rattle.std.specs.List.{list_any};
@@ -31,7 +31,7 @@ use tcap_end::Table;
 use tcap_msg::{MessageParts, TransactionId, TransactionIdView};
 use tcap_record::End;
 
-/// An ID more at a key.
+/// Adds an ID to the list of a key. Fails if memory runs out.
 fn add_at(
     alloc: Global,
     map: &mut BTreeMap<TransactionId, Ids>,
@@ -50,7 +50,7 @@ fn add_at(
     Ok(())
 }
 
-/// An ID more at each of these keys.
+/// Adds an ID to the list of each of these keys. Fails if memory runs out.
 fn add_at_all(
     alloc: Global,
     map: &mut BTreeMap<TransactionId, Ids>,
@@ -69,7 +69,7 @@ fn add_at_all(
     Ok(())
 }
 
-/// These IDs more.
+/// Adds these IDs to a set. Fails if memory runs out.
 fn insert_all(set: &mut BTreeSet<TransactionId>, ids: Option<&Ids>) -> Result<(), AllocError>
     ensures { (those : List (List ℕ)) → AreAmong those (option_copied ids.entry)
         → OnOk result (HasMore (λ id. list_any (bytes_eq id) those) set.old set.new) }
@@ -87,7 +87,7 @@ fn insert_all(set: &mut BTreeSet<TransactionId>, ids: Option<&Ids>) -> Result<()
 }
 
 impl SideFacts {
-    /// Whether the end sent an End, or an Abort without cause, to one of these IDs.
+    /// Returns whether the end sent an End, or an Abort without cause, to one of these IDs.
     fn ended_one(&self, ids: &Ids) -> bool
         ensures { (table : Table) (side : Side) (items : List Item) (those : List (List ℕ)) → IsSide table side items self.now
             → AreAmong those (Some ids.now) → result ≡ list_any (has_ended side items) those }
@@ -107,8 +107,8 @@ impl SideFacts {
     }
 }
 
-/// The own ID that an Abort with cause 1 to that ID shows to be closed: all Continues from there went to it, and the end used
-/// it.
+/// Returns the own ID that an Abort with cause 1 to `dtid` shows to be closed: all Continues from `dtid` went to it,
+/// and the end used it.
 fn closed_at(own: &SideFacts, peer: &SideFacts, dtid: &TransactionId) -> Option<TransactionId>
     ensures { (table : Table) (side : Side) (items : List Item) (id : List ℕ) → IsSide table side items own.now
         → IsSide table (other side) items peer.now
@@ -128,7 +128,7 @@ fn closed_at(own: &SideFacts, peer: &SideFacts, dtid: &TransactionId) -> Option<
     }
 }
 
-/// The own ID that a message shows to be closed, where the end sends it now.
+/// Returns the own ID that a message shows to be closed, if its end sends it now.
 fn closed_by<M: MessageParts>(
     own: &SideFacts,
     peer: &SideFacts,
@@ -146,7 +146,7 @@ fn closed_by<M: MessageParts>(
     }
 }
 
-/// An ID more, where there is one.
+/// Adds an ID to a set, if there is one. Fails if memory runs out.
 fn insert_some(
     set: &mut BTreeSet<TransactionId>,
     id: Option<TransactionId>,
@@ -159,7 +159,7 @@ fn insert_some(
     Ok(())
 }
 
-/// An ID more, where that is so.
+/// Adds an ID to a set if `so` holds. Fails if memory runs out.
 fn insert_if(
     set: &mut BTreeSet<TransactionId>,
     so: bool,
@@ -173,7 +173,8 @@ fn insert_if(
     Ok(())
 }
 
-/// The first use of an ID: those from which the peer went on to it are joined with it. It is said whether it was used before.
+/// Notes the first use of an own ID: the peer's IDs from which it went on to this ID are now joined with it. `used`
+/// is whether the ID was used before. Fails if memory runs out.
 fn join_first(
     alloc: Global,
     own: &mut SideFacts,
@@ -205,7 +206,7 @@ fn join_first(
     insert_if(&mut own.over, ended, otid)
 }
 
-/// A Continue from an own ID to one of the peer: they are joined.
+/// Notes a Continue from an own ID to an ID of the peer, which joins them. Fails if memory runs out.
 fn join_continue(
     alloc: Global,
     own: &mut SideFacts,
@@ -230,7 +231,7 @@ fn join_continue(
     add_at(alloc, &mut own.joined, otid, dtid)
 }
 
-/// The IDs from which Continues were sent to an ID.
+/// Adds the IDs from which Continues were sent to an ID. Fails if memory runs out.
 fn insert_from(
     set: &mut BTreeSet<TransactionId>,
     to: &BTreeMap<TransactionId, SentTo>,
@@ -245,8 +246,8 @@ fn insert_from(
     insert_all(set, Some(&kept.from))
 }
 
-/// An end of the transaction with an ID of the peer: those of the end that are joined with it may be over. It is said whether it
-/// was ended before.
+/// Notes a user's end to an ID of the peer: the transactions of own IDs that are joined with it may be over. `ended`
+/// is whether the end sent one to the ID before. Fails if memory runs out.
 fn end_all(
     own: &mut SideFacts,
     peer: &SideFacts,
@@ -268,7 +269,7 @@ fn end_all(
     insert_all(&mut own.over, peer.joined.get(&id))
 }
 
-/// What a message more does to what is kept of joined IDs.
+/// Notes how a message changes which IDs are joined. Fails if memory runs out.
 fn note_joined<M: MessageParts>(
     alloc: Global,
     own: &mut SideFacts,
@@ -291,7 +292,7 @@ fn note_joined<M: MessageParts>(
     }
 }
 
-/// The originating ID of a message which guesses, where its end guesses the ID to which it goes on.
+/// Notes the originating ID of a Continue that guesses its destination ID. Fails if memory runs out.
 fn note_guessed<M: MessageParts>(
     guessed: &mut BTreeSet<TransactionId>,
     message: &M,
@@ -309,7 +310,8 @@ fn note_guessed<M: MessageParts>(
     }
 }
 
-/// A message more that an end sent: what is kept of it, and of its peer. It is said what it does, by what was sent before.
+/// Notes a message of an end in its history and in its peer's. `effects` are those of the message, from what was sent
+/// before. Fails if memory runs out.
 fn note_sent<M: MessageParts>(
     alloc: Global,
     table: &Table,
@@ -333,7 +335,8 @@ fn note_sent<M: MessageParts>(
 }
 
 impl Facts {
-    /// A message more, which that end sent. It is said what it does, by what was sent before.
+    /// Notes a message of an end. `effects` are those of the message, from what was sent before. Fails if memory runs
+    /// out.
     pub(crate) fn note<M: MessageParts>(
         &mut self,
         alloc: Global,

@@ -1,4 +1,4 @@
-//! Transaction IDs, one behind the other, without one that stands behind itself.
+//! A list of transaction IDs, without one that repeats the ID before it.
 
 ghost use Rattle.std.specs.Prelude.{◌≡◌, ℕ, List, [], ◌∷◌, ◌++◌, Option, Some, OnOk};
 ghost use Rattle.tcap_msg.specs.Meaning.{id_of};
@@ -8,16 +8,16 @@ ghost use Rattle.tcap_faults.specs.Tangled.{two_differ};
 use std::alloc::{AllocError, Global};
 use tcap_msg::{TransactionId, TransactionIdView};
 
-/// Transaction IDs. Most lists have one.
+/// A list of transaction IDs. Most lists have one ID.
 #[derive(Drop)]
 pub(crate) struct Ids {
     pub(crate) first: Option<TransactionId>,
-    /// Those behind it, each of which differs from the one before it.
+    /// The IDs after the first; each differs from the ID before it.
     pub(crate) more: Vec<TransactionId>,
 }
 
 impl Ids {
-    /// None.
+    /// Creates an empty list.
     pub(crate) fn new(alloc: Global) -> Ids
         ensures { AreIds [] result }
     {
@@ -27,7 +27,7 @@ impl Ids {
         }
     }
 
-    /// One more.
+    /// Appends an ID, unless it repeats the last. Fails if memory runs out.
     pub(crate) fn add(&mut self, id: TransactionIdView) -> Result<(), AllocError>
         ensures { (ids : List (List ℕ)) → AreIds ids self.old
             → OnOk result (AreIds (ids ++ id.entry.octets.now ∷ []) self.new) }
@@ -46,14 +46,14 @@ impl Ids {
         Ok(())
     }
 
-    /// Whether two of them differ.
+    /// Returns whether two of the IDs differ.
     pub(crate) fn differ(&self) -> bool
         ensures { (ids : List (List ℕ)) → AreIds ids self.now → result ≡ two_differ ids }
     {
         !self.more.is_empty()
     }
 
-    /// The first of them.
+    /// Returns the first ID.
     pub(crate) fn first(&self) -> Option<TransactionIdView<'_>>
         ensures { (ids : List (List ℕ)) → AreIds ids self.now → id_of result ≡ ids_first ids }
     {
@@ -63,7 +63,7 @@ impl Ids {
         }
     }
 
-    /// Whether two of them and of those differ.
+    /// Returns whether two of the IDs in both lists together differ.
     pub(crate) fn differs_from(&self, others: &Ids) -> bool
         ensures { (xs ys : List (List ℕ)) → AreAmong xs (Some self.now) → AreAmong ys (Some others.now)
             → result ≡ two_differ (xs ++ ys) }

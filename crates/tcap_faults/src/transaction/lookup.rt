@@ -1,4 +1,4 @@
-//! Transaction IDs of a message, and what is kept of them: each is looked up once.
+//! The transaction IDs of a message, with what is kept of each. Each ID is looked up once.
 
 ghost use Rattle.std.specs.Prelude.{◌≡◌, ℕ, List, [], ◌++◌, cond, option_copied};
 ghost use Rattle.tcap_msg.specs.declared.message.Message.{Message};
@@ -24,29 +24,29 @@ use crate::transaction::tangled_ids::Ends;
 use tcap_msg::{TransactionId, TransactionIdView};
 use tcap_refute::FromId;
 
-/// An own ID.
+/// An own ID, with what is kept of it.
 #[derive(Clone, Copy)]
 pub(crate) struct Own<'a> {
     pub(crate) id: &'a TransactionId,
-    /// What the end sent from there.
+    /// The messages that the end sent from the ID.
     pub(crate) from: Option<&'a SentFrom>,
-    /// What the peer sent to it.
+    /// The messages that the peer sent to the ID.
     pub(crate) to: Option<&'a SentTo>,
 }
 
-/// An ID of the peer.
+/// An ID of the peer, with what is kept of it.
 #[derive(Clone, Copy)]
 pub(crate) struct There<'a> {
     pub(crate) id: &'a TransactionId,
-    /// What the peer sent from there.
+    /// The messages that the peer sent from the ID.
     pub(crate) from: Option<&'a SentFrom>,
-    /// What the end sent to it.
+    /// The messages that the end sent to the ID.
     pub(crate) to: Option<&'a SentTo>,
-    /// The own IDs that the end used to which the peer went on from there.
+    /// The destination IDs of the peer's Continues from the ID that the end used.
     pub(crate) joined: Option<&'a Ids>,
 }
 
-/// The IDs of a message that an end sends.
+/// The IDs of a message that an end sends, with what is kept of them.
 #[derive(Clone, Copy)]
 pub(crate) struct Found<'a> {
     /// Its originating ID.
@@ -55,7 +55,7 @@ pub(crate) struct Found<'a> {
     pub(crate) there: Option<There<'a>>,
 }
 
-/// An ID, if there is one, by which what is kept of it is found.
+/// Returns the ID as a key of the maps, if there is one.
 pub(crate) fn key_of(id: Option<TransactionIdView>) -> Option<TransactionId>
     ensures { result ≡ id_of id.entry }
 {
@@ -65,7 +65,7 @@ pub(crate) fn key_of(id: Option<TransactionIdView>) -> Option<TransactionId>
     }
 }
 
-/// Whether two differ of these IDs and those; of each there may be none.
+/// Returns whether two of the IDs in both lists together differ; each list may be absent.
 fn differ(some: Option<&Ids>, others: Option<&Ids>) -> bool
     ensures { (xs ys : List (List ℕ)) → AreAmong xs (option_copied some.entry) → AreAmong ys (option_copied others.entry)
         → result ≡ two_differ (xs ++ ys) }
@@ -77,7 +77,7 @@ fn differ(some: Option<&Ids>, others: Option<&Ids>) -> bool
     }
 }
 
-/// The first of these IDs, if there is any.
+/// Returns the first of these IDs, if there is one.
 fn first_in(ids: Option<&Ids>) -> Option<TransactionId>
     ensures { (xs : List (List ℕ)) → AreAmong xs (option_copied ids.entry) → IsOneOf xs result }
 {
@@ -87,7 +87,7 @@ fn first_in(ids: Option<&Ids>) -> Option<TransactionId>
     }
 }
 
-/// One of these IDs or those, if there is any.
+/// Returns an ID of one of the lists, if there is one.
 fn one_of(some: Option<&Ids>, others: Option<&Ids>) -> Option<TransactionId>
     ensures { (xs ys : List (List ℕ)) → AreAmong xs (option_copied some.entry) → AreAmong ys (option_copied others.entry)
         → IsOneOf (xs ++ ys) result }
@@ -99,7 +99,7 @@ fn one_of(some: Option<&Ids>, others: Option<&Ids>) -> Option<TransactionId>
 }
 
 impl<'a> Own<'a> {
-    /// The IDs from which the peer went on to it, where the end used it.
+    /// Returns the IDs from which the peer sent Continues to this ID, if the end used it.
     fn back(self) -> Option<&'a Ids>
         ensures { (table : Table) (side : Side) (items : List Item) (id : List ℕ) → IsOwn table side items id self.entry
             → AreAmong (cond (has_used side items id) (otids_of (sent_to (other side) items id)) []) (option_copied result) }
@@ -110,7 +110,7 @@ impl<'a> Own<'a> {
         }
     }
 
-    /// Whether it is tangled.
+    /// Returns whether the ID is tangled.
     pub(crate) fn is_tangled(self) -> bool
         ensures { (table : Table) (side : Side) (items : List Item) (id : List ℕ) → IsOwn table side items id self.entry
             → result ≡ is_own_tangled side items id }
@@ -119,7 +119,7 @@ impl<'a> Own<'a> {
         differ(goes_to(self.from), back)
     }
 
-    /// An ID of the peer that is joined with it, if there is any.
+    /// Returns an ID of the peer that is joined with this ID, if there is one.
     pub(crate) fn joined(self) -> Option<TransactionId>
         ensures { (table : Table) (side : Side) (items : List Item) (id : List ℕ) → IsOwn table side items id self.entry
             → IsOneOf (peers_of side items id) result }
@@ -129,7 +129,7 @@ impl<'a> Own<'a> {
 }
 
 impl There<'_> {
-    /// Whether two own IDs are joined with it.
+    /// Returns whether two own IDs that are joined with this ID differ.
     pub(crate) fn owns_differ(self) -> bool
         ensures { (table : Table) (side : Side) (items : List Item) (id : List ℕ) → IsThere table side items id self.entry
             → result ≡ two_differ (owns_of side items id) }
@@ -137,7 +137,7 @@ impl There<'_> {
         differ(comes_from(self.to), self.joined)
     }
 
-    /// An own ID that is joined with it, if there is any.
+    /// Returns an own ID that is joined with this ID, if there is one.
     pub(crate) fn joined_own(self) -> Option<TransactionId>
         ensures { (table : Table) (side : Side) (items : List Item) (id : List ℕ) → IsThere table side items id self.entry
             → IsOneOf (owns_of side items id) result }
@@ -147,7 +147,7 @@ impl There<'_> {
 }
 
 impl<'a> Found<'a> {
-    /// What F2 to F7 ask of what the end sent from the originating ID, if there was anything.
+    /// Returns what F2 to F7 need of what the end sent from the originating ID, if it sent anything.
     pub(crate) fn first_own(self) -> Option<&'a FromId>
         ensures { (table : Table) (side : Side) (items : List Item) (m : Message) (fact : FromFact)
             → AreFound table side items m self.entry
@@ -159,7 +159,7 @@ impl<'a> Found<'a> {
         }
     }
 
-    /// What they ask of what the peer sent from the destination ID, if there was anything.
+    /// Returns what F2 to F7 need of what the peer sent from the destination ID, if it sent anything.
     pub(crate) fn first_there(self) -> Option<&'a FromId>
         ensures { (table : Table) (side : Side) (items : List Item) (m : Message) (fact : FromFact)
             → AreFound table side items m self.entry
@@ -171,7 +171,7 @@ impl<'a> Found<'a> {
         }
     }
 
-    /// Whether the end sent an End to the destination ID, or an Abort without cause.
+    /// Returns whether the end sent an End, or an Abort without cause, to the destination ID.
     pub(crate) fn has_ended(self) -> bool
         ensures { (table : Table) (side : Side) (items : List Item) (m : Message) → AreFound table side items m self.entry
             → result ≡ told_ended (told_since table side items) (dtid_in m) }
@@ -184,7 +184,7 @@ impl<'a> Found<'a> {
 }
 
 impl<'a> Ends<'a> {
-    /// An own ID, and what is kept of it.
+    /// Looks up an own ID.
     pub(crate) fn own_at(self, id: &'a TransactionId) -> Own<'a>
         ensures { (table : Table) (side : Side) (items : List Item) → IsSide table side items self.entry.own.now
             → IsSide table (other side) items self.entry.peer.now → IsOwn table side items id.now result }
@@ -196,7 +196,7 @@ impl<'a> Ends<'a> {
         }
     }
 
-    /// An ID of the peer, and what is kept of it.
+    /// Looks up an ID of the peer.
     pub(crate) fn there(self, id: &'a TransactionId) -> There<'a>
         ensures { (table : Table) (side : Side) (items : List Item) → IsSide table side items self.entry.own.now
             → IsSide table (other side) items self.entry.peer.now → IsThere table side items id.now result }
@@ -209,7 +209,7 @@ impl<'a> Ends<'a> {
         }
     }
 
-    /// The same, where there is an own ID.
+    /// Looks up an own ID, if there is one.
     fn own_with(self, id: Option<&'a TransactionId>) -> Option<Own<'a>>
         ensures { (table : Table) (side : Side) (items : List Item) → IsSide table side items self.entry.own.now
             → IsSide table (other side) items self.entry.peer.now
@@ -221,7 +221,7 @@ impl<'a> Ends<'a> {
         }
     }
 
-    /// The same, where there is an ID of the peer.
+    /// Looks up an ID of the peer, if there is one.
     fn there_with(self, id: Option<&'a TransactionId>) -> Option<There<'a>>
         ensures { (table : Table) (side : Side) (items : List Item) → IsSide table side items self.entry.own.now
             → IsSide table (other side) items self.entry.peer.now
@@ -233,7 +233,7 @@ impl<'a> Ends<'a> {
         }
     }
 
-    /// The IDs of a message that the end sends, and what is kept of them.
+    /// Looks up the IDs of a message that the end sends.
     pub(crate) fn find(
         self,
         otid: Option<&'a TransactionId>,

@@ -1,4 +1,4 @@
-//! What a message does to what is kept of transaction IDs, by what was sent before.
+//! The effects of a message on what is kept of transaction IDs.
 
 ghost use Rattle.std.specs.Prelude.{◌≡◌, ◌&&◌, ℕ, List, Some};
 ghost use Rattle.tcap_msg.specs.declared.message.Message.{Message};
@@ -13,25 +13,26 @@ use crate::transaction::lookup::Found;
 use crate::transaction::sent_from_id::begins;
 use crate::transaction::sent_to_id::is_ended;
 
-/// What a message does. Where it lacks an ID, nothing is said of what rests on that.
+/// The effects of a message. A field that needs an ID means nothing if the message lacks it.
 #[derive(Clone, Copy)]
 pub(crate) struct Effects {
-    /// Whether it uses an own ID again.
+    /// True if the message uses an own ID again.
     pub(crate) again: bool,
-    /// Whether its end had used its originating ID.
+    /// True if its end had used the originating ID before.
     pub(crate) used: bool,
-    /// Whether its end had begun that ID, and the peer had not used its destination ID.
+    /// True if its end had begun the originating ID, and the peer had not used the destination ID.
     pub(crate) guesses: bool,
-    /// Whether its end had sent an End, or an Abort without cause, to its destination ID.
+    /// True if its end had sent an End, or an Abort without cause, to the destination ID.
     pub(crate) over: bool,
-    /// Whether the peer had used that ID.
+    /// True if the peer had used the destination ID.
     pub(crate) joins: bool,
-    /// Whether it had, and had sent an End, or an Abort without cause, to the originating ID.
+    /// True if the peer had used the destination ID, and had sent an End, or an Abort without cause, to the
+    /// originating ID.
     pub(crate) peer_over: bool,
 }
 
 impl Found<'_> {
-    /// What the message does, of which it is said whether it uses an own ID again.
+    /// Returns the effects of the message. `again` is whether it uses an own ID again.
     pub(crate) fn effects(self, again: bool) -> Effects
         ensures { (table : Table) (side : Side) (items : List Item) (m : Message) → AreFound table side items m self.entry
             → again ≡ uses_again table side items m → AreEffects table side items m result }

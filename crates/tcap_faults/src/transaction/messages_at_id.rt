@@ -1,4 +1,4 @@
-//! What is kept of messages at one of their transaction IDs.
+//! What is kept of the messages with one transaction ID.
 
 ghost use Rattle.std.specs.Prelude.{◌≡◌, ℕ, List, [], ◌∷◌, ◌++◌, Option, OnOk};
 ghost use Rattle.tcap_msg.specs.declared.message.Message.{Message};
@@ -11,16 +11,16 @@ use std::collections::BTreeMap;
 use tcap_end::Table;
 use tcap_msg::{MessageParts, TransactionId, TransactionIdView};
 
-/// What is kept of messages.
+/// A summary of a list of messages.
 pub(crate) trait OfMessages: Sized + Drop {
-    // Of which messages.
+    // The relation between a list and its summary.
     ghost of: { Table → List Message → Self → Type 0 };
 
-    /// That of no messages.
+    /// Creates the summary of no messages.
     fn new(alloc: Global) -> Self
         ensures { (table : Table) → of table [] result };
 
-    /// A message more.
+    /// Adds a message. Fails if memory runs out.
     fn note<M: MessageParts>(
         &mut self,
         alloc: Global,
@@ -31,7 +31,7 @@ pub(crate) trait OfMessages: Sized + Drop {
             → OnOk result (of table.now (ms ++ M.meaning message.now ∷ []) self.new) };
 }
 
-/// A message more, at that ID of it, if it has one.
+/// Adds a message to the summary at this ID of it, if it has one. Fails if memory runs out.
 pub(crate) fn note_at<N: OfMessages, M: MessageParts>(
     map: &mut BTreeMap<TransactionId, N>,
     id: Option<TransactionIdView>,

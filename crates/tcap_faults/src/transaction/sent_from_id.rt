@@ -1,4 +1,4 @@
-//! What an end sent from a transaction ID, since the last quiet mark.
+//! What an end sent from one transaction ID since the last quiet mark.
 
 ghost use Rattle.std.specs.Prelude.{◌≡◌, [], ◌∷◌, ◌++◌, ℕ, true, false, List, Some, IfOk, OnOk, nat_le, option_copied, option_map};
 ghost use Rattle.std.specs.List.{list_any};
@@ -27,49 +27,49 @@ use tcap_msg::{Kind as Form, MessageParts, TransactionId};
 use tcap_parts::DialogueView;
 use tcap_refute::FromId;
 
-/// The Continues from an ID to another.
+/// The Continues from one ID to another.
 #[derive(Drop)]
 pub(crate) struct Came {
-    /// Whether one of them answers a dialogue request.
+    /// True if one of them answers a dialogue request.
     pub(crate) answered: bool,
-    /// The components of those before the first that does; of all, where none does.
+    /// The components of the Continues before the first that answers a request, or of all if none does.
     pub(crate) sooner: Tally,
-    /// Those from the first on that does.
+    /// The components of the Continues from the first that answers a request on.
     pub(crate) since: Tally,
 }
 
 /// The first Begin from an ID.
 #[derive(Drop)]
 pub(crate) struct FirstBegin {
-    /// Whether it has a dialogue request.
+    /// True if it has a dialogue request.
     pub(crate) requests: bool,
     pub(crate) components: Tally,
 }
 
-/// What was sent from an ID.
+/// The messages from one ID.
 #[derive(Drop)]
 pub(crate) struct SentFrom {
-    /// What F2 to F7 ask of it.
+    /// The notes for F2 to F7.
     pub(crate) first: FromId,
     pub(crate) begin: Option<FirstBegin>,
-    /// Whether there are two Begins or more.
+    /// True if there are two Begins or more.
     pub(crate) begun_twice: bool,
-    /// How many Continues there are.
+    /// The number of Continues.
     pub(crate) continues: u128,
-    /// Their destination IDs.
+    /// The destination IDs of the Continues.
     pub(crate) to: Ids,
     /// The Continues, by their destination IDs.
     pub(crate) came: BTreeMap<TransactionId, Came>,
 }
 
-/// Whether it is a dialogue request.
+/// Returns whether this is an AARQ.
 pub(crate) fn is_request(dialogue: Option<DialogueView>) -> bool
     ensures { result ≡ is_request (option_map dialogue_of dialogue.entry) }
 {
     matches!(dialogue, Some(DialogueView::Request { .. }))
 }
 
-/// Whether it is a response.
+/// Returns whether this is an AARE.
 pub(crate) fn is_response(dialogue: Option<DialogueView>) -> bool
     ensures { result ≡ is_response (option_map dialogue_of dialogue.entry) }
 {
@@ -103,7 +103,7 @@ impl OfMessages for Came {
 }
 
 impl FirstBegin {
-    /// That of a Begin.
+    /// Creates the summary of a Begin. Fails if memory runs out.
     fn of<M: MessageParts>(
         alloc: Global,
         table: &Table,
@@ -122,7 +122,7 @@ impl FirstBegin {
 }
 
 impl SentFrom {
-    /// A Begin more.
+    /// Adds a Begin. Fails if memory runs out.
     fn note_begin<M: MessageParts>(
         &mut self,
         alloc: Global,
@@ -141,7 +141,7 @@ impl SentFrom {
         Ok(())
     }
 
-    /// A Continue more.
+    /// Adds a Continue. Fails if memory runs out.
     fn note_continue<M: MessageParts>(
         &mut self,
         alloc: Global,
@@ -190,7 +190,7 @@ impl OfMessages for SentFrom {
     }
 }
 
-/// The destination IDs of the Continues.
+/// Returns the destination IDs of the Continues.
 pub(crate) fn goes_to(from: Option<&SentFrom>) -> Option<&Ids>
     ensures { (table : Table) (ms : List Message) → IsFromAt table ms (option_copied from.entry)
         → AreAmong (dtids_of ms) (option_copied result) }
@@ -201,7 +201,7 @@ pub(crate) fn goes_to(from: Option<&SentFrom>) -> Option<&Ids>
     }
 }
 
-/// What F2 to F7 ask of it.
+/// Returns the notes for F2 to F7.
 pub(crate) fn first_of(from: Option<&SentFrom>) -> Option<&FromId>
     ensures { (table : Table) (side : Side) (items : List Item) (id : List ℕ) (fact : FromFact)
         → IsFromAt table (sent_from side items id) (option_copied from.entry)
@@ -213,7 +213,7 @@ pub(crate) fn first_of(from: Option<&SentFrom>) -> Option<&FromId>
     }
 }
 
-/// Whether there is a Begin.
+/// Returns whether there is a Begin.
 pub(crate) fn begins(from: Option<&SentFrom>) -> bool
     ensures { (table : Table) (side : Side) (items : List Item) (id : List ℕ)
         → IsFromAt table (sent_from side items id) (option_copied from.entry) → result ≡ began side id items }
@@ -224,7 +224,7 @@ pub(crate) fn begins(from: Option<&SentFrom>) -> bool
     }
 }
 
-/// Whether there are two, or more.
+/// Returns whether there are two Begins or more.
 pub(crate) fn begins_twice(from: Option<&SentFrom>) -> bool
     ensures { (table : Table) (ms : List Message) → IsFromAt table ms (option_copied from.entry)
         → result ≡ nat_le 2 (count (is_a forms.Begin) ms) }
@@ -235,7 +235,7 @@ pub(crate) fn begins_twice(from: Option<&SentFrom>) -> bool
     }
 }
 
-/// Whether there is a Continue to an ID.
+/// Returns whether there is a Continue to an ID.
 pub(crate) fn goes_on(from: Option<&SentFrom>, to: &TransactionId) -> bool
     ensures { (table : Table) (ms : List Message) → IsFromAt table ms (option_copied from.entry)
         → result ≡ list_any (goes_on_to to.now) ms }

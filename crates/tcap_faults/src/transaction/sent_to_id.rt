@@ -1,4 +1,4 @@
-//! What an end sent to a transaction ID, since the last quiet mark.
+//! What an end sent to one transaction ID since the last quiet mark.
 
 ghost use Rattle.std.specs.Prelude.{◌≡◌, [], None, ℕ, List, OnOk, not, option_copied};
 ghost use Rattle.std.specs.List.{list_any};
@@ -23,26 +23,26 @@ use tcap_ber::SmallView;
 use tcap_end::Table;
 use tcap_msg::{Kind as Form, MessageParts};
 
-/// What was sent to an ID.
+/// The messages to one ID.
 #[derive(Drop)]
 pub(crate) struct SentTo {
-    /// Whether a message is no Abort of the provider.
+    /// True if one of them is no Abort of the provider.
     pub(crate) spoke: bool,
     /// The originating IDs of the Continues.
     pub(crate) from: Ids,
-    /// Whether the provider refused a Begin from there (P-Abort cause 4).
+    /// True if the end's provider refused a Begin from the ID (P-Abort cause 4).
     pub(crate) refused: bool,
-    /// How many Aborts with cause 1 there are.
+    /// The number of Aborts with cause 1.
     pub(crate) unknown: u128,
-    /// Whether there is an End, or an Abort without cause.
+    /// True if there is an End, or an Abort without cause.
     pub(crate) ended: bool,
-    /// Whether there is an End or an Abort.
+    /// True if there is an End or an Abort.
     pub(crate) silenced: bool,
-    /// The components of all but the Aborts of the provider.
+    /// The components of the messages, without Aborts of the provider.
     pub(crate) components: Tally,
 }
 
-/// Whether a message is an End, or an Abort without cause.
+/// Returns whether a message is a user's end: an End, or an Abort without cause.
 pub(crate) fn ends<M: MessageParts>(message: &M) -> bool
     ensures { result ≡ ends (M.meaning message.now) }
 {
@@ -53,7 +53,7 @@ pub(crate) fn ends<M: MessageParts>(message: &M) -> bool
     }
 }
 
-/// Whether it is an End or an Abort.
+/// Returns whether a message is an End or an Abort.
 fn silences<M: MessageParts>(message: &M) -> bool
     ensures { result ≡ silences (M.meaning message.now) }
 {
@@ -61,7 +61,7 @@ fn silences<M: MessageParts>(message: &M) -> bool
 }
 
 impl SentTo {
-    /// The cause of an Abort of the provider.
+    /// Notes the cause of an Abort of the provider.
     fn note_cause(&mut self, cause: SmallView)
         ensures { IsCaused cause.number self.old self.new }
     {
@@ -72,7 +72,7 @@ impl SentTo {
         }
     }
 
-    /// A message more that is no Abort of the provider.
+    /// Adds a message that is no Abort of the provider. Fails if memory runs out.
     fn note_of_user<M: MessageParts>(
         &mut self,
         alloc: Global,
@@ -124,7 +124,7 @@ impl OfMessages for SentTo {
     }
 }
 
-/// The originating IDs of the Continues.
+/// Returns the originating IDs of the Continues.
 pub(crate) fn comes_from(to: Option<&SentTo>) -> Option<&Ids>
     ensures { (table : Table) (ms : List Message) → IsToAt table ms (option_copied to.entry)
         → AreAmong (otids_of ms) (option_copied result) }
@@ -135,7 +135,7 @@ pub(crate) fn comes_from(to: Option<&SentTo>) -> Option<&Ids>
     }
 }
 
-/// Whether one is no Abort of the provider.
+/// Returns whether one of the messages is no Abort of the provider.
 pub(crate) fn tells(to: Option<&SentTo>) -> bool
     ensures { (table : Table) (side : Side) (items : List Item) (id : List ℕ)
         → IsToAt table (sent_to side items id) (option_copied to.entry) → result ≡ not (is_nothing (told side id items)) }
@@ -146,7 +146,7 @@ pub(crate) fn tells(to: Option<&SentTo>) -> bool
     }
 }
 
-/// Whether one is an End or an Abort.
+/// Returns whether one of the messages is an End or an Abort.
 pub(crate) fn is_silenced(to: Option<&SentTo>) -> bool
     ensures { (table : Table) (side : Side) (items : List Item) (id : List ℕ)
         → IsToAt table (sent_to side items id) (option_copied to.entry)
@@ -158,7 +158,7 @@ pub(crate) fn is_silenced(to: Option<&SentTo>) -> bool
     }
 }
 
-/// Whether one is an End, or an Abort without cause.
+/// Returns whether one of the messages is an End, or an Abort without cause.
 pub(crate) fn is_ended(to: Option<&SentTo>) -> bool
     ensures { (table : Table) (side : Side) (items : List Item) (id : List ℕ)
         → IsToAt table (sent_to side items id) (option_copied to.entry) → result ≡ has_ended side items id }

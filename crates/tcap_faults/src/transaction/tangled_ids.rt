@@ -30,14 +30,14 @@ use tcap_end::Table;
 use tcap_msg::{MessageParts, TransactionId};
 use tcap_record::End;
 
-/// An end and its peer, as they are kept.
+/// An end and its peer, with their histories.
 #[derive(Clone, Copy)]
 pub(crate) struct Ends<'a> {
     pub(crate) own: &'a SideFacts,
     pub(crate) peer: &'a SideFacts,
 }
 
-/// Whether it is that ID.
+/// Returns whether there is another ID, and both are equal.
 fn is_that(id: &TransactionId, other: Option<&TransactionId>) -> bool
     ensures { result ≡ is_id id.now (option_copied other.entry) }
 {
@@ -48,7 +48,7 @@ fn is_that(id: &TransactionId, other: Option<&TransactionId>) -> bool
 }
 
 impl SideFacts {
-    /// The destination IDs of the Continues that the end sent from an ID.
+    /// Returns the destination IDs of the Continues that the end sent from an ID.
     pub(crate) fn goes_to(&self, id: &TransactionId) -> Option<&Ids>
         ensures { (table : Table) (side : Side) (items : List Item) → IsSide table side items self.now
             → AreAmong (dtids_of (sent_from side items id.now)) (option_copied result) }
@@ -58,8 +58,8 @@ impl SideFacts {
 }
 
 impl<'a> Ends<'a> {
-    /// Whether the peer began an ID, and went on from there to one that the end began, where one own ID at the most is joined
-    /// with it.
+    /// Returns whether the peer began an ID, and sent a Continue from it to an ID that the end began. At most one own
+    /// ID may be joined with the ID.
     fn is_begun_by_both(self, there: There) -> bool
         ensures { (table : Table) (side : Side) (items : List Item) (id : List ℕ) → IsSide table side items self.entry.own.now
             → IsThere table side items id there.entry → two_differ (owns_of side items id) ≡ false
@@ -75,7 +75,7 @@ impl<'a> Ends<'a> {
         }
     }
 
-    /// Whether the end began the first of these IDs.
+    /// Returns whether the end began the first of these IDs.
     fn began_first(self, ids: &Ids) -> bool
         ensures { (table : Table) (side : Side) (items : List Item) (xs : List (List ℕ))
             → IsSide table side items self.entry.own.now → AreAmong xs (Some ids.now)
@@ -87,7 +87,7 @@ impl<'a> Ends<'a> {
         }
     }
 
-    /// Why an ID of the peer is tangled, if it is.
+    /// Returns why an ID of the peer is tangled, if it is.
     fn tangle_of_peer(self, there: There) -> Option<Tangle>
         ensures { (table : Table) (side : Side) (items : List Item) (id : List ℕ) → IsSide table side items self.entry.own.now
             → IsSide table (other side) items self.entry.peer.now → IsThere table side items id there.entry
@@ -106,7 +106,7 @@ impl<'a> Ends<'a> {
         }
     }
 
-    /// An ID of the peer, where it is tangled.
+    /// Returns an ID of the peer with the reason, if it is tangled.
     fn tangled_peer(self, peer: End, there: There) -> Option<TangledId>
         ensures { (table : Table) (side : Side) (items : List Item) (id : List ℕ) → IsSide table side items self.entry.own.now
             → IsSide table (other side) items self.entry.peer.now → IsThere table side items id there.entry
@@ -122,7 +122,7 @@ impl<'a> Ends<'a> {
         }
     }
 
-    /// What is kept of an own ID; where it is that one, it is not looked up.
+    /// Returns what is kept of an own ID. If it is `own`, it is not looked up again.
     fn own_near(self, id: &'a TransactionId, own: Option<Own<'a>>) -> Own<'a>
         ensures { (table : Table) (side : Side) (items : List Item) (near : Option (List ℕ))
             → IsSide table side items self.entry.own.now → IsSide table (other side) items self.entry.peer.now
@@ -134,7 +134,8 @@ impl<'a> Ends<'a> {
         }
     }
 
-    /// An own ID that is one of these, if there is one, where it is tangled, and all are one; that one is not looked up.
+    /// Returns the own ID `joined`, if there is one and it is tangled. All own IDs that are joined with the peer's ID
+    /// must be equal.
     fn tangled_near(
         self,
         end: End,
@@ -152,7 +153,8 @@ impl<'a> Ends<'a> {
         }
     }
 
-    /// An ID of the peer that is joined with an own one, which is not tangled, where it is.
+    /// Returns an ID of the peer that is joined with this own ID, if it is tangled. The own ID itself must not be
+    /// tangled.
     fn tangled_behind(self, peer: End, own: Own) -> Option<TangledId>
         ensures { (table : Table) (side : Side) (items : List Item) (id : List ℕ) → IsSide table side items self.entry.own.now
             → IsSide table (other side) items self.entry.peer.now → IsOwn table side items id own.entry
@@ -165,8 +167,11 @@ impl<'a> Ends<'a> {
         }
     }
 
-    /// An own ID more, or one behind it, where it is tangled, beside an ID of the peer that is not, with which none is joined that is.
-    /// Where it is the one that is joined with it, nothing more is behind them.
+    /// Returns the first tangled ID that an additional own ID adds: this ID, or an ID of the peer that is joined with
+    /// it.
+    ///
+    /// Neither the peer's ID nor the own IDs that are joined with it may be tangled. If the own ID is `joined`, it
+    /// adds nothing.
     fn tangled_besides(
         self,
         end: End,
@@ -189,7 +194,8 @@ impl<'a> Ends<'a> {
         self.tangled_behind(end.other(), own)
     }
 
-    /// The first tangled ID: that of the peer, one near it, or one behind them; an own ID more may be near.
+    /// Returns the first tangled ID: the peer's ID, an own ID near it, or an ID of the peer that is joined with one
+    /// of these. `own` is an additional own ID.
     pub(crate) fn tangled_id(self, end: End, there: There, own: Option<Own>) -> Option<TangledId>
         ensures { (table : Table) (items : List Item) (id : List ℕ) (near : Option (List ℕ))
             → IsSide table end items self.entry.own.now → IsSide table (other end) items self.entry.peer.now
@@ -210,7 +216,7 @@ impl<'a> Ends<'a> {
         }
     }
 
-    /// The first tangled ID that a message goes over, of which that is found.
+    /// Returns the first tangled ID that a message goes over, from what was found of its IDs.
     pub(crate) fn tangled_in(self, end: End, found: Found) -> Option<TangledId>
         ensures { (table : Table) (items : List Item) (m : Message) → IsSide table end items self.entry.own.now
             → IsSide table (other end) items self.entry.peer.now → AreFound table end items m found.entry
@@ -222,7 +228,7 @@ impl<'a> Ends<'a> {
         }
     }
 
-    /// The first tangled ID that a message goes over.
+    /// Returns the first tangled ID that a message goes over.
     pub(crate) fn tangled_of<M: MessageParts>(self, end: End, message: &M) -> Option<TangledId>
         ensures { (table : Table) (items : List Item) → IsSide table end items self.entry.own.now
             → IsSide table (other end) items self.entry.peer.now
@@ -236,7 +242,7 @@ impl<'a> Ends<'a> {
 
     // ---- an own ID that is used again
 
-    /// Whether the transaction of an own ID may be over.
+    /// Returns whether the transaction of an own ID may be over.
     fn may_be_over(self, table: &Table, own: Own) -> bool
         ensures { (side : Side) (items : List Item) (id : List ℕ) → IsSide table.now side items self.entry.own.now
             → IsOwn table.now side items id own.entry → result ≡ may_be_over table.now side items id }
@@ -244,7 +250,7 @@ impl<'a> Ends<'a> {
         table.prearranged() || is_silenced(own.to) || self.own.over.contains(own.id)
     }
 
-    /// Whether a message uses an own ID again, of which that is found.
+    /// Returns whether a message uses an own ID again, from what was found of its IDs.
     pub(crate) fn uses_again(self, table: &Table, found: Found) -> bool
         ensures { (side : Side) (items : List Item) (m : Message) → IsSide table.now side items self.entry.own.now
             → AreFound table.now side items m found.entry → result ≡ uses_again table.now side items m }
@@ -263,7 +269,7 @@ impl<'a> Ends<'a> {
 }
 
 impl Own<'_> {
-    /// The ID, where it is tangled.
+    /// Returns the ID with the reason, if it is tangled.
     fn tangled(self, end: End) -> Option<TangledId>
         ensures { (table : Table) (side : Side) (items : List Item) (id : List ℕ) → IsOwn table side items id self.entry
             → result ≡ tangled_for end id (tangle_of_own side items id) }
@@ -280,7 +286,7 @@ impl Own<'_> {
 }
 
 impl There<'_> {
-    /// Whether an own ID that the end used is joined with it.
+    /// Returns whether an own ID, which the end used, is joined with this ID.
     fn is_joined(self, own: Own) -> bool
         ensures { (table : Table) (side : Side) (items : List Item) (own_id id : List ℕ)
             → IsOwn table side items own_id own.entry → IsThere table side items id self.entry
@@ -289,7 +295,8 @@ impl There<'_> {
         goes_on(own.from, self.id) || goes_on(self.from, own.id)
     }
 
-    /// Whether a Continue from an own ID answers a Begin of the peer, to which nothing was told before.
+    /// Returns whether a Continue from an own ID answers a Begin of the peer from this ID, to which the end sent
+    /// nothing before and with which the own ID is not joined.
     fn is_answered_anew(self, own: Own) -> bool
         ensures { (table : Table) (side : Side) (items : List Item) (own_id id : List ℕ)
             → IsOwn table side items own_id own.entry → IsThere table side items id self.entry

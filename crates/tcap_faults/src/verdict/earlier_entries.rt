@@ -1,4 +1,4 @@
-//! What is kept of the entries of a record before one of them.
+//! What is kept of the entries before one entry of a record.
 
 ghost use Rattle.std.specs.Prelude.{◌≡◌, ◌+◌, ◌<◌, ◌^◌, List, [], ◌∷◌, ◌++◌, slice_get, Some, IsSome, option_copied, IfOk, OnOk};
 ghost use Rattle.tcap_record.specs.declared.entry.Entry.{Entry};
@@ -17,15 +17,15 @@ use tcap_msg::MessageParts;
 use tcap_record::{Body, End, Entry, Record};
 use tcap_refute::SearchFault;
 
-/// What is kept of so many entries of a record, and what was found in them of an end.
+/// The history after some entries of a record, for one end.
 #[derive(Drop)]
 pub(crate) struct Replay {
     pub(crate) kept: Facts,
-    /// The number of the first of them in which the end used an own ID again, since the last quiet mark.
+    /// The number of the first entry since the last quiet mark in which the end used an own ID again.
     pub(crate) again: Option<u64>,
 }
 
-/// The entry of that number, if there is one.
+/// Returns the entry with this number, if there is one.
 pub(crate) fn entry_at(record: &Record, number: u64) -> Option<&Entry>
     ensures entry { option_copied result ≡ slice_get «record».now.entries.items number }
     ensures small { IsSome result → number < 2 ^ 63 }
@@ -34,7 +34,7 @@ pub(crate) fn entry_at(record: &Record, number: u64) -> Option<&Entry>
 }
 
 impl Facts {
-    /// An entry more; what is no item is passed over.
+    /// Notes an entry; one that is no item changes nothing. Fails if memory runs out.
     pub(crate) fn note_entry(
         &mut self,
         alloc: Global,
@@ -63,7 +63,8 @@ impl Facts {
 }
 
 impl Replay {
-    /// That of the entries before the one of that number; of all, where there is none.
+    /// Returns the history after the entries before this number, or after all entries if the record has no entry with
+    /// this number. Fails if memory runs out.
     pub(crate) fn before(
         alloc: Global,
         record: &Record,
@@ -86,7 +87,7 @@ impl Replay {
         Ok(replay)
     }
 
-    /// The entry of that number more.
+    /// Notes the entry with this number. Fails if memory runs out.
     pub(crate) fn take(
         &mut self,
         alloc: Global,
@@ -99,7 +100,7 @@ impl Replay {
             → slice_get entries number ≡ Some entry.now
             → OnOk result (IsReplayed table.now end entries (number + 1) self.new) }
     {
-        // It bounds how many components there are, so that no count of them is above the greatest.
+        // Bounds the number of components, so that no count of them exceeds the greatest.
         let _count = entry_count(entry);
         self.kept.note_entry(alloc, table, entry)?;
         self.again = if self.kept.ends(end).own.again {

@@ -1,4 +1,4 @@
-//! What a fault of an end is about: the half over which its message would go, and the component which has the kind.
+//! What a fault of an end is about: the half over which its message goes, and the component with the kind.
 
 ghost use Rattle.std.specs.Prelude.{◌≡◌, List, [], ◌∷◌, ◌++◌, Some, Ok, IfOk};
 ghost use Rattle.tcap_model.specs.Entries.{item_of};
@@ -18,18 +18,18 @@ use tcap_msg::{MessageParts, TransactionId};
 use tcap_record::{Body, End, Entry, Record};
 use tcap_refute::{Kind, Refutation, SearchFault, faulty_component};
 
-/// What a fault of an end is about.
+/// The subject of a fault.
 #[derive(Debug, Drop)]
 pub struct Subject {
-    /// How the half began that has the message's destination ID as its peer's; `Nowhere` where it has none.
+    /// The way in which the half with the message's destination ID began; `Nowhere` if there is none.
     pub how: How,
-    /// That half's own ID, where the list tells it.
+    /// The half's own ID, if it is known.
     pub own: Option<TransactionId>,
-    /// The component, counted from 0, of F5, F6 and F10 to F13: the first that has the kind.
+    /// The number, from 0, of the first component with the kind, if it is F5, F6 or F10 to F13.
     pub component: Option<u64>,
 }
 
-/// That of what is no message.
+/// Creates the subject of an entry that is no message.
 fn no_subject() -> Subject
     ensures { result ≡ no_subject }
 {
@@ -41,7 +41,7 @@ fn no_subject() -> Subject
 }
 
 impl Facts {
-    /// That of a message behind what is kept, by its kind; and whether that was asked of one end.
+    /// Returns the subject of a message that comes after what is kept. Fails if memory runs out.
     fn subject<M: MessageParts>(
         &self,
         alloc: Global,
@@ -77,7 +77,7 @@ impl Facts {
         })
     }
 
-    /// That of an entry behind what is kept.
+    /// Returns the subject of an entry that comes after what is kept. Fails if memory runs out.
     fn subject_of_entry(
         &self,
         alloc: Global,
@@ -101,11 +101,17 @@ impl Facts {
     }
 }
 
-/// What a fault of an end is about, of which `at` names the entry and the kind (Q.774 3.2, 3.3). `of_one` says whether the kind
-/// was asked of one end, as `blame` asks it, or of both, as `refute` does: of F5 that makes a difference. Where the entry is no
-/// message, or the record has no such entry, there is no half and no component. Those entries before it are noted once more that
-/// matter for this half: what the peer sent from the message's destination ID, what the end sent to it, and the Begins of the
-/// end. Each of the others costs a look. `Memory` where memory ran out.
+/// Returns the subject of the fault whose entry and kind are `at` (Q.774 3.2, 3.3).
+///
+/// If `of_one` holds, the kind was asked of one end, as by `blame`; else of both, as by `refute`. This makes a
+/// difference for F5. If the entry is no message, or the record has no such entry, there is no half and no component.
+///
+/// Notes again the earlier entries that matter for this half: what the peer sent from the message's destination ID,
+/// what the end sent to it, and the end's Begins. Each other entry costs one look.
+///
+/// # Errors
+///
+/// `Memory` if memory runs out.
 pub fn subject_of(
     alloc: Global,
     record: &Record,
@@ -120,7 +126,7 @@ pub fn subject_of(
         return Ok(no_subject());
     };
     let kept = Facts::for_entry(alloc, record, table, end, at.entry, entry)?;
-    // It bounds how many components there are, so that no count of them is above the greatest.
+    // Bounds the number of components, so that no count of them exceeds the greatest.
     let _count = entry_count(entry);
     Ok(kept.subject_of_entry(alloc, table, end, entry, at.kind, of_one)?)
 }

@@ -1,4 +1,4 @@
-//! The search for the first entry of a record that is a fault of each end, in one pass.
+//! The search for the first fault of each end in a record, in one pass.
 
 ghost use Rattle.std.specs.Prelude.{◌≡◌, ◌≤◌, ◌<◌, ◌^◌, ℕ, Bool, true, List, [], ◌∷◌, ◌++◌, Option, Some, Ok, length, IfOk, OnOk};
 ghost use Rattle.tcap_ber.specs.declared.fault.Fault.{Fault};
@@ -20,24 +20,24 @@ use tcap_msg::{Message, MessageParts};
 use tcap_record::{Body, End, Entry, Record};
 use tcap_refute::{Kind, Refutation, SearchFault, kind_of_reason};
 
-/// What is blamed on each end.
+/// The faults that are blamed on each end.
 #[derive(Clone, Copy, Debug, PartialEq, Eq)]
 pub struct BlamedEnds {
-    /// The lowest entry of A, or quiet mark, that is a fault, with its lowest kind.
+    /// The first entry of A, or quiet mark, that is a fault of A, with its lowest kind.
     pub a: Option<Refutation>,
-    /// That of B.
+    /// The first entry of B, or quiet mark, that is a fault of B, with its lowest kind.
     pub b: Option<Refutation>,
 }
 
-/// What was found of an end.
+/// The state of the search for one end.
 #[derive(Clone, Copy)]
 pub(crate) struct Looking {
-    /// Whether nothing more is looked for.
+    /// True if the search is over.
     pub(crate) is_over: bool,
     pub(crate) found: Option<Refutation>,
 }
 
-/// What is kept of the entries so far, and what was found.
+/// The history after some entries, with the state of both searches.
 #[derive(Drop)]
 pub(crate) struct SearchState {
     pub(crate) kept: Facts,
@@ -45,7 +45,7 @@ pub(crate) struct SearchState {
     pub(crate) b: Looking,
 }
 
-/// How many components a message has.
+/// Returns the number of components of a message.
 fn component_count(message: &Message) -> usize
     ensures count { result ≡ length (components_in message.now) }
     ensures small { result < 2 ^ 63 }
@@ -63,7 +63,7 @@ fn component_count(message: &Message) -> usize
     }
 }
 
-/// How many components an entry has.
+/// Returns the number of components of an entry.
 pub(crate) fn entry_count(entry: &Entry) -> usize
     ensures count { (item : Item) → item_of entry.now ≡ Ok item → components_in_all (item ∷ []) ≤ result }
     ensures small { result < 2 ^ 63 }
@@ -75,7 +75,7 @@ pub(crate) fn entry_count(entry: &Entry) -> usize
 }
 
 impl Looking {
-    /// Nothing was found; nothing is looked for where the end is not asked about.
+    /// Creates the state before the first entry. The search is over if the end is not asked for.
     fn new(is_asked: bool) -> Looking
         ensures { result ≡ looking_first is_asked }
     {
@@ -85,7 +85,7 @@ impl Looking {
         }
     }
 
-    /// With what was found in an entry, if anything was.
+    /// Returns the state after an entry with this kind, if it has one.
     fn with(self, entry: u64, kind: Option<Kind>) -> Looking
         ensures { result ≡ looking_with entry kind self }
     {
@@ -100,7 +100,7 @@ impl Looking {
 }
 
 impl SearchState {
-    /// What was found of an end.
+    /// Returns the state of the search for this end.
     fn of(&self, side: End) -> Looking
         ensures { result ≡ looking_at side self.now }
     {
@@ -110,7 +110,7 @@ impl SearchState {
         }
     }
 
-    /// The same, with that found of an end.
+    /// Replaces the state of the search for this end.
     fn put(&mut self, side: End, looking: Looking)
         ensures { self.new ≡ looking_put side looking self.old }
     {
@@ -120,7 +120,7 @@ impl SearchState {
         }
     }
 
-    /// A message of that number, which an end sent.
+    /// Takes a message with this number that an end sent. Fails if memory runs out.
     fn take_message<M: MessageParts>(
         &mut self,
         alloc: Global,
@@ -147,7 +147,7 @@ impl SearchState {
         self.kept.note(alloc, table, sender, message, effects)
     }
 
-    /// A quiet mark of that number: whether it is a fault of an end.
+    /// Returns the state of the search for this end after a quiet mark with this number.
     fn at_mark(&self, table: &Table, number: u64, side: End) -> Looking
         ensures { (items : List Item) → IsKept table.now items self.now.kept
             → result ≡ looking_behind table.now items number Item.Quiet side (looking_at side self.now) }
@@ -159,7 +159,7 @@ impl SearchState {
         looking.with(number, self.kept.mark_of(table, side))
     }
 
-    /// A quiet mark of that number.
+    /// Takes a quiet mark with this number.
     fn take_mark(&mut self, alloc: Global, table: &Table, number: u64)
         ensures { (items : List Item) → IsKept table.now items self.old.kept
             → IsTaken table.now items number Item.Quiet self.old self.new }
@@ -171,7 +171,7 @@ impl SearchState {
         self.kept.note_mark(alloc);
     }
 
-    /// Octets of that number that are no message, which an end sent.
+    /// Takes octets with this number that are no message, which an end sent.
     fn take_bad(&mut self, number: u64, sender: End, reason: Reason)
         ensures { (fault : Fault) → fault.reason ≡ reason → (side : Side)
             → looking_at side self.new ≡ looking_bad number (Some sender) (BadMessage fault) side (looking_at side self.old) }
@@ -182,7 +182,7 @@ impl SearchState {
         }
     }
 
-    /// Takes the next entry, of that number: whether one behind it is looked at.
+    /// Takes the next entry, and returns whether the search goes on. Fails if memory runs out.
     fn take(
         &mut self,
         alloc: Global,
@@ -209,7 +209,7 @@ impl SearchState {
     }
 }
 
-/// What is blamed on the ends that are asked about; on the other, whatever it is.
+/// Finds what is blamed on the ends that are asked for; the result for another end means nothing.
 fn search(
     alloc: Global,
     record: &Record,
@@ -226,7 +226,7 @@ fn search(
         b: Looking::new(b),
     };
     for (number, entry) in record.entries.iter().enumerate() {
-        // It bounds how many components there are, so that no count of them is above the greatest.
+        // Bounds the number of components, so that no count of them exceeds the greatest.
         let _count = entry_count(entry);
         if !state.take(alloc, table, number as u64, entry)? {
             break;
@@ -238,10 +238,15 @@ fn search(
     })
 }
 
-/// The lowest entry of that end, or quiet mark, that has a kind, with its lowest kind: no run in which the end keeps the rules has
-/// it there, whatever its peer sends (Q.771, Q.773, Q.774). `None` where there is none. The entries are looked at up to and
-/// including the first that is no item, of either end. Each message and each component takes a few look-ups in maps. `Memory` where
-/// memory ran out.
+/// Finds the first entry of this end, or quiet mark, that has a kind, with its lowest kind (Q.771, Q.773, Q.774).
+///
+/// No run in which the end keeps the rules has this entry there, no matter what its peer sends. Returns `None` if
+/// there is none. The search stops after the first entry that is no item, of either end. Each message and each
+/// component takes a few look-ups in maps.
+///
+/// # Errors
+///
+/// `Memory` if memory runs out.
 pub fn blame(
     alloc: Global,
     record: &Record,
@@ -256,7 +261,11 @@ pub fn blame(
     }
 }
 
-/// The same of both ends, in one pass.
+/// Finds what `blame` finds, for both ends in one pass.
+///
+/// # Errors
+///
+/// `Memory` if memory runs out.
 pub fn blame_both(alloc: Global, record: &Record, table: &Table) -> Result<BlamedEnds, SearchFault>
     ensures { IfOk result (λ r. (r.a ≡ blamed table.now sides.A «record».now.entries.items)
         × (r.b ≡ blamed table.now sides.B «record».now.entries.items)) }

@@ -1,4 +1,4 @@
-//! The lowest kind of a message, by what is kept of those before it.
+//! The lowest kind of a message, from what is kept of earlier messages.
 
 ghost use Rattle.std.specs.Prelude.{◌≡◌, ◌^◌, ◌≤◌, ℕ, List, length, [], ◌∷◌, ◌++◌, false, cond, Some, None, is_some, IfOk};
 ghost use Rattle.std.specs.List.{find};
@@ -25,7 +25,7 @@ use tcap_end::Table;
 use tcap_msg::{MessageParts, TransactionId};
 use tcap_refute::{Kind, first_kind};
 
-/// The lowest of the kinds of components.
+/// Returns the lowest of F10 to F13 that components have.
 fn kind_of_faults(faults: ComponentFaults) -> Option<Kind>
     ensures { result ≡ kind_of_components (is_some faults.busy) (is_some faults.badly_linked)
         (is_some faults.answered_already) (is_some faults.wrongly_rejected) }
@@ -44,7 +44,7 @@ fn kind_of_faults(faults: ComponentFaults) -> Option<Kind>
 }
 
 impl Found<'_> {
-    /// The lowest of F2 to F7, as they are asked of one end, of a message that the end sends.
+    /// Returns the lowest of F2 to F7 that a message has, if its end alone is judged.
     pub(crate) fn first_kind<M: MessageParts>(self, table: &Table, message: &M) -> Option<Kind>
         ensures { (side : Side) (items : List Item)
             → AreFound table.now side (since_quiet items) (M.meaning message.now) self.entry
@@ -57,7 +57,7 @@ impl Found<'_> {
 }
 
 impl Ends<'_> {
-    /// The lowest kind of a message to that ID, which is not tangled, by the half over which it would go.
+    /// Returns the lowest of F8 to F13 that a message to an ID has, which is not tangled. Fails if memory runs out.
     fn half_kind<M: MessageParts>(
         self,
         alloc: Global,
@@ -83,7 +83,7 @@ impl Ends<'_> {
         Ok(kind_of_faults(faults))
     }
 
-    /// That of an Abort of the provider to that ID, with that cause.
+    /// Returns F14 if an Abort of the provider to this ID, with this cause, has it.
     fn reply_kind(self, table: &Table, id: &TransactionId, cause: SmallView) -> Option<Kind>
         ensures { (side : Side) (items : List Item) → IsSide table.now side items self.entry.own.now
             → IsSide table.now (other side) items self.entry.peer.now → length items ≤ 2 ^ 63
@@ -97,7 +97,7 @@ impl Ends<'_> {
         }
     }
 
-    /// The lowest further kind of a message that the end sends over no tangled IDs.
+    /// Returns the lowest of F8 to F14 that a message has, which goes over no tangled IDs. Fails if memory runs out.
     pub(crate) fn further_kind<M: MessageParts>(
         self,
         alloc: Global,

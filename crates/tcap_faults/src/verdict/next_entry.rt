@@ -1,4 +1,4 @@
-//! What the next entry of a record is to an end, by what is kept of those before it.
+//! The kind of the next entry of a record for an end, from what is kept of the entries before it.
 
 ghost use Rattle.std.specs.Prelude.{◌≡◌, List, [], ◌∷◌, ◌++◌, IfOk, option_copied};
 ghost use Rattle.tcap_msg.specs.declared.message.Message.{Message};
@@ -24,7 +24,7 @@ use tcap_record::End;
 use tcap_refute::Kind;
 
 impl Facts {
-    /// An end, and its peer.
+    /// Returns the histories of an end and its peer.
     pub(crate) fn ends(&self, side: End) -> Ends<'_>
         ensures { (table : Table) (items : List Item) → IsKept table items self.now
             → IsSide table side (since_quiet items) result.own.now
@@ -36,7 +36,7 @@ impl Facts {
         }
     }
 
-    /// What is kept of the IDs of a message that an end sends.
+    /// Looks up the IDs of a message that an end sends.
     pub(crate) fn find<'a>(
         &'a self,
         side: End,
@@ -50,7 +50,7 @@ impl Facts {
         self.ends(side).find(otid, dtid)
     }
 
-    /// What a message that an end sends does, of which that is found.
+    /// Returns the effects of a message that an end sends, from what was found of its IDs.
     pub(crate) fn effects(&self, table: &Table, side: End, found: Found) -> Effects
         ensures { (items : List Item) (m : Message) → IsKept table.now items self.now
             → AreFound table.now side (since_quiet items) m found.entry
@@ -60,7 +60,8 @@ impl Facts {
         found.effects(again)
     }
 
-    /// The lowest kind of a message that an end sends, where it is a fault. It is said what is kept of its IDs, and what it does.
+    /// Returns the lowest kind of a message that an end sends, if it is a fault. `found` and `effects` are those of
+    /// the message. Fails if memory runs out.
     pub(crate) fn fault_of<M: MessageParts>(
         &self,
         alloc: Global,
@@ -87,7 +88,7 @@ impl Facts {
         }
     }
 
-    /// The kind of a quiet mark, where it is a fault of an end.
+    /// Returns F15 if a quiet mark is a fault of this end.
     pub(crate) fn mark_of(&self, table: &Table, side: End) -> Option<Kind>
         ensures { (items : List Item) → IsKept table.now items self.now
             → result ≡ fault_since table.now side (since_quiet items) Item.Quiet }
@@ -100,7 +101,7 @@ impl Facts {
         }
     }
 
-    /// A quiet mark more: what was before it is forgotten.
+    /// Notes a quiet mark: forgets what was before it.
     pub(crate) fn note_mark(&mut self, alloc: Global)
         ensures { (table : Table) (items : List Item) → IsKept table (items ++ Item.Quiet ∷ []) self.new }
     {

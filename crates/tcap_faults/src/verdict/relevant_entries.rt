@@ -1,4 +1,4 @@
-//! What is kept of a record where one half alone is asked about.
+//! What is kept of a record if one half alone is asked about.
 
 ghost use Rattle.std.specs.Prelude.{◌≡◌, ◌+◌, ℕ, List, slice_get, Some, Ok, IfOk, OnOk};
 ghost use Rattle.tcap_msg.specs.Meaning.{id_of};
@@ -16,7 +16,7 @@ use tcap_end::Table;
 use tcap_msg::{Kind as Form, MessageParts, TransactionIdView};
 use tcap_record::{Body, End, Entry, Record};
 
-/// Whether it is that transaction ID.
+/// Returns whether there is another ID, and both are equal.
 fn is_id(id: TransactionIdView, other: Option<TransactionIdView>) -> bool
     ensures { result ≡ is_id id.entry.octets.now (id_of other.entry) }
 {
@@ -26,8 +26,10 @@ fn is_id(id: TransactionIdView, other: Option<TransactionIdView>) -> bool
     }
 }
 
-/// Whether a message matters for the half of an end with an ID of its peer (Q.774 3.3): the peer sent it from that ID, the end
-/// sent it to that ID, or it is a Begin of the end, with which the peer may have gone on from there.
+/// Returns whether a message matters for the half of an end with an ID of its peer (Q.774 3.3).
+///
+/// It does if the peer sent it from the ID, if the end sent it to the ID, or if it is a Begin of the end, which the
+/// peer may have continued from the ID.
 fn message_matters<M: MessageParts>(
     side: End,
     id: TransactionIdView,
@@ -43,7 +45,7 @@ fn message_matters<M: MessageParts>(
     }
 }
 
-/// Whether an entry does: a quiet mark does always.
+/// Returns whether an entry matters for the half; a quiet mark always does.
 fn entry_matters(side: End, id: TransactionIdView, entry: &Entry) -> bool
     ensures { (item : Item) → item_of entry.now ≡ Ok item → result ≡ matters side id.entry.octets.now item }
 {
@@ -54,7 +56,7 @@ fn entry_matters(side: End, id: TransactionIdView, entry: &Entry) -> bool
 }
 
 impl Facts {
-    /// An entry more, where it matters for the half of an end with that ID.
+    /// Notes an entry, if it matters for the half of an end with this ID. Fails if memory runs out.
     fn note_for(
         &mut self,
         alloc: Global,
@@ -71,13 +73,13 @@ impl Facts {
         if !entry_matters(side, id, entry) {
             return Ok(());
         }
-        // It bounds how many components there are, so that no count of them is above the greatest.
+        // Bounds the number of components, so that no count of them exceeds the greatest.
         let _count = entry_count(entry);
         self.note_entry(alloc, table, entry)
     }
 
-    /// Of the entries before the one of that number those that matter for the half of an end with that ID; of all, where there
-    /// is none of that number.
+    /// Returns the history of the entries before this number that matter for the half of an end with this ID. If the
+    /// record has no entry with this number, all entries are looked at. Fails if memory runs out.
     fn for_half(
         alloc: Global,
         record: &Record,
@@ -98,8 +100,8 @@ impl Facts {
         Ok(kept)
     }
 
-    /// Of the entries before the one of that number those that matter for the half with the destination ID of a message; none,
-    /// where that is no message, or has no such ID.
+    /// Returns the history of the entries before this number that matter for the half with the destination ID of the
+    /// entry's message. It is empty if the entry is no message or has no such ID. Fails if memory runs out.
     pub(crate) fn for_entry(
         alloc: Global,
         record: &Record,

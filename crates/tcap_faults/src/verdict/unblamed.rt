@@ -1,4 +1,4 @@
-//! Why nothing is blamed on an end at an entry (Q.774 3.3).
+//! The reason why nothing is blamed on an end at an entry (Q.774 3.3).
 
 ghost use Rattle.std.specs.Prelude.{◌≡◌, ℕ, List, slice_get, Some, IfOk};
 ghost use Rattle.tcap_record.specs.declared.entry.Entry.{Entry};
@@ -17,7 +17,7 @@ use tcap_record::{Body, End, Entry, Record};
 use tcap_refute::SearchFault;
 
 impl Facts {
-    /// The first tangled ID that the message of an entry behind what is kept goes over, where that end sent it.
+    /// Returns the first tangled ID that an entry's message goes over, if this end sent it after what is kept.
     fn tangled_at(&self, end: End, entry: &Entry) -> Option<TangledId>
         ensures { (table : Table) (entries : List Entry) (number : ℕ) → IsKept table (items_up_to entries number) self.now
             → slice_get entries number ≡ Some entry.now → result ≡ tangled_at end entries number }
@@ -31,14 +31,14 @@ impl Facts {
     }
 }
 
-/// Whether an entry is a quiet mark.
+/// Returns whether an entry is a quiet mark.
 fn is_mark(entry: &Entry) -> bool
     ensures { result ≡ is_mark (Some (item_of entry.now)) }
 {
     matches!((entry.side, &entry.body), (None, Body::Quiet))
 }
 
-/// That, by the entry in which an own ID was used again, if there is one, and the first tangled ID.
+/// Returns the reason, from the entry in which an own ID was used again, if there is one, and the first tangled ID.
 fn unblamed_by(again: Option<u64>, tangled: Option<TangledId>) -> Option<Unblamed>
     ensures { result ≡ unblamed_by again tangled }
 {
@@ -51,12 +51,21 @@ fn unblamed_by(again: Option<u64>, tangled: Option<TangledId>) -> Option<Unblame
     }
 }
 
-/// Why nothing is blamed on an end at an entry of a record, which is given by its number, counted from 0 (Q.774 3.3). `UsedAgain`, with
-/// the number of the first entry, up to and with that one, in which the end used an own ID again, since the last quiet mark; at a quiet
-/// mark, since the mark before it. Else `Tangled`, where the end sent the message of that entry and it goes over tangled IDs, with the
-/// first of them: its destination ID; else an own ID that is joined with it, or its originating ID; else an ID that is joined with one of
-/// these. Else `None`. Where the record has no such entry, all its entries are looked at for IDs that are used again. The entries are
-/// noted once more, so it costs what the search up to that entry did. `Memory` where memory ran out.
+/// Returns why nothing is blamed on an end at the entry with this number, from 0 (Q.774 3.3).
+///
+/// - `UsedAgain` if the end used an own ID again since the last quiet mark, up to and with this entry; it has the
+///   number of the first such entry. For a quiet mark, the entries since the mark before it count.
+/// - `Tangled` if not, and if the end sent this entry's message and it goes over tangled IDs. It has the first of
+///   them: the destination ID; else an own ID that is joined with it, or the originating ID; else an ID that is
+///   joined with one of these.
+/// - `None` otherwise.
+///
+/// If the record has no such entry, all entries are looked at for IDs that are used again. The entries are noted
+/// again, so this costs as much as the search up to that entry.
+///
+/// # Errors
+///
+/// `Memory` if memory runs out.
 pub fn unblamed(
     alloc: Global,
     record: &Record,

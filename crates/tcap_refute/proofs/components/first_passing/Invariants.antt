@@ -1,4 +1,4 @@
--- The first that passes is the first of what is left, and with that the components are all.
+-- The first that passes is the first among those left, and those before and those left are all components.
 use Rattle.std.proofs.Common.{◌≡◌, ◌+◌, length, option_copied}
 use Rattle.tcap_parts.specs.Meaning.{components_left}
 use Rattle.tcap_msg.specs.Parts.{components_in}

@@ -1,4 +1,4 @@
--- What is left of the entries decides.
+-- The entries that are left decide.
 use Rattle.tcap_refute.proofs.ItemLaws.{Searches}
 use Rattle.tcap_refute.proofs.refuting.first_refuted.Given as goal
 

@@ -1,4 +1,4 @@
--- Those so far are counted.
+-- The Rejects so far are counted.
 use Rattle.tcap_parts.specs.Meaning.{components_left}
 use Rattle.tcap_faults.proofs.component_laws.ComponentFaultLaws.{AreRejects}
 use Rattle.tcap_faults.proofs.component.component_faults.count_rejects.Given as goal

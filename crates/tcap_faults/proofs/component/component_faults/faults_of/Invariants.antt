@@ -1,4 +1,4 @@
--- What was found behind the components so far.
+-- The faults of the components so far are found.
 use Rattle.std.specs.Prelude.{option_map}
 use Rattle.tcap_parts.specs.Meaning.{component_of, components_left}
 use Rattle.tcap_msg.specs.Parts.{components_in}

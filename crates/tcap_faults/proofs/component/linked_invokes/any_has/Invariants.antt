@@ -1,4 +1,4 @@
--- What is left decides.
+-- The linked IDs that are left decide.
 use Rattle.std.proofs.Common.{◌≡◌, map}
 use Rattle.std.specs.List.{list_any}
 use Rattle.tcap_faults.specs.Linking.{names_so}

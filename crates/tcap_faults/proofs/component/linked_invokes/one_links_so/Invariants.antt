@@ -1,4 +1,4 @@
--- What is left decides.
+-- The tallies that are left decide.
 use Rattle.std.proofs.Common.{◌≡◌, drop, map}
 use Rattle.tcap_faults.specs.Linking.{names_so}
 use Rattle.tcap_faults.specs.Tallies.{tallies_of}

@@ -1,4 +1,4 @@
--- What is left decides.
+-- The codes that are left decide.
 use Rattle.std.proofs.Common.{◌≡◌, drop, map}
 use Rattle.std.specs.List.{list_any}
 use Rattle.tcap_faults.specs.Linking.{is_of_none}

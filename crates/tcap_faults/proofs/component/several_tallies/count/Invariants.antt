@@ -1,4 +1,4 @@
--- The sum so far, with that of what is left, is that of all.
+-- The sum so far and that of the tallies that are left are the sum of all.
 use Rattle.std.proofs.Common.{◌≡◌, ◌^◌, ◌<◌, drop, map}
 use Rattle.tcap_faults.specs.Tallied.{sum}
 use Rattle.tcap_faults.specs.Tallies.{tallies_of}

@@ -1,4 +1,4 @@
--- What is left decides.
+-- The tallies that are left decide.
 use Rattle.std.proofs.Common.{◌≡◌, drop, map}
 use Rattle.tcap_parts.specs.Meaning.{code_of}
 use Rattle.tcap_end.specs.Component.{links}

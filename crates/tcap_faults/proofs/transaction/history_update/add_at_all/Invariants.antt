@@ -1,4 +1,4 @@
--- The keys so far got the ID.
+-- The keys so far have the ID.
 use Rattle.std.proofs.Common.{bytes_eq, take}
 use Rattle.std.specs.List.{list_any}
 use Rattle.tcap_faults.specs.Ids.{ids_kept}

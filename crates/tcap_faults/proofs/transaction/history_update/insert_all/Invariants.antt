@@ -1,4 +1,4 @@
--- The IDs so far are there.
+-- The IDs so far are in the set.
 use Rattle.std.proofs.Common.{bytes_eq, take}
 use Rattle.std.specs.Prelude.{option_copied}
 use Rattle.std.specs.List.{list_any}

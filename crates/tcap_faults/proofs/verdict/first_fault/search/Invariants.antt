@@ -1,4 +1,4 @@
--- What is known of the ends that are asked about.
+-- What is known of the ends that are asked for holds for the entries so far.
 use Rattle.tcap_faults.proofs.verdict_laws.SearchLaws.{IsSearched}
 use Rattle.tcap_faults.proofs.verdict.first_fault.search.Given as goal
 

@@ -1,4 +1,4 @@
--- What is told so far, with what the components that are left tell, is what is told at the end.
+-- The facts so far, and those of the components that are left, are the facts at the end.
 use Rattle.std.proofs.Common.{◌≡◌, ◌||◌, ℤ}
 use Rattle.std.specs.List.{list_any}
 use Rattle.std.proofs.lemmas.Map.Lookups.{exact_signed}

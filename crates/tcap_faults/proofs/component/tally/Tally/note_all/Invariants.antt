@@ -1,4 +1,4 @@
--- It is a tally of components that are, with those that are left, the first ones with all.
+-- The tally has the components so far; with those that are left, they are the first ones and all new ones.
 use Rattle.std.proofs.Common.{◌≡◌, ◌++◌, List}
 use Rattle.tcap_parts.specs.declared.component.Component.{Component}
 use Rattle.tcap_parts.specs.Meaning.{components_left}

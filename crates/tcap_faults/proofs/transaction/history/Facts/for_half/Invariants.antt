@@ -1,4 +1,4 @@
--- What is kept is of the entries so far that matter, among which is not the one of that number.
+-- The history is of the entries so far that matter, and the entry with this number is not among them.
 use Rattle.std.specs.Prelude.{◌≤◌}
 use Rattle.tcap_faults.specs.Matters.{IsNotedFor}
 use Rattle.tcap_faults.proofs.transaction.history.Facts.for_half.Given as goal

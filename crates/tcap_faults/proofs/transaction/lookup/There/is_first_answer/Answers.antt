@@ -22,7 +22,7 @@ is_so : (how : How) → false ≡ not (sameb the_type how hows.Accepted) → is_
 is_so hows.Accepted same = refl
 is_so how same = cc
 
--- What is kept of the first own ID tells whether a Continue was told.
+-- A Continue was sent to the ID exactly if a first own ID is kept.
 is_first : (side : Side) (items : List Item) (id : List ℕ) (h : HalfOf) (first : Option (List ℕ))
     → is_accepted h.how ≡ true → first ≡ ids_first (otids_of (sent_to side items id))
     → is_none first ≡ is_first_answer side items id h

@@ -1,4 +1,4 @@
--- What is left decides.
+-- The IDs that are left decide.
 use Rattle.std.proofs.Common.{◌≡◌, List, drop, not}
 use Rattle.std.specs.List.{list_any}
 use Rattle.tcap_record.specs.declared.entry.End.{End as Side}

@@ -1,4 +1,4 @@
--- What is left decides, and all of it is kept.
+-- The IDs that are left decide, and all of them are kept.
 use Rattle.std.proofs.Common.{◌≡◌, ℕ, List}
 use Rattle.std.specs.Prelude.{Contains}
 use Rattle.std.specs.List.{list_any}

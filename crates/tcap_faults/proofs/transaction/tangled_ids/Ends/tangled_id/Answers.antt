@@ -11,7 +11,7 @@ use Rattle.tcap_faults.proofs.transaction_laws.FirstTangled.{one_near, tangled_a
 use Rattle.tcap_faults.proofs.transaction_laws.LookupLaws.{own_is, own_none}
 use Rattle.tcap_faults.proofs.transaction.tangled_ids.Ends.tangled_id.Goals as goal
 
--- What is said of an ID of the other end is said of the peer's.
+-- A tangled ID of the other end is one of the peer.
 of_peer : (side of : Side) (items : List Item) (id : List ℕ) (o : Option TangledId)
     → o ≡ tangled_for of id (tangle_of_peer side items id) → of ≡ other side
     → o ≡ tangled_for (other side) id (tangle_of_peer side items id)

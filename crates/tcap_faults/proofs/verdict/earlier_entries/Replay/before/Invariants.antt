@@ -1,4 +1,4 @@
--- What is kept is of the entries so far, among which is not the one of that number.
+-- The history is of the entries so far, and the entry with this number is not among them.
 use Rattle.std.specs.Prelude.{◌≤◌}
 use Rattle.tcap_faults.specs.Replay.{IsReplayed}
 use Rattle.tcap_faults.proofs.verdict.earlier_entries.Replay.before.Given as goal
