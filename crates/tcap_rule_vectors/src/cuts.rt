@@ -109,11 +109,14 @@ fn cut(alloc: Global, reuse: Reuse, entries: &str) -> Option<String> {
 /// Checks a row of `cuts`: for how many entries IDs linger, or `once`; the entries; the dialogues; the count of entries
 /// that begin one more dialogue; and the IDs from which A and from which B sent.
 pub(crate) fn is_cut(alloc: Global, linger: &str, entries: &str, wanted: &[&str]) -> Option<bool> {
+    let [dialogues, begun, sent] = wanted else {
+        return None;
+    };
     let reuse = match linger.parse::<u64>() {
         Ok(linger) => Reuse::Again(linger),
         Err(_) => Reuse::Once,
     };
     let text = cut(alloc, reuse, entries)?;
-    let columns: Vec<&str> = text.split(';').collect(alloc).ok()?;
-    Some(columns.as_slice() == wanted)
+    let wanted = format!(in alloc; "{dialogues};{begun};{sent}").ok()?;
+    Some(text == wanted)
 }

@@ -191,19 +191,25 @@ fn fact_of(column: &str) -> Option<(usize, &str)> {
     Some((entry, words.next()?))
 }
 
-/// Checks a row of `first faults`: a record, a table, and the first entry at fault with its lowest kind that `judge`
-/// checks, or a dash for none. If the entry has such a kind, `judge` must report it. Else `judge` must refute no entry
-/// up to this one, or none at all if no entry is at fault.
-pub(crate) fn is_first(alloc: Global, record: &str, table: &str, fact: &str) -> Option<bool> {
-    let command = command_of(alloc, &["judge", record, table])?;
-    let said = said(alloc, &outcome_of(alloc, &command, [NEVER; 4])?)?;
+/// Returns whether `judge` may print this text. If the first entry at fault has a kind that `judge` checks, `judge` must
+/// report it. Else `judge` must refute no entry up to this one, or none at all if no entry is at fault.
+fn may_be_said(said: &str, first: Option<(usize, &str)>) -> bool {
     let refuted = match said.strip_prefix("1: REFUTED ") {
         Some(fact) => fact_of(fact),
         None => None,
     };
-    Some(match (refuted, fact_of(fact)) {
-        (refuted, Some((entry, kind))) if kind != "-" => refuted == Some((entry, kind)),
+    match (refuted, first) {
+        (refuted, Some((_, kind))) if kind != "-" => refuted == first,
         (Some((entry, _)), Some((least, _))) => least < entry,
         (refuted, _) => refuted.is_none(),
-    })
+    }
+}
+
+/// Checks a row of `first faults`: a record, a table, and the first entry at fault with its lowest kind that `judge`
+/// checks, or a dash for none.
+pub(crate) fn is_first(alloc: Global, record: &str, table: &str, fact: &str) -> Option<bool> {
+    let asked = format!(in alloc; "judge;{record};{table}").ok()?;
+    let columns: Vec<&str> = asked.split(';').collect(alloc).ok()?;
+    let outcome = outcome_of(alloc, &command_of(alloc, &columns)?, [NEVER; 4])?;
+    Some(may_be_said(&said(alloc, &outcome)?, fact_of(fact)))
 }
