@@ -15,7 +15,7 @@ PAGE = "docs/THEOREM.md"
 PARTS = [
     ("lawful", "crates/tcap_judge/src/checking.rt", "run_check", "lawful", [("tcap_judge.LawfulRecord", "FindsLawful")]),
     ("end", "crates/tcap_judge/src/checking.rt", "run_check", "lawful", [("tcap_judge.LawfulEnd", "FindsLawfulFor")]),
-    ("blamed", "crates/tcap_judge/src/blaming.rt", "run_blame", "blames", [("tcap_faults.AtFault", "IsAtFaultOf")]),
+    ("blamed", "crates/tcap_judge/src/blaming.rt", "run_blame", "blames", [("tcap_faults.BlameMeaning", "IsAtFaultOf")]),
 ]
 IMPORT = re.compile(r"^(?:pub )?use Rattle\.(tcap_\w+)\.specs\.(\w+)\.\{([^}]*)\}", re.MULTILINE)
 HEAD = re.compile(r"(?:(?:abbrev|unfoldable|opaque|pub|data|record)\s+)*([^\s:{(]+)")

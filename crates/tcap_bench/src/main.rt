@@ -13,8 +13,8 @@
 mod ends;
 
 ghost use Rattle.std.specs.Prelude.{◌≡◌};
-ghost use Rattle.tcap_ber.specs.Walking.{outer_at};
-ghost use Rattle.tcap_bench.specs.Whole.{whole_len};
+ghost use Rattle.tcap_ber.specs.WalkResult.{outer_at};
+ghost use Rattle.tcap_bench.specs.ElementLength.{whole_len};
 
 use crate::ends::count_taken;
 use std::alloc::Global;

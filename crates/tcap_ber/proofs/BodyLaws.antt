@@ -7,7 +7,7 @@ use Rattle.tcap_ber.specs.declared.fault.Reason.{Reason}
 use Rattle.tcap_ber.specs.declared.fault.Reason.TheVariants.{BadInteger}
 use Rattle.tcap_ber.specs.Integer.{IsInteger, signed}
 use Rattle.tcap_ber.specs.Grammar.{Body, made, integer}
-use Rattle.tcap_ber.specs.Reads.{ReadsBody}
+use Rattle.tcap_ber.specs.ExactReader.{ReadsBody}
 use Rattle.tcap_ber.specs.Reading.{◌>>=◌, fault, Element, is_integer, integer_at, within, small_integer_at}
 use Rattle.tcap_ber.proofs.Steps.{chosen, bind_ok, bind_err, ok_is, err_is}
 use Rattle.tcap_ber.proofs.FaultLaws.{refused_by}

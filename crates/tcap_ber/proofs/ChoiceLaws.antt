@@ -9,9 +9,9 @@ use Rattle.tcap_ber.specs.declared.fault.Reason.TheVariants.{Missing, BadSize}
 use Rattle.tcap_ber.specs.Element.{IsElement, content_start}
 use Rattle.tcap_ber.specs.Grammar.{Body, IsMissing, IsElementFault, after}
 use Rattle.tcap_ber.specs.Choice.{Choice, ◌▹◌, ◌∣◌, others_are, IsFaultyChoice, one_of}
-use Rattle.tcap_ber.specs.Small.{null}
-use Rattle.tcap_ber.specs.Found.{FindsElement, Taken}
-use Rattle.tcap_ber.specs.Reads.{ReadsField, ReadsBody, ReadsChoice}
+use Rattle.tcap_ber.specs.SmallInteger.{null}
+use Rattle.tcap_ber.specs.FrontElement.{FindsElement, Taken}
+use Rattle.tcap_ber.specs.ExactReader.{ReadsField, ReadsBody, ReadsChoice}
 use Rattle.tcap_ber.specs.Span.{Span}
 use Rattle.tcap_ber.specs.Reading.{Gives, fault, Element, is_tag, with_body, some_at, one_of_at, tagged_at, refused_at, null_at}
 use Rattle.tcap_ber.proofs.Steps.{chosen, bind_ok, bind_err, ok_is, err_is, ok_not_err}

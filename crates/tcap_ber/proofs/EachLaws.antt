@@ -6,7 +6,7 @@ use Rattle.std.proofs.lemmas.List.{length-append, nil_from_length}
 use Rattle.tcap_ber.specs.declared.fault.Fault.{Fault}
 use Rattle.tcap_ber.specs.declared.fault.Reason.{Reason}
 use Rattle.tcap_ber.specs.Grammar.{Field, SpellsEach, IsFaultyAfter, each, after}
-use Rattle.tcap_ber.specs.Reads.{ReadsField, ReadsContent}
+use Rattle.tcap_ber.specs.ExactReader.{ReadsField, ReadsContent}
 use Rattle.tcap_ber.specs.Span.{Span}
 use Rattle.tcap_ber.specs.Reading.{◌>>=◌, each_at, each_of}
 use Rattle.tcap_ber.proofs.Steps.{chosen, bind_ok, bind_err, ok_is, ok_not_err}

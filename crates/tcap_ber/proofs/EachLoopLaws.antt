@@ -4,7 +4,7 @@ use Rattle.std.specs.Prelude.{◌==◌}
 use Rattle.std.proofs.lemmas.Bool.{eqb-true, eqb-false}
 use Rattle.tcap_ber.specs.declared.fault.Fault.{Fault}
 use Rattle.tcap_ber.specs.Grammar.{Field, SpellsEach}
-use Rattle.tcap_ber.specs.Reads.{ReadsField}
+use Rattle.tcap_ber.specs.ExactReader.{ReadsField}
 use Rattle.tcap_ber.specs.Span.{Span}
 use Rattle.tcap_ber.specs.Reading.{◌>>=◌, each_of, is_read, read_or_none}
 use Rattle.tcap_ber.proofs.EachLaws.{HasOctets, item_is_shorter, each_of-empty, each_of-step, reads_each}

@@ -13,11 +13,11 @@ use Rattle.tcap_ber.specs.declared.progress.Progress.{Progress}
 use Rattle.tcap_ber.specs.declared.element.Outer.{Outer}
 use Rattle.tcap_ber.specs.declared.element.Outer.TheVariants.{Whole, Need}
 use Rattle.tcap_ber.specs.Element.{IsTag, IsLength, IsDefinite, IsIndefinite, IsNested, IsElement, depth_limit, ending, is_next, content_start}
-use Rattle.tcap_ber.specs.Walked.{BeginsElement}
+use Rattle.tcap_ber.specs.WalkPlaces.{BeginsElement}
 use Rattle.tcap_ber.specs.Grammar.{IsElementFault}
-use Rattle.tcap_ber.specs.Found.{FindsElement}
+use Rattle.tcap_ber.specs.FrontElement.{FindsElement}
 use Rattle.tcap_ber.specs.Span.{Span}
-use Rattle.tcap_ber.specs.Walking.{at_first, goes, gone_on, outer_at, innermost_at}
+use Rattle.tcap_ber.specs.WalkResult.{at_first, goes, gone_on, outer_at, innermost_at}
 use Rattle.tcap_ber.specs.Reading.{fault, ◌>>=◌, opening_at, Element, definite_at, indefinite_at, element_of, next_at}
 use Rattle.tcap_ber.proofs.Steps.{ok_is, err_is, ok_not_err}
 use Rattle.tcap_ber.proofs.OpeningLaws.{from, definite_complete, indefinite_complete, opening_fault, opening_refused}

@@ -8,8 +8,8 @@ use Rattle.tcap_ber.specs.declared.fault.Fault.{Fault}
 use Rattle.tcap_ber.specs.declared.fault.Reason.TheVariants.{Missing, UnexpectedTag, Trailing}
 use Rattle.tcap_ber.specs.Element.{IsElement, content_start}
 use Rattle.tcap_ber.specs.Grammar.{Body, Field, Content, IsElementFault, IsMissing, IsUnexpected, IsFaultyInside, BeginsWith, SpellsOptional, SpellsParameter, required, optional, parameter, ended, ◌⨾▹◌, ◌⨾◌, structure, made, single, absent, after}
-use Rattle.tcap_ber.specs.Found.{FindsElement, Taken}
-use Rattle.tcap_ber.specs.Reads.{ReadsField, ReadsBody, ReadsContent}
+use Rattle.tcap_ber.specs.FrontElement.{FindsElement, Taken}
+use Rattle.tcap_ber.specs.ExactReader.{ReadsField, ReadsBody, ReadsContent}
 use Rattle.tcap_ber.specs.Span.{Span}
 use Rattle.tcap_ber.specs.Reading.{◌>>=◌, fault, Element, next_at, is_tag, is_next, wanted, required_at, raw_of, raw_at, with_body, with_some, optional_at, parameter_at, end_at, single_at, absent_at}
 use Rattle.tcap_ber.proofs.Steps.{chosen, bind_ok, bind_err, ok_is, err_is}

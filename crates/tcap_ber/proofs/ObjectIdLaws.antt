@@ -7,7 +7,7 @@ use Rattle.tcap_ber.specs.declared.fault.Fault.{Fault}
 use Rattle.tcap_ber.specs.declared.fault.Reason.TheVariants.{BadObjectId}
 use Rattle.tcap_ber.specs.Element.{IsContinued}
 use Rattle.tcap_ber.specs.ObjectId.{IsSubidentifier, IsObjectId, object_id}
-use Rattle.tcap_ber.specs.Reads.{ReadsBody}
+use Rattle.tcap_ber.specs.ExactReader.{ReadsBody}
 use Rattle.tcap_ber.specs.Reading.{fault, are_subidentifiers, is_object_id, object_id_at}
 use Rattle.tcap_ber.proofs.Steps.{chosen, ok_is, err_is}
 use Rattle.tcap_ber.proofs.FaultLaws.{refused_by}

@@ -9,8 +9,8 @@ use Rattle.tcap_ber.specs.declared.progress.Progress.{Progress}
 use Rattle.tcap_ber.specs.declared.element.Outer.{Outer}
 use Rattle.tcap_ber.specs.declared.element.Outer.TheVariants.{Whole, Need}
 use Rattle.tcap_ber.specs.Element.{IsElement, IsRaw}
-use Rattle.tcap_ber.specs.Walked.{Level, walked, IsWalked, IsWalkFault, IsUnfinished, innermost, IsInnermost, BeginsElement, NeedsMore}
-use Rattle.tcap_ber.specs.Walking.{at_first, goes, outer_at, stopped, last_opened, innermost_by, innermost_at}
+use Rattle.tcap_ber.specs.WalkPlaces.{Level, walked, IsWalked, IsWalkFault, IsUnfinished, innermost, IsInnermost, BeginsElement, NeedsMore}
+use Rattle.tcap_ber.specs.WalkResult.{at_first, goes, outer_at, stopped, last_opened, innermost_by, innermost_at}
 use Rattle.tcap_ber.specs.Reading.{fault, is_whole, is_raw}
 use Rattle.tcap_ber.proofs.Steps.{ok_not_err}
 use Rattle.tcap_ber.proofs.WalkLaws.{stops_there, left, left_shorter, walk, stops, notes, goes_sound}

@@ -10,9 +10,9 @@ use Rattle.tcap_ber.specs.declared.header.Opening.TheVariants.{Definite, Indefin
 use Rattle.tcap_ber.specs.declared.progress.Progress.{Progress}
 use Rattle.tcap_ber.specs.declared.element.Outer.TheVariants.{Whole}
 use Rattle.tcap_ber.specs.Element.{IsTag, content_limit, IsConstructed, ending, IsDefinite, IsIndefinite, IsNested, depth_limit, IsElement}
-use Rattle.tcap_ber.specs.Walked.{Level, walked, AreOpen, content_walked, IsWalked}
+use Rattle.tcap_ber.specs.WalkPlaces.{Level, walked, AreOpen, content_walked, IsWalked}
 use Rattle.tcap_ber.specs.HeaderReading.{opening_at}
-use Rattle.tcap_ber.specs.Walking.{is_ending, opened, behind_header, at_first, goes, stopped_by, stopped_on}
+use Rattle.tcap_ber.specs.WalkResult.{is_ending, opened, behind_header, at_first, goes, stopped_by, stopped_on}
 use Rattle.tcap_ber.proofs.OpeningLaws.{from, definite_complete, indefinite_complete}
 use Rattle.tcap_ber.proofs.OpeningPlaceLaws.{opening_within}
 use Rattle.tcap_ber.proofs.WalkLaws.{Goes, zeros_header, behind_further, goes_sound, left, left_shorter, walk, stops, fewer_left, walk_first, walk_goes, stops_goes}

@@ -10,10 +10,10 @@ use Rattle.tcap_ber.specs.declared.element.Window.{Window}
 use Rattle.tcap_ber.specs.declared.raw.RawView.{RawView}
 use Rattle.tcap_ber.specs.Element.{IsElement, IsRaw}
 use Rattle.tcap_ber.specs.Integer.{IsInteger}
-use Rattle.tcap_ber.specs.Walked.{IsWalkFault, BeginsElement, NeedsMore}
+use Rattle.tcap_ber.specs.WalkPlaces.{IsWalkFault, BeginsElement, NeedsMore}
 use Rattle.tcap_ber.specs.Grammar.{Body, Field, BeginsWith, IsMissing, IsElementFault, IsUnexpected, after}
-use Rattle.tcap_ber.specs.Found.{FindsElement, Taken}
-use Rattle.tcap_ber.specs.Reads.{ReadsField, ReadsBody}
+use Rattle.tcap_ber.specs.FrontElement.{FindsElement, Taken}
+use Rattle.tcap_ber.specs.ExactReader.{ReadsField, ReadsBody}
 use Rattle.tcap_ber.specs.Span.{Span}
 use Rattle.tcap_ber.specs.Reading.{fault, Gives, Element, element, span, next_at, some_at, required_at, is_tag, is_next, raw_at, outer_at, is_raw, is_integer, integer_at}
 use Rattle.tcap_ber.proofs.Steps.{chosen, ok_is, err_is, ok_not_err}

@@ -12,7 +12,7 @@ use Rattle.tcap_ber.specs.declared.element.Outer.{Outer}
 use Rattle.tcap_ber.specs.declared.element.Outer.TheVariants.{Whole, Need}
 use Rattle.tcap_ber.specs.Element.{depth_limit}
 use Rattle.tcap_ber.specs.HeaderReading.{◌>>=◌, opening_at}
-use Rattle.tcap_ber.specs.Walking.{is_ending, within_limit, opened, closed, passed, behind_header, gone_to, gone_on, walk_on, resume}
+use Rattle.tcap_ber.specs.WalkResult.{is_ending, within_limit, opened, closed, passed, behind_header, gone_to, gone_on, walk_on, resume}
 use Rattle.tcap_ber.specs.Progress.{header_octets}
 use Rattle.tcap_ber.proofs.Steps.{chosen, bind_ok, ok_is}
 use Rattle.tcap_ber.proofs.OpeningLaws.{from}

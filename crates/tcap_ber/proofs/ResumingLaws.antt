@@ -9,8 +9,8 @@ use Rattle.tcap_ber.specs.declared.header.Opening.{Opening}
 use Rattle.tcap_ber.specs.declared.progress.Progress.{Progress}
 use Rattle.tcap_ber.specs.declared.walk.Walk.{Walk}
 use Rattle.tcap_ber.specs.HeaderReading.{opening_at}
-use Rattle.tcap_ber.specs.Walking.{behind_header, walk_on, at_first, outer_at, resume, resume_unless}
-use Rattle.tcap_ber.specs.Resuming.{resumes, IsStopped}
+use Rattle.tcap_ber.specs.WalkResult.{behind_header, walk_on, at_first, outer_at, resume, resume_unless}
+use Rattle.tcap_ber.specs.ResumedWalk.{resumes, IsStopped}
 use Rattle.tcap_ber.specs.Progress.{header_octets}
 use Rattle.tcap_ber.proofs.OpeningLaws.{from}
 use Rattle.tcap_ber.proofs.OpeningPlaceLaws.{opening_within}

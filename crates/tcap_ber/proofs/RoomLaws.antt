@@ -10,9 +10,9 @@ use Rattle.tcap_ber.specs.declared.progress.Progress.{Progress}
 use Rattle.tcap_ber.specs.declared.element.Outer.{Outer}
 use Rattle.tcap_ber.specs.declared.element.Outer.TheVariants.{Whole, Need}
 use Rattle.tcap_ber.specs.Element.{IsTag, IsLength, IsElement, depth_limit}
-use Rattle.tcap_ber.specs.Walked.{Level, walked, AreOpen, IsWalked}
+use Rattle.tcap_ber.specs.WalkPlaces.{Level, walked, AreOpen, IsWalked}
 use Rattle.tcap_ber.specs.HeaderReading.{◌>>=◌, opening_at}
-use Rattle.tcap_ber.specs.Walking.{is_ending, within_limit, opened, closed, passed, behind_header, gone_to, gone_on, outer_at}
+use Rattle.tcap_ber.specs.WalkResult.{is_ending, within_limit, opened, closed, passed, behind_header, gone_to, gone_on, outer_at}
 use Rattle.tcap_ber.proofs.Steps.{chosen, bind_ok, ok_is}
 use Rattle.tcap_ber.proofs.OpeningLaws.{from, definite_sound, indefinite_sound}
 use Rattle.tcap_ber.proofs.OpeningPlaceLaws.{unfinished_within}

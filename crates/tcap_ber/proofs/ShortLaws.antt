@@ -5,11 +5,11 @@ use Rattle.std.proofs.lemmas.Bool.{lt-ltb, le-ltb, ne_eqb}
 use Rattle.tcap_ber.specs.declared.header.Header.{Header}
 use Rattle.tcap_ber.specs.declared.header.Opening.TheVariants.{Definite}
 use Rattle.tcap_ber.specs.declared.element.Outer.TheVariants.{Whole, Need}
-use Rattle.tcap_ber.specs.Short.{IsShort}
+use Rattle.tcap_ber.specs.ShortHeader.{IsShort}
 use Rattle.tcap_ber.specs.Span.{Span}
 use Rattle.tcap_ber.specs.HeaderReading.{◌>>=◌, tag_at, length_at, opening_at}
 use Rattle.tcap_ber.specs.Reading.{definite_at, element_of, next_at}
-use Rattle.tcap_ber.specs.Walking.{outer_at, walk_on, gone_to, at_first}
+use Rattle.tcap_ber.specs.WalkResult.{outer_at, walk_on, gone_to, at_first}
 
 -- the header of two octets for a content of n
 abbrev pub short : ℕ → Header

@@ -5,8 +5,8 @@ use Rattle.std.proofs.lemmas.Bool.{ltb-true, ltb-false, lt-ltb, both_ways, false
 use Rattle.tcap_ber.specs.declared.fault.Fault.{Fault}
 use Rattle.tcap_ber.specs.declared.fault.Reason.TheVariants.{BadInteger, BadSize}
 use Rattle.tcap_ber.specs.Integer.{IsInteger}
-use Rattle.tcap_ber.specs.Small.{IsSmall, small}
-use Rattle.tcap_ber.specs.Reads.{ReadsBody}
+use Rattle.tcap_ber.specs.SmallInteger.{IsSmall, small}
+use Rattle.tcap_ber.specs.ExactReader.{ReadsBody}
 use Rattle.tcap_ber.specs.Reading.{fault, Element, is_integer, integer_at, small_in, small_at}
 use Rattle.tcap_ber.proofs.Steps.{chosen, bind_ok, bind_err, ok_is, err_is}
 use Rattle.tcap_ber.proofs.FaultLaws.{refused_by}

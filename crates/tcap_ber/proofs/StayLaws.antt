@@ -3,7 +3,7 @@ use Rattle.std.proofs.Common.{ℕ, List, ◌∷◌, ◌++◌, ap, ◌∙◌, inl
 use Rattle.tcap_ber.specs.declared.fault.Reason.{Reason}
 use Rattle.tcap_ber.specs.declared.fault.Reason.TheVariants as reasons
 use Rattle.tcap_ber.specs.Header.{HasLongTag, HasLengthOctet, HasLongLength}
-use Rattle.tcap_ber.specs.Walked.{Level, walked, IsWrongThere, IsWalkFault}
+use Rattle.tcap_ber.specs.WalkPlaces.{Level, walked, IsWrongThere, IsWalkFault}
 
 pub long_tag_stays : (octets more : List ℕ) → HasLongTag octets → HasLongTag (octets ++ more)
 long_tag_stays octets more h = record {

@@ -3,8 +3,8 @@ use Rattle.std.proofs.Common.{◌≡◌, ℕ, ◌-◌, true, List, [], ◌∷◌
 use Rattle.std.proofs.lemmas.List.{take_at, length-append}
 use Rattle.tcap_ber.specs.Element.{IsElement}
 use Rattle.tcap_ber.specs.Grammar.{verbatim}
-use Rattle.tcap_ber.specs.Found.{FindsElement, Taken}
-use Rattle.tcap_ber.specs.Reads.{ReadsField}
+use Rattle.tcap_ber.specs.FrontElement.{FindsElement, Taken}
+use Rattle.tcap_ber.specs.ExactReader.{ReadsField}
 use Rattle.tcap_ber.specs.Span.{Span}
 use Rattle.tcap_ber.specs.Reading.{Element, required_at, raw_of, verbatim_at, is_raw}
 use Rattle.tcap_ber.proofs.Steps.{bind_ok, bind_err, ok_is}

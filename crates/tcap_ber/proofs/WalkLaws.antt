@@ -10,7 +10,7 @@ use Rattle.tcap_ber.specs.declared.progress.Progress.{Progress}
 use Rattle.tcap_ber.specs.declared.element.Outer.{Outer}
 use Rattle.tcap_ber.specs.Element.{IsTag, IsLength, depth_limit}
 use Rattle.tcap_ber.specs.HeaderReading.{◌>>=◌, opening_at}
-use Rattle.tcap_ber.specs.Walking.{is_ending, within_limit, opened, closed, passed, behind_header, gone_to, gone_on, walk_on, goes_to, goes_by, goes, stopped_by, stopped_on, noted_by, noted_on, note}
+use Rattle.tcap_ber.specs.WalkResult.{is_ending, within_limit, opened, closed, passed, behind_header, gone_to, gone_on, walk_on, goes_to, goes_by, goes, stopped_by, stopped_on, noted_by, noted_on, note}
 use Rattle.tcap_ber.specs.Progress.{header_octets}
 use Rattle.tcap_ber.proofs.Steps.{chosen, ok_is}
 use Rattle.tcap_ber.proofs.OpeningLaws.{from, definite_sound}

@@ -9,8 +9,8 @@ use Rattle.tcap_ber.specs.declared.header.Opening.{Opening}
 use Rattle.tcap_ber.specs.declared.header.Opening.TheVariants.{Definite, Indefinite}
 use Rattle.tcap_ber.specs.declared.progress.Progress.{Progress}
 use Rattle.tcap_ber.specs.Element.{IsTag, content_limit, IsConstructed, ending, IsNested, depth_limit}
-use Rattle.tcap_ber.specs.Walked.{Level, walked, content_walked, IsWalked, innermost}
-use Rattle.tcap_ber.specs.Walking.{opened, closed, passed, behind_header, at_first, goes, note}
+use Rattle.tcap_ber.specs.WalkPlaces.{Level, walked, content_walked, IsWalked, innermost}
+use Rattle.tcap_ber.specs.WalkResult.{opened, closed, passed, behind_header, at_first, goes, note}
 use Rattle.tcap_ber.proofs.OpeningLaws.{indefinite_complete}
 use Rattle.tcap_ber.proofs.WalkLaws.{Goes, left, notes, notes_goes, notes_there, left_shorter}
 use Rattle.tcap_ber.proofs.ReachLaws.{Reaches, ReachesIn, content_began, content_count, progress_of, reaches_fewer, moved, passes_all, reaches_levels}

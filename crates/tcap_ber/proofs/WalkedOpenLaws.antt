@@ -10,9 +10,9 @@ use Rattle.tcap_ber.specs.declared.header.Opening.{Opening}
 use Rattle.tcap_ber.specs.declared.header.Opening.TheVariants.{Definite, Indefinite}
 use Rattle.tcap_ber.specs.declared.progress.Progress.{Progress}
 use Rattle.tcap_ber.specs.Element.{IsTag, IsLength, content_limit, IsConstructed, ending, IsDefinite, IsNested}
-use Rattle.tcap_ber.specs.Walked.{Level, walked, AreOpen, content_walked, IsWalked}
+use Rattle.tcap_ber.specs.WalkPlaces.{Level, walked, AreOpen, content_walked, IsWalked}
 use Rattle.tcap_ber.specs.HeaderReading.{opening_at}
-use Rattle.tcap_ber.specs.Walking.{is_ending, opened, closed, passed, behind_header, at_first}
+use Rattle.tcap_ber.specs.WalkResult.{is_ending, opened, closed, passed, behind_header, at_first}
 use Rattle.tcap_ber.proofs.OpeningLaws.{from, FindsIndefinite, definite_sound, indefinite_sound}
 use Rattle.tcap_ber.proofs.HeaderLaws.{FindsHeader}
 use Rattle.tcap_ber.proofs.WalkLaws.{Goes, left}

@@ -8,9 +8,9 @@ use Rattle.tcap_ber.specs.declared.header.Header.{Header}
 use Rattle.tcap_ber.specs.declared.header.Opening.TheVariants.{Definite}
 use Rattle.tcap_ber.specs.declared.progress.Progress.{Progress}
 use Rattle.tcap_ber.specs.Element.{content_limit, depth_limit}
-use Rattle.tcap_ber.specs.Walked.{Level, walked, AreOpen, IsWalked}
+use Rattle.tcap_ber.specs.WalkPlaces.{Level, walked, AreOpen, IsWalked}
 use Rattle.tcap_ber.specs.HeaderReading.{fault}
-use Rattle.tcap_ber.specs.Walking.{is_ending, within_limit, opened, closed, passed, behind_header}
+use Rattle.tcap_ber.specs.WalkResult.{is_ending, within_limit, opened, closed, passed, behind_header}
 use Rattle.tcap_ber.proofs.Steps.{chosen, ok_is, err_is, ok_not_err}
 use Rattle.tcap_ber.proofs.WalkLaws.{left}
 use Rattle.tcap_ber.proofs.ReachLaws.{progress_of}

@@ -15,9 +15,9 @@ use Rattle.tcap_ber.specs.declared.element.Outer.{Outer}
 use Rattle.tcap_ber.specs.declared.element.Outer.TheVariants.{Whole, Need}
 use Rattle.tcap_ber.specs.Element.{IsTag, IsLength, content_limit, IsConstructed, ending, IsNested, depth_limit, IsElement}
 use Rattle.tcap_ber.specs.Header.{HasLongTag, HasLengthOctet}
-use Rattle.tcap_ber.specs.Walked.{Level, walked, content_walked, IsWalked, Announces, IsWrongThere, BeginsElement}
+use Rattle.tcap_ber.specs.WalkPlaces.{Level, walked, content_walked, IsWalked, Announces, IsWrongThere, BeginsElement}
 use Rattle.tcap_ber.specs.HeaderReading.{fault, ◌>>=◌, opening_at}
-use Rattle.tcap_ber.specs.Walking.{is_ending, opened, closed, passed, behind_header, gone_to, gone_on, walk_on, at_first, goes}
+use Rattle.tcap_ber.specs.WalkResult.{is_ending, opened, closed, passed, behind_header, gone_to, gone_on, walk_on, at_first, goes}
 use Rattle.tcap_ber.proofs.Steps.{chosen, bind_ok, bind_err}
 use Rattle.tcap_ber.proofs.OpeningLaws.{from, FindsIndefinite, IsOpeningFault, definite_sound, indefinite_sound, definite_complete, indefinite_complete, opening_fault, opening_refused}
 use Rattle.tcap_ber.proofs.HeaderLaws.{FindsHeader}

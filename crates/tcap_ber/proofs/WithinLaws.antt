@@ -7,7 +7,7 @@ use Rattle.tcap_ber.specs.Element.{content_start}
 use Rattle.tcap_ber.specs.Grammar.{Body, Field, Content, IsElementFault, IsFaultyInside, IsFaultyAfter, required, optional, parameter, verbatim, absent, ended, after, ◌⨾▹◌, ◌⨾◌, each, single, integer}
 use Rattle.tcap_ber.specs.Choice.{Choice, ◌▹◌, ◌∣◌, others_are, one_of}
 use Rattle.tcap_ber.specs.ObjectId.{object_id}
-use Rattle.tcap_ber.specs.Small.{small, null}
+use Rattle.tcap_ber.specs.SmallInteger.{small, null}
 use Rattle.tcap_ber.proofs.ElementLaws.{content_within}
 use Rattle.tcap_ber.proofs.OuterLaws.{walk_fault_within, innermost_unique, innermost_within}
 

@@ -3,7 +3,7 @@ use Rattle.std.specs.Prelude.{◌≡◌, ℕ, ◌+◌, ◌-◌, ◌^◌, ◌≤�
 use Rattle.std.specs.Io.KnownBytes.{Appends, Consumes, Keeps}
 use Rattle.tcap_ber.specs.declared.device.Failed.{Failed}
 use Rattle.tcap_ber.specs.declared.counted.Counted.{Counted}
-use Rattle.tcap_ber.specs.declared.unopened.Unopened.{Unopened}
+use Rattle.tcap_ber.specs.declared.unopened_device.Unopened.{Unopened}
 use Rattle.tcap_ber.specs.declared.to_end.ReadError.{ReadError}
 use Rattle.tcap_ber.specs.declared.to_end.ReadError.TheVariants.{Failed as DeviceFailed}
 

@@ -6,7 +6,7 @@ use Rattle.tcap_ber.specs.declared.fault.Reason.{Reason}
 use Rattle.tcap_ber.specs.declared.fault.Reason.TheVariants.{Overrun, BadInteger, UnexpectedTag, Missing, Trailing}
 use Rattle.tcap_ber.specs.Element.{IsElement, IsRaw, content_start}
 use Rattle.tcap_ber.specs.Integer.{IsInteger, signed}
-use Rattle.tcap_ber.specs.Walked.{IsWalkFault, IsUnfinished, IsInnermost}
+use Rattle.tcap_ber.specs.WalkPlaces.{IsWalkFault, IsUnfinished, IsInnermost}
 use Rattle.tcap_ber.specs.Span.{Span}
 
 -- The content of an element: the octets that spell each value, and the faults of octets, given the element's place and

@@ -13,7 +13,7 @@ use Rattle.tcap_ber.specs.Span.{Span, behind}
 use Rattle.tcap_ber.specs.Integer.{signed}
 unfoldable pub use Rattle.tcap_ber.specs.Element.{is_next}
 unfoldable pub use Rattle.tcap_ber.specs.HeaderReading.{fault, ◌>>=◌, Gives, span, tag_at, length_at, opening_at}
-unfoldable pub use Rattle.tcap_ber.specs.Walking.{outer_at, innermost_at}
+unfoldable pub use Rattle.tcap_ber.specs.WalkResult.{outer_at, innermost_at}
 
 -- an element that was read: its tag, its content and its place
 pub record Element : Type 0 where

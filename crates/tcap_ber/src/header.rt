@@ -5,7 +5,7 @@ ghost use Rattle.tcap_ber.specs.Element.{number, content_limit, header_limit};
 ghost use Rattle.tcap_ber.specs.Element.{is_next};
 ghost use Rattle.tcap_ber.specs.HeaderReading.{Gives, tag_at, length_at, definite_behind, is_constructed, opening_at, span};
 ghost use Rattle.tcap_ber.specs.Progress.{header_octets, IsHeaderWithin};
-ghost use Rattle.tcap_ber.specs.Short.{IsShort};
+ghost use Rattle.tcap_ber.specs.ShortHeader.{IsShort};
 
 use crate::element::Window;
 use crate::fault::{Fault, Reason};

@@ -1,7 +1,7 @@
 //! The innermost incomplete element.
 
 ghost use Rattle.std.specs.Prelude.{◌≡◌, ◌-◌, ◌≤◌, length, drop};
-ghost use Rattle.tcap_ber.specs.Walking.{note, stopped, last_opened, innermost_at};
+ghost use Rattle.tcap_ber.specs.WalkResult.{note, stopped, last_opened, innermost_at};
 ghost use Rattle.tcap_ber.specs.Progress.{IsPlaced};
 
 use crate::progress::Progress;

@@ -16,7 +16,7 @@ mod put;
 mod raw;
 mod small_numbers;
 mod to_end;
-mod unopened;
+mod unopened_device;
 mod walk;
 mod window;
 
@@ -33,6 +33,6 @@ pub use put::{element_len, header_len, integer_len, put_element, put_header, put
 pub use raw::{Raw, RawView};
 pub use small_numbers::{Small, SmallView, small_number};
 pub use to_end::{ReadError, read_to_end};
-pub use unopened::Unopened;
+pub use unopened_device::Unopened;
 pub use walk::Walk;
 pub use window::{begins_with, ended, next_tlv, outer, required, required_any};

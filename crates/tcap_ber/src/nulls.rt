@@ -2,7 +2,7 @@
 
 ghost use Rattle.std.specs.Prelude.{◌≡◌, ◌↔◌, [], Err, IsOk};
 ghost use Rattle.tcap_ber.specs.declared.fault.Fault.{Fault};
-ghost use Rattle.tcap_ber.specs.Small.{null};
+ghost use Rattle.tcap_ber.specs.SmallInteger.{null};
 ghost use Rattle.tcap_ber.specs.Reading.{Gives, element, span, null_at};
 
 use crate::element::Tlv;

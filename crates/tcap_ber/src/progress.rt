@@ -3,7 +3,7 @@
 ghost use Rattle.std.specs.Prelude.{◌≡◌, ◌+◌, ◌^◌, ◌<◌, ◌≤◌, ◌-◌, length, IfOk, IfSome};
 ghost use Rattle.tcap_ber.specs.Element.{content_limit, header_limit};
 ghost use Rattle.tcap_ber.specs.HeaderReading.{Gives};
-ghost use Rattle.tcap_ber.specs.Walking.{is_ending, within_limit, opened, closed, passed, behind_header, goes};
+ghost use Rattle.tcap_ber.specs.WalkResult.{is_ending, within_limit, opened, closed, passed, behind_header, goes};
 ghost use Rattle.tcap_ber.specs.Progress.{IsPlaced, IsHeaderWithin};
 
 use crate::element::Window;

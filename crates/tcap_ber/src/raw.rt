@@ -5,7 +5,7 @@ ghost use Rattle.std.specs.Option.{option_map};
 ghost use Rattle.tcap_ber.specs.declared.fault.Fault.{Fault};
 ghost use Rattle.tcap_ber.specs.Element.{IsRaw};
 ghost use Rattle.tcap_ber.specs.Grammar.{IsElementFault, parameter, verbatim};
-ghost use Rattle.tcap_ber.specs.Found.{Taken};
+ghost use Rattle.tcap_ber.specs.FrontElement.{Taken};
 ghost use Rattle.tcap_ber.specs.Reading.{Gives, span, is_raw, raw_at, verbatim_at, parameter_at};
 
 use crate::element::{Outer, Window};

@@ -2,7 +2,7 @@
 
 ghost use Rattle.std.specs.Prelude.{◌≡◌, ◌<◌, ◌↔◌, ℕ, Err, IfOk, IfSome, IsOkAnd, IsSome};
 ghost use Rattle.tcap_ber.specs.declared.fault.Fault.{Fault};
-ghost use Rattle.tcap_ber.specs.Small.{small};
+ghost use Rattle.tcap_ber.specs.SmallInteger.{small};
 ghost use Rattle.tcap_ber.specs.Reading.{Gives, element, span, small_at};
 
 use crate::element::Tlv;

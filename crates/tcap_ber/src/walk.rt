@@ -35,8 +35,8 @@ pub struct Walk {
 
 impl Walk {
     ghost use Rattle.tcap_ber.specs.HeaderReading.{Gives};
-    ghost use Rattle.tcap_ber.specs.Walking.{outer_at};
-    ghost use Rattle.tcap_ber.specs.Resuming.{resumes, IsStopped};
+    ghost use Rattle.tcap_ber.specs.WalkResult.{outer_at};
+    ghost use Rattle.tcap_ber.specs.ResumedWalk.{resumes, IsStopped};
 
     /// Creates a walk that begins at an element's first octet.
     pub fn new() -> Walk

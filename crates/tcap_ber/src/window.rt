@@ -6,9 +6,9 @@ ghost use Rattle.tcap_ber.specs.declared.fault.Fault.{Fault};
 ghost use Rattle.tcap_ber.specs.declared.fault.Reason.{Reason};
 ghost use Rattle.tcap_ber.specs.declared.header.Opening.{Opening};
 ghost use Rattle.tcap_ber.specs.Element.{IsElement, content_limit, header_limit};
-ghost use Rattle.tcap_ber.specs.Walked.{BeginsElement, NeedsMore, IsWalkFault};
+ghost use Rattle.tcap_ber.specs.WalkPlaces.{BeginsElement, NeedsMore, IsWalkFault};
 ghost use Rattle.tcap_ber.specs.Grammar.{BeginsWith, IsMissing, IsElementFault, IsUnexpected};
-ghost use Rattle.tcap_ber.specs.Found.{FindsElement};
+ghost use Rattle.tcap_ber.specs.FrontElement.{FindsElement};
 ghost use Rattle.tcap_ber.specs.Reading.{Gives, span, element, opening_at, outer_at, innermost_at, definite_at, walked_len, indefinite_at, next_at, required_at, some_at, is_next, end_at};
 
 use crate::element::{Outer, Tag, Tlv, Window};

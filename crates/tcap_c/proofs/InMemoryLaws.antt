@@ -6,7 +6,7 @@ use Rattle.tcap_record.specs.declared.entry.End.{End as Side}
 use Rattle.tcap_record.specs.declared.entry.End.TheVariants as sides
 use Rattle.tcap_record.specs.declared.entry.Entry.{Entry}
 use Rattle.tcap_record.specs.declared.fault.FeedFault.{FeedFault}
-use Rattle.tcap_record.specs.Framed.{FramedFrom}
+use Rattle.tcap_record.specs.RecordOctets.{FramedFrom}
 use Rattle.tcap_record.specs.Reading.{IsReadAs}
 use Rattle.tcap_end.specs.Table.{Table}
 use Rattle.tcap_end.specs.TableText.{IsTableOf}
@@ -14,18 +14,18 @@ use Rattle.tcap_model.specs.Entries.{item_of}
 use Rattle.tcap_refute.specs.declared.kind.Refutation.{Refutation}
 use Rattle.tcap_refute.specs.Kind.{kind_number, refuted}
 use Rattle.tcap_faults.specs.Fault.{blamed}
-use Rattle.tcap_judge.specs.declared.finding.Ends.{Ends}
-use Rattle.tcap_judge.specs.declared.finding.Finding.{Finding}
-use Rattle.tcap_judge.specs.declared.finding.Finding.TheVariants as findings
+use Rattle.tcap_judge.specs.declared.findings.Ends.{Ends}
+use Rattle.tcap_judge.specs.declared.findings.Finding.{Finding}
+use Rattle.tcap_judge.specs.declared.findings.Finding.TheVariants as findings
 use Rattle.tcap_judge.specs.declared.outcome.Outcome.{Outcome}
 use Rattle.tcap_judge.specs.declared.outcome.Outcome.TheVariants.{Lawful, LawfulFor, NotShown, Refuted, Undecided, Faulty}
 use Rattle.tcap_lines.specs.declared.status.Status.TheVariants as statuses
 use Rattle.tcap_judge.specs.Outcome.{outcome_status}
-use Rattle.tcap_judge.specs.Judged.{AreLawful, AreLawfulUnheard, IsShown, replayed_by}
-use Rattle.tcap_judge.specs.Checked.{JudgesWith, ReadsRecord, ReadsTable}
+use Rattle.tcap_judge.specs.LawfulOutcome.{AreLawful, AreLawfulUnheard, IsShown, replayed_by}
+use Rattle.tcap_judge.specs.CheckOutcome.{JudgesWith, ReadsRecord, ReadsTable}
 use Rattle.tcap_judge.specs.LawfulRecord.{SpellsRecord}
 use Rattle.tcap_judge.specs.Verdict.{GivesVerdictWith, IsAtFaultBy, certificate_line, named_by, proposed_by, record_verdict, verdict}
-use Rattle.tcap_judge.specs.Blamed.{AreFound, GivesBlame, GivesBlameWith, IsFound, ends_of, finding, finding_by, is_lawful, items_before, joint_record_verdict, record_ends}
+use Rattle.tcap_judge.specs.BlameOutcome.{AreFound, GivesBlame, GivesBlameWith, IsFound, ends_of, finding, finding_by, is_lawful, items_before, joint_record_verdict, record_ends}
 use Rattle.tcap_judge.proofs.BlamedLaws.{are_lawful, without_unheard}
 use Rattle.tcap_judge.proofs.LawfulLaws.{IsFoundBy, by_certificate, fine_fault, no_fault, spells_items, table_fault, table_text}
 use Rattle.tcap_judge.proofs.VerdictLaws.{NamesRightly, by_refutation, lawful_record, refuted_record}

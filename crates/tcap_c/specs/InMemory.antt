@@ -3,7 +3,7 @@ use Rattle.std.specs.Prelude.{◌≡◌, ℕ, List, false, nat_eq, cond, Option,
 use Rattle.tcap_record.specs.declared.entry.End.{End as Side}
 use Rattle.tcap_record.specs.declared.entry.End.TheVariants as sides
 use Rattle.tcap_record.specs.declared.entry.Entry.{Entry}
-use Rattle.tcap_record.specs.Framed.{octet_of}
+use Rattle.tcap_record.specs.RecordOctets.{octet_of}
 use Rattle.tcap_record.specs.Reading.{IsReadAs}
 use Rattle.tcap_end.specs.Table.{Table}
 use Rattle.tcap_end.specs.TableText.{IsTableOf}
@@ -12,18 +12,18 @@ use Rattle.tcap_certificate.specs.declared.fault.CheckFault.{CheckFault}
 use Rattle.tcap_model.specs.Reason.{reason_number}
 use Rattle.tcap_refute.specs.declared.kind.Refutation.{Refutation}
 use Rattle.tcap_refute.specs.Kind.{kind_number}
-use Rattle.tcap_judge.specs.declared.finding.Ends.{Ends}
-use Rattle.tcap_judge.specs.declared.finding.Finding.{Finding}
-use Rattle.tcap_judge.specs.declared.finding.Finding.TheVariants as findings
+use Rattle.tcap_judge.specs.declared.findings.Ends.{Ends}
+use Rattle.tcap_judge.specs.declared.findings.Finding.{Finding}
+use Rattle.tcap_judge.specs.declared.findings.Finding.TheVariants as findings
 use Rattle.tcap_judge.specs.declared.outcome.Outcome.{Outcome}
 use Rattle.tcap_judge.specs.declared.outcome.Outcome.TheVariants.{Lawful, LawfulFor, NotShown, Refuted, Undecided, Faulty}
-use Rattle.tcap_lines.specs.Shown.{status_number}
+use Rattle.tcap_lines.specs.ShowRun.{status_number}
 use Rattle.tcap_judge.specs.Outcome.{inner_number, outcome_status}
-use Rattle.tcap_judge.specs.Judged.{MayBeSent}
-use Rattle.tcap_judge.specs.Checked.{Judges}
+use Rattle.tcap_judge.specs.LawfulOutcome.{MayBeSent}
+use Rattle.tcap_judge.specs.CheckOutcome.{Judges}
 use Rattle.tcap_judge.specs.Device.{Device}
 use Rattle.tcap_judge.specs.Verdict.{IsAtFaultBy, IsJudged}
-use Rattle.tcap_judge.specs.Blamed.{IsBlamed, blame_status}
+use Rattle.tcap_judge.specs.BlameOutcome.{IsBlamed, blame_status}
 use Rattle.tcap_judge.specs.LawfulRecord.{SpellsRecord}
 use Rattle.tcap_c.specs.declared.answer.Answer.{Answer}
 use Rattle.tcap_c.specs.declared.answer.Answers.{Answers}

@@ -8,8 +8,8 @@ use Rattle.tcap_books.specs.BookText.{IsBookOf}
 use Rattle.tcap_traces.specs.declared.verdict.Verdict.{Verdict}
 use Rattle.tcap_traces.specs.Verdict.{status_of}
 use Rattle.tcap_c.specs.InMemory.{judged_by}
-use Rattle.tcap_c.specs.declared.asked.Asked.{Asked}
-use Rattle.tcap_c.specs.declared.asked.Rules.{Rules}
+use Rattle.tcap_c.specs.declared.options.Asked.{Asked}
+use Rattle.tcap_c.specs.declared.options.Rules.{Rules}
 
 -- ---- numbers
 

@@ -1,9 +1,9 @@
 //! Answers as numbers, for programs in C.
 
 ghost use Rattle.std.specs.Prelude.{◌≡◌};
-ghost use Rattle.tcap_lines.specs.Shown.{status_number};
+ghost use Rattle.tcap_lines.specs.ShowRun.{status_number};
 ghost use Rattle.tcap_judge.specs.Outcome.{outcome_status};
-ghost use Rattle.tcap_judge.specs.Blamed.{blame_status};
+ghost use Rattle.tcap_judge.specs.BlameOutcome.{blame_status};
 ghost use Rattle.tcap_c.specs.InMemory.{answer, blame_answers, fault_answer, finding_answer, no_answer, outcome_answer, refutation_answer};
 
 use tcap_check::CheckFault;

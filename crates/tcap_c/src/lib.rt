@@ -5,8 +5,8 @@
 #![tactic(auto)]
 
 mod answer;
-mod asked;
 mod octets;
+mod options;
 mod outcomes;
 mod room;
 mod traces;
@@ -16,11 +16,11 @@ ghost use Rattle.tcap_record.specs.declared.entry.End.{End as Side};
 ghost use Rattle.tcap_c.specs.InMemory.{AreRight, Gives, GivesBlame, IsRight, IsWrongCall, MayBeSentBy, SaysChecked, SaysJudged, judged_by};
 ghost use Rattle.tcap_c.specs.Traces.{IsClearBook, Tells, TellsNothing, rules_of};
 
-use crate::asked::who_is;
+use crate::options::who_is;
 use crate::outcomes::{blamed, checked, judged};
 use crate::traces::test;
 pub use answer::{Answer, Answers};
-pub use asked::Asked;
+pub use options::Asked;
 use std::alloc::Global;
 use tcap_record::End;
 

@@ -6,8 +6,8 @@ ghost use Rattle.tcap_traces.specs.Verdict.{status_of};
 ghost use Rattle.tcap_ber.specs.Device.{CountsFailure, Takes};
 ghost use Rattle.tcap_c.specs.Traces.{IsClearBook, Tells};
 
-use crate::asked::Rules;
 use crate::octets::Octets;
+use crate::options::Rules;
 use crate::room::lay;
 use std::alloc::{AllocError, Global};
 use tcap_ber::{Counted, Failed, Write};

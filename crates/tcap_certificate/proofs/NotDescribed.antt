@@ -9,10 +9,10 @@ use Rattle.tcap_record.specs.declared.entry.End.TheVariants.{A, B}
 use Rattle.tcap_end.specs.declared.half.HalfName.TheVariants.{Own}
 use Rattle.tcap_model.specs.World.{Sent}
 use Rattle.tcap_model.specs.Run.{Event, Sends, Receives, Replies, Loses, Expires, Closes, Quiet, Tells}
-use Rattle.tcap_certificate.specs.Follows.{Follows, IsImplied}
-use Rattle.tcap_certificate.specs.Refused as refused
-use Rattle.tcap_certificate.specs.Refused.{IsNotDescribed}
-use Rattle.tcap_certificate.specs.Worked.{Worked}
+use Rattle.tcap_certificate.specs.DescribedRun.{Follows, IsImplied}
+use Rattle.tcap_certificate.specs.WorkedRefusals as refused
+use Rattle.tcap_certificate.specs.WorkedRefusals.{IsNotDescribed}
+use Rattle.tcap_certificate.specs.WorkedRuns.{Worked}
 
 abbrev Described : Worked → Type 0
 Described w = Follows w.certificate w.items w.events

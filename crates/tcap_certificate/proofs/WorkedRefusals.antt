@@ -1,6 +1,6 @@
 -- The worked events that cannot happen after a run.
 use Rattle.std.proofs.Common.{refl}
-use Rattle.tcap_certificate.specs.Refused as refused
+use Rattle.tcap_certificate.specs.WorkedRefusals as refused
 
 pub used_again : refused.used_again
 used_again = (_, refl, refl)

@@ -8,11 +8,11 @@ use Rattle.tcap_record.specs.declared.entry.End.TheVariants.{A, B}
 use Rattle.tcap_end.specs.declared.half.HalfName.TheVariants.{Own, Peer}
 use Rattle.tcap_model.specs.World.{Item, World, empty}
 use Rattle.tcap_model.specs.Run.{Event, Sends, Receives, Expires, Closes, IsRunOf, KeepsRules, after}
-use Rattle.tcap_certificate.specs.Named.{AreSameEvents, IsSameEvent}
-use Rattle.tcap_certificate.specs.Follows.{FatesFit, Follows, FollowsFrom, IsImplied, gap_events, losses_from, lost_from, sending, without_losses}
+use Rattle.tcap_certificate.specs.HalfNames.{AreSameEvents, IsSameEvent}
+use Rattle.tcap_certificate.specs.DescribedRun.{FatesFit, Follows, FollowsFrom, IsImplied, gap_events, losses_from, lost_from, sending, without_losses}
 use Rattle.tcap_end.specs.Table.{Table}
 use Rattle.tcap_model.specs.WorkedItems.{answer, begin, further, invoke, prearranged, table}
-use Rattle.tcap_certificate.specs.Worked.{IsDescribedRun, OneSided, by_the_other_name, IsWorked, IsWorkedBy, Worked, IsWorkedFor, continues_behind_its_end, end_is_not_heard, empty_record, two_entries, three_entries, crossing, late_reject, delayed, closed_half, refused_begin, lost_begin, over_a_mark, both_again, in_a_row, end_implies, both_close}
+use Rattle.tcap_certificate.specs.WorkedRuns.{IsDescribedRun, OneSided, by_the_other_name, IsWorked, IsWorkedBy, Worked, IsWorkedFor, continues_behind_its_end, end_is_not_heard, empty_record, two_entries, three_entries, crossing, late_reject, delayed, closed_half, refused_begin, lost_begin, over_a_mark, both_again, in_a_row, end_implies, both_close}
 
 -- `FollowsFrom`, with the run as a parameter
 record From (w : Worked) (n : ℕ) (left : List Item) (events : List Event) : Type 0 where

@@ -1,9 +1,9 @@
 pub mod Certificate
-pub mod Follows
-pub mod Named
-pub mod Worked
-pub mod Refused
-pub mod Replayed
-pub mod Unheard
-pub mod AloneWorked
-pub mod Replays
+pub mod DescribedRun
+pub mod HalfNames
+pub mod WorkedRuns
+pub mod WorkedRefusals
+pub mod Replay
+pub mod LossCounts
+pub mod WorkedOneEnd
+pub mod WorkedReplays

@@ -2,12 +2,12 @@
 //! show which run a certificate gives for both ends or for one.
 #![tactic(auto)]
 
-pub mod alone_worked;
 mod certificate;
 mod fault;
-pub mod refused;
-pub mod replays;
-pub mod worked;
+pub mod worked_one_end;
+pub mod worked_refusals;
+pub mod worked_replays;
+pub mod worked_runs;
 
 pub use certificate::{Certificate, Closing, Expiry, FATES_LIMIT, Fate, NUMBER_LIMIT};
 pub use fault::CheckFault;

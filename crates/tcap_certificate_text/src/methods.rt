@@ -4,7 +4,7 @@ ghost use Rattle.std.specs.Prelude.{◌≡◌, ◌≢◌, Ok, Err, IfOk, string_
 ghost use Rattle.serde_json.specs.Written.{compact_text};
 ghost use Rattle.tcap_certificate_text.specs.CertificateText.{IsCertificateText, certificate_data};
 ghost use Rattle.tcap_certificate.specs.Certificate.{Certificate as Meant};
-ghost use Rattle.tcap_certificate.specs.Replayed.{fault_at};
+ghost use Rattle.tcap_certificate.specs.Replay.{fault_at};
 ghost use Rattle.tcap_certificate.specs.declared.fault.CheckFault.{CheckFault};
 ghost use Rattle.tcap_model.specs.declared.reason.Reason.TheVariants as reasons;
 

@@ -14,7 +14,7 @@ ghost use Rattle.tcap_certificate_text.specs.CertificateText.{number_at, number_
 ghost use Rattle.tcap_certificate_text.specs.CertificateText.{certificate_data, closing_data, expiry_data, fate_data};
 ghost use Rattle.tcap_certificate_text.specs.CertificateText.{list_data, side_data};
 ghost use Rattle.tcap_certificate.specs.Certificate.{Certificate as Meant};
-ghost use Rattle.tcap_certificate.specs.Replayed.{fault_at};
+ghost use Rattle.tcap_certificate.specs.Replay.{fault_at};
 ghost use Rattle.tcap_certificate.specs.declared.fault.CheckFault.{CheckFault};
 ghost use Rattle.tcap_model.specs.declared.reason.Reason.TheVariants as reasons;
 

@@ -2,10 +2,10 @@
 use Rattle.std.specs.Prelude.{◌≡◌, ◌≤◌, ℕ, Bool, false, length, slice_get, Option, Some, None}
 use Rattle.tcap_check.specs.declared.plan.Plan.{Plan}
 use Rattle.tcap_certificate.specs.Certificate.{Certificate}
-use Rattle.tcap_certificate.specs.Follows.{taken_by}
+use Rattle.tcap_certificate.specs.DescribedRun.{taken_by}
 use Rattle.tcap_check.specs.Buckets.{list_at}
-use Rattle.tcap_check.specs.Listed.{listed_in}
-use Rattle.tcap_check.specs.Outlines.{is_named}
+use Rattle.tcap_check.specs.ListedSteps.{listed_in}
+use Rattle.tcap_check.specs.EntryOutlines.{is_named}
 use Rattle.tcap_check.specs.Progress.{due_in}
 
 -- the flag, or false if there is none

@@ -11,7 +11,7 @@ use Rattle.tcap_end.specs.declared.fault.EndFault.TheVariants as faults
 use Rattle.tcap_end.specs.declared.half.HalfName.{HalfName}
 use Rattle.tcap_end.specs.Table.{Table}
 use Rattle.tcap_end.specs.End.{End, nothing, quiet}
-use Rattle.tcap_end.specs.Hidden.{close, expire}
+use Rattle.tcap_end.specs.HiddenSteps.{close, expire}
 use Rattle.tcap_end.specs.Message.{send}
 use Rattle.tcap_end.specs.Step.{needs, ◌>>◌, ◌>>=◌}
 use Rattle.tcap_certificate.specs.declared.certificate.Closing.{Closing}
@@ -20,22 +20,22 @@ use Rattle.tcap_certificate.specs.declared.certificate.Fate.{Fate}
 use Rattle.tcap_certificate.specs.declared.certificate.Fate.TheVariants.{Gap, Lost, By}
 use Rattle.tcap_certificate.specs.declared.fault.CheckFault.{CheckFault}
 use Rattle.tcap_model.specs.declared.reason.Reason.TheVariants.{FateRange, BadReply, SendRefused, HiddenRefused, NotQuiet, Memory}
-use Rattle.tcap_check.specs.declared.listed.Listed.{Listed}
-use Rattle.tcap_check.specs.declared.listed.Listed.TheVariants as listings
+use Rattle.tcap_check.specs.declared.listed_steps.Listed.{Listed}
+use Rattle.tcap_check.specs.declared.listed_steps.Listed.TheVariants as listings
 use Rattle.tcap_check.specs.declared.outline.Outline.{Outline}
 use Rattle.tcap_check.specs.declared.progress.Progress.{Progress}
 use Rattle.tcap_check.specs.declared.progress.Seat.{Seat}
 use Rattle.tcap_check.specs.declared.progress.Waiting.{Waiting}
 use Rattle.tcap_record.specs.Ends.{other}
 use Rattle.tcap_model.specs.Run.{Event, Closes, Expires, Loses, Quiet, Replies, Sends, Tells, may_refuse}
-use Rattle.tcap_check.specs.declared.sending.Way.{Way}
-use Rattle.tcap_check.specs.declared.sending.Way.TheVariants as ways
+use Rattle.tcap_check.specs.declared.sent_messages.Way.{Way}
+use Rattle.tcap_check.specs.declared.sent_messages.Way.TheVariants as ways
 use Rattle.tcap_model.specs.World.{is_side}
-use Rattle.tcap_certificate.specs.Follows.{invoke_id, invoking_half}
-pub use Rattle.tcap_certificate.specs.Replayed.{map_ok}
-use Rattle.tcap_certificate.specs.Replayed.{fault_at, refused}
-use Rattle.tcap_check.specs.Outlines.{half_closed, invocation_ended}
-use Rattle.tcap_check.specs.Told.{Told, discard_more, more_told}
+use Rattle.tcap_certificate.specs.DescribedRun.{invoke_id, invoking_half}
+pub use Rattle.tcap_certificate.specs.Replay.{map_ok}
+use Rattle.tcap_certificate.specs.Replay.{fault_at, refused}
+use Rattle.tcap_check.specs.EntryOutlines.{half_closed, invocation_ended}
+use Rattle.tcap_check.specs.ReportedSteps.{Told, discard_more, more_told}
 
 -- ---- answers
 

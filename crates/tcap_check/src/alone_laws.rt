@@ -12,11 +12,11 @@ ghost use Rattle.tcap_model.specs.World.{Item, World, channel_from};
 ghost use Rattle.tcap_model.specs.Run.{Event, IsLawfulFor, Loses, Runs};
 ghost use Rattle.tcap_certificate.specs.Certificate.{Certificate};
 ghost use Rattle.tcap_model.specs.Entries.{AreItems, item_of};
-ghost use Rattle.tcap_certificate.specs.Follows.{losses_from};
-ghost use Rattle.tcap_certificate.specs.Replayed.{discards_by, replayed_by};
-ghost use Rattle.tcap_check.specs.Told.{IsDiscarded, IsTold};
-ghost use Rattle.tcap_certificate.specs.Unheard.{unheard_of};
-ghost use Rattle.tcap_check.specs.AloneGiven.{DiscardsNothing, IsGivenFor};
+ghost use Rattle.tcap_certificate.specs.DescribedRun.{losses_from};
+ghost use Rattle.tcap_certificate.specs.Replay.{discards_by, replayed_by};
+ghost use Rattle.tcap_check.specs.ReportedSteps.{IsDiscarded, IsTold};
+ghost use Rattle.tcap_certificate.specs.LossCounts.{unheard_of};
+ghost use Rattle.tcap_check.specs.OneEndRun.{DiscardsNothing, IsGivenFor};
 
 /// States that what a certificate gives for one end is a run from the empty world. The run sends exactly the items that
 /// the entries are, in order, the end keeps the rules in it, and it leaves nothing on its way to the end. Apart from

@@ -9,11 +9,11 @@ ghost use Rattle.tcap_model.specs.World.{Item};
 ghost use Rattle.tcap_model.specs.Run.{Event, IsRunOf};
 ghost use Rattle.tcap_model.specs.Entries.{item_of};
 ghost use Rattle.tcap_record.specs.declared.entry.Entry.{Entry as Recorded};
-ghost use Rattle.tcap_check.specs.Given.{IsBounded, RefusesForGood, SaysLawful, ShowsReason};
-ghost use Rattle.tcap_certificate.specs.Named.{IsDescribedBy};
+ghost use Rattle.tcap_check.specs.GivenRun.{IsBounded, RefusesForGood, SaysLawful, ShowsReason};
+ghost use Rattle.tcap_certificate.specs.HalfNames.{IsDescribedBy};
 ghost use Rattle.tcap_check.specs.declared.checker.Report.{Report as Reported};
-ghost use Rattle.tcap_certificate.specs.Replayed.{certificate_fits, fault_at, run_by};
-ghost use Rattle.tcap_check.specs.Checking.{Kept, Took, answer_of, count_ahead, count_waiting, map_ok, reading, reported};
+ghost use Rattle.tcap_certificate.specs.Replay.{certificate_fits, fault_at, run_by};
+ghost use Rattle.tcap_check.specs.CheckerMeaning.{Kept, Took, answer_of, count_ahead, count_waiting, map_ok, reading, reported};
 
 use crate::replaying::Replaying;
 use std::alloc::Global;
@@ -54,8 +54,8 @@ pub struct Checker<'a> {
 
 impl<'a> Model for Checker<'a> {
     ghost use Rattle.std.specs.Prelude.{◌≡◌, None};
-    ghost use Rattle.tcap_check.specs.Checking.{Checking, so_far_of};
-    ghost use Rattle.tcap_check.specs.Ready.{IsReady, kept_in};
+    ghost use Rattle.tcap_check.specs.CheckerMeaning.{Checking, so_far_of};
+    ghost use Rattle.tcap_check.specs.ReplayInvariants.{IsReady, kept_in};
 
     ghost Value = { Checking };
 

@@ -13,17 +13,17 @@ ghost use Rattle.tcap_end.specs.Message.{send};
 ghost use Rattle.tcap_end.specs.Table.{Table};
 ghost use Rattle.tcap_certificate.specs.declared.fault.CheckFault.{CheckFault};
 ghost use Rattle.tcap_check.specs.declared.step.Step.{Step};
-ghost use Rattle.tcap_check.specs.Told.{discards_of, events_of};
+ghost use Rattle.tcap_check.specs.ReportedSteps.{discards_of, events_of};
 ghost use Rattle.tcap_model.specs.World.{Item, Sent, World, end_at};
 ghost use Rattle.tcap_model.specs.Run.{BothKeepRules, Event, Expires, IsLawful, IsRunOf, Runs, played};
 ghost use Rattle.tcap_certificate.specs.Certificate.{Certificate, IsPrompt, prompt};
 ghost use Rattle.tcap_model.specs.Entries.{AreItems};
-ghost use Rattle.tcap_certificate.specs.Follows.{Follows, IsImplied, IsPlain, invoke_id, invoking_half};
-ghost use Rattle.tcap_certificate.specs.Named.{AreSameEvents, IsDescribedBy};
-ghost use Rattle.tcap_check.specs.Given.{DeliversAtOnce, IsGiven, IsInUse, IsReason, IsSeen, MayBeSent};
-ghost use Rattle.tcap_check.specs.Checking.{Checking, Took};
+ghost use Rattle.tcap_certificate.specs.DescribedRun.{Follows, IsImplied, IsPlain, invoke_id, invoking_half};
+ghost use Rattle.tcap_certificate.specs.HalfNames.{AreSameEvents, IsDescribedBy};
+ghost use Rattle.tcap_check.specs.GivenRun.{DeliversAtOnce, IsGiven, IsInUse, IsReason, IsSeen, MayBeSent};
+ghost use Rattle.tcap_check.specs.CheckerMeaning.{Checking, Took};
 ghost use Rattle.tcap_model.specs.declared.reason.Reason.{Reason};
-ghost use Rattle.tcap_certificate.specs.Replayed.{replayed_by};
+ghost use Rattle.tcap_certificate.specs.Replay.{replayed_by};
 
 /// States that what a certificate gives is a run of two ends from the empty world. The run sends exactly the items that
 /// the entries are, in order, and the certificate describes it. It has at most two steps for each entry, one for each

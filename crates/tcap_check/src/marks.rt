@@ -1,12 +1,12 @@
 //! Quiet marks in a replay (Q.774 3.2 and 3.3).
 
 ghost use Rattle.std.specs.Prelude.{◌≡◌, ◌<◌, ◌+◌, ◌^◌, length, None, OnOk, Some};
-ghost use Rattle.tcap_end.specs.Hidden.{close};
+ghost use Rattle.tcap_end.specs.HiddenSteps.{close};
 ghost use Rattle.tcap_model.specs.Run.{Closes};
-ghost use Rattle.tcap_check.specs.Hearing.{alone_marked, halves_closed, halves_quieted, halves_shut, mark_taken};
+ghost use Rattle.tcap_check.specs.ReplaySteps.{alone_marked, halves_closed, halves_quieted, halves_shut, mark_taken};
 ghost use Rattle.tcap_check.specs.Progress.{GrewBy, Yields, YieldsInMemory, end_moved, load, quiet_kept, seat_at, unheard_load};
-ghost use Rattle.tcap_certificate.specs.Replayed.{fault_at};
-ghost use Rattle.tcap_check.specs.Left.{IsListing, Leaves, halves_left, mark_left, quiet_left};
+ghost use Rattle.tcap_certificate.specs.Replay.{fault_at};
+ghost use Rattle.tcap_check.specs.RefusedReplay.{IsListing, Leaves, halves_left, mark_left, quiet_left};
 ghost use Rattle.tcap_model.specs.declared.reason.Reason.TheVariants.{NotQuiet};
 
 use crate::progress::{OUT_OF_MEMORY, Progress, copy_name};

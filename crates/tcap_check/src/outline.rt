@@ -5,8 +5,8 @@ ghost use Rattle.tcap_parts.specs.Meaning.{components_left};
 ghost use Rattle.tcap_end.specs.declared.half.HalfName.TheVariants as names;
 ghost use Rattle.tcap_model.specs.World.{Sent};
 ghost use Rattle.tcap_model.specs.Run.{then_so, where_so};
-ghost use Rattle.tcap_certificate.specs.Follows.{half_begun, invoke_id};
-ghost use Rattle.tcap_check.specs.Outlines.{half_closed, invocation_ended, note_of, outline_named, outline_of};
+ghost use Rattle.tcap_certificate.specs.DescribedRun.{half_begun, invoke_id};
+ghost use Rattle.tcap_check.specs.EntryOutlines.{half_closed, invocation_ended, note_of, outline_named, outline_of};
 
 use std::alloc::{AllocError, Global};
 use std::marker::Model;
@@ -26,7 +26,7 @@ pub(crate) struct Note {
 }
 
 impl Model for Note {
-    ghost use Rattle.tcap_check.specs.Noted.{Noted};
+    ghost use Rattle.tcap_check.specs.NamedMessage.{Noted};
 
     ghost Value = { Noted };
 

@@ -4,16 +4,16 @@ ghost use Rattle.std.specs.Prelude.{◌≡◌, ◌<◌, ◌+◌, ◌^◌, [], �
 ghost use Rattle.tcap_msg.specs.Parts.{otid_in};
 ghost use Rattle.tcap_end.specs.Step.{AnswersInMemory};
 ghost use Rattle.tcap_end.specs.Message.{receive};
-ghost use Rattle.tcap_check.specs.Hearing.{is_judged};
-ghost use Rattle.tcap_check.specs.Listed.{listed_judged};
+ghost use Rattle.tcap_check.specs.ReplaySteps.{is_judged};
+ghost use Rattle.tcap_check.specs.ListedSteps.{listed_judged};
 ghost use Rattle.tcap_check.specs.Progress.{IsMemory, YieldsInMemory, all_kept, count_kept, discard_told, empty_seat};
 ghost use Rattle.tcap_check.specs.Progress.{half_closes, invocation_ends, listed_kept, nothing_kept, seat_at, with_told};
 ghost use Rattle.tcap_record.specs.declared.entry.End.{End as Side};
-ghost use Rattle.tcap_check.specs.Left.{Leaves, listed_left};
-ghost use Rattle.tcap_check.specs.Told.{discard_of, event_of, told_if, told_of};
+ghost use Rattle.tcap_check.specs.RefusedReplay.{Leaves, listed_left};
+ghost use Rattle.tcap_check.specs.ReportedSteps.{discard_of, event_of, told_if, told_of};
 
-use crate::held::Held;
-use crate::listed::Listed;
+use crate::held_message::Held;
+use crate::listed_steps::Listed;
 use crate::outline::{Outline, half_closed, invocation_ended};
 use crate::plan::out_of_range;
 use crate::step::Step;

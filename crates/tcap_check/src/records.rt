@@ -1,21 +1,21 @@
 //! The replay of a certificate over a record.
 
 ghost use Rattle.std.specs.Prelude.{◌≡◌, ◌≢◌, ◌++◌, ◌∷◌, [], Bool, true, List, length, map, None, Result, Ok, Err, OnOk};
-ghost use Rattle.tcap_record.specs.Viewed.{entry_read};
-ghost use Rattle.tcap_check.specs.Given.{IsBounded, RefusesForGood, SaysLawful, ShowsReason};
-ghost use Rattle.tcap_certificate.specs.Named.{IsDescribedBy};
+ghost use Rattle.tcap_record.specs.EntryView.{entry_read};
+ghost use Rattle.tcap_check.specs.GivenRun.{IsBounded, RefusesForGood, SaysLawful, ShowsReason};
+ghost use Rattle.tcap_certificate.specs.HalfNames.{IsDescribedBy};
 ghost use Rattle.tcap_model.specs.Run.{Event, IsRunOf};
 ghost use Rattle.tcap_certificate.specs.declared.fault.CheckFault.{CheckFault as Refusal};
 ghost use Rattle.tcap_model.specs.declared.reason.Reason.{Reason as Why};
 ghost use Rattle.tcap_model.specs.declared.reason.Reason.TheVariants as reasons;
 ghost use Rattle.tcap_model.specs.World.{Item};
 ghost use Rattle.tcap_model.specs.Entries.{AreItems, item_of};
-ghost use Rattle.tcap_certificate.specs.Replayed.{fault_at, replay_by, replayed_by};
-ghost use Rattle.tcap_check.specs.Checking.{Took, TookListed, answer_of, kept_next, map_ok, reported};
+ghost use Rattle.tcap_certificate.specs.Replay.{fault_at, replay_by, replayed_by};
+ghost use Rattle.tcap_check.specs.CheckerMeaning.{Took, TookListed, answer_of, kept_next, map_ok, reported};
 ghost use Rattle.tcap_check.specs.Progress.{YieldsInMemory};
-ghost use Rattle.tcap_check.specs.Ready.{IsReady, checking_of, kept_in};
-ghost use Rattle.tcap_check.specs.Stands.{IfRefused, IsListed, ShowsAmong, ShowsItem, StandsAmong};
-ghost use Rattle.tcap_check.specs.Left.{Leaves, entry_left};
+ghost use Rattle.tcap_check.specs.ReplayInvariants.{IsReady, checking_of, kept_in};
+ghost use Rattle.tcap_check.specs.RunSoFar.{IfRefused, IsListed, ShowsAmong, ShowsItem, StandsAmong};
+ghost use Rattle.tcap_check.specs.RefusedReplay.{Leaves, entry_left};
 ghost use Rattle.tcap_check.specs.declared.checker.Report.{Report as Reported};
 
 use crate::checker::{Checker, Report};

@@ -5,19 +5,19 @@ ghost use Rattle.tcap_certificate.specs.declared.fault.CheckFault.{CheckFault as
 ghost use Rattle.tcap_model.specs.declared.reason.Reason.{Reason as Why};
 ghost use Rattle.tcap_model.specs.declared.reason.Reason.TheVariants as reasons;
 ghost use Rattle.tcap_model.specs.World.{Item, Sent};
-ghost use Rattle.tcap_check.specs.Outlines.{outline_of};
+ghost use Rattle.tcap_check.specs.EntryOutlines.{outline_of};
 ghost use Rattle.tcap_check.specs.Progress.{GrewBy, YieldsInMemory, load, overtakes, seat_at, unheard_load};
-ghost use Rattle.tcap_certificate.specs.Replayed.{certificate_fits, discards_by, fault_at, is_gap, run_by};
-ghost use Rattle.tcap_check.specs.Told.{discards_of, events_of};
-ghost use Rattle.tcap_check.specs.Checking.{TookListed, gap_before, is_alone, kept_ended, kept_next, map_ok, reading, reported, tied_now};
-ghost use Rattle.tcap_check.specs.Hearing.{mark_taken, message_taken};
+ghost use Rattle.tcap_certificate.specs.Replay.{certificate_fits, discards_by, fault_at, is_gap, run_by};
+ghost use Rattle.tcap_check.specs.ReportedSteps.{discards_of, events_of};
+ghost use Rattle.tcap_check.specs.CheckerMeaning.{TookListed, gap_before, is_alone, kept_ended, kept_next, map_ok, reading, reported, tied_now};
+ghost use Rattle.tcap_check.specs.ReplaySteps.{mark_taken, message_taken};
 ghost use Rattle.tcap_check.specs.Plan.{IsPlan, flag_by};
-ghost use Rattle.tcap_check.specs.Left.{IsListing, Leaves, end_left, entry_left, gap_left, mark_left, taken_left};
-ghost use Rattle.tcap_check.specs.Stands.{IsListed, ShowsSend, UnlessMemory};
-ghost use Rattle.tcap_check.specs.Ready.{IsReady, IsSameBesideEntries, IsSameBesideProgress, checking_of, kept_in};
+ghost use Rattle.tcap_check.specs.RefusedReplay.{IsListing, Leaves, end_left, entry_left, gap_left, mark_left, taken_left};
+ghost use Rattle.tcap_check.specs.RunSoFar.{IsListed, ShowsSend, UnlessMemory};
+ghost use Rattle.tcap_check.specs.ReplayInvariants.{IsReady, IsSameBesideEntries, IsSameBesideProgress, checking_of, kept_in};
 
 use crate::checker::Report;
-use crate::hearing::told_among;
+use crate::deliveries::told_among;
 use crate::outline::Outline;
 use crate::plan::{Plan, check_ranges};
 use crate::progress::{OUT_OF_MEMORY, Progress};

@@ -5,12 +5,12 @@ ghost use Rattle.tcap_certificate.specs.declared.fault.CheckFault.{CheckFault as
 ghost use Rattle.tcap_end.specs.End.{nothing};
 ghost use Rattle.tcap_model.specs.declared.reason.Reason.TheVariants as reasons;
 ghost use Rattle.tcap_model.specs.Entries.{item_of};
-ghost use Rattle.tcap_check.specs.AloneGiven.{IsGivenTo};
-ghost use Rattle.tcap_check.specs.Checking.{TookListed, map_ok};
-ghost use Rattle.tcap_check.specs.Ready.{IsReady, checking_of};
-ghost use Rattle.tcap_check.specs.Stands.{EndsListed, UnlessMemory, IsAnswered, IsRefusedThere, IsSoFar, ShowsAmong, StandsAmong, answered};
-ghost use Rattle.tcap_certificate.specs.Replayed.{certificate_fits, discards_by, fault_at, replayed_by};
-ghost use Rattle.tcap_check.specs.Told.{MayAllBeDiscarded, discards_of, events_of};
+ghost use Rattle.tcap_check.specs.OneEndRun.{IsGivenTo};
+ghost use Rattle.tcap_check.specs.CheckerMeaning.{TookListed, map_ok};
+ghost use Rattle.tcap_check.specs.ReplayInvariants.{IsReady, checking_of};
+ghost use Rattle.tcap_check.specs.RunSoFar.{EndsListed, UnlessMemory, IsAnswered, IsRefusedThere, IsSoFar, ShowsAmong, StandsAmong, answered};
+ghost use Rattle.tcap_certificate.specs.Replay.{certificate_fits, discards_by, fault_at, replayed_by};
+ghost use Rattle.tcap_check.specs.ReportedSteps.{MayAllBeDiscarded, discards_of, events_of};
 
 use crate::progress::{OUT_OF_MEMORY, Progress};
 use crate::replaying::Replaying;

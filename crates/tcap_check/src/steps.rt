@@ -13,7 +13,7 @@ pub(crate) struct Steps {
 }
 
 impl Model for Steps {
-    ghost use Rattle.tcap_check.specs.Told.{Told, told_of};
+    ghost use Rattle.tcap_check.specs.ReportedSteps.{Told, told_of};
 
     ghost Value = { Told };
 
@@ -23,7 +23,7 @@ impl Model for Steps {
 impl Steps {
     ghost use Rattle.std.specs.Prelude.{◌≡◌, [], ◌∷◌, None, OnOk};
     ghost use Rattle.tcap_model.specs.Run.{Loses};
-    ghost use Rattle.tcap_check.specs.Told.{discard_more, discard_of, event_of, more_told, nothing_told, told_of};
+    ghost use Rattle.tcap_check.specs.ReportedSteps.{discard_more, discard_of, event_of, more_told, nothing_told, told_of};
 
     /// Creates an empty list.
     pub(crate) fn new(alloc: Global) -> Steps

@@ -1,7 +1,7 @@
 -- Which reader or writer does a wrapper hold?
-use Rattle.tcap_diagnostics.specs.declared.kept.Kept.{Kept}
-use Rattle.tcap_diagnostics.specs.declared.noted.Noted.{Noted}
-use Rattle.tcap_diagnostics.specs.declared.told.Told.{Told}
+use Rattle.tcap_diagnostics.specs.declared.line_reader.Kept.{Kept}
+use Rattle.tcap_diagnostics.specs.declared.first_octets.Noted.{Noted}
+use Rattle.tcap_diagnostics.specs.declared.fault_writer.Told.{Told}
 
 -- the reader in a `Noted`
 abbrev pub noted_inner : {R : Type 0} → Noted R → R

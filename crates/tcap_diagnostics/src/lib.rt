@@ -2,14 +2,16 @@
 //! by mistake. Also prints operation tables.
 #![tactic(auto)]
 
-mod around;
 mod code_hints;
 mod digits;
+mod fault_reasons;
+mod fault_writer;
+mod first_octets;
 mod hints;
-mod kept;
+mod line_reader;
 mod lines;
 mod names;
-mod noted;
+mod octets_around;
 mod part_tables;
 mod parts;
 mod path;
@@ -19,15 +21,13 @@ mod stop;
 mod table_faults;
 mod table_rows;
 mod tables;
-mod told;
-mod why;
 
+pub use fault_reasons::run_why;
+pub use fault_writer::Told;
+pub use first_octets::Noted;
 pub use hints::{Role, hint_of, write_hint};
-pub use kept::Kept;
+pub use line_reader::Kept;
 pub use lines::run_lines;
 pub use names::name_of;
-pub use noted::Noted;
 pub use rules::{Broken, broken_by, push_broken_rule, write_rule};
 pub use tables::{run_table, write_code_hints};
-pub use told::Told;
-pub use why::run_why;

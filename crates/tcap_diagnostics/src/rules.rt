@@ -4,9 +4,9 @@ ghost use Rattle.std.specs.Prelude.{◌≡◌, OnOk, OnErr};
 ghost use Rattle.tcap_ber.specs.Device.{one_more};
 ghost use Rattle.tcap_diagnostics.specs.Devices.{told_inner};
 
-use crate::kept::{Kept, Tail};
+use crate::fault_writer::Told;
+use crate::line_reader::{Kept, Tail};
 use crate::names::name_of;
-use crate::told::Told;
 use std::alloc::{AllocError, Global};
 use tcap_ber::{Outer, Reason, Write, outer};
 use tcap_lines::WriteFailed;

@@ -4,9 +4,9 @@ ghost use Rattle.std.specs.Prelude.{◌≡◌, ◌≢◌, ◌≤◌, length, Err
 ghost use Rattle.tcap_ber.specs.Device.{one_more};
 ghost use Rattle.tcap_diagnostics.specs.declared.stop.Stop.{Stop};
 
-use crate::around::SIDE;
+use crate::fault_reasons::{push_entry_why, push_record_why};
+use crate::octets_around::SIDE;
 use crate::stop::Stop;
-use crate::why::{push_entry_why, push_record_why};
 use std::alloc::{AllocError, Global};
 use tcap_ber::Write;
 use tcap_lines::{MEMORY_LINE, Status, WriteFailed};

@@ -2,7 +2,7 @@
 
 ghost use Rattle.std.specs.Prelude.{◌≡◌};
 ghost use Rattle.tcap_record.specs.declared.fault.FeedReason.{FeedReason};
-ghost use Rattle.tcap_record.specs.Framing.{feed_fault};
+ghost use Rattle.tcap_record.specs.FramingResult.{feed_fault};
 ghost use Rattle.tcap_diagnostics.specs.declared.stop.Stop.{Stop};
 
 use std::alloc::AllocError;

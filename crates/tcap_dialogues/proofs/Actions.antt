@@ -10,7 +10,7 @@ use Rattle.tcap_end.specs.declared.fault.EndFault.TheVariants as faults
 use Rattle.tcap_end.specs.declared.half.HalfName.{HalfName}
 use Rattle.tcap_end.specs.Table.{Table}
 use Rattle.tcap_end.specs.End.{End, all_closed, nothing, quiet}
-use Rattle.tcap_end.specs.Hidden.{close, expire}
+use Rattle.tcap_end.specs.HiddenSteps.{close, expire}
 use Rattle.tcap_end.specs.Message.{receive, send}
 use Rattle.tcap_end.specs.Step.{needs, ◌>>◌}
 use Rattle.tcap_record.specs.Ends.{other}

@@ -6,7 +6,7 @@ use Rattle.std.proofs.lemmas.Bool.{ltb-false, or_left, or_parts}
 use Rattle.std.proofs.lemmas.List.Folds.{list_any-append}
 use Rattle.tcap_dialogues.specs.Course.{Course, Courses, Earlier, Heading, begun_by, comes, courses_behind, courses_so_far, first_over, has_entry, have_one, ids_in, is_begin, is_free, over_by, own_ids, peer_ids, with_entry}
 use Rattle.tcap_dialogues.specs.Cut.{IdOf, is_among, is_same}
-use Rattle.tcap_dialogues.specs.Held.{AreApart, Lingers, is_given_up, is_past_by}
+use Rattle.tcap_dialogues.specs.CutState.{AreApart, Lingers, is_given_up, is_past_by}
 use Rattle.tcap_dialogues.specs.declared.reuse.Reuse.{Reuse}
 use Rattle.tcap_dialogues.specs.declared.reuse.Reuse.TheVariants as reuses
 use Rattle.tcap_dialogues.proofs.CourseJoins.{Hit, IsNew, hit_by, id_comes, id_stays, in_hit, number_comes, number_stays, which}

@@ -9,9 +9,9 @@ use Rattle.tcap_record.specs.declared.entry.End.{End as Side}
 use Rattle.tcap_model.specs.World.{is_side}
 use Rattle.tcap_dialogues.specs.Course.{Course, Courses, Earlier, Heading, begun_by, earlier_in, has_begin, has_entry, have_one, ids_in, over_by, own_ids, peer_ids, with_entry}
 use Rattle.tcap_dialogues.specs.Cut.{IdOf, is_among, is_same}
-use Rattle.tcap_dialogues.specs.Held.{AreApart, AreKept, AreLives, earlier_of, higher, is_named, is_unsettled, others, those}
-use Rattle.tcap_dialogues.specs.Joining.{HasEntry, ids_at}
-use Rattle.tcap_dialogues.specs.declared.known.Known.{Known}
+use Rattle.tcap_dialogues.specs.CutState.{AreApart, AreKept, AreLives, earlier_of, higher, is_named, is_unsettled, others, those}
+use Rattle.tcap_dialogues.specs.CutUpdate.{HasEntry, ids_at}
+use Rattle.tcap_dialogues.specs.declared.known_ids.Known.{Known}
 use Rattle.tcap_dialogues.specs.declared.live.Live.{Live}
 use Rattle.tcap_dialogues.proofs.CourseJoins.{hit_by, ids_more}
 use Rattle.tcap_dialogues.proofs.CutLists.{finds, kept_in, left_in}

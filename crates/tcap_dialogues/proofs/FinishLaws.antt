@@ -15,9 +15,9 @@ use Rattle.std.proofs.lemmas.Map.Keys.{Less-from_sorted}
 use Rattle.std.proofs.lemmas.Option.{get_or_from_slice_get, slice_get-map, slice_get_within}
 use Rattle.std.specs.Option.{option_map}
 use Rattle.tcap_dialogues.specs.Course.{Course}
-use Rattle.tcap_dialogues.specs.Gathered.{AreGathered, HandsOver, IsGathered}
-use Rattle.tcap_dialogues.specs.Held.{AreApart, AreKept, AreLives}
-use Rattle.tcap_dialogues.specs.declared.gathered.Gathered.{Gathered}
+use Rattle.tcap_dialogues.specs.CutDialogues.{AreGathered, HandsOver, IsGathered}
+use Rattle.tcap_dialogues.specs.CutState.{AreApart, AreKept, AreLives}
+use Rattle.tcap_dialogues.specs.declared.complete_dialogue.Gathered.{Gathered}
 use Rattle.tcap_dialogues.specs.declared.live.Live.{Live}
 use Rattle.tcap_dialogues.proofs.GatheredLaws.{at_place}
 

@@ -3,8 +3,8 @@ use Rattle.std.proofs.Common.{arith, ◌≡◌, ◌⊎◌, inl, inr, ℕ, zero, 
 use Rattle.std.specs.Prelude.{Contains, slice_get}
 use Rattle.std.proofs.lemmas.List.Elements.{Contains-append_cases, Contains-append_left, Contains-append_right}
 use Rattle.tcap_dialogues.specs.Course.{Course, has_entry}
-use Rattle.tcap_dialogues.specs.Gathered.{AreGathered, IsGathered, names_entry}
-use Rattle.tcap_dialogues.specs.declared.gathered.Gathered.{Gathered}
+use Rattle.tcap_dialogues.specs.CutDialogues.{AreGathered, IsGathered, names_entry}
+use Rattle.tcap_dialogues.specs.declared.complete_dialogue.Gathered.{Gathered}
 use Rattle.tcap_dialogues.proofs.CutLists.{first_in, in_cases, none_in}
 use Rattle.tcap_dialogues.proofs.HeldLists.{AreSame}
 

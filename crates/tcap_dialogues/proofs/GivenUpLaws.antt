@@ -8,9 +8,9 @@ use Rattle.tcap_record.specs.declared.entry.End.{End as Side}
 use Rattle.tcap_model.specs.World.{is_side}
 use Rattle.tcap_dialogues.specs.Course.{Course, Courses, Heading, accepts, begins_from, gives_to_another, goes_on_with_another, has_begin, have_one, is_begin, is_continue, names_peer, own_ids, peer_ids}
 use Rattle.tcap_dialogues.specs.Cut.{IdOf, is_among, is_same}
-use Rattle.tcap_dialogues.specs.Held.{AreApart, AreLives, is_used_anew}
-use Rattle.tcap_dialogues.specs.Joining.{ids_at}
-use Rattle.tcap_dialogues.specs.declared.known.Known.{Known}
+use Rattle.tcap_dialogues.specs.CutState.{AreApart, AreLives, is_used_anew}
+use Rattle.tcap_dialogues.specs.CutUpdate.{ids_at}
+use Rattle.tcap_dialogues.specs.declared.known_ids.Known.{Known}
 use Rattle.tcap_dialogues.specs.declared.live.Live.{Live}
 use Rattle.tcap_dialogues.proofs.CutLists.{finds, found}
 use Rattle.tcap_dialogues.proofs.HeldLaws.{one_name}

@@ -12,8 +12,8 @@ use Rattle.tcap_record.specs.declared.entry.End.{End as Side}
 use Rattle.tcap_model.specs.World.{is_side}
 use Rattle.tcap_dialogues.specs.Course.{Course, has_begin, has_entry, is_past}
 use Rattle.tcap_dialogues.specs.Cut.{IdOf}
-use Rattle.tcap_dialogues.specs.Held.{AreApart, AreKept, AreLives, AreOvers, AreTaken, IsHeld, IsKnown, IsOne, IsOut, Lingers, has_sent, is_named, known_at, nothing, others, those}
-use Rattle.tcap_dialogues.specs.Joining.{is_over_at}
+use Rattle.tcap_dialogues.specs.CutState.{AreApart, AreKept, AreLives, AreOvers, AreTaken, IsHeld, IsKnown, IsOne, IsOut, Lingers, has_sent, is_named, known_at, nothing, others, those}
+use Rattle.tcap_dialogues.specs.CutUpdate.{is_over_at}
 use Rattle.tcap_dialogues.specs.declared.cut.Cut.{Cut}
 use Rattle.tcap_dialogues.specs.declared.live.Live.{Live}
 use Rattle.tcap_dialogues.specs.declared.reuse.Reuse.TheVariants as reuses

@@ -9,7 +9,7 @@ use Rattle.tcap_end.specs.declared.half.Slot.TheVariants.{Begun, Accepted}
 use Rattle.tcap_end.specs.Step.{needs, ◌>>◌, ◌>>=◌}
 use Rattle.tcap_end.specs.Half.{Half}
 use Rattle.tcap_end.specs.End.{End, KeptHalf, first_half, half_where, is_id, named, nothing, put, with_own, with_peer}
-use Rattle.tcap_end.specs.Sound.{Has, IsEnd, IsKept}
+use Rattle.tcap_end.specs.ReachableEnd.{Has, IsEnd, IsKept}
 use Rattle.tcap_end.proofs.EndLaws.{IsThere, no_half, put_has}
 use Rattle.tcap_end.proofs.FoundLaws.{own_has, peer_has}
 use Rattle.tcap_model.proofs.TurnLaws.{id_is}

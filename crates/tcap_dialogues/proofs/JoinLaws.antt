@@ -8,11 +8,11 @@ use Rattle.std.proofs.lemmas.List.Folds.{list_any-append}
 use Rattle.tcap_record.specs.Ends.{other}
 use Rattle.tcap_dialogues.specs.Course.{Course, Courses, Earlier, Heading, earlier_in, has_entry, have_one, ids_in, is_alone, joined_by, own_ids, peer_ids}
 use Rattle.tcap_dialogues.specs.Cut.{IdOf, is_among}
-use Rattle.tcap_dialogues.specs.Held.{AreApart, IsCutOf, IsHeld, IsOne, earlier_of, higher, is_named, is_unsettled, known_at, known_of, others, those}
-use Rattle.tcap_dialogues.specs.Joining.{AreNoted, HasEntry, IsJoined, IsPut, TakesOne}
+use Rattle.tcap_dialogues.specs.CutState.{AreApart, IsCutOf, IsHeld, IsOne, earlier_of, higher, is_named, is_unsettled, known_at, known_of, others, those}
+use Rattle.tcap_dialogues.specs.CutUpdate.{AreNoted, HasEntry, IsJoined, IsPut, TakesOne}
 use Rattle.tcap_dialogues.specs.declared.cut.Cut.{Cut}
-use Rattle.tcap_dialogues.specs.declared.known.Ids.{Ids}
-use Rattle.tcap_dialogues.specs.declared.known.Known.{Known}
+use Rattle.tcap_dialogues.specs.declared.known_ids.Ids.{Ids}
+use Rattle.tcap_dialogues.specs.declared.known_ids.Known.{Known}
 use Rattle.tcap_dialogues.specs.declared.live.Live.{Live}
 use Rattle.tcap_dialogues.proofs.CourseJoins.{hit_by, ids_more}
 use Rattle.tcap_dialogues.proofs.CourseStretch.{left_apart}
@@ -201,7 +201,7 @@ module _ (s : Courses) (names : Course → ℕ) (sent : IdOf → Bool) (h : Head
               (record third { ids = ids }) put (ap (λ c. c.live) third_is) (ap (λ c. c.overs) third_is) new refl
               (entry_kept earlier old.count h live own peer l new all.kept entry comes_again unsettled_too) puts;
           ids = λ id. subst
-              (λ x. Rattle.tcap_dialogues.specs.Held.IsKnown (joined_by old.count h s.done s.live)
+              (λ x. Rattle.tcap_dialogues.specs.CutState.IsKnown (joined_by old.count h s.done s.live)
               (names_then live names earlier old.count h apart later below new.name) (λ y. sent y || is_among (own_ids h) y) id (known_at x id))
               (sym (ap (λ c. c.ids) puts.rest))
               (ids_then s names sent old.count h apart later below new.name old.ids third.ids ids held.ids own peer own_known peer_known
@@ -211,10 +211,10 @@ module _ (s : Courses) (names : Course → ℕ) (sent : IdOf → Bool) (h : Head
         where
           joined_then : (id : IdOf) → known_at third.ids id
               ≡ Rattle.std.proofs.Common.cond (list_any (λ d. is_among d.ids id) (hit_by h live))
-              (Rattle.tcap_dialogues.specs.Held.changed (Rattle.tcap_dialogues.specs.declared.known.Change.TheVariants.JoinTo new.name) (known_at old.ids id)) (known_at old.ids id)
+              (Rattle.tcap_dialogues.specs.CutState.changed (Rattle.tcap_dialogues.specs.declared.known_ids.Change.TheVariants.JoinTo new.name) (known_at old.ids id)) (known_at old.ids id)
           joined_then id =
               all.ids id
               ∙ ap (λ s. Rattle.std.proofs.Common.cond (list_any (λ d. is_among d.ids id) (hit_by h live))
-              (Rattle.tcap_dialogues.specs.Held.changed (Rattle.tcap_dialogues.specs.declared.known.Change.TheVariants.JoinTo l.name) (known_at s id)) (known_at s id)) same_ids
+              (Rattle.tcap_dialogues.specs.CutState.changed (Rattle.tcap_dialogues.specs.declared.known_ids.Change.TheVariants.JoinTo l.name) (known_at s id)) (known_at s id)) same_ids
               ∙ ap (λ k. Rattle.std.proofs.Common.cond (list_any (λ d. is_among d.ids id) (hit_by h live))
-              (Rattle.tcap_dialogues.specs.Held.changed (Rattle.tcap_dialogues.specs.declared.known.Change.TheVariants.JoinTo k) (known_at old.ids id)) (known_at old.ids id)) (sym entry.name)
+              (Rattle.tcap_dialogues.specs.CutState.changed (Rattle.tcap_dialogues.specs.declared.known_ids.Change.TheVariants.JoinTo k) (known_at old.ids id)) (known_at old.ids id)) (sym entry.name)

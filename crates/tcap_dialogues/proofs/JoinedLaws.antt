@@ -7,12 +7,12 @@ use Rattle.std.proofs.lemmas.List.Elements.{Contains-append_left}
 use Rattle.std.proofs.lemmas.List.Folds.{list_any-append}
 use Rattle.tcap_dialogues.specs.Course.{Course, has_entry}
 use Rattle.tcap_dialogues.specs.Cut.{IdOf, is_among}
-use Rattle.tcap_dialogues.specs.Gathered.{has_id}
-use Rattle.tcap_dialogues.specs.Held.{AreKept, IsOne, changed, known_at}
-use Rattle.tcap_dialogues.specs.Joining.{IsJoined}
+use Rattle.tcap_dialogues.specs.CutDialogues.{has_id}
+use Rattle.tcap_dialogues.specs.CutState.{AreKept, IsOne, changed, known_at}
+use Rattle.tcap_dialogues.specs.CutUpdate.{IsJoined}
 use Rattle.tcap_dialogues.specs.declared.cut.Cut.{Cut}
-use Rattle.tcap_dialogues.specs.declared.known.Change.TheVariants as changes
-use Rattle.tcap_dialogues.specs.declared.known.Known.{Known}
+use Rattle.tcap_dialogues.specs.declared.known_ids.Change.TheVariants as changes
+use Rattle.tcap_dialogues.specs.declared.known_ids.Known.{Known}
 use Rattle.tcap_dialogues.specs.declared.live.Live.{Live}
 use Rattle.tcap_dialogues.proofs.CutLists.{found}
 use Rattle.tcap_dialogues.proofs.HeldLaws.{same_kept}

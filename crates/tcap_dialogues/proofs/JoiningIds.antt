@@ -7,11 +7,11 @@ use Rattle.std.proofs.lemmas.List.Folds.{list_any-append}
 use Rattle.tcap_record.specs.Ends.{other}
 use Rattle.tcap_dialogues.specs.Course.{Course, Courses, Earlier, Heading, begun_by, earlier_in, has_entry, have_one, ids_in, is_begin, joined_by, own_ids, peer_ids}
 use Rattle.tcap_dialogues.specs.Cut.{IdOf, is_among, is_same}
-use Rattle.tcap_dialogues.specs.Held.{AreApart, IsKnown, IsOwned, changed, known_at, known_of, with_one}
-use Rattle.tcap_dialogues.specs.Joining.{AreNoted, own_known}
-use Rattle.tcap_dialogues.specs.declared.known.Change.TheVariants as changes
-use Rattle.tcap_dialogues.specs.declared.known.Ids.{Ids}
-use Rattle.tcap_dialogues.specs.declared.known.Known.{Known}
+use Rattle.tcap_dialogues.specs.CutState.{AreApart, IsKnown, IsOwned, changed, known_at, known_of, with_one}
+use Rattle.tcap_dialogues.specs.CutUpdate.{AreNoted, own_known}
+use Rattle.tcap_dialogues.specs.declared.known_ids.Change.TheVariants as changes
+use Rattle.tcap_dialogues.specs.declared.known_ids.Ids.{Ids}
+use Rattle.tcap_dialogues.specs.declared.known_ids.Known.{Known}
 use Rattle.tcap_dialogues.proofs.CourseJoins.{Hit, hit_by, hit_in, id_comes, id_from, id_stays, in_hit}
 use Rattle.tcap_dialogues.proofs.CutIds.{one_from}
 use Rattle.tcap_dialogues.proofs.CutLists.{finds, found, left_in}

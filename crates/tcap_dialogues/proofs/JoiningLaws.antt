@@ -10,10 +10,10 @@ use Rattle.tcap_record.specs.declared.entry.End.TheVariants as sides
 use Rattle.tcap_record.specs.Ends.{other}
 use Rattle.tcap_dialogues.specs.Course.{Course, Courses, Earlier, Heading, has_entry, have_one, ids_in, own_ids, peer_ids, with_entry}
 use Rattle.tcap_dialogues.specs.Cut.{IdOf, is_among, is_same}
-use Rattle.tcap_dialogues.specs.Held.{AreApart, AreKept, AreLives, AreOvers, IsKnown, IsOwned, known_at, known_of, with_one}
-use Rattle.tcap_dialogues.specs.Joining.{IsPut, ids_at, is_over_at}
+use Rattle.tcap_dialogues.specs.CutState.{AreApart, AreKept, AreLives, AreOvers, IsKnown, IsOwned, known_at, known_of, with_one}
+use Rattle.tcap_dialogues.specs.CutUpdate.{IsPut, ids_at, is_over_at}
 use Rattle.tcap_dialogues.specs.declared.cut.Cut.{Cut}
-use Rattle.tcap_dialogues.specs.declared.known.Ids.{Ids}
+use Rattle.tcap_dialogues.specs.declared.known_ids.Ids.{Ids}
 use Rattle.tcap_dialogues.specs.declared.live.Live.{Live}
 use Rattle.tcap_dialogues.proofs.CourseJoins.{IsNew, hit_by, in_hit, joins, number_comes, number_stays, stays, which}
 use Rattle.tcap_dialogues.proofs.CutIds.{same_id}

@@ -16,14 +16,14 @@ use Rattle.tcap_record.specs.declared.entry.End.{End as Side}
 use Rattle.tcap_record.specs.declared.entry.End.TheVariants as sides
 use Rattle.tcap_model.specs.World.{is_side}
 use Rattle.tcap_dialogues.specs.Cut.{IdOf, is_same}
-use Rattle.tcap_dialogues.specs.Gathered.{by_end, has_id}
-use Rattle.tcap_dialogues.specs.Held.{changed, free_since, gone_since, known_at, known_by, known_in, last_of}
-use Rattle.tcap_dialogues.specs.declared.known.Change.{Change}
-use Rattle.tcap_dialogues.specs.declared.known.Change.TheVariants as changes
-use Rattle.tcap_dialogues.specs.declared.known.EndIds.{EndIds}
-use Rattle.tcap_dialogues.specs.declared.known.Gone.{Gone}
-use Rattle.tcap_dialogues.specs.declared.known.Ids.{Ids}
-use Rattle.tcap_dialogues.specs.declared.known.Known.{Known}
+use Rattle.tcap_dialogues.specs.CutDialogues.{by_end, has_id}
+use Rattle.tcap_dialogues.specs.CutState.{changed, free_since, gone_since, known_at, known_by, known_in, last_of}
+use Rattle.tcap_dialogues.specs.declared.known_ids.Change.{Change}
+use Rattle.tcap_dialogues.specs.declared.known_ids.Change.TheVariants as changes
+use Rattle.tcap_dialogues.specs.declared.known_ids.EndIds.{EndIds}
+use Rattle.tcap_dialogues.specs.declared.known_ids.Gone.{Gone}
+use Rattle.tcap_dialogues.specs.declared.known_ids.Ids.{Ids}
+use Rattle.tcap_dialogues.specs.declared.known_ids.Known.{Known}
 use Rattle.tcap_dialogues.proofs.CutIds.{same_id}
 use Rattle.tcap_dialogues.proofs.HeldLists.{or_none}
 

@@ -17,11 +17,11 @@ use Rattle.tcap_record.specs.declared.entry.End.{End as Side}
 use Rattle.tcap_record.specs.declared.entry.End.TheVariants as sides
 use Rattle.tcap_model.specs.World.{is_side}
 use Rattle.tcap_dialogues.specs.Cut.{IdOf, is_among, is_same}
-use Rattle.tcap_dialogues.specs.Gathered.{by_end, has_id}
+use Rattle.tcap_dialogues.specs.CutDialogues.{by_end, has_id}
 use Rattle.tcap_dialogues.specs.Course.{Course, Heading, begun_by, first_over, has_begin, has_entry, lower, over_by, own_ids, peer_ids}
-use Rattle.tcap_dialogues.specs.Held.{AreKept, earlier_of, has_sent, higher, is_unsettled}
-use Rattle.tcap_dialogues.specs.Joining.{HasEntry, HasId, HasSender, ids_at}
-use Rattle.tcap_dialogues.specs.declared.known.Known.{Known}
+use Rattle.tcap_dialogues.specs.CutState.{AreKept, earlier_of, has_sent, higher, is_unsettled}
+use Rattle.tcap_dialogues.specs.CutUpdate.{HasEntry, HasId, HasSender, ids_at}
+use Rattle.tcap_dialogues.specs.declared.known_ids.Known.{Known}
 use Rattle.tcap_dialogues.specs.declared.live.Live.{Live}
 use Rattle.tcap_dialogues.proofs.HeldLists.{or_none}
 use Rattle.tcap_dialogues.proofs.HeldOvers.{over_appended}

@@ -6,10 +6,10 @@ use Rattle.std.proofs.lemmas.Bool.{false_from_ne_true, true≢false}
 use Rattle.tcap_record.specs.declared.entry.End.{End as Side}
 use Rattle.tcap_dialogues.specs.Course.{Course, Courses, firm_in, have_one}
 use Rattle.tcap_dialogues.specs.Cut.{IdOf, is_among}
-use Rattle.tcap_dialogues.specs.Held.{AreApart, IsKnown, IsOwned, known_at, known_of}
-use Rattle.tcap_dialogues.specs.Joining.{ids_at}
-use Rattle.tcap_dialogues.specs.declared.known.Ids.{Ids}
-use Rattle.tcap_dialogues.specs.declared.known.Known.{Known}
+use Rattle.tcap_dialogues.specs.CutState.{AreApart, IsKnown, IsOwned, known_at, known_of}
+use Rattle.tcap_dialogues.specs.CutUpdate.{ids_at}
+use Rattle.tcap_dialogues.specs.declared.known_ids.Ids.{Ids}
+use Rattle.tcap_dialogues.specs.declared.known_ids.Known.{Known}
 use Rattle.tcap_dialogues.proofs.CutLists.{finds, found}
 use Rattle.tcap_dialogues.proofs.HeldLists.{or_none}
 

@@ -10,8 +10,8 @@ use Rattle.tcap_end.specs.declared.half.HalfName.{HalfName}
 use Rattle.tcap_end.specs.Table.{Table}
 use Rattle.tcap_end.specs.End.{End}
 use Rattle.tcap_end.specs.Message.{receive, send}
-use Rattle.tcap_end.specs.Hidden.{close, expire}
-use Rattle.tcap_end.specs.Sound.{IsEnd}
+use Rattle.tcap_end.specs.HiddenSteps.{close, expire}
+use Rattle.tcap_end.specs.ReachableEnd.{IsEnd}
 use Rattle.tcap_record.specs.Ends.{other}
 use Rattle.tcap_model.specs.World.{Item, OnItsWay, Sent}
 use Rattle.tcap_model.specs.Run.{abort_for, may_refuse, provider_abort, reply_to, where_so}

@@ -10,7 +10,7 @@ use Rattle.tcap_end.specs.Table.{Table}
 use Rattle.tcap_record.specs.Ends.{other}
 use Rattle.tcap_model.specs.World.{Item, OnItsWay, Sent, World, channel_from, empty, end_at}
 use Rattle.tcap_model.specs.Run.{Event, IsLawful, IsLawfulFor, KeepsRules, Runs, after, is_told_by, tells}
-use Rattle.tcap_model.specs.Since.{WasSent}
+use Rattle.tcap_model.specs.SinceMark.{WasSent}
 use Rattle.tcap_model.proofs.ChannelLaws.{were_sent}
 use Rattle.tcap_model.proofs.ListLaws.{all_weaker}
 use Rattle.tcap_model.proofs.RunLaws.{grows, runs_keep, sound}

@@ -18,8 +18,8 @@ use Rattle.tcap_end.specs.Component.{own_invocation}
 use Rattle.tcap_end.specs.End.{End, KeptHalf, all_closed, named, nothing, put, quiet, with_own, with_peer}
 use Rattle.tcap_end.specs.Dialogue.{first_standing}
 use Rattle.tcap_end.specs.Message.{active_half, receive, receive_begin, receive_components, receive_continue, receive_end, receive_over}
-use Rattle.tcap_end.specs.Hidden.{close, expire, may_close, may_expire, without_invocation}
-use Rattle.tcap_end.specs.Sound.{Has, IsEnd}
+use Rattle.tcap_end.specs.HiddenSteps.{close, expire, may_close, may_expire, without_invocation}
+use Rattle.tcap_end.specs.ReachableEnd.{Has, IsEnd}
 use Rattle.tcap_end.proofs.AnsweringLaws.{needs_ok, some_ok, then_ok}
 use Rattle.tcap_end.proofs.ComponentLaws.{Receives, all_receives}
 use Rattle.tcap_end.proofs.FoundLaws.{named_has, own_has}

@@ -7,11 +7,11 @@ use Rattle.std.proofs.lemmas.List.{append-nil}
 use Rattle.std.proofs.lemmas.List.Folds.{list_any-append}
 use Rattle.tcap_dialogues.specs.Course.{Course, Courses, firm_in, has_entry}
 use Rattle.tcap_dialogues.specs.Cut.{IdOf, is_among, is_same}
-use Rattle.tcap_dialogues.specs.Gathered.{HandsOver, IsGathered, has_id}
-use Rattle.tcap_dialogues.specs.Held.{AreApart, AreKept, AreLives, AreTaken, IsHeld, IsKnown, IsOut, IsOwned, free_since, freed, is_named, known_at, others, those}
+use Rattle.tcap_dialogues.specs.CutDialogues.{HandsOver, IsGathered, has_id}
+use Rattle.tcap_dialogues.specs.CutState.{AreApart, AreKept, AreLives, AreTaken, IsHeld, IsKnown, IsOut, IsOwned, free_since, freed, is_named, known_at, others, those}
 use Rattle.tcap_dialogues.specs.declared.cut.Cut.{Cut}
-use Rattle.tcap_dialogues.specs.declared.gathered.Gathered.{Gathered}
-use Rattle.tcap_dialogues.specs.declared.known.Known.{Known}
+use Rattle.tcap_dialogues.specs.declared.complete_dialogue.Gathered.{Gathered}
+use Rattle.tcap_dialogues.specs.declared.known_ids.Known.{Known}
 use Rattle.tcap_dialogues.specs.declared.live.Live.{Live}
 use Rattle.tcap_dialogues.proofs.CutLists.{finds, first_in, found, in_cases, kept_in, left_in, none_in}
 use Rattle.tcap_dialogues.proofs.GatheredLaws.{none_gathered, one_gathered}
@@ -175,7 +175,7 @@ module _ (s : Courses) (names : Course → ℕ) (sent : IdOf → Bool) (number :
         λ e there. kept.early ∙ or_none d.early ∙ ap (λ x. x.early) (sym (only e there)) in (
           record {
             lives = subst (AreLives left names) (sym same_live) is.lives;
-            overs = subst (Rattle.tcap_dialogues.specs.Held.AreOvers left names) (sym same_overs) is.overs;
+            overs = subst (Rattle.tcap_dialogues.specs.CutState.AreOvers left names) (sym same_overs) is.overs;
             ids = λ id. known_then first l.early early_is (known_at old.ids id) id (held.ids id) (known_at new.ids id)
                 (ids id
                 ∙ ap (λ known. cond (has_id l.a l.b id) (free_since first l.early known) known) (ap (λ k. known_at k.ids id) is.rest)

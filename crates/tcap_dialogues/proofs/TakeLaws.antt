@@ -9,10 +9,10 @@ use Rattle.std.proofs.lemmas.List.Folds.{list_any-append}
 use Rattle.std.proofs.lemmas.Grind.{flat_map-append}
 use Rattle.tcap_dialogues.specs.Course.{Course, Courses, Heading, begins_one, courses_so_far, firm_in, has_entry, have_one, ids_in, is_alone, is_free, joined_by, own_ids}
 use Rattle.tcap_dialogues.specs.Cut.{IdOf, is_among, is_same}
-use Rattle.tcap_dialogues.specs.Gathered.{HandsOver}
-use Rattle.tcap_dialogues.specs.Held.{AreApart, IsCut, IsCutOf, IsHeld, Lingers, freed, is_given_up, is_named, is_past_by, known_at, others, those}
+use Rattle.tcap_dialogues.specs.CutDialogues.{HandsOver}
+use Rattle.tcap_dialogues.specs.CutState.{AreApart, IsCut, IsCutOf, IsHeld, Lingers, freed, is_given_up, is_named, is_past_by, known_at, others, those}
 use Rattle.tcap_dialogues.specs.declared.cut.Cut.{Cut}
-use Rattle.tcap_dialogues.specs.declared.gathered.Gathered.{Gathered}
+use Rattle.tcap_dialogues.specs.declared.complete_dialogue.Gathered.{Gathered}
 use Rattle.tcap_dialogues.specs.declared.reuse.Reuse.{Reuse}
 use Rattle.tcap_dialogues.proofs.CourseStretch.{apart_so_far, free_is, left_apart, so_far_more, well_so_far}
 use Rattle.tcap_dialogues.proofs.CutLists.{kept_in, left_in}
@@ -45,8 +45,8 @@ held_same s t names sent sent_too kept done same agree held = record {
     part ids id =
         any_flat (is_same id) ids s.done ∙ any_same (λ d. is_among (ids d) id) s.done t.done done ∙ sym (any_flat (is_same id) ids t.done)
 
-    by : (id : IdOf) (o : Option ℕ) (used begun : Bool) → Rattle.tcap_dialogues.specs.Held.IsOwned s.live names id o used begun
-        → Rattle.tcap_dialogues.specs.Held.IsOwned t.live names id o used begun
+    by : (id : IdOf) (o : Option ℕ) (used begun : Bool) → Rattle.tcap_dialogues.specs.CutState.IsOwned s.live names id o used begun
+        → Rattle.tcap_dialogues.specs.CutState.IsOwned t.live names id o used begun
     by id None used begun (nobody, unused, unbegun) = (λ d has. nobody d (same.back d has), unused, unbegun)
     by id (Some m) used begun (d, has, its, named, used_is, begun_is) = (d, same.there d has, its, named, used_is, begun_is)
 

@@ -12,7 +12,7 @@ use Rattle.tcap_end.specs.declared.half.Slot.{Slot}
 use Rattle.tcap_end.specs.Table.{octets_cmp}
 use Rattle.tcap_end.specs.Half.{Half, is_closed}
 use Rattle.tcap_end.specs.End.{KeptHalf, all_closed, first_half}
-use Rattle.tcap_end.specs.Sound.{Rises}
+use Rattle.tcap_end.specs.ReachableEnd.{Rises}
 use Rattle.tcap_end.proofs.MapLaws.{below_all, found_first, found_later}
 use Rattle.tcap_end.proofs.FoundLaws.{half_at, octets_total}
 

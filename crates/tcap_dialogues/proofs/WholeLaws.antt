@@ -2,8 +2,8 @@
 use Rattle.std.proofs.Common.{List, [], ◌∷◌, ◌++◌, length, sym, subst}
 use Rattle.std.specs.Prelude.{filter}
 use Rattle.tcap_dialogues.specs.Course.{Heading, courses_of, courses_so_far, is_free}
-use Rattle.tcap_dialogues.specs.Gathered.{AreGathered}
-use Rattle.tcap_dialogues.specs.declared.gathered.Gathered.{Gathered}
+use Rattle.tcap_dialogues.specs.CutDialogues.{AreGathered}
+use Rattle.tcap_dialogues.specs.declared.complete_dialogue.Gathered.{Gathered}
 use Rattle.tcap_dialogues.specs.declared.reuse.Reuse.{Reuse}
 use Rattle.tcap_dialogues.proofs.CourseStretch.{so_far_more, well_so_far}
 use Rattle.tcap_dialogues.proofs.CutLists.{kept_in}

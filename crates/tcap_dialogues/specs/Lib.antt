@@ -2,9 +2,9 @@ pub mod Part
 pub mod Cut
 pub mod Course
 pub mod HeadingReading
-pub mod Gathered
-pub mod Held
-pub mod Joining
+pub mod CutDialogues
+pub mod CutState
+pub mod CutUpdate
 pub mod WorkedParts
 pub mod WorkedCourses
 pub mod WorkedHeadings

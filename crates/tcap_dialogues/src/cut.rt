@@ -6,13 +6,13 @@ ghost use Rattle.std.specs.List.{flat_map};
 ghost use Rattle.tcap_end.specs.Table.{octets_cmp};
 ghost use Rattle.tcap_dialogues.specs.Course.{Course, Courses, Heading, begins_one, courses_so_far, is_free, own_ids};
 ghost use Rattle.tcap_dialogues.specs.Cut.{IdOf, is_among};
-ghost use Rattle.tcap_dialogues.specs.Gathered.{HandsOver};
+ghost use Rattle.tcap_dialogues.specs.CutDialogues.{HandsOver};
 ghost use Rattle.tcap_dialogues.specs.HeadingReading.{heading_read};
-ghost use Rattle.tcap_dialogues.specs.Held.{AreApart, AreLives, AreOvers, IsCut, IsHeld, IsOut, freed, those};
+ghost use Rattle.tcap_dialogues.specs.CutState.{AreApart, AreLives, AreOvers, IsCut, IsHeld, IsOut, freed, those};
 
-use crate::gathered::Gathered;
+use crate::complete_dialogue::Gathered;
 use crate::heading::HeadingView;
-use crate::known::{Change, Ids};
+use crate::known_ids::{Change, Ids};
 use crate::live::Live;
 use crate::reuse::Reuse;
 use std::alloc::{AllocError, Global};

@@ -11,9 +11,9 @@ ghost use Rattle.tcap_dialogues.specs.Course.{Course, Heading, bare, courses_of,
 ghost use Rattle.tcap_dialogues.specs.declared.reuse.Reuse.{Reuse};
 ghost use Rattle.tcap_dialogues.specs.declared.reuse.Reuse.TheVariants as reuses;
 ghost use Rattle.tcap_dialogues.specs.Cut.{Dialogue, IdOf, dialogues_of, is_among, is_of};
-ghost use Rattle.tcap_dialogues.specs.Gathered.{AreGathered};
+ghost use Rattle.tcap_dialogues.specs.CutDialogues.{AreGathered};
 ghost use Rattle.tcap_dialogues.specs.Part.{IsClosed, part_of};
-ghost use Rattle.tcap_dialogues.specs.declared.gathered.Gathered.{Gathered};
+ghost use Rattle.tcap_dialogues.specs.declared.complete_dialogue.Gathered.{Gathered};
 
 /// Shows that a lawful end may have sent its part of each part of a list, with the quiet marks, if this part shares no
 /// transaction ID with the rest (Q.774 3.3). So a fault in a dialogue is a fault in the record.

@@ -2,17 +2,17 @@
 //! dialogue.
 #![tactic(auto)]
 
+mod complete_dialogue;
 mod cut;
-mod freeing;
-mod gathered;
+mod free_ids;
 mod heading;
-mod joining;
-mod known;
+mod join;
+mod known_ids;
 pub mod laws;
 mod live;
 mod reuse;
 
+pub use complete_dialogue::Gathered;
 pub use cut::Cut;
-pub use gathered::Gathered;
 pub use heading::{HeadingView, heading_of_message, read_heading};
 pub use reuse::Reuse;

@@ -3,14 +3,14 @@
 ghost use Rattle.std.specs.Prelude.{◌≡◌, List, [], ◌∷◌, ◌++◌, length, nat_lt, IfOk, OnOk};
 ghost use Rattle.tcap_msg.specs.Meaning.{id_of};
 ghost use Rattle.tcap_dialogues.specs.Course.{Course, begun_by, lower, over_by};
-ghost use Rattle.tcap_dialogues.specs.Gathered.{IsGathered};
+ghost use Rattle.tcap_dialogues.specs.CutDialogues.{IsGathered};
 ghost use Rattle.tcap_dialogues.specs.HeadingReading.{heading_read};
-ghost use Rattle.tcap_dialogues.specs.Held.{AreKept, has_sent, higher};
-ghost use Rattle.tcap_dialogues.specs.Joining.{HasEntry, HasId, HasSender, ids_at};
+ghost use Rattle.tcap_dialogues.specs.CutState.{AreKept, has_sent, higher};
+ghost use Rattle.tcap_dialogues.specs.CutUpdate.{HasEntry, HasId, HasSender, ids_at};
 
-use crate::gathered::Gathered;
+use crate::complete_dialogue::Gathered;
 use crate::heading::HeadingView;
-use crate::known::Known;
+use crate::known_ids::Known;
 use std::alloc::{AllocError, Global};
 use std::collections::BTreeSet;
 use tcap_msg::{Kind, TransactionId, TransactionIdView};

@@ -17,7 +17,7 @@ use Rattle.tcap_end.specs.Table.{octets_cmp}
 use Rattle.tcap_end.specs.Half.{Half}
 use Rattle.tcap_end.specs.HalfState.{half_of, other_id}
 use Rattle.tcap_end.specs.End.{End, put}
-use Rattle.tcap_end.specs.Sound.{Has, Rises, halves_of}
+use Rattle.tcap_end.specs.ReachableEnd.{Has, Rises, halves_of}
 use Rattle.tcap_end.specs.Halves.{Indexes, IsAt, IsHeld, IsNew, IsOpen, end_of, half_at, half_in, halves_at, kept_half, places_of}
 use Rattle.tcap_lists.proofs.MapLaws.{found_inserted, found_other, kept_at, rises_inserted}
 use Rattle.tcap_end.proofs.FoundLaws.{octets_total}

@@ -17,7 +17,7 @@ use Rattle.tcap_end.specs.Table.{octets_cmp}
 use Rattle.tcap_end.specs.Half.{Half, is_closed}
 use Rattle.tcap_end.specs.HalfState.{half_of}
 use Rattle.tcap_end.specs.End.{End, all_closed}
-use Rattle.tcap_end.specs.Sound.{Has}
+use Rattle.tcap_end.specs.ReachableEnd.{Has}
 use Rattle.tcap_end.specs.Halves.{AllPlaced, IsAt, IsHeld, IsOpen, end_of, half_at, half_in, halves_at, places_of, kept_half}
 use Rattle.tcap_lists.proofs.MapLaws.{found_new, found_other, kept_at}
 use Rattle.tcap_end.proofs.FoundLaws.{octets_total}

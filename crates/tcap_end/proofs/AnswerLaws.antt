@@ -24,9 +24,9 @@ use Rattle.tcap_end.specs.Table.{Table, octets_cmp}
 use Rattle.tcap_end.specs.Half.{Half, is_closed}
 use Rattle.tcap_end.specs.HalfState.{half_of, other_id}
 use Rattle.tcap_end.specs.Message.{active_half, receive_components}
-use Rattle.tcap_end.specs.Ways.{components_by}
+use Rattle.tcap_end.specs.ComponentSteps.{components_by}
 use Rattle.tcap_end.specs.End.{End, KeptHalf, put}
-use Rattle.tcap_end.specs.Sound.{Has, IsKept, halves_of}
+use Rattle.tcap_end.specs.ReachableEnd.{Has, IsKept, halves_of}
 use Rattle.tcap_end.specs.Halves.{AllPlaced, Indexes, IsAt, IsHeld, IsOpen, end_of, index_of, kept_half, places_of}
 use Rattle.tcap_lists.proofs.MapLaws.{found_inserted, found_new, found_other, kept_at}
 use Rattle.tcap_end.proofs.FoundLaws.{octets_total}

@@ -11,12 +11,12 @@ use Rattle.std.proofs.Math.Seq.{take-append_seam}
 use Rattle.tcap_end.specs.Half.{listed, with_listed, with_newest, without_oldest}
 use Rattle.tcap_lists.specs.Lists.{keep, one_less, with_place}
 use Rattle.tcap_lists.specs.Row.{filled, fits_in}
-use Rattle.tcap_end.specs.Places.{place_of}
+use Rattle.tcap_end.specs.OldestPlace.{place_of}
 use Rattle.tcap_parts.specs.declared.code.Code.{Code}
 use Rattle.tcap_end.specs.declared.half.InvocationState.TheVariants as states
-use Rattle.tcap_end.specs.declared.outs.OwnInvocation.{OwnInvocation}
-use Rattle.tcap_end.specs.declared.outs.Outs.{Outs}
-use Rattle.tcap_end.specs.Outs.{HasPlace, kept_outs, in_state, with_state, with_out}
+use Rattle.tcap_end.specs.declared.own_invocations.OwnInvocation.{OwnInvocation}
+use Rattle.tcap_end.specs.declared.own_invocations.Outs.{Outs}
+use Rattle.tcap_end.specs.OwnInvocations.{HasPlace, kept_outs, in_state, with_state, with_out}
 use Rattle.tcap_lists.proofs.KeepLaws.{Whole, given_back, given_twice, listed_with, remove_absent}
 use Rattle.tcap_lists.proofs.PlaceLaws.{any_filled}
 use Rattle.tcap_lists.proofs.MapLaws.{found_new, insert_again, insert_twice, rises_inserted}

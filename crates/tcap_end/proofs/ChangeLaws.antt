@@ -19,7 +19,7 @@ use Rattle.tcap_end.specs.Table.{octets_cmp}
 use Rattle.tcap_end.specs.Half.{Half, closed_half, fresh, is_closed}
 use Rattle.tcap_end.specs.HalfState.{half_of}
 use Rattle.tcap_end.specs.End.{End, put}
-use Rattle.tcap_end.specs.Sound.{Has, IsKept, Rises, halves_of}
+use Rattle.tcap_end.specs.ReachableEnd.{Has, IsKept, Rises, halves_of}
 use Rattle.tcap_end.specs.Halves.{AnswersOver, Becomes, Indexes, IsAt, IsHeld, IsOpen, closed_at, end_of, half_at, half_in, halves_at, places_of, kept_half}
 use Rattle.tcap_lists.proofs.MapLaws.{found_inserted, found_new, insert_again, keys_eq, kept_at, rises_inserted}
 use Rattle.tcap_end.proofs.FoundLaws.{octets_total}

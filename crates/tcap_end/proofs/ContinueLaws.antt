@@ -14,9 +14,9 @@ use Rattle.tcap_end.specs.Dialogue.{answers_request, first_standing}
 use Rattle.tcap_end.specs.End.{End, KeptHalf, is_id, put, with_own, with_peer}
 use Rattle.tcap_end.specs.Half.{Half, closed_half, fresh, is_closed}
 use Rattle.tcap_end.specs.Message.{active_half, receive_begin, receive_continue, receive_end, receive_over}
-use Rattle.tcap_end.specs.Sound.{FitsPhase, Has, IsEnd, IsKept}
+use Rattle.tcap_end.specs.ReachableEnd.{FitsPhase, Has, IsEnd, IsKept}
 use Rattle.tcap_end.specs.Table.{Table}
-use Rattle.tcap_end.specs.Ways.{components_by, way_of}
+use Rattle.tcap_end.specs.ComponentSteps.{components_by, way_of}
 use Rattle.tcap_end.proofs.WayLaws.{receives_in}
 
 -- ---- a Begin

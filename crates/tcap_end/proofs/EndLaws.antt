@@ -10,7 +10,7 @@ use Rattle.tcap_end.specs.declared.half.Slot.TheVariants.{Begun, Accepted}
 use Rattle.tcap_end.specs.Table.{octets_cmp}
 use Rattle.tcap_end.specs.Half.{Half, is_closed}
 use Rattle.tcap_end.specs.End.{End, KeptHalf, nothing, put, quiet, with_own, with_peer}
-use Rattle.tcap_end.specs.Sound.{Has, IsEnd, IsHalf, IsKept, IsSame, Rises, halves_of}
+use Rattle.tcap_end.specs.ReachableEnd.{Has, IsEnd, IsHalf, IsKept, IsSame, Rises, halves_of}
 use Rattle.tcap_end.proofs.AnsweringLaws.{needs_ok, ok_same}
 use Rattle.tcap_lists.proofs.MapLaws.{found_inserted, found_other, rises_inserted}
 use Rattle.tcap_end.proofs.FoundLaws.{half_at, none_own, none_peer, octets_total}

@@ -2,7 +2,7 @@
 use Rattle.std.proofs.Common.{◌≡◌, Result, Ok, Err, OnErr}
 use Rattle.tcap_end.specs.declared.fault.EndFault.{EndFault}
 use Rattle.tcap_end.specs.End.{End}
-use Rattle.tcap_end.specs.Sound.{IsEnd}
+use Rattle.tcap_end.specs.ReachableEnd.{IsEnd}
 use Rattle.tcap_end.specs.Step.{Answers, AnswersInMemory}
 
 pub sound_after : (step : Result End EndFault) (answer : Result (Unit {0}) EndFault) (e next : End) → IsEnd e

@@ -18,7 +18,7 @@ use Rattle.tcap_end.specs.Table.{octets_cmp}
 use Rattle.tcap_end.specs.Half.{Half, is_closed}
 use Rattle.tcap_end.specs.HalfState.{half_of}
 use Rattle.tcap_end.specs.End.{End, KeptHalf, first_half, half_where, is_id, with_own, with_peer}
-use Rattle.tcap_end.specs.Sound.{Has, IsEnd, IsKept, IsSame, halves_of}
+use Rattle.tcap_end.specs.ReachableEnd.{Has, IsEnd, IsKept, IsSame, halves_of}
 use Rattle.tcap_end.specs.Halves.{Indexes, IsAt, IsNumbered, IsHeld, IsOpen, closed_at, end_of, half_at, half_in, halves_at, places_of, kept_half}
 use Rattle.tcap_lists.proofs.MapLaws.{kept_at}
 use Rattle.tcap_end.proofs.FoundLaws.{none_own, none_peer, own_has, peer_has}

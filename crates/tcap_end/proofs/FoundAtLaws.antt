@@ -10,8 +10,8 @@ use Rattle.std.specs.BTreeMap.{insert_entry, is_at}
 use Rattle.std.specs.Ordering.{int_cmp, is_lt, match_ordering}
 use Rattle.std.proofs.lemmas.Cmp.{int_cmp_total}
 use Rattle.std.proofs.lemmas.List.Sorted.{searchable_from_sorted}
-use Rattle.tcap_end.specs.Sound.{Rises}
-use Rattle.tcap_end.specs.Outs.{found_at, one_on}
+use Rattle.tcap_end.specs.ReachableEnd.{Rises}
+use Rattle.tcap_end.specs.OwnInvocations.{found_at, one_on}
 use Rattle.tcap_lists.proofs.KeepLaws.{lookup_above}
 use Rattle.tcap_lists.proofs.MapLaws.{below_all, turned, turned_less}
 

@@ -14,7 +14,7 @@ use Rattle.tcap_end.specs.declared.half.Slot.TheVariants.{Begun, Accepted}
 use Rattle.tcap_end.specs.Table.{octets_cmp}
 use Rattle.tcap_end.specs.Half.{Half}
 use Rattle.tcap_end.specs.End.{End, KeptHalf, first_half, half_where, is_id, named, with_own, with_peer}
-use Rattle.tcap_end.specs.Sound.{Has, IsEnd, Rises, halves_of}
+use Rattle.tcap_end.specs.ReachableEnd.{Has, IsEnd, Rises, halves_of}
 use Rattle.tcap_lists.proofs.MapLaws.{behind_first, kept_at}
 
 pub octets_total : IsTotalOrder octets_cmp

@@ -9,12 +9,12 @@ use Rattle.tcap_end.specs.declared.half.Phase.{Phase}
 use Rattle.tcap_end.specs.declared.half.Phase.TheVariants as phases
 use Rattle.tcap_end.specs.declared.half.Standing.{Standing}
 use Rattle.tcap_end.specs.declared.half.Standing.TheVariants as standings
-use Rattle.tcap_end.specs.declared.outs.OwnInvocation.{OwnInvocation}
+use Rattle.tcap_end.specs.declared.own_invocations.OwnInvocation.{OwnInvocation}
 use Rattle.tcap_end.specs.Half.{Answer, Half, Invocation, closed_half, fresh}
 use Rattle.tcap_end.specs.Dialogue.{confirm, first_standing, is_request}
 use Rattle.tcap_end.specs.Message.{active_half, is_active, is_received}
 use Rattle.tcap_end.specs.declared.half.Slot.TheVariants.{Begun, Accepted}
-use Rattle.tcap_end.specs.Sound.{FitsPhase, HasItems, IsHalf, Rises}
+use Rattle.tcap_end.specs.ReachableEnd.{FitsPhase, HasItems, IsHalf, Rises}
 use Rattle.tcap_lists.proofs.MapLaws.{rises_removed}
 
 -- ---- a step from one half to another

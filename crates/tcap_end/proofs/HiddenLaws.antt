@@ -8,13 +8,13 @@ use Rattle.tcap_end.specs.declared.half.HalfName.{HalfName}
 use Rattle.tcap_end.specs.declared.half.InvocationState.TheVariants as states
 use Rattle.tcap_end.specs.declared.half.Phase.{Phase}
 use Rattle.tcap_end.specs.declared.half.Phase.TheVariants as phases
-use Rattle.tcap_end.specs.declared.outs.OwnInvocation.{OwnInvocation}
-use Rattle.tcap_end.specs.declared.outs.Outs.{Outs}
+use Rattle.tcap_end.specs.declared.own_invocations.OwnInvocation.{OwnInvocation}
+use Rattle.tcap_end.specs.declared.own_invocations.Outs.{Outs}
 use Rattle.tcap_end.specs.Component.{own_invocation}
 use Rattle.tcap_end.specs.End.{End, KeptHalf, named, put}
 use Rattle.tcap_end.specs.Half.{Half, closed_half, is_closed}
-use Rattle.tcap_end.specs.Hidden.{close, expire, may_close, may_expire, without_invocation, open_named}
-use Rattle.tcap_end.specs.Outs.{HasPlace, kept_outs}
+use Rattle.tcap_end.specs.HiddenSteps.{close, expire, may_close, may_expire, without_invocation, open_named}
+use Rattle.tcap_end.specs.OwnInvocations.{HasPlace, kept_outs}
 use Rattle.tcap_end.specs.Table.{Table, expires_of}
 use Rattle.tcap_end.proofs.BackLaws.{has_place}
 use Rattle.tcap_lists.proofs.MapLaws.{rises_removed}

@@ -4,10 +4,10 @@ use Rattle.tcap_end.specs.declared.half_state.HalfState.{HalfState}
 use Rattle.tcap_end.specs.declared.half_state.Change.{Change}
 use Rattle.tcap_end.specs.declared.half_state.Change.TheVariants.{InnJoined, GrantJoined}
 use Rattle.tcap_lists.specs.declared.lists.Lists.{Lists}
-use Rattle.tcap_end.specs.declared.outs.Outs.{Outs}
+use Rattle.tcap_end.specs.declared.own_invocations.Outs.{Outs}
 use Rattle.tcap_end.specs.Half.{Answer, Invocation, with_newest}
 use Rattle.tcap_lists.specs.Lists.{HasRow, KeepsRows, one_less, rows_of}
-use Rattle.tcap_end.specs.Outs.{HasPlace}
+use Rattle.tcap_end.specs.OwnInvocations.{HasPlace}
 use Rattle.tcap_end.specs.HalfState.{CanUndo, IsUndone, Keeps, StillUndoes, kept_of, undone}
 use Rattle.tcap_end.proofs.BackLaws.{less_again}
 use Rattle.tcap_lists.proofs.ListLaws.{whole_rows}

@@ -7,10 +7,10 @@ use Rattle.std.specs.List.{insert}
 use Rattle.std.specs.List.Sorted.{IsStrictlySortedBy}
 use Rattle.std.specs.Map.{lookup}
 use Rattle.std.specs.BTreeMap.{insert_entry, is_at}
-use Rattle.tcap_end.specs.declared.outs.OwnInvocation.{OwnInvocation}
-use Rattle.tcap_end.specs.Sound.{Rises}
+use Rattle.tcap_end.specs.declared.own_invocations.OwnInvocation.{OwnInvocation}
+use Rattle.tcap_end.specs.ReachableEnd.{Rises}
 use Rattle.tcap_lists.specs.Lists.{keep}
-use Rattle.tcap_end.specs.Outs.{found_at, with_out}
+use Rattle.tcap_end.specs.OwnInvocations.{found_at, with_out}
 use Rattle.tcap_lists.proofs.KeepLaws.{insert_dropped, insert_keep, lookup_keep}
 use Rattle.tcap_lists.proofs.MapLaws.{found_new, rises_inserted, still_found}
 use Rattle.tcap_end.proofs.FoundAtLaws.{found_absent, found_there}

@@ -16,7 +16,7 @@ use Rattle.tcap_end.specs.End.{End, KeptHalf, named, with_own, with_peer}
 use Rattle.tcap_end.specs.Half.{Half, fresh, is_closed}
 use Rattle.tcap_end.specs.HalfState.{half_of, other_id}
 use Rattle.tcap_end.specs.Halves.{HasOpen, IsNew, end_of, half_at, kept_half, places_of}
-use Rattle.tcap_end.specs.Sound.{Has, IsEnd, IsKept}
+use Rattle.tcap_end.specs.ReachableEnd.{Has, IsEnd, IsKept}
 use Rattle.tcap_end.specs.Table.{octets_cmp}
 use Rattle.tcap_end.proofs.FindLaws.{closed_there, has_there, none_there}
 use Rattle.tcap_end.proofs.FoundLaws.{named_has, none_own, none_peer, own_has, peer_has}

@@ -17,7 +17,7 @@ use Rattle.tcap_end.specs.Table.{octets_cmp}
 use Rattle.tcap_end.specs.Half.{Half}
 use Rattle.tcap_end.specs.HalfState.{half_of}
 use Rattle.tcap_end.specs.End.{End, put}
-use Rattle.tcap_end.specs.Sound.{Has, IsKept, Rises, halves_of}
+use Rattle.tcap_end.specs.ReachableEnd.{Has, IsKept, Rises, halves_of}
 use Rattle.tcap_end.specs.Halves.{Indexes, IsAt, IsHeld, IsOpen, end_of, half_at, half_in, halves_at, places_of, kept_half}
 use Rattle.tcap_lists.proofs.MapLaws.{behind_first, below_first, found_first, found_inserted, found_later, found_new, found_other, keys_eq, kept_at, tied}
 use Rattle.tcap_end.proofs.FoundLaws.{octets_total}

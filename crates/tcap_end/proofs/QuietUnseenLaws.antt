@@ -17,9 +17,9 @@ use Rattle.tcap_end.specs.Table.{Table, octets_cmp}
 use Rattle.tcap_end.specs.Half.{Half, closed_half, is_closed}
 use Rattle.tcap_end.specs.End.{End, KeptHalf, all_closed, named, nothing, put, quiet}
 use Rattle.tcap_end.specs.Step.{◌>>=◌}
-use Rattle.tcap_end.specs.Hidden.{close_each, may_close, open_halves, open_names, quiet_unseen}
+use Rattle.tcap_end.specs.HiddenSteps.{close_each, may_close, open_halves, open_names, quiet_unseen}
 use Rattle.tcap_end.specs.Halves.{closing, kept_half, name_in}
-use Rattle.tcap_end.specs.Sound.{Has, IsEnd, IsKept, Rises}
+use Rattle.tcap_end.specs.ReachableEnd.{Has, IsEnd, IsKept, Rises}
 use Rattle.tcap_lists.proofs.MapLaws.{behind_first, below_first, found_first, found_later}
 use Rattle.tcap_end.proofs.FoundLaws.{half_at, octets_total}
 use Rattle.tcap_end.proofs.FindLaws.{Finds, own_finds, peer_finds}

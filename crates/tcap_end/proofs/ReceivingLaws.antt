@@ -10,8 +10,8 @@ use Rattle.std.specs.BTreeMap.{is_at}
 use Rattle.tcap_parts.specs.declared.code.Code.{Code}
 use Rattle.tcap_end.specs.declared.half.InvocationState.{InvocationState}
 use Rattle.tcap_end.specs.declared.half.InvocationState.TheVariants as states
-use Rattle.tcap_end.specs.declared.outs.OwnInvocation.{OwnInvocation}
-use Rattle.tcap_end.specs.declared.outs.Outs.{Outs}
+use Rattle.tcap_end.specs.declared.own_invocations.OwnInvocation.{OwnInvocation}
+use Rattle.tcap_end.specs.declared.own_invocations.Outs.{Outs}
 use Rattle.tcap_end.specs.declared.received.Target.TheVariants as targets
 use Rattle.tcap_end.specs.declared.received.Target.{Target}
 use Rattle.tcap_end.specs.declared.received.Link.{Link}
@@ -20,8 +20,8 @@ use Rattle.tcap_end.specs.TableReading.{is_linked}
 use Rattle.tcap_end.specs.Half.{Half, Invocation}
 use Rattle.tcap_end.specs.Class.{reports}
 use Rattle.tcap_end.specs.Component.{answer_problems, answered_operation, id_problems, link_problems, link_problems_of, links, operation_sent, operation_sent_by, receive_answer, wait_for_reject, with_grant}
-use Rattle.tcap_end.specs.Received.{invoke_problems, link_numbers, target_of, target_problems}
-use Rattle.tcap_end.specs.Outs.{HasPlace, kept_outs, with_state}
+use Rattle.tcap_end.specs.RejectProblems.{invoke_problems, link_numbers, target_of, target_problems}
+use Rattle.tcap_end.specs.OwnInvocations.{HasPlace, kept_outs, with_state}
 use Rattle.tcap_end.proofs.BackLaws.{has_place, state_again}
 use Rattle.tcap_lists.proofs.KeepLaws.{remove_absent}
 

@@ -8,7 +8,7 @@ use Rattle.tcap_end.specs.declared.half_state.Change.{Change}
 use Rattle.tcap_end.specs.Step.{◌>>=◌}
 use Rattle.tcap_end.specs.Table.{Table}
 use Rattle.tcap_end.specs.Half.{Half}
-use Rattle.tcap_end.specs.Ways.{component_by, components_by}
+use Rattle.tcap_end.specs.ComponentSteps.{component_by, components_by}
 use Rattle.tcap_end.specs.HalfState.{StillUndoes}
 
 -- the changes still undo what they undid, and the slot stays

@@ -19,7 +19,7 @@ use Rattle.tcap_end.specs.Step.{◌>>◌, ◌>>=◌}
 use Rattle.tcap_end.specs.End.{End, nothing, quiet}
 use Rattle.tcap_end.specs.Message.{send as send_message, receive as receive_message}
 use Rattle.tcap_end.specs.Reply.{refuse_begin as refuses_begin, refuse_continue as refuses_continue}
-use Rattle.tcap_end.specs.Hidden.{expire, close, open_halves, quiet_unseen}
+use Rattle.tcap_end.specs.HiddenSteps.{expire, close, open_halves, quiet_unseen}
 use Rattle.tcap_end.specs.Fault.{fault_number}
 
 abbrev operation : ℕ → Bool → Operation

@@ -18,16 +18,16 @@ use Rattle.tcap_parts.specs.Meaning.{problem_of}
 use Rattle.tcap_end.specs.declared.fault.EndFault.{EndFault}
 use Rattle.tcap_end.specs.declared.fault.EndFault.TheVariants as faults
 use Rattle.tcap_lists.specs.declared.lists.Lists.{Lists}
-use Rattle.tcap_end.specs.declared.outs.OwnInvocation.{OwnInvocation}
-use Rattle.tcap_end.specs.declared.outs.Outs.{Outs}
+use Rattle.tcap_end.specs.declared.own_invocations.OwnInvocation.{OwnInvocation}
+use Rattle.tcap_end.specs.declared.own_invocations.Outs.{Outs}
 use Rattle.tcap_end.specs.Table.{Table}
 use Rattle.tcap_end.specs.Half.{Half, Invocation, listed, one_fits, with_listed, without_oldest, without_oldest_of}
 use Rattle.tcap_end.specs.Component.{allows, allows_for, class_reports, may_answer, names, send_answer, send_reject}
-use Rattle.tcap_end.specs.Places.{place_of, rejected_place}
+use Rattle.tcap_end.specs.OldestPlace.{place_of, rejected_place}
 use Rattle.tcap_end.specs.HalfState.{GoesBack, Kept, half_in, without_grant, without_inn}
 use Rattle.tcap_lists.specs.Lists.{KeepsRows, items_of, kind_of, rows_of, with_place}
 use Rattle.tcap_lists.specs.Row.{fits_in}
-use Rattle.tcap_end.specs.Outs.{kept_outs, with_out}
+use Rattle.tcap_end.specs.OwnInvocations.{kept_outs, with_out}
 use Rattle.tcap_end.proofs.BackLaws.{none_set, out_again, place_some, put_again, some_within}
 use Rattle.tcap_lists.proofs.ListLaws.{items_with, listed_items, whole_rows}
 use Rattle.tcap_lists.proofs.PlaceLaws.{any_filled}

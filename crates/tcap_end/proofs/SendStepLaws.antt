@@ -19,8 +19,8 @@ use Rattle.tcap_end.specs.Halves.{Becomes, end_of, kept_half}
 use Rattle.tcap_end.specs.Kinds.{reason_of_dialogue}
 use Rattle.tcap_end.specs.Dialogue.{first_standing, may_abort, may_begin, may_go_on}
 use Rattle.tcap_end.specs.Message.{active_half, is_active, is_received, send_abort, send_begin, send_end, send_first_continue, send_next_continue}
-use Rattle.tcap_end.specs.Sound.{FitsPhase, Has, IsEnd, IsKept}
-use Rattle.tcap_end.specs.Ways.{components_by, way_of}
+use Rattle.tcap_end.specs.ReachableEnd.{FitsPhase, Has, IsEnd, IsKept}
+use Rattle.tcap_end.specs.ComponentSteps.{components_by, way_of}
 use Rattle.tcap_end.proofs.FoundLaws.{octets_total}
 use Rattle.tcap_end.proofs.HalfLaws.{received_is}
 use Rattle.tcap_lists.proofs.MapLaws.{found_new, insert_twice}

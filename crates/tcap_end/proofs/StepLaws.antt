@@ -20,8 +20,8 @@ use Rattle.tcap_end.specs.End.{End, KeptHalf, is_id, named, put, with_own, with_
 use Rattle.tcap_end.specs.Step.{◌>>◌}
 use Rattle.tcap_end.specs.Dialogue.{first_standing, may_go_on}
 use Rattle.tcap_end.specs.Message.{active_half, is_active, receive, receive_begin, receive_components, receive_continue, receive_end, receive_over, send, send_abort, send_begin, send_components, send_continue, send_end, send_first_continue, send_next_continue, send_uni, send_uni_components}
-use Rattle.tcap_end.specs.Hidden.{close, expire, may_close, without_invocation}
-use Rattle.tcap_end.specs.Sound.{Has, IsEnd, IsHalf}
+use Rattle.tcap_end.specs.HiddenSteps.{close, expire, may_close, without_invocation}
+use Rattle.tcap_end.specs.ReachableEnd.{Has, IsEnd, IsHalf}
 use Rattle.tcap_end.proofs.AnsweringLaws.{needs_ok, ok_same, some_ok, then_ok}
 use Rattle.tcap_end.proofs.HalfLaws.{active_is, half_answered, half_closed, half_follows, half_learned, half_received, half_sent, half_without, received_is}
 use Rattle.tcap_end.proofs.ComponentLaws.{Receives, all_receives, all_sends}

@@ -8,7 +8,7 @@ use Rattle.tcap_lists.specs.declared.lists.Lists.{Lists}
 use Rattle.tcap_end.specs.Half.{Half}
 use Rattle.tcap_end.specs.HalfState.{CanUndo, GoesBack, Keeps, Kept, Undoes, half_in, kept_of, undone}
 use Rattle.tcap_lists.specs.Lists.{KeepsRows, kind_of, one_less, rows_of, with_place}
-use Rattle.tcap_end.specs.Outs.{with_out, with_state}
+use Rattle.tcap_end.specs.OwnInvocations.{with_out, with_state}
 use Rattle.std.proofs.Common.{ℕ, ℤ}
 
 rows_then : {K : Type 0} (a b c : Lists K) → KeepsRows a b → KeepsRows b c → KeepsRows a c

@@ -8,7 +8,7 @@ use Rattle.tcap_end.specs.Table.{Table}
 use Rattle.tcap_end.specs.Half.{Half}
 use Rattle.tcap_end.specs.Component.{receive_component, send_component}
 use Rattle.tcap_end.specs.Message.{receive_components, send_components}
-use Rattle.tcap_end.specs.Ways.{components_by}
+use Rattle.tcap_end.specs.ComponentSteps.{components_by}
 
 then_same : (step : Result Half EndFault) (rest other : Half → Result Half EndFault) → ((h : Half) → rest h ≡ other h)
     → (step >>= rest) ≡ (step >>= other)

@@ -15,7 +15,7 @@ use Rattle.tcap_end.specs.declared.fault.EndFault.{EndFault}
 use Rattle.tcap_end.specs.declared.fault.EndFault.TheVariants as faults
 use Rattle.tcap_end.specs.declared.half.InvocationState.{InvocationState}
 use Rattle.tcap_end.specs.declared.half.InvocationState.TheVariants as states
-use Rattle.tcap_end.specs.declared.outs.OwnInvocation.{OwnInvocation}
+use Rattle.tcap_end.specs.declared.own_invocations.OwnInvocation.{OwnInvocation}
 use Rattle.tcap_end.specs.Step.{needs, ◌>>◌, ◌>>=◌}
 use Rattle.tcap_end.specs.Class.{of_class, reports}
 use Rattle.tcap_end.specs.Table.{Table, class_of, code_cmp, linked_of, operation_of}

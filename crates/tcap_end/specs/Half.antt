@@ -5,7 +5,7 @@ use Rattle.tcap_end.specs.declared.half.Phase.{Phase}
 use Rattle.tcap_end.specs.declared.half.Phase.TheVariants as phases
 use Rattle.tcap_end.specs.declared.half.Standing.{Standing}
 use Rattle.tcap_end.specs.declared.half.Standing.TheVariants as standings
-use Rattle.tcap_end.specs.declared.outs.OwnInvocation.{OwnInvocation}
+use Rattle.tcap_end.specs.declared.own_invocations.OwnInvocation.{OwnInvocation}
 pub use Rattle.tcap_lists.specs.Items.{listed, listed_by, one_fits, with_listed, with_newest, without_oldest, without_oldest_of}
 
 -- a received invocation: its operation, and the invoke problems with which it may be rejected

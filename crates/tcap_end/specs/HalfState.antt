@@ -9,10 +9,10 @@ use Rattle.tcap_end.specs.declared.half.Slot.{Slot}
 use Rattle.tcap_end.specs.declared.half.Slot.TheVariants.{Begun, Accepted}
 use Rattle.tcap_end.specs.declared.half.Standing.{Standing}
 use Rattle.tcap_lists.specs.declared.lists.Lists.{Lists}
-use Rattle.tcap_end.specs.declared.outs.OwnInvocation.{OwnInvocation}
+use Rattle.tcap_end.specs.declared.own_invocations.OwnInvocation.{OwnInvocation}
 use Rattle.tcap_end.specs.Half.{Answer, Half, Invocation, listed}
 use Rattle.tcap_lists.specs.Lists.{HasRow, KeepsRows, items_of, kind_of, one_less, rows_of, with_place}
-use Rattle.tcap_end.specs.Outs.{HasPlace, kept_outs, with_state, with_out}
+use Rattle.tcap_end.specs.OwnInvocations.{HasPlace, kept_outs, with_state, with_out}
 
 -- The stored parts of a half. The rows of `inn` and `grants` still have the empty places of removed items.
 pub record Kept : Type 0 where

@@ -20,8 +20,8 @@ use Rattle.tcap_end.specs.Half.{Half, fresh, is_closed}
 use Rattle.tcap_end.specs.Step.{AnswersInMemory, ◌>>=◌}
 use Rattle.tcap_end.specs.HalfState.{half_of, other_id}
 use Rattle.tcap_end.specs.End.{End, KeptHalf, put}
-use Rattle.tcap_end.specs.Hidden.{may_close}
-use Rattle.tcap_end.specs.Sound.{Has, IsKept, Rises}
+use Rattle.tcap_end.specs.HiddenSteps.{may_close}
+use Rattle.tcap_end.specs.ReachableEnd.{Has, IsKept, Rises}
 
 -- the half in an entry of the slab; an empty entry reads as a closed half without IDs
 abbrev pub half_in : Option HalfState → Half

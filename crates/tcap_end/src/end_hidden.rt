@@ -3,10 +3,10 @@
 ghost use Rattle.std.specs.Prelude.{◌≡◌, ◌<◌, ◌^◌, ◌++◌, Some, None, Ok, Err, IfSome, MatchOption, OnErr, OnOk, length};
 ghost use Rattle.tcap_end.specs.declared.fault.EndFault.TheVariants as EndFault;
 ghost use Rattle.tcap_end.specs.Step.{Answers};
-ghost use Rattle.tcap_end.specs.Hidden.{close, expire, may_close, open_halves, open_names, quiet_unseen};
+ghost use Rattle.tcap_end.specs.HiddenSteps.{close, expire, may_close, open_halves, open_names, quiet_unseen};
 ghost use Rattle.tcap_end.specs.Half.{Half};
 ghost use Rattle.tcap_end.specs.End.{named, nothing};
-ghost use Rattle.tcap_end.specs.Sound.{IsEnd, halves_of};
+ghost use Rattle.tcap_end.specs.ReachableEnd.{IsEnd, halves_of};
 ghost use Rattle.tcap_end.specs.Halves.{AllPlaced, IsNumbered, IsHeld, closing, end_of, kept_half, name_in};
 
 use crate::fault::EndFault;

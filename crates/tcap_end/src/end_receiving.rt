@@ -7,7 +7,7 @@ ghost use Rattle.tcap_msg.specs.Parts.{otid_in};
 ghost use Rattle.tcap_end.specs.Step.{AnswersInMemory};
 ghost use Rattle.tcap_end.specs.End.{with_own};
 ghost use Rattle.tcap_end.specs.Message.{receive, receive_begin, receive_continue, receive_end};
-ghost use Rattle.tcap_end.specs.Sound.{IsEnd};
+ghost use Rattle.tcap_end.specs.ReachableEnd.{IsEnd};
 ghost use Rattle.tcap_end.specs.Halves.{AllPlaced, IsHeld, end_of};
 
 use crate::changes::Changes;

@@ -5,7 +5,7 @@ ghost use Rattle.tcap_end.specs.declared.fault.EndFault.TheVariants as EndFault;
 ghost use Rattle.tcap_end.specs.Step.{needs};
 ghost use Rattle.tcap_end.specs.End.{with_own};
 ghost use Rattle.tcap_end.specs.Reply.{aborts, is_open, refuse_begin, refuse_continue};
-ghost use Rattle.tcap_end.specs.Sound.{IsEnd};
+ghost use Rattle.tcap_end.specs.ReachableEnd.{IsEnd};
 ghost use Rattle.tcap_end.specs.Halves.{IsHeld, end_of};
 
 use crate::fault::EndFault;

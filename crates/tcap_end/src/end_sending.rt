@@ -20,7 +20,7 @@ ghost use Rattle.tcap_end.specs.Message.{
   send_first_continue,
   send_next_continue,
 };
-ghost use Rattle.tcap_end.specs.Sound.{Has, IsEnd};
+ghost use Rattle.tcap_end.specs.ReachableEnd.{Has, IsEnd};
 ghost use Rattle.tcap_end.specs.Halves.{AllPlaced, IsNumbered, IsHeld, end_of, kept_half};
 ghost use Rattle.tcap_end.specs.Kinds.{reason_of_dialogue};
 

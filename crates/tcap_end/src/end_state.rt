@@ -8,8 +8,8 @@ ghost use Rattle.tcap_end.specs.Step.{Answers, AnswersInMemory, AnswersNumber};
 ghost use Rattle.tcap_end.specs.End.{named, nothing, quiet};
 ghost use Rattle.tcap_end.specs.Message.{receive, send};
 ghost use Rattle.tcap_end.specs.Reply.{refuse_begin, refuse_continue};
-ghost use Rattle.tcap_end.specs.Hidden.{close, expire, open_halves, open_named, quiet_unseen};
-ghost use Rattle.tcap_end.specs.Sound.{IsEnd};
+ghost use Rattle.tcap_end.specs.HiddenSteps.{close, expire, open_halves, open_named, quiet_unseen};
+ghost use Rattle.tcap_end.specs.ReachableEnd.{IsEnd};
 
 use crate::changes::Changes;
 use crate::end_replies::{refuse_begin, refuse_continue};
@@ -47,7 +47,7 @@ impl fmt::Debug for EndState {
 
 impl Model for EndState {
     ghost use Rattle.tcap_end.specs.End.{End};
-    ghost use Rattle.tcap_end.specs.Sound.{IsEnd};
+    ghost use Rattle.tcap_end.specs.ReachableEnd.{IsEnd};
     ghost use Rattle.tcap_end.specs.Halves.{AllPlaced, IsHeld, end_of};
 
     ghost Value = { End };

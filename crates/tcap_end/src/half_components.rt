@@ -5,7 +5,7 @@ ghost use Rattle.std.specs.Prelude.{◌≡◌, OnErr};
 ghost use Rattle.tcap_parts.specs.Meaning.{component_of, components_left};
 ghost use Rattle.tcap_end.specs.Step.{AnswersInMemory};
 ghost use Rattle.tcap_end.specs.Message.{active_half};
-ghost use Rattle.tcap_end.specs.Ways.{component_by, components_by, way_of};
+ghost use Rattle.tcap_end.specs.ComponentSteps.{component_by, components_by, way_of};
 ghost use Rattle.tcap_end.specs.HalfState.{StillUndoes, half_of, other_id, with_other_id};
 
 use crate::changes::Changes;

@@ -15,7 +15,7 @@ ghost use Rattle.tcap_end.specs.Component.{
   with_grant,
 };
 ghost use Rattle.tcap_end.specs.HalfState.{StillUndoes, half_of};
-ghost use Rattle.tcap_end.specs.Received.{link_numbers, target_of, target_problems};
+ghost use Rattle.tcap_end.specs.RejectProblems.{link_numbers, target_of, target_problems};
 
 use crate::changes::Changes;
 use crate::class::reports;

@@ -8,14 +8,14 @@ ghost use Rattle.tcap_end.specs.Half.{listed, one_fits};
 ghost use Rattle.tcap_end.specs.Component.{may_answer, may_link, send_answer, send_component, send_invoke, send_reject};
 ghost use Rattle.tcap_end.specs.HalfState.{StillUndoes, half_of, kept_of, without_grant, without_inn};
 ghost use Rattle.tcap_lists.specs.Lists.{rows_of};
-ghost use Rattle.tcap_end.specs.Places.{place_of, rejected_place};
+ghost use Rattle.tcap_end.specs.OldestPlace.{place_of, rejected_place};
 ghost use Rattle.tcap_lists.specs.Row.{fits_in};
 
 use crate::changes::Changes;
 use crate::fault::EndFault;
 use crate::half::InvocationState;
 use crate::half_state::{Change, HalfState};
-use crate::outs::OwnInvocation;
+use crate::own_invocations::OwnInvocation;
 use crate::places::{first_answerable, first_rejectable, first_rejectable_answer, links_one};
 use crate::table::Table;
 use std::alloc::{AllocError, Global};

@@ -3,12 +3,12 @@
 ghost use Rattle.std.specs.Prelude.{◌≡◌, ◌∷◌, OnErr, OnOk};
 ghost use Rattle.tcap_end.specs.Half.{Half, fresh};
 ghost use Rattle.tcap_end.specs.Component.{own_invocation};
-ghost use Rattle.tcap_end.specs.Hidden.{may_expire};
+ghost use Rattle.tcap_end.specs.HiddenSteps.{may_expire};
 ghost use Rattle.tcap_end.specs.HalfState.{CanUndo, IsUndone, Undoes, half_of};
 
 use crate::changes::Changes;
 use crate::half::{InvocationState, Phase, Slot, Standing};
-use crate::outs::{Outs, OwnInvocation};
+use crate::own_invocations::{Outs, OwnInvocation};
 use crate::received::{Answer, Invocation};
 use crate::table::Table;
 use std::alloc::{AllocError, Global};

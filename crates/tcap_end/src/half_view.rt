@@ -7,9 +7,9 @@ ghost use Rattle.std.specs.BTreeMap.{is_at};
 ghost use Rattle.tcap_parts.specs.Meaning.{code_of};
 ghost use Rattle.tcap_end.specs.Half.{Half, listed};
 ghost use Rattle.tcap_end.specs.End.{named};
-ghost use Rattle.tcap_end.specs.Sound.{IsEnd};
+ghost use Rattle.tcap_end.specs.ReachableEnd.{IsEnd};
 ghost use Rattle.tcap_end.specs.Halves.{IsNumbered, IsHeld, end_of, kept_half};
-ghost use Rattle.tcap_end.specs.Hidden.{open_named};
+ghost use Rattle.tcap_end.specs.HiddenSteps.{open_named};
 ghost use Rattle.tcap_end.specs.Component.{own_invocation};
 ghost use Rattle.tcap_end.specs.HalfState.{half_of};
 

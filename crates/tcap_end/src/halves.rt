@@ -11,11 +11,11 @@ ghost use Rattle.tcap_end.specs.Table.{octets_cmp};
 ghost use Rattle.tcap_end.specs.Half.{Half, closed_half, is_closed};
 ghost use Rattle.tcap_end.specs.HalfState.{half_of, other_id};
 ghost use Rattle.tcap_end.specs.Component.{own_invocation};
-ghost use Rattle.tcap_end.specs.Hidden.{without_invocation};
+ghost use Rattle.tcap_end.specs.HiddenSteps.{without_invocation};
 ghost use Rattle.tcap_end.specs.Message.{active_half};
-ghost use Rattle.tcap_end.specs.Ways.{components_by, way_of};
+ghost use Rattle.tcap_end.specs.ComponentSteps.{components_by, way_of};
 ghost use Rattle.tcap_end.specs.End.{KeptHalf, all_closed, is_id, nothing, put, with_own, with_peer};
-ghost use Rattle.tcap_end.specs.Sound.{Has, IsEnd};
+ghost use Rattle.tcap_end.specs.ReachableEnd.{Has, IsEnd};
 ghost use Rattle.tcap_end.specs.Halves.{AllPlaced, AnswersOver, Becomes, HasOpen, IsAt, IsNumbered, IsHeld, IsNew, end_of, index_of, kept_half, open_at, places_of};
 
 use crate::changes::Changes;

@@ -7,8 +7,8 @@ ghost use Rattle.tcap_end.specs.declared.half.HalfName.{HalfName};
 ghost use Rattle.tcap_end.specs.declared.half.Phase.TheVariants as Phase;
 ghost use Rattle.tcap_end.specs.End.{End, KeptHalf, nothing, quiet};
 ghost use Rattle.tcap_end.specs.Message.{receive, send};
-ghost use Rattle.tcap_end.specs.Hidden.{close, expire};
-ghost use Rattle.tcap_end.specs.Sound.{Has, IsEnd};
+ghost use Rattle.tcap_end.specs.HiddenSteps.{close, expire};
+ghost use Rattle.tcap_end.specs.ReachableEnd.{Has, IsEnd};
 
 use crate::end_state::EndState;
 

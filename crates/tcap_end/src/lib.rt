@@ -19,7 +19,7 @@ mod half_state;
 mod half_view;
 mod halves;
 pub mod laws;
-mod outs;
+mod own_invocations;
 mod places;
 mod received;
 mod table;

@@ -6,8 +6,8 @@ ghost use Rattle.tcap_parts.specs.Meaning.{code_of};
 ghost use Rattle.tcap_end.specs.Half.{with_newest};
 ghost use Rattle.tcap_end.specs.Component.{allows, allows_for, class_reports, is_code, links, may_answer};
 ghost use Rattle.tcap_lists.specs.Lists.{HasRow, KeepsKinds, KeepsRows, row_kinds, row_of, rows_of};
-ghost use Rattle.tcap_end.specs.Places.{place_of};
-ghost use Rattle.tcap_end.specs.Received.{invoke_problems, target_problems};
+ghost use Rattle.tcap_end.specs.OldestPlace.{place_of};
+ghost use Rattle.tcap_end.specs.RejectProblems.{invoke_problems, target_problems};
 ghost use Rattle.tcap_lists.specs.Row.{earlier, fits_in};
 
 use crate::class::reports;

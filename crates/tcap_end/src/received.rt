@@ -29,7 +29,7 @@ pub(crate) struct Invocation {
 
 impl Model for Invocation {
     ghost use Rattle.tcap_end.specs.Half.{Invocation as Meant};
-    ghost use Rattle.tcap_end.specs.Received.{invoke_problems};
+    ghost use Rattle.tcap_end.specs.RejectProblems.{invoke_problems};
 
     ghost Value = { Meant };
 
@@ -58,7 +58,7 @@ pub(crate) struct Answer {
 
 impl Model for Answer {
     ghost use Rattle.tcap_end.specs.Half.{Answer as Meant};
-    ghost use Rattle.tcap_end.specs.Received.{target_problems};
+    ghost use Rattle.tcap_end.specs.RejectProblems.{target_problems};
 
     ghost Value = { Meant };
 

@@ -12,9 +12,9 @@ use Rattle.tcap_faults.specs.declared.dialogue.half_origin.How.TheVariants as ho
 use Rattle.tcap_faults.specs.Components.{is_of_link}
 use Rattle.tcap_faults.specs.declared.component.component_sort.Class.TheVariants.{Any}
 use Rattle.tcap_faults.specs.declared.component.component_sort.Sort.TheVariants as sorts
-use Rattle.tcap_evidence.specs.declared.what.What.TheVariants as whats
+use Rattle.tcap_evidence.specs.declared.shown_things.What.TheVariants as whats
 use Rattle.tcap_evidence.specs.Evidence.{allowed_by, answered_by, dialogue_of, problem_of_invoke, rejected_by, shows, shows_alone, shows_to}
-use Rattle.tcap_evidence.specs.Marked.{is_of_mark}
+use Rattle.tcap_evidence.specs.OpenAtMark.{is_of_mark}
 
 -- If no item of a list passes a test, the item at an index does not.
 pub fails_at : {A : Type 0} (p : A → Bool) (xs : List A) (i : ℕ) (d : A) → i < length xs → list_any p xs ≡ false

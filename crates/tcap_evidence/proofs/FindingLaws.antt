@@ -17,18 +17,18 @@ use Rattle.tcap_model.specs.Entries.{item_by, item_of}
 use Rattle.tcap_model.specs.World.{Item, Sent}
 use Rattle.tcap_refute.specs.declared.kind.Kind.{Kind}
 use Rattle.tcap_refute.specs.declared.kind.Refutation.{Refutation}
-use Rattle.tcap_refute.specs.Before.{since_quiet}
+use Rattle.tcap_refute.specs.EarlierMessages.{since_quiet}
 use Rattle.tcap_faults.specs.declared.verdict.fault_subject.Subject.{Subject}
-use Rattle.tcap_faults.specs.Subject.{items_among, subject_by, subject_of}
+use Rattle.tcap_faults.specs.FaultSubject.{items_among, subject_by, subject_of}
 use Rattle.tcap_evidence.specs.declared.scene.Scene.{Scene as SceneKept}
 use Rattle.tcap_evidence.specs.declared.sent.Stretch.{Stretch}
-use Rattle.tcap_evidence.specs.declared.what.What.{What}
-use Rattle.tcap_evidence.specs.declared.what.What.TheVariants as whats
+use Rattle.tcap_evidence.specs.declared.shown_things.What.{What}
+use Rattle.tcap_evidence.specs.declared.shown_things.What.TheVariants as whats
 use Rattle.tcap_evidence.specs.declared.operations.Invocation.{Invocation}
 use Rattle.tcap_evidence.specs.Operations.{invocations_at, invocations_of}
 use Rattle.tcap_evidence.specs.Evidence.{component_at, components_before, grounds_in, grounds_of, invoke_id_at, invoke_id_in, mark_scene, scene_of, shows}
-use Rattle.tcap_evidence.specs.Kept.{IsScene, scene_by}
-use Rattle.tcap_evidence.specs.Numbered.{numbered_of, sent_before}
+use Rattle.tcap_evidence.specs.StoredScene.{IsScene, scene_by}
+use Rattle.tcap_evidence.specs.NumberedMessages.{numbered_of, sent_before}
 
 -- The stored scene is the message's scene, if the messages before it, the components before the one at fault and the
 -- invoke ID are stored correctly.

@@ -8,7 +8,7 @@ use Rattle.tcap_msg.specs.declared.message.Message.{Message}
 use Rattle.tcap_msg.specs.Parts.{dialogue_in}
 use Rattle.tcap_end.specs.Dialogue.{is_response}
 use Rattle.tcap_evidence.specs.declared.sent.Sent.{Sent as SentEntry}
-use Rattle.tcap_evidence.specs.Numbered.{Numbered, entries_where, inserted, numbered_of}
+use Rattle.tcap_evidence.specs.NumberedMessages.{Numbered, entries_where, inserted, numbered_of}
 use Rattle.tcap_evidence.specs.Scene.{since_first}
 
 -- what is made of the remaining items

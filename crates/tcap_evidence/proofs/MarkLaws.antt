@@ -14,16 +14,16 @@ use Rattle.tcap_record.specs.Ends.{other}
 use Rattle.tcap_end.specs.End.{is_id}
 use Rattle.tcap_end.specs.Table.{octets_cmp}
 use Rattle.tcap_model.specs.Run.{then_so, where_so}
-use Rattle.tcap_refute.specs.Before.{ends_to, is_a, sent_by}
+use Rattle.tcap_refute.specs.EarlierMessages.{ends_to, is_a, sent_by}
 use Rattle.tcap_refute.specs.Kind.{or_else}
-use Rattle.tcap_faults.specs.Closed.{is_surely_open}
+use Rattle.tcap_faults.specs.ClosedHalves.{is_surely_open}
 use Rattle.tcap_faults.proofs.transaction_laws.KeyLaws.{at_other}
 use Rattle.tcap_faults.proofs.transaction_laws.IdMapLaws.{Puts}
 use Rattle.tcap_faults.proofs.list_laws.TwoTests.{any_agree}
 use Rattle.tcap_evidence.specs.declared.mark.Halves.{Halves}
 use Rattle.tcap_evidence.specs.declared.sent.Sent.{Sent as SentEntry}
-use Rattle.tcap_evidence.specs.Marked.{AreHalves, ended_to, first_to, messages_of}
-use Rattle.tcap_evidence.specs.Numbered.{Numbered, entries_where, numbered_of}
+use Rattle.tcap_evidence.specs.OpenAtMark.{AreHalves, ended_to, first_to, messages_of}
+use Rattle.tcap_evidence.specs.NumberedMessages.{Numbered, entries_where, numbered_of}
 use Rattle.tcap_evidence.specs.Scene.{Scene, is_open_continue}
 use Rattle.tcap_evidence.proofs.ListingLaws.{left_is}
 

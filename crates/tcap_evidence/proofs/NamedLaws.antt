@@ -12,10 +12,10 @@ use Rattle.tcap_model.specs.World.{Item, Sent}
 use Rattle.tcap_model.specs.Entries.{item_by, item_of}
 use Rattle.tcap_model.proofs.WorldLaws.{itself}
 use Rattle.tcap_refute.specs.declared.kind.Refutation.{Refutation}
-use Rattle.tcap_faults.specs.AtFault.{IsAtFaultOf}
+use Rattle.tcap_faults.specs.BlameMeaning.{IsAtFaultOf}
 use Rattle.tcap_faults.specs.Fault.{blamed}
 use Rattle.tcap_faults.proofs.kind_laws.BlamedLaws.{blamed_at_fault}
-use Rattle.tcap_evidence.specs.Words.{is_for}
+use Rattle.tcap_evidence.specs.EvidenceWords.{is_for}
 
 -- ---- the kinds of entries
 

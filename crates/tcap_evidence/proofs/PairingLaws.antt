@@ -3,7 +3,7 @@ use Rattle.std.proofs.Common.{◌≡◌, ◌⊎◌, ℕ, ◌+◌, ◌<◌, ◌�
 use Rattle.tcap_record.specs.declared.entry.End.{End as Side}
 use Rattle.tcap_record.specs.declared.entry.Entry.{Entry}
 use Rattle.tcap_model.specs.Entries.{item_of}
-use Rattle.tcap_evidence.specs.Pairing.{Pairing, with_pairs}
+use Rattle.tcap_evidence.specs.Partners.{Pairing, with_pairs}
 
 module _ (of : Side) (id : List ℕ) (entries : List Entry) (number : ℕ) where
   -- the entries so far, and those found from entry `at` on

@@ -3,9 +3,9 @@ use Rattle.std.proofs.Common.{◌≡◌, ℕ, Bool, true, false, ◌&&◌, List,
 use Rattle.tcap_msg.specs.declared.kind.Kind.TheVariants as forms
 use Rattle.tcap_msg.specs.declared.message.Message.{Message}
 use Rattle.tcap_msg.specs.Parts.{dtid_in}
-use Rattle.tcap_refute.specs.Before.{is_a}
+use Rattle.tcap_refute.specs.EarlierMessages.{is_a}
 use Rattle.tcap_refute.proofs.TestLaws.{and_false}
-use Rattle.tcap_evidence.specs.Numbered.{Numbered, entries_where}
+use Rattle.tcap_evidence.specs.NumberedMessages.{Numbered, entries_where}
 use Rattle.tcap_evidence.specs.Scene.{Scene, is_that, there, to_half, went_elsewhere}
 
 -- ---- filters

@@ -9,12 +9,12 @@ use Rattle.tcap_end.specs.Table.{Table}
 use Rattle.tcap_model.specs.declared.reason.Reason.{Reason}
 use Rattle.tcap_model.specs.World.{Item, Sent, has_quiet, is_side}
 use Rattle.tcap_model.specs.Entries.{item_of}
-use Rattle.tcap_refute.specs.Before.{sent_by, since_quiet}
-use Rattle.tcap_faults.specs.Subject.{items_among}
+use Rattle.tcap_refute.specs.EarlierMessages.{sent_by, since_quiet}
+use Rattle.tcap_faults.specs.FaultSubject.{items_among}
 use Rattle.tcap_evidence.specs.declared.sent.Stretch.{Stretch}
 use Rattle.tcap_evidence.specs.Evidence.{mark_scene}
-use Rattle.tcap_evidence.specs.Kept.{IsStretch}
-use Rattle.tcap_evidence.specs.Numbered.{Numbered, numbered_of, sent_before, with_entries, with_entry}
+use Rattle.tcap_evidence.specs.StoredScene.{IsStretch}
+use Rattle.tcap_evidence.specs.NumberedMessages.{Numbered, numbered_of, sent_before, with_entries, with_entry}
 
 -- ---- entry by entry
 

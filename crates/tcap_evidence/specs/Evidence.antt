@@ -16,7 +16,7 @@ use Rattle.tcap_model.specs.Entries.{item_of}
 use Rattle.tcap_refute.specs.declared.kind.Kind.{Kind}
 use Rattle.tcap_refute.specs.declared.kind.Kind.TheVariants as kinds
 use Rattle.tcap_refute.specs.declared.kind.Refutation.{Refutation}
-use Rattle.tcap_refute.specs.Before.{since_quiet}
+use Rattle.tcap_refute.specs.EarlierMessages.{since_quiet}
 use Rattle.tcap_faults.specs.declared.dialogue.half_origin.How.{How}
 use Rattle.tcap_faults.specs.declared.dialogue.half_origin.How.TheVariants as hows
 use Rattle.tcap_faults.specs.declared.component.component_sort.Class.TheVariants.{Any, One, Two, Three}
@@ -24,10 +24,10 @@ use Rattle.tcap_faults.specs.declared.component.component_sort.Sort.{Sort}
 use Rattle.tcap_faults.specs.declared.component.component_sort.Sort.TheVariants as sorts
 use Rattle.tcap_faults.specs.declared.verdict.fault_subject.Subject.{Subject}
 use Rattle.tcap_faults.specs.Components.{is_of_link}
-use Rattle.tcap_faults.specs.Subject.{items_among, no_subject, subject_of}
-use Rattle.tcap_evidence.specs.declared.what.What.{What}
-use Rattle.tcap_evidence.specs.declared.what.What.TheVariants as whats
-use Rattle.tcap_evidence.specs.Numbered.{sent_before}
+use Rattle.tcap_faults.specs.FaultSubject.{items_among, no_subject, subject_of}
+use Rattle.tcap_evidence.specs.declared.shown_things.What.{What}
+use Rattle.tcap_evidence.specs.declared.shown_things.What.TheVariants as whats
+use Rattle.tcap_evidence.specs.NumberedMessages.{sent_before}
 use Rattle.tcap_evidence.specs.Scene.{Scene, shown}
 
 -- ---- the things that show a kind

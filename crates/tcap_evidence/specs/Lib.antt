@@ -1,11 +1,11 @@
-pub mod Numbered
+pub mod NumberedMessages
 pub mod Scene
-pub mod Listing
+pub mod PassingEntries
 pub mod Evidence
 pub mod Operations
 pub mod WorkedOperations
-pub mod Kept
-pub mod Marked
-pub mod Words
-pub mod Pairing
+pub mod StoredScene
+pub mod OpenAtMark
+pub mod EvidenceWords
+pub mod Partners
 pub mod Unblamed

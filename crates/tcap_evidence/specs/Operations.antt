@@ -15,11 +15,11 @@ use Rattle.tcap_model.specs.Entries.{item_of}
 use Rattle.tcap_refute.specs.declared.kind.Kind.{Kind}
 use Rattle.tcap_refute.specs.declared.kind.Kind.TheVariants as kinds
 use Rattle.tcap_refute.specs.declared.kind.Refutation.{Refutation}
-use Rattle.tcap_refute.specs.Before.{is_invoke_id}
+use Rattle.tcap_refute.specs.EarlierMessages.{is_invoke_id}
 use Rattle.tcap_faults.specs.declared.verdict.fault_subject.Subject.{Subject}
-use Rattle.tcap_faults.specs.Subject.{subject_of}
+use Rattle.tcap_faults.specs.FaultSubject.{subject_of}
 use Rattle.tcap_evidence.specs.declared.operations.Invocation.{Invocation}
-use Rattle.tcap_evidence.specs.Numbered.{Numbered, in_order}
+use Rattle.tcap_evidence.specs.NumberedMessages.{Numbered, in_order}
 use Rattle.tcap_evidence.specs.Scene.{Scene, heard_by, invoked_by, there}
 use Rattle.tcap_evidence.specs.Evidence.{component_at, scene_of}
 

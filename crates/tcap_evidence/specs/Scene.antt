@@ -15,20 +15,20 @@ use Rattle.tcap_end.specs.Dialogue.{is_response}
 use Rattle.tcap_end.specs.End.{is_id}
 use Rattle.tcap_end.specs.Table.{Table}
 use Rattle.tcap_model.specs.World.{Item}
-use Rattle.tcap_model.specs.Since.{ended_by}
+use Rattle.tcap_model.specs.SinceMark.{ended_by}
 use Rattle.tcap_refute.specs.declared.kind.Kind.{Kind}
 use Rattle.tcap_refute.specs.declared.kind.Kind.TheVariants as kinds
-use Rattle.tcap_refute.specs.Before.{is_a}
+use Rattle.tcap_refute.specs.EarlierMessages.{is_a}
 use Rattle.tcap_refute.specs.Kind.{goes_elsewhere, is_begin_with_request, or_else}
-use Rattle.tcap_faults.specs.Told.{goes_on_to, is_cause}
-use Rattle.tcap_faults.specs.Closed.{is_surely_open}
+use Rattle.tcap_faults.specs.SentToId.{goes_on_to, is_cause}
+use Rattle.tcap_faults.specs.ClosedHalves.{is_surely_open}
 use Rattle.tcap_faults.specs.declared.dialogue.half_origin.How.{How}
 use Rattle.tcap_faults.specs.declared.dialogue.half_origin.How.TheVariants.{Accepted, Refused, Begun, Unanswered, Nowhere}
 use Rattle.tcap_faults.specs.declared.component.component_sort.Sort.{Sort}
-use Rattle.tcap_faults.specs.Tallied.{is_sort}
-use Rattle.tcap_evidence.specs.declared.what.What.{What}
-use Rattle.tcap_evidence.specs.declared.what.What.TheVariants as whats
-use Rattle.tcap_evidence.specs.Numbered.{Numbered, entries_where, entries_with, in_order}
+use Rattle.tcap_faults.specs.InvokeCounts.{is_sort}
+use Rattle.tcap_evidence.specs.declared.shown_things.What.{What}
+use Rattle.tcap_evidence.specs.declared.shown_things.What.TheVariants as whats
+use Rattle.tcap_evidence.specs.NumberedMessages.{Numbered, entries_where, entries_with, in_order}
 
 -- What is known of a message at fault.
 pub record Scene : Type 0 where

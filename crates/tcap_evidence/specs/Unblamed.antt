@@ -18,11 +18,11 @@ use Rattle.tcap_faults.specs.declared.verdict.unblamed_reason.Unblamed.{Unblamed
 use Rattle.tcap_faults.specs.declared.verdict.unblamed_reason.Unblamed.TheVariants.{UsedAgain, Tangled}
 use Rattle.tcap_faults.specs.Fault.{blamed}
 use Rattle.tcap_faults.specs.Unblamed.{unblamed_at}
-use Rattle.tcap_evidence.specs.declared.what.What.{What}
-use Rattle.tcap_evidence.specs.declared.what.What.TheVariants as whats
+use Rattle.tcap_evidence.specs.declared.shown_things.What.{What}
+use Rattle.tcap_evidence.specs.declared.shown_things.What.TheVariants as whats
 use Rattle.tcap_evidence.specs.Evidence.{grounds_at}
-use Rattle.tcap_evidence.specs.Pairing.{paired_before}
-use Rattle.tcap_evidence.specs.Words.{entries_words, ground_line, is_for}
+use Rattle.tcap_evidence.specs.Partners.{paired_before}
+use Rattle.tcap_evidence.specs.EvidenceWords.{entries_words, ground_line, is_for}
 
 -- Entry `number`, which is that end's, is refuted, and no end is blamed for it or for an earlier entry.
 pub record IsUnblamed (table : Table) (side : Side) (entries : List Entry) (number : ℕ) : Type 0 where

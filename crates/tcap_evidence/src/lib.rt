@@ -2,6 +2,7 @@
 //! Q.773, Q.774).
 #![tactic(auto)]
 
+mod evidence_lines;
 mod finding;
 mod listing;
 mod mark;
@@ -10,14 +11,13 @@ mod operations;
 mod pairing;
 mod scene;
 mod sent;
-mod shows;
-mod telling;
+mod shown_by_kind;
+mod shown_things;
 mod unblamed;
-mod what;
 mod words;
 
+pub use evidence_lines::{push_evidence, push_fault, push_sentence, push_what, push_why};
 pub use finding::{Evidence, Ground, find_evidence};
 pub use operations::Invocation;
-pub use telling::{push_evidence, push_fault, push_sentence, push_what, push_why};
+pub use shown_things::What;
 pub use unblamed::push_unblamed;
-pub use what::What;

@@ -8,10 +8,10 @@ ghost use Rattle.std.specs.Map.{lookup};
 ghost use Rattle.tcap_end.specs.End.{is_id};
 ghost use Rattle.tcap_end.specs.Table.{octets_cmp};
 ghost use Rattle.tcap_refute.specs.Kind.{or_else};
-ghost use Rattle.tcap_evidence.specs.Kept.{IsStretch};
-ghost use Rattle.tcap_evidence.specs.Marked.{AreHalves, ended_to, first_to, goes_first, messages_of};
+ghost use Rattle.tcap_evidence.specs.StoredScene.{IsStretch};
+ghost use Rattle.tcap_evidence.specs.OpenAtMark.{AreHalves, ended_to, first_to, goes_first, messages_of};
 ghost use Rattle.tcap_evidence.specs.Scene.{Scene, is_open_continue, shown};
-ghost use Rattle.tcap_evidence.specs.declared.what.What.TheVariants as whats;
+ghost use Rattle.tcap_evidence.specs.declared.shown_things.What.TheVariants as whats;
 
 use crate::listing::ended_to;
 use crate::sent::{Sent, Stretch};

@@ -4,10 +4,10 @@ ghost use Rattle.std.specs.Prelude.{◌≡◌, ◌++◌, OnOk, Some};
 ghost use Rattle.std.specs.List.{flat_map};
 ghost use Rattle.std.specs.String.{string_bytes};
 ghost use Rattle.tcap_record.specs.Lines.{code_text};
-ghost use Rattle.tcap_evidence.specs.Words.{class_text, invocation_line, invocation_lines, link_text, more_invocations};
+ghost use Rattle.tcap_evidence.specs.EvidenceWords.{class_text, invocation_line, invocation_lines, link_text, more_invocations};
 
+use crate::evidence_lines::{MOST, push_more};
 use crate::operations::Invocation;
-use crate::telling::{MOST, push_more};
 use std::alloc::AllocError;
 use tcap_end::Table;
 use tcap_parts::Code;

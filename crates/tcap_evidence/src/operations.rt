@@ -4,7 +4,7 @@ ghost use Rattle.std.specs.Prelude.{◌≡◌, ◌++◌, IfOk, OnOk, Some, optio
 ghost use Rattle.std.specs.List.{flat_map};
 ghost use Rattle.tcap_parts.specs.Meaning.{component_of};
 ghost use Rattle.tcap_msg.specs.Parts.{components_in};
-ghost use Rattle.tcap_evidence.specs.Numbered.{numbered_of};
+ghost use Rattle.tcap_evidence.specs.NumberedMessages.{numbered_of};
 ghost use Rattle.tcap_evidence.specs.Operations.{answers, invocation_in, invocations_in, rejects_answer};
 
 use crate::sent::Sent;

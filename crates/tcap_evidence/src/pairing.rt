@@ -3,7 +3,7 @@
 ghost use Rattle.std.specs.Prelude.{◌≡◌, ◌++◌, Some, None, IfOk, OnOk};
 ghost use Rattle.tcap_msg.specs.Meaning.{id_of};
 ghost use Rattle.tcap_model.specs.Entries.{item_of};
-ghost use Rattle.tcap_evidence.specs.Pairing.{anew, paired_before, partner_in, with_message, with_pair, with_partner};
+ghost use Rattle.tcap_evidence.specs.Partners.{anew, paired_before, partner_in, with_message, with_pair, with_partner};
 
 use crate::listing::{Test, is_that};
 use std::alloc::{AllocError, Global};

@@ -6,13 +6,13 @@ ghost use Rattle.tcap_parts.specs.Meaning.{component_of};
 ghost use Rattle.tcap_msg.specs.Meaning.{id_of};
 ghost use Rattle.tcap_record.specs.declared.entry.End.{End as Side};
 ghost use Rattle.tcap_model.specs.World.{Item};
-ghost use Rattle.tcap_evidence.specs.Kept.{IsScene, scene_by};
-ghost use Rattle.tcap_evidence.specs.Marked.{is_of_mark};
-ghost use Rattle.tcap_evidence.specs.Numbered.{in_order, numbered_of};
+ghost use Rattle.tcap_evidence.specs.StoredScene.{IsScene, scene_by};
+ghost use Rattle.tcap_evidence.specs.OpenAtMark.{is_of_mark};
+ghost use Rattle.tcap_evidence.specs.NumberedMessages.{in_order, numbered_of};
 ghost use Rattle.tcap_evidence.specs.Operations.{invocations_in, invocations_of};
 ghost use Rattle.tcap_evidence.specs.Scene.{Scene as Known, heard_by, invoked_by, own_begin, own_id, shown, to_half, told_there, with_sort, with_sort_in};
 ghost use Rattle.tcap_faults.specs.declared.dialogue.half_origin.How.TheVariants as hows;
-ghost use Rattle.tcap_evidence.specs.declared.what.What.TheVariants as whats;
+ghost use Rattle.tcap_evidence.specs.declared.shown_things.What.TheVariants as whats;
 
 use crate::listing::{
     Test, entries_where, entries_with, first_where, in_order, push_sorted, push_where, sent_where,
@@ -20,7 +20,7 @@ use crate::listing::{
 };
 use crate::operations::{Invocation, invocations_in, is_answer, rejects_answer};
 use crate::sent::{Sent, Stretch};
-use crate::what::What;
+use crate::shown_things::What;
 use std::alloc::{AllocError, Global};
 use tcap_end::Table;
 use tcap_faults::{How, Sort, Subject};

@@ -3,7 +3,7 @@
 ghost use Rattle.std.specs.Prelude.{◌≡◌, IfOk, OnOk};
 ghost use Rattle.tcap_record.specs.Ends.{other};
 ghost use Rattle.tcap_model.specs.Entries.{item_of};
-ghost use Rattle.tcap_evidence.specs.Numbered.{numbered_of, sent_before, with_entry};
+ghost use Rattle.tcap_evidence.specs.NumberedMessages.{numbered_of, sent_before, with_entry};
 
 use std::alloc::{AllocError, Global};
 use tcap_msg::Message;

@@ -5,10 +5,10 @@ ghost use Rattle.std.specs.String.{string_bytes};
 ghost use Rattle.tcap_faults.specs.declared.verdict.unblamed_reason.Unblamed.TheVariants.{Tangled};
 ghost use Rattle.tcap_evidence.specs.Unblamed.{IsUnblamed, again_text, id_lines, spelling_words, tangle_words, tangled_line, tangled_text, unblamed_text, unblamed_words};
 
+use crate::evidence_lines::{push_entries, push_grounds};
 use crate::finding::grounds_for;
 use crate::pairing::paired_before;
-use crate::telling::{push_entries, push_grounds};
-use crate::what::What;
+use crate::shown_things::What;
 use std::alloc::{AllocError, Global};
 use tcap_end::Table;
 use tcap_faults::{Tangle, TangledId, Unblamed, unblamed};

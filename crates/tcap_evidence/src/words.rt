@@ -1,9 +1,9 @@
 //! The words for what a fault depends on.
 
 ghost use Rattle.std.specs.Prelude.{◌≡◌};
-ghost use Rattle.tcap_evidence.specs.Words.{class_of_sort, class_words, doubt_words, how_words, is_of_half, is_told_empty, kind_words, lacks_words, place_words, sender_of, sort_in, sort_words};
+ghost use Rattle.tcap_evidence.specs.EvidenceWords.{class_of_sort, class_words, doubt_words, how_words, is_of_half, is_told_empty, kind_words, lacks_words, place_words, sender_of, sort_in, sort_words};
 
-use crate::what::What;
+use crate::shown_things::What;
 use tcap_faults::{Class, How, Sort};
 use tcap_record::End;
 use tcap_refute::Kind;

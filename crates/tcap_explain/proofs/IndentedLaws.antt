@@ -3,7 +3,7 @@ use Rattle.std.proofs.Common.{◌≡◌, ◌≢◌, ℕ, suc, ◌<◌, ◌==◌,
 use Rattle.std.specs.Prelude.{OnOk, Result, Ok, Err, codes}
 use Rattle.std.proofs.lemmas.Bool.{ne_eqb}
 use Rattle.tcap_record.specs.Lines.{line_end}
-use Rattle.tcap_explain.specs.Indented.{indented, indented_at}
+use Rattle.tcap_explain.specs.IndentedText.{indented, indented_at}
 
 -- no line ends within these octets
 abbrev pub IsWithin : List ℕ → Type 0

@@ -9,25 +9,25 @@ use Rattle.tcap_model.specs.Entries.{item_of}
 use Rattle.tcap_certificate.specs.declared.fault.CheckFault.{CheckFault}
 use Rattle.tcap_check.specs.declared.step.Step.{Step}
 use Rattle.tcap_certificate.specs.Certificate.{Certificate}
-use Rattle.tcap_check.specs.AloneGiven.{IsGivenTo}
-use Rattle.tcap_check.specs.Checking.{map_ok}
-use Rattle.tcap_certificate.specs.Replayed.{discards_by, replayed_by}
-use Rattle.tcap_check.specs.Stands.{IsAnswered, answered}
-use Rattle.tcap_check.specs.Told.{discards_of, events_of}
+use Rattle.tcap_check.specs.OneEndRun.{IsGivenTo}
+use Rattle.tcap_check.specs.CheckerMeaning.{map_ok}
+use Rattle.tcap_certificate.specs.Replay.{discards_by, replayed_by}
+use Rattle.tcap_check.specs.RunSoFar.{IsAnswered, answered}
+use Rattle.tcap_check.specs.ReportedSteps.{discards_of, events_of}
 use Rattle.tcap_judge.specs.declared.outcome.Outcome.{Outcome}
-use Rattle.tcap_judge.specs.Judged.{IsShown, lawful_by}
+use Rattle.tcap_judge.specs.LawfulOutcome.{IsShown, lawful_by}
 use Rattle.tcap_judge.specs.declared.outcome.Outcome.TheVariants.{Lawful, Refuted}
-use Rattle.tcap_judge.specs.declared.finding.Ends.{Ends}
-use Rattle.tcap_judge.specs.declared.finding.Finding.{Finding}
-use Rattle.tcap_judge.specs.Checked.{replay_says}
-use Rattle.tcap_judge.specs.Blamed.{AreFound, ends_of, finding, finding_by, finding_line, is_lawful, items_before, joint_verdict}
+use Rattle.tcap_judge.specs.declared.findings.Ends.{Ends}
+use Rattle.tcap_judge.specs.declared.findings.Finding.{Finding}
+use Rattle.tcap_judge.specs.CheckOutcome.{replay_says}
+use Rattle.tcap_judge.specs.BlameOutcome.{AreFound, ends_of, finding, finding_by, finding_line, is_lawful, items_before, joint_verdict}
 use Rattle.tcap_judge.specs.Verdict.{named_by, proposed_by, verdict_by, verdict_of}
 use Rattle.tcap_judge.proofs.JointLaws.{refuted_joint}
 use Rattle.tcap_model.specs.Run.{Event}
 use Rattle.tcap_refute.specs.declared.kind.Refutation.{Refutation}
-use Rattle.tcap_explain.specs.Refuted.{ends_asked, refuted_lines}
+use Rattle.tcap_explain.specs.RefutedLines.{ends_asked, refuted_lines}
 use Rattle.tcap_explain.specs.StepLines.{run_lines}
-use Rattle.tcap_explain.specs.Why.{AreLinesOf, AreLinesOfBoth, IsWhy}
+use Rattle.tcap_explain.specs.VerdictLines.{AreLinesOf, AreLinesOfBoth, IsWhy}
 
 of_run : (judged : Option Side) (table : Table) (c : Certificate) (entries : List Entry) (answer : Result (List Step) CheckFault)
     → IfOk answer (λ steps. IsGivenTo judged table c entries (events_of steps))

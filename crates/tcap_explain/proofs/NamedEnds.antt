@@ -19,14 +19,14 @@ use Rattle.tcap_refute.specs.Unsendable.{IsAtFault}
 use Rattle.tcap_refute.proofs.RefutedLaws.{at_fault}
 use Rattle.tcap_faults.specs.Fault.{blamed}
 use Rattle.tcap_evidence.specs.Unblamed.{IsUnblamed}
-use Rattle.tcap_evidence.specs.Words.{is_for}
+use Rattle.tcap_evidence.specs.EvidenceWords.{is_for}
 use Rattle.tcap_evidence.proofs.NamedLaws.{entry_at, item_at}
-use Rattle.tcap_judge.specs.declared.finding.Ends.{Ends}
-use Rattle.tcap_judge.specs.declared.finding.Finding.TheVariants as findings
-use Rattle.tcap_judge.specs.Blamed.{ends_of, finding, finding_by, items_before}
-use Rattle.tcap_judge.specs.Judged.{replayed_by}
+use Rattle.tcap_judge.specs.declared.findings.Ends.{Ends}
+use Rattle.tcap_judge.specs.declared.findings.Finding.TheVariants as findings
+use Rattle.tcap_judge.specs.BlameOutcome.{ends_of, finding, finding_by, items_before}
+use Rattle.tcap_judge.specs.LawfulOutcome.{replayed_by}
 use Rattle.tcap_judge.specs.Verdict.{proposed_by, verdict_by}
-use Rattle.tcap_explain.specs.Refuted.{is_blamed_by, sender_at}
+use Rattle.tcap_explain.specs.RefutedLines.{is_blamed_by, sender_at}
 
 -- ---- a finding on an end
 

@@ -1,6 +1,6 @@
 pub mod Faults
-pub mod Indented
-pub mod Refuted
+pub mod IndentedText
+pub mod RefutedLines
 pub mod StepLines
-pub mod Why
-mod WorkedIndented
+pub mod VerdictLines
+mod WorkedIndentedText

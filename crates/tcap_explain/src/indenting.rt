@@ -3,7 +3,7 @@
 ghost use Rattle.std.specs.Prelude.{◌≡◌, ◌++◌, OnOk, codes};
 ghost use Rattle.std.specs.String.{string_bytes};
 ghost use Rattle.tcap_record.specs.Lines.{line_end};
-ghost use Rattle.tcap_explain.specs.Indented.{indented};
+ghost use Rattle.tcap_explain.specs.IndentedText.{indented};
 
 use std::alloc::AllocError;
 

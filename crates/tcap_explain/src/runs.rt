@@ -2,14 +2,14 @@
 
 ghost use Rattle.std.specs.Prelude.{◌≡◌, ◌≤◌, ◌++◌, ◌&&◌, ℕ, List, true, IfOk, OnOk, length, map};
 ghost use Rattle.std.specs.String.{string_bytes};
-ghost use Rattle.tcap_certificate.specs.Replayed.{discards_by};
-ghost use Rattle.tcap_check.specs.Checking.{map_ok};
-ghost use Rattle.tcap_check.specs.Stands.{answered};
-ghost use Rattle.tcap_check.specs.Told.{discards_of, events_of};
+ghost use Rattle.tcap_certificate.specs.Replay.{discards_by};
+ghost use Rattle.tcap_check.specs.CheckerMeaning.{map_ok};
+ghost use Rattle.tcap_check.specs.RunSoFar.{answered};
+ghost use Rattle.tcap_check.specs.ReportedSteps.{discards_of, events_of};
 ghost use Rattle.tcap_model.specs.Entries.{item_of};
-ghost use Rattle.tcap_judge.specs.Blamed.{ends_of, finding, is_lawful};
-ghost use Rattle.tcap_judge.specs.Judged.{IsShown, lawful_by, replayed_by};
-ghost use Rattle.tcap_explain.specs.Why.{AreLinesOf, AreLinesOfBoth};
+ghost use Rattle.tcap_judge.specs.BlameOutcome.{ends_of, finding, is_lawful};
+ghost use Rattle.tcap_judge.specs.LawfulOutcome.{IsShown, lawful_by, replayed_by};
+ghost use Rattle.tcap_explain.specs.VerdictLines.{AreLinesOf, AreLinesOfBoth};
 
 use crate::step_lines::push_steps;
 use std::alloc::{AllocError, Global};

@@ -3,8 +3,8 @@
 ghost use Rattle.std.specs.Prelude.{◌≡◌, ◌++◌, OnOk, codes};
 ghost use Rattle.std.specs.String.{string_bytes};
 ghost use Rattle.hex.specs.Hex.{encode_lower};
-ghost use Rattle.tcap_certificate.specs.Unheard.{is_lost_from};
-ghost use Rattle.tcap_check.specs.Told.{event_of};
+ghost use Rattle.tcap_certificate.specs.LossCounts.{is_lost_from};
+ghost use Rattle.tcap_check.specs.ReportedSteps.{event_of};
 ghost use Rattle.tcap_explain.specs.StepLines.{closing_line, deed_text, discard_line, discard_text, expiry_line, half_text, invocation_text, is_entry, lines_from, loss_line, own_label, owner_text, peer_label, reply_line, run_label, run_lines, sent_line, step_line};
 
 use std::alloc::AllocError;

@@ -4,14 +4,14 @@
 
 ghost use Rattle.std.specs.Prelude.{◌≡◌, IfOk, IfSome};
 ghost use Rattle.std.specs.String.{string_bytes};
-ghost use Rattle.tcap_judge.specs.Blamed.{ends_of};
-ghost use Rattle.tcap_explain.specs.Why.{EndsWithEnds};
+ghost use Rattle.tcap_judge.specs.BlameOutcome.{ends_of};
+ghost use Rattle.tcap_explain.specs.VerdictLines.{EndsWithEnds};
 
 use crate::half_states::{push_component_state, push_half_state};
 use crate::indenting::push_indented;
 use crate::reasons::{fault_words, reason_words};
-use crate::refusing::{MANY, is_of_component, refused_component};
-use crate::refuted::push_asked;
+use crate::refused_component::{MANY, is_of_component, refused_component};
+use crate::refuted_text::push_asked;
 use std::alloc::{AllocError, Global};
 use tcap_ber::Fault;
 use tcap_check::{Certificate, CheckFault, Fate, Partial, Reason};

@@ -10,10 +10,10 @@ use Rattle.tcap_parts.specs.declared.problem.Problem.{Problem}
 use Rattle.tcap_parts.specs.declared.problem.Problem.TheVariants as problems
 use Rattle.tcap_end.specs.Component.{is_code, links}
 use Rattle.tcap_end.specs.Table.{Table}
-use Rattle.tcap_refute.specs.Before.{is_invoke_id, invokes}
+use Rattle.tcap_refute.specs.EarlierMessages.{is_invoke_id, invokes}
 use Rattle.tcap_faults.specs.Components.{is_linked_to, is_of_link, is_problem, lists_nothing}
 use Rattle.tcap_faults.specs.Counts.{any_problem, count, count_class, count_lasting, count_suited, has_class, invokes_linked, invokes_so, is_error, is_last_result, is_not_last, is_result, is_result_of, rejects_error, rejects_invoke, rejects_result, takes}
-use Rattle.tcap_faults.specs.HalfOf.{HalfOf}
+use Rattle.tcap_faults.specs.HalfByPeerId.{HalfOf}
 
 -- For each component, `own` are those before it in its message. `before` are all that the end sent to the destination
 -- ID so far: those of earlier messages, and `own`.

@@ -14,17 +14,17 @@ use Rattle.tcap_model.specs.Entries.{item_of}
 use Rattle.tcap_refute.specs.declared.kind.Kind.{Kind}
 use Rattle.tcap_refute.specs.declared.kind.Kind.TheVariants as kinds
 use Rattle.tcap_refute.specs.declared.kind.Refutation.{Refutation}
-use Rattle.tcap_refute.specs.Before.{asked, is_a, sent_by, since_quiet}
+use Rattle.tcap_refute.specs.EarlierMessages.{asked, is_a, sent_by, since_quiet}
 use Rattle.tcap_refute.specs.FirstKinds.{first_kinds, is_of_first_kind}
 use Rattle.tcap_refute.specs.Kind.{kind_of_reason, or_else, refutation_at}
-use Rattle.tcap_faults.specs.Closed.{all_go_to_open, is_surely_open}
+use Rattle.tcap_faults.specs.ClosedHalves.{all_go_to_open, is_surely_open}
 use Rattle.tcap_faults.specs.Components.{has_component, invokes_again, is_linked}
-use Rattle.tcap_faults.specs.Told.{is_abort_with, told}
+use Rattle.tcap_faults.specs.SentToId.{is_abort_with, told}
 use Rattle.tcap_faults.specs.Counts.{count, is_nothing}
 use Rattle.tcap_faults.specs.ComponentKinds.{answers_again, invokes_busy, links_badly, rejects_wrongly}
 use Rattle.tcap_faults.specs.HalfKinds.{is_accepted, is_wrong_dialogue, is_wrong_half}
-use Rattle.tcap_faults.specs.HalfOf.{HalfOf, half_of}
-use Rattle.tcap_faults.specs.Tangled.{goes_over_tangled}
+use Rattle.tcap_faults.specs.HalfByPeerId.{HalfOf, half_of}
+use Rattle.tcap_faults.specs.TangledIds.{goes_over_tangled}
 use Rattle.tcap_faults.specs.UsedAgain.{has_used_again}
 
 -- ---- F14: an Abort of the provider that answers nothing that is left (Q.774 3.3)

@@ -7,10 +7,10 @@ use Rattle.tcap_parts.specs.declared.component.Component.TheVariants.{Invoke}
 use Rattle.tcap_end.specs.Table.{Table}
 use Rattle.tcap_refute.specs.declared.kind.Kind.{Kind}
 use Rattle.tcap_refute.specs.declared.kind.Kind.TheVariants as kinds
-use Rattle.tcap_refute.specs.Before.{invokes}
+use Rattle.tcap_refute.specs.EarlierMessages.{invokes}
 use Rattle.tcap_faults.specs.Components.{is_linked}
 use Rattle.tcap_faults.specs.declared.component.component_faults.ComponentFaults.{ComponentFaults}
-use Rattle.tcap_faults.specs.ByTallies.{Counted, answers_again_by, invokes_busy_by, links_badly_by, rejects_wrongly_by}
+use Rattle.tcap_faults.specs.KindsByCounts.{Counted, answers_again_by, invokes_busy_by, links_badly_by, rejects_wrongly_by}
 
 -- The number of the component that gives the message this kind.
 abbrev pub component_at : Kind → ComponentFaults → Option ℕ

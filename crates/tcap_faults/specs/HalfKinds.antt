@@ -11,12 +11,12 @@ use Rattle.tcap_record.specs.declared.entry.End.{End as Side}
 use Rattle.tcap_end.specs.Dialogue.{is_response, is_user_abort}
 use Rattle.tcap_end.specs.End.{is_id}
 use Rattle.tcap_model.specs.World.{Item}
-use Rattle.tcap_refute.specs.Before.{has_a, is_a}
-use Rattle.tcap_faults.specs.Closed.{was_closed}
-use Rattle.tcap_faults.specs.Told.{began, is_request_of, told}
+use Rattle.tcap_refute.specs.EarlierMessages.{has_a, is_a}
+use Rattle.tcap_faults.specs.ClosedHalves.{was_closed}
+use Rattle.tcap_faults.specs.SentToId.{began, is_request_of, told}
 use Rattle.tcap_faults.specs.declared.dialogue.half_origin.How.{How}
 use Rattle.tcap_faults.specs.declared.dialogue.half_origin.How.TheVariants.{Accepted, Begun, Nowhere, Refused, Unanswered}
-use Rattle.tcap_faults.specs.HalfOf.{HalfOf}
+use Rattle.tcap_faults.specs.HalfByPeerId.{HalfOf}
 
 -- ---- F8: a half that may not send the message
 

@@ -6,8 +6,8 @@ use Rattle.tcap_end.specs.Table.{Table}
 use Rattle.tcap_model.specs.World.{Item}
 use Rattle.tcap_model.specs.Entries.{item_of}
 use Rattle.tcap_faults.specs.declared.verdict.earlier_entries.Replay.{Replay}
-use Rattle.tcap_faults.specs.Searching.{AreCounted, IsKept}
-use Rattle.tcap_faults.specs.Subject.{items_among}
+use Rattle.tcap_faults.specs.SearchState.{AreCounted, IsKept}
+use Rattle.tcap_faults.specs.FaultSubject.{items_among}
 use Rattle.tcap_faults.specs.Unblamed.{again_among}
 
 -- The items among the first `number` entries.

@@ -7,13 +7,13 @@ use Rattle.tcap_end.specs.Table.{Table}
 use Rattle.tcap_model.specs.declared.reason.Reason.{Reason}
 use Rattle.tcap_model.specs.World.{Item, Sent, is_side}
 use Rattle.tcap_model.specs.Entries.{item_of}
-use Rattle.tcap_refute.specs.Before.{since_quiet}
+use Rattle.tcap_refute.specs.EarlierMessages.{since_quiet}
 use Rattle.tcap_refute.specs.Kind.{or_else}
 use Rattle.tcap_faults.specs.declared.verdict.unblamed_reason.TangledId.{TangledId}
 use Rattle.tcap_faults.specs.declared.verdict.unblamed_reason.Unblamed.{Unblamed}
 use Rattle.tcap_faults.specs.declared.verdict.unblamed_reason.Unblamed.TheVariants.{UsedAgain, Tangled}
-use Rattle.tcap_faults.specs.Subject.{items_among}
-use Rattle.tcap_faults.specs.Tangled.{tangled_in}
+use Rattle.tcap_faults.specs.FaultSubject.{items_among}
+use Rattle.tcap_faults.specs.TangledIds.{tangled_in}
 use Rattle.tcap_faults.specs.UsedAgain.{is_used_again}
 
 -- The number of the first entry since the last quiet mark in which the end used an own ID again. `seen` are the items

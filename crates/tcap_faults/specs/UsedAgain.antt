@@ -10,10 +10,10 @@ use Rattle.tcap_record.specs.declared.entry.End.{End as Side}
 use Rattle.tcap_record.specs.Ends.{other}
 use Rattle.tcap_end.specs.Table.{Table}
 use Rattle.tcap_model.specs.World.{Item, Sent, is_side}
-use Rattle.tcap_refute.specs.Before.{asked, ends_to, has_a, sent_by}
+use Rattle.tcap_refute.specs.EarlierMessages.{asked, ends_to, has_a, sent_by}
 use Rattle.tcap_faults.specs.Counts.{is_nothing}
-use Rattle.tcap_faults.specs.Told.{has_ended, has_used, one_passes, told}
-use Rattle.tcap_faults.specs.Tangled.{owns_of, peers_of}
+use Rattle.tcap_faults.specs.SentToId.{has_ended, has_used, one_passes, told}
+use Rattle.tcap_faults.specs.TangledIds.{owns_of, peers_of}
 
 -- Whether the transaction of an own ID may be over. The peer sent an End or an Abort to it, the end sent a user's end
 -- to an ID that is joined with it, or transactions may end by prearrangement, without a message.

@@ -10,7 +10,7 @@ use Rattle.tcap_model.specs.World.{Item, Sent, is_side}
 use Rattle.tcap_model.specs.Entries.{entry_of}
 use Rattle.tcap_refute.specs.declared.kind.Kind.{Kind}
 use Rattle.tcap_refute.specs.declared.kind.Refutation.{Refutation}
-use Rattle.tcap_refute.specs.Before.{since_quiet}
+use Rattle.tcap_refute.specs.EarlierMessages.{since_quiet}
 use Rattle.tcap_refute.specs.Kind.{kind_number}
 use Rattle.tcap_refute.specs.FirstKinds.{first_kinds}
 use Rattle.tcap_faults.specs.Fault.{blamed, further_kinds, is_fault, is_open_at_mark}

@@ -6,16 +6,16 @@ ghost use Rattle.tcap_msg.specs.declared.message.Message.{Message};
 ghost use Rattle.tcap_msg.specs.Parts.{dtid_in};
 ghost use Rattle.tcap_record.specs.declared.entry.End.{End as Side};
 ghost use Rattle.tcap_record.specs.declared.entry.Entry.{Entry};
-ghost use Rattle.tcap_record.specs.Framed.{Framed};
+ghost use Rattle.tcap_record.specs.RecordOctets.{Framed};
 ghost use Rattle.tcap_end.specs.Table.{Table};
 ghost use Rattle.tcap_model.specs.World.{Item, Sent, World};
 ghost use Rattle.tcap_model.specs.Run.{Event, KeepsRules, Runs};
 ghost use Rattle.tcap_refute.specs.declared.kind.Kind.{Kind};
 ghost use Rattle.tcap_refute.specs.declared.kind.Refutation.{Refutation};
-ghost use Rattle.tcap_refute.specs.Before.{since_quiet};
-ghost use Rattle.tcap_faults.specs.AtFault.{HasNoMessage, IsAtFaultOf, IsBadEntryOf};
+ghost use Rattle.tcap_refute.specs.EarlierMessages.{since_quiet};
+ghost use Rattle.tcap_faults.specs.BlameMeaning.{HasNoMessage, IsAtFaultOf, IsBadEntryOf};
 ghost use Rattle.tcap_faults.specs.Fault.{blamed, is_fault, is_open_at_mark};
-ghost use Rattle.tcap_faults.specs.Tangled.{IsOver, goes_over_tangled, own_of_continue, tangled_in};
+ghost use Rattle.tcap_faults.specs.TangledIds.{IsOver, goes_over_tangled, own_of_continue, tangled_in};
 ghost use Rattle.tcap_faults.specs.declared.verdict.unblamed_reason.TangledId.{TangledId};
 
 /// States that an end that keeps the rules sends no message of a kind after the items that give it this kind, no

@@ -12,26 +12,26 @@ use Rattle.tcap_record.specs.declared.entry.Entry.{Entry}
 use Rattle.tcap_end.specs.Component.{is_code}
 use Rattle.tcap_end.specs.Table.{Table}
 use Rattle.tcap_model.specs.World.{Item}
-use Rattle.tcap_refute.specs.Before.{invokes, is_invoke_id}
+use Rattle.tcap_refute.specs.EarlierMessages.{invokes, is_invoke_id}
 use Rattle.tcap_faults.specs.ComponentKinds.{answers_again, is_operation_overspent, is_overspent, more_answered}
 use Rattle.tcap_faults.specs.Counts.{any_problem, count, count_class, invokes_so, is_error, is_last_result, is_result_of, rejects_invoke}
 use Rattle.tcap_faults.specs.HalfKinds.{is_wrong_half}
-use Rattle.tcap_faults.specs.HalfOf.{HalfOf, half_of}
+use Rattle.tcap_faults.specs.HalfByPeerId.{HalfOf, half_of}
 use Rattle.tcap_faults.specs.declared.component.component_sort.Class.TheVariants.{Any, One, Two, Three}
 use Rattle.tcap_faults.proofs.component_laws.FewSums.{count_invokes}
 use Rattle.tcap_faults.proofs.list_laws.CountLaws.{count_last, one}
 use Rattle.tcap_faults.proofs.story_laws.InvokeListLaws.{id_itself}
-use Rattle.tcap_grounds.specs.ComponentsShown.{MoreAnswered, MoreOfOperation, ShowsAnswered, before_so, heard_of_class, heard_so, operates}
+use Rattle.tcap_grounds.specs.ComponentEvidence.{MoreAnswered, MoreOfOperation, ShowsAnswered, before_so, heard_of_class, heard_so, operates}
 use Rattle.tcap_evidence.specs.Evidence.{invoke_id_of}
 use Rattle.tcap_evidence.specs.Scene.{Scene}
-use Rattle.tcap_grounds.specs.Shown.{HasKind, component_with, items_before, many, scene_at}
+use Rattle.tcap_grounds.specs.ListedEntries.{HasKind, component_with, items_before, many, scene_at}
 use Rattle.tcap_grounds.proofs.HasKindLaws.{goes_so, half_so}
 use Rattle.tcap_grounds.proofs.SoLaws.{IsCounted, are_counted, component_is, scene_of_it, so_earlier, speaks_half, zero_more}
 use Rattle.tcap_record.specs.Ends.{other}
 use Rattle.tcap_parts.specs.declared.problem.Problem.TheVariants as problems
 use Rattle.tcap_refute.specs.declared.kind.Kind.TheVariants as kinds
 use Rattle.tcap_faults.specs.declared.component.component_sort.Sort.TheVariants as sorts
-use Rattle.tcap_evidence.specs.declared.what.What.TheVariants as whats
+use Rattle.tcap_evidence.specs.declared.shown_things.What.TheVariants as whats
 
 -- An appended item that passes counts one.
 pub one_more : {A : Type 0} (p : A → Bool) (xs : List A) (x : A) → p x ≡ true → count p (xs ++ x ∷ []) ≡ count p xs + 1

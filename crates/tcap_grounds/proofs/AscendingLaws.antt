@@ -13,25 +13,25 @@ use Rattle.tcap_end.specs.Dialogue.{is_response}
 use Rattle.tcap_end.specs.Table.{Table}
 use Rattle.tcap_model.specs.declared.reason.Reason.{Reason}
 use Rattle.tcap_model.specs.World.{Item, Sent}
-use Rattle.tcap_model.specs.Since.{ended_by}
+use Rattle.tcap_model.specs.SinceMark.{ended_by}
 use Rattle.tcap_model.specs.Entries.{item_of}
 use Rattle.tcap_refute.specs.declared.kind.Refutation.{Refutation}
-use Rattle.tcap_refute.specs.Before.{is_a}
+use Rattle.tcap_refute.specs.EarlierMessages.{is_a}
 use Rattle.tcap_refute.specs.Kind.{is_begin_with_request}
 use Rattle.tcap_refute.proofs.Members.{has_not}
-use Rattle.tcap_faults.specs.Told.{goes_on_to, is_cause}
-use Rattle.tcap_faults.specs.Tallied.{is_sort}
+use Rattle.tcap_faults.specs.SentToId.{goes_on_to, is_cause}
+use Rattle.tcap_faults.specs.InvokeCounts.{is_sort}
 use Rattle.tcap_faults.specs.declared.dialogue.half_origin.How.{How}
 use Rattle.tcap_faults.specs.declared.dialogue.half_origin.How.TheVariants.{Accepted, Begun, Nowhere, Refused, Unanswered}
 use Rattle.tcap_faults.specs.declared.component.component_sort.Sort.{Sort}
-use Rattle.tcap_evidence.specs.declared.what.What.{What}
-use Rattle.tcap_evidence.specs.declared.what.What.TheVariants as whats
+use Rattle.tcap_evidence.specs.declared.shown_things.What.{What}
+use Rattle.tcap_evidence.specs.declared.shown_things.What.TheVariants as whats
 use Rattle.tcap_evidence.specs.Evidence.{grounds_of, mark_scene}
-use Rattle.tcap_evidence.specs.Numbered.{Numbered, in_order, sent_before}
+use Rattle.tcap_evidence.specs.NumberedMessages.{Numbered, in_order, sent_before}
 use Rattle.tcap_evidence.specs.Operations.{invocations_at}
 use Rattle.tcap_evidence.specs.Scene.{Scene, has_request, heard_by, invoked_by, is_open_continue, is_that, own_begin, own_id, shown, since_first, there, to_half, told_there, went_elsewhere, with_sort, with_sort_in}
-use Rattle.tcap_grounds.specs.Given.{IsAscending, invokes_listed}
-use Rattle.tcap_grounds.specs.Shown.{component_with, scene_at}
+use Rattle.tcap_grounds.specs.GivenLists.{IsAscending, invokes_listed}
+use Rattle.tcap_grounds.specs.ListedEntries.{component_with, scene_at}
 use Rattle.tcap_grounds.proofs.GroundLaws.{of_mark, of_message}
 use Rattle.tcap_grounds.proofs.InvocationLaws.{are_listed, none_given}
 use Rattle.tcap_grounds.proofs.OrderLaws.{Ascend, append_ascends, first_ascend, kept_ascend, repeated_ascends, sent_ascend, since_ascend, where_ascends, with_ascends}

@@ -11,18 +11,18 @@ use Rattle.tcap_record.specs.declared.entry.End.{End as Side}
 use Rattle.tcap_record.specs.declared.entry.Entry.{Entry}
 use Rattle.tcap_end.specs.Table.{Table}
 use Rattle.tcap_model.specs.World.{Item}
-use Rattle.tcap_refute.specs.Before.{answers, asked, components_of, invokes, is_answer, is_reject}
+use Rattle.tcap_refute.specs.EarlierMessages.{answers, asked, components_of, invokes, is_answer, is_reject}
 use Rattle.tcap_refute.specs.FirstComponent.{answers_nothing_in}
 use Rattle.tcap_refute.specs.FirstKinds.{answers_none, answers_nothing_there}
 use Rattle.tcap_refute.specs.Kind.{answers_none_of, answers_nothing}
 use Rattle.tcap_faults.specs.Counts.{count, is_error, is_result}
-use Rattle.tcap_faults.specs.Tallied.{is_sort}
+use Rattle.tcap_faults.specs.InvokeCounts.{is_sort}
 use Rattle.tcap_faults.specs.declared.component.component_sort.Class.TheVariants.{Any}
 use Rattle.tcap_faults.specs.declared.component.component_sort.Sort.{Sort}
 use Rattle.tcap_faults.proofs.component_laws.FewSums.{any_same, count_invokes}
-use Rattle.tcap_grounds.specs.ComponentsShown.{ShowsUnasked}
+use Rattle.tcap_grounds.specs.ComponentEvidence.{ShowsUnasked}
 use Rattle.tcap_evidence.specs.Scene.{Scene, there, with_sort, shown}
-use Rattle.tcap_grounds.specs.Shown.{ListsNone, component_with, has_kind_by, items_before, many, scene_at}
+use Rattle.tcap_grounds.specs.ListedEntries.{ListsNone, component_with, has_kind_by, items_before, many, scene_at}
 use Rattle.tcap_grounds.proofs.CountedLaws.{components_counted}
 use Rattle.tcap_grounds.proofs.HasKindLaws.{first_so as blamed_so}
 use Rattle.tcap_grounds.proofs.ListsLaws.{nothing_there}
@@ -32,7 +32,7 @@ use Rattle.tcap_evidence.specs.Evidence.{invoke_id_of}
 use Rattle.tcap_parts.specs.declared.problem.Problem.TheVariants as problems
 use Rattle.tcap_refute.specs.declared.kind.Kind.TheVariants as kinds
 use Rattle.tcap_faults.specs.declared.component.component_sort.Sort.TheVariants as sorts
-use Rattle.tcap_evidence.specs.declared.what.What.TheVariants as whats
+use Rattle.tcap_evidence.specs.declared.shown_things.What.TheVariants as whats
 
 -- ---- lists of the peer's messages from the destination ID
 

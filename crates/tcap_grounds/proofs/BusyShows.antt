@@ -14,14 +14,14 @@ use Rattle.tcap_record.specs.declared.entry.Entry.{Entry}
 use Rattle.tcap_end.specs.Component.{links}
 use Rattle.tcap_end.specs.Table.{Table}
 use Rattle.tcap_model.specs.World.{Item}
-use Rattle.tcap_refute.specs.Before.{invokes, is_invoke_id}
+use Rattle.tcap_refute.specs.EarlierMessages.{invokes, is_invoke_id}
 use Rattle.tcap_faults.specs.declared.dialogue.half_origin.How.TheVariants.{Nowhere}
 use Rattle.tcap_faults.specs.ComponentKinds.{invokes_busy, is_badly_linked, is_busy, links_badly, may_reject_answer, may_reject_invoke, rejects_generally}
 use Rattle.tcap_faults.specs.Components.{has_component, invokes_again, is_linked}
 use Rattle.tcap_faults.specs.Counts.{any_problem, count, count_lasting, has_class, invokes_so, is_error, is_last_result, is_not_last, rejects_invoke, rejects_result, takes}
 use Rattle.tcap_faults.specs.HalfKinds.{is_wrong_half}
-use Rattle.tcap_faults.specs.HalfOf.{HalfOf, half_of}
-use Rattle.tcap_faults.specs.Tallied.{is_sort}
+use Rattle.tcap_faults.specs.HalfByPeerId.{HalfOf, half_of}
+use Rattle.tcap_faults.specs.InvokeCounts.{is_sort}
 use Rattle.tcap_faults.specs.declared.component.component_sort.Class.TheVariants.{Any, One, Three}
 use Rattle.tcap_faults.specs.declared.component.component_sort.Sort.{Sort}
 use Rattle.tcap_faults.proofs.component_laws.FewSums.{count_invokes}
@@ -29,10 +29,10 @@ use Rattle.tcap_faults.proofs.list_laws.FindLaws.{any_is}
 use Rattle.tcap_faults.proofs.story_laws.AnsweredLaws.{count_takes_all}
 use Rattle.tcap_faults.proofs.list_laws.CountLaws.{count_apart, count_both, count_more, one}
 use Rattle.tcap_faults.proofs.story_laws.InvokeListLaws.{id_itself}
-use Rattle.tcap_grounds.specs.ComponentsShown.{MoreLast, ShowsBadLink, ShowsBusy, ends_heard, heard_so, operates, rejects_told, taken_before}
+use Rattle.tcap_grounds.specs.ComponentEvidence.{MoreLast, ShowsBadLink, ShowsBusy, ends_heard, heard_so, operates, rejects_told, taken_before}
 use Rattle.tcap_evidence.specs.Evidence.{invoke_id_of}
 use Rattle.tcap_evidence.specs.Scene.{Scene, shown, told_there, with_sort, with_sort_in}
-use Rattle.tcap_grounds.specs.Shown.{HasKind, HasSort, component_with, items_before, many, scene_at}
+use Rattle.tcap_grounds.specs.ListedEntries.{HasKind, HasSort, component_with, items_before, many, scene_at}
 use Rattle.tcap_grounds.proofs.HasKindLaws.{further_so, half_so}
 use Rattle.tcap_grounds.proofs.ListedLaws.{itself_has}
 use Rattle.tcap_grounds.proofs.SoLaws.{IsCounted, are_counted, component_is, first_is, none_so, scene_of_it, so_earlier, speaks_half, two_counted, zero_more}
@@ -40,7 +40,7 @@ use Rattle.tcap_record.specs.Ends.{other}
 use Rattle.tcap_parts.specs.declared.problem.Problem.TheVariants as problems
 use Rattle.tcap_refute.specs.declared.kind.Kind.TheVariants as kinds
 use Rattle.tcap_faults.specs.declared.component.component_sort.Sort.TheVariants as sorts
-use Rattle.tcap_evidence.specs.declared.what.What.TheVariants as whats
+use Rattle.tcap_evidence.specs.declared.shown_things.What.TheVariants as whats
 
 -- ---- Rejects
 

@@ -12,12 +12,12 @@ use Rattle.tcap_record.specs.Ends.{other}
 use Rattle.tcap_end.specs.End.{is_id}
 use Rattle.tcap_model.specs.World.{Item, Sent, is_side}
 use Rattle.tcap_model.proofs.TurnLaws.{id_is}
-use Rattle.tcap_refute.specs.Before.{asked, has_a, is_a, message_of, sent_by}
+use Rattle.tcap_refute.specs.EarlierMessages.{asked, has_a, is_a, message_of, sent_by}
 use Rattle.tcap_refute.proofs.BeforeLaws.{is_that_id}
 use Rattle.tcap_refute.proofs.Members.{any_has, filter_has, filter_map_has, has_first}
-use Rattle.tcap_faults.specs.Closed.{all_go_on_to, shows_closed, was_closed}
-use Rattle.tcap_faults.specs.Told.{goes_on_to, has_used, is_abort_with, is_cause, one_passes}
-use Rattle.tcap_faults.specs.Tangled.{is_own_tangled, peers_of}
+use Rattle.tcap_faults.specs.ClosedHalves.{all_go_on_to, shows_closed, was_closed}
+use Rattle.tcap_faults.specs.SentToId.{goes_on_to, has_used, is_abort_with, is_cause, one_passes}
+use Rattle.tcap_faults.specs.TangledIds.{is_own_tangled, peers_of}
 use Rattle.tcap_faults.proofs.list_laws.FindLaws.{any_is, filter_is}
 use Rattle.tcap_faults.proofs.transaction_laws.TangledLaws.{all_same}
 use Rattle.tcap_faults.proofs.list_laws.TwoTests.{passes_not}

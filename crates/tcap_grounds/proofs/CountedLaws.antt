@@ -12,8 +12,8 @@ use Rattle.tcap_record.specs.Ends.{other}
 use Rattle.tcap_end.specs.Table.{Table}
 use Rattle.tcap_model.specs.World.{Item}
 use Rattle.tcap_refute.specs.declared.kind.Kind.{Kind}
-use Rattle.tcap_refute.specs.Before.{asked, components_of, is_a, sent_by}
-use Rattle.tcap_faults.specs.Told.{is_abort_with, is_cause, told}
+use Rattle.tcap_refute.specs.EarlierMessages.{asked, components_of, is_a, sent_by}
+use Rattle.tcap_faults.specs.SentToId.{is_abort_with, is_cause, told}
 use Rattle.tcap_faults.specs.Counts.{count}
 use Rattle.tcap_refute.specs.Kind.{is_begin_with_request}
 use Rattle.tcap_faults.proofs.story_laws.AnsweredLaws.{count_takes, count_takes_all}
@@ -21,14 +21,14 @@ use Rattle.tcap_faults.proofs.list_laws.CountLaws.{count_both}
 use Rattle.tcap_faults.specs.declared.dialogue.half_origin.How.TheVariants.{Nowhere}
 use Rattle.tcap_faults.specs.declared.component.component_sort.Sort.{Sort}
 use Rattle.tcap_faults.specs.declared.verdict.fault_subject.Subject.{Subject}
-use Rattle.tcap_faults.specs.HalfOf.{half_of}
-use Rattle.tcap_faults.specs.Subject.{subject}
-use Rattle.tcap_faults.specs.Tallied.{is_sort}
+use Rattle.tcap_faults.specs.HalfByPeerId.{half_of}
+use Rattle.tcap_faults.specs.FaultSubject.{subject}
+use Rattle.tcap_faults.specs.InvokeCounts.{is_sort}
 use Rattle.tcap_faults.proofs.component_laws.FewSums.{count_invokes}
 use Rattle.tcap_evidence.specs.Evidence.{scene_of}
-use Rattle.tcap_evidence.specs.Numbered.{Numbered, entries_where, in_order}
+use Rattle.tcap_evidence.specs.NumberedMessages.{Numbered, entries_where, in_order}
 use Rattle.tcap_evidence.specs.Scene.{Scene, heard_by, invoked_by, is_that, there, told_there, with_sort, with_sort_in}
-use Rattle.tcap_grounds.specs.Shown.{AreAllThere, AreCounted, SortsAre, items_before, scene_at}
+use Rattle.tcap_grounds.specs.ListedEntries.{AreAllThere, AreCounted, SortsAre, items_before, scene_at}
 use Rattle.tcap_grounds.proofs.NumberedLists.{where_counted, with_counted}
 use Rattle.tcap_grounds.proofs.OrderLaws.{in_order_counted}
 use Rattle.tcap_grounds.proofs.SceneLists.{IsOver, IsTo, heard_are, invoked_are, there_are, told_are, told_of}

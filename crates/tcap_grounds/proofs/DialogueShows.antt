@@ -12,30 +12,30 @@ use Rattle.tcap_record.specs.declared.entry.Entry.{Entry}
 use Rattle.tcap_end.specs.Dialogue.{is_response, is_user_abort}
 use Rattle.tcap_end.specs.Table.{Table}
 use Rattle.tcap_model.specs.World.{Item}
-use Rattle.tcap_refute.specs.Before.{asked, has_a, is_a, sent_by}
+use Rattle.tcap_refute.specs.EarlierMessages.{asked, has_a, is_a, sent_by}
 use Rattle.tcap_refute.specs.Kind.{is_begin_with_request, or_else}
 use Rattle.tcap_faults.specs.declared.dialogue.half_origin.How.{How}
 use Rattle.tcap_faults.specs.declared.dialogue.half_origin.How.TheVariants.{Accepted, Refused, Begun, Unanswered}
 use Rattle.tcap_faults.specs.Counts.{count, is_nothing}
 use Rattle.tcap_faults.specs.HalfKinds.{goes_from_other, is_provider_abort, is_wrong_aborting, is_wrong_dialogue, is_wrong_going_on, is_wrong_half, may_not_speak}
-use Rattle.tcap_faults.specs.HalfOf.{HalfOf, begun_from, continued_to, half_by, half_of, heard_of}
-use Rattle.tcap_faults.specs.Told.{began, begin_from, is_request_of, told, was_refused}
+use Rattle.tcap_faults.specs.HalfByPeerId.{HalfOf, begun_from, continued_to, half_by, half_of, heard_of}
+use Rattle.tcap_faults.specs.SentToId.{began, begin_from, is_request_of, told, was_refused}
 use Rattle.tcap_faults.proofs.list_laws.CountLaws.{count_more, count_weaker, one}
 use Rattle.tcap_faults.proofs.transaction_laws.TangledLaws.{plain_to}
-use Rattle.tcap_grounds.specs.HalvesShown.{MisfitsAccepted, MisfitsBegun, ShowsWrongDialogue}
+use Rattle.tcap_grounds.specs.HalfEvidence.{MisfitsAccepted, MisfitsBegun, ShowsWrongDialogue}
 use Rattle.tcap_evidence.specs.Scene.{Scene, is_that, own_id}
-use Rattle.tcap_grounds.specs.Shown.{HasKind, ListsNone, ListsOne, items_before, many, scene_at}
+use Rattle.tcap_grounds.specs.ListedEntries.{HasKind, ListsNone, ListsOne, items_before, many, scene_at}
 use Rattle.tcap_grounds.proofs.CountedLaws.{scene_over, scene_to}
 use Rattle.tcap_grounds.proofs.HasKindLaws.{further_so, goes_so, half_so}
 use Rattle.tcap_grounds.proofs.ListsLaws.{none_there, none_told, one_there, one_told}
 use Rattle.tcap_grounds.proofs.SceneLists.{IsOver, IsTo}
 use Rattle.tcap_grounds.proofs.NumberedLists.{where_counted}
-use Rattle.tcap_faults.specs.Subject.{subject}
+use Rattle.tcap_faults.specs.FaultSubject.{subject}
 use Rattle.tcap_grounds.proofs.HalfScene.{begun_one, goes_on, requests_are, request_begins}
 use Rattle.tcap_parts.specs.declared.dialogue.Dialogue.TheVariants as dialogues
 use Rattle.tcap_msg.specs.declared.kind.Kind.TheVariants as forms
 use Rattle.tcap_refute.specs.declared.kind.Kind.TheVariants as kinds
-use Rattle.tcap_evidence.specs.declared.what.What.TheVariants as whats
+use Rattle.tcap_evidence.specs.declared.shown_things.What.TheVariants as whats
 
 -- A stricter test counts fewer messages, if the first one that passes the other test fails it.
 count_fewer : (p q : Message → Bool) (ms : List Message) (m : Message) → ((x : Message) → q x ≡ true → p x ≡ true)

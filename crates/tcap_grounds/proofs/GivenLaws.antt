@@ -21,14 +21,14 @@ use Rattle.tcap_faults.specs.declared.component.component_sort.Class.TheVariants
 use Rattle.tcap_faults.specs.declared.component.component_sort.Sort.TheVariants as sorts
 use Rattle.tcap_faults.specs.declared.verdict.fault_subject.Subject.{Subject}
 use Rattle.tcap_faults.specs.Components.{is_of_link}
-use Rattle.tcap_faults.specs.Subject.{subject, subject_by, subject_of}
+use Rattle.tcap_faults.specs.FaultSubject.{subject, subject_by, subject_of}
 use Rattle.tcap_refute.proofs.Members.{has_first, has_later}
-use Rattle.tcap_evidence.specs.declared.what.What.{What}
-use Rattle.tcap_evidence.specs.declared.what.What.TheVariants as whats
+use Rattle.tcap_evidence.specs.declared.shown_things.What.{What}
+use Rattle.tcap_evidence.specs.declared.shown_things.What.TheVariants as whats
 use Rattle.tcap_evidence.specs.Evidence.{component_at, dialogue_of, grounds_in, grounds_of, mark_scene, rejected_by, scene_of, shows, shows_to}
-use Rattle.tcap_grounds.specs.Given.{AreGiven, spoken_of, spoken_of_dialogue, spoken_of_rejected, spoken_of_to}
+use Rattle.tcap_grounds.specs.GivenLists.{AreGiven, spoken_of, spoken_of_dialogue, spoken_of_rejected, spoken_of_to}
 use Rattle.tcap_evidence.specs.Scene.{Scene, shown}
-use Rattle.tcap_grounds.specs.Shown.{component_with, items_before, scene_at}
+use Rattle.tcap_grounds.specs.ListedEntries.{component_with, items_before, scene_at}
 use Rattle.tcap_grounds.proofs.NumberedLists.{map_has}
 
 -- The second list has the items of the first at some indexes.

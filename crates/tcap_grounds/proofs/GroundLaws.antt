@@ -17,13 +17,13 @@ use Rattle.tcap_faults.specs.declared.dialogue.half_origin.How.TheVariants.{Nowh
 use Rattle.tcap_faults.specs.declared.verdict.fault_subject.Subject.{Subject}
 use Rattle.tcap_faults.specs.Fault.{is_fault, is_of_half_kind}
 use Rattle.tcap_faults.specs.HalfKinds.{is_wrong_half}
-use Rattle.tcap_faults.specs.HalfOf.{HalfOf, half_of}
-use Rattle.tcap_faults.specs.Subject.{subject, subject_by, subject_of}
-use Rattle.tcap_evidence.specs.declared.what.What.{What}
-use Rattle.tcap_evidence.specs.declared.what.What.TheVariants as whats
+use Rattle.tcap_faults.specs.HalfByPeerId.{HalfOf, half_of}
+use Rattle.tcap_faults.specs.FaultSubject.{subject, subject_by, subject_of}
+use Rattle.tcap_evidence.specs.declared.shown_things.What.{What}
+use Rattle.tcap_evidence.specs.declared.shown_things.What.TheVariants as whats
 use Rattle.tcap_evidence.specs.Evidence.{component_at, grounds_in, grounds_of, mark_scene, scene_of, shows}
 use Rattle.tcap_evidence.specs.Scene.{Scene, shown}
-use Rattle.tcap_grounds.specs.Shown.{is_of_component, items_before, scene_at}
+use Rattle.tcap_grounds.specs.ListedEntries.{is_of_component, items_before, scene_at}
 use Rattle.tcap_grounds.proofs.HasKindLaws.{half_so, is_of_a_half}
 use Rattle.tcap_grounds.proofs.NumberedLists.{map_is}
 

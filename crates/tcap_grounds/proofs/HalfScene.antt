@@ -12,24 +12,24 @@ use Rattle.tcap_end.specs.End.{is_id}
 use Rattle.tcap_model.specs.World.{Item}
 use Rattle.tcap_model.specs.Run.{then_so}
 use Rattle.tcap_model.proofs.TurnLaws.{id_is}
-use Rattle.tcap_refute.specs.Before.{asked, has_a, is_a, sent_by}
+use Rattle.tcap_refute.specs.EarlierMessages.{asked, has_a, is_a, sent_by}
 use Rattle.tcap_refute.specs.Kind.{is_begin_with_request, or_else}
 use Rattle.tcap_refute.proofs.Members.{any_has, filter_has, filter_map_has, has_not}
 use Rattle.tcap_faults.specs.declared.dialogue.half_origin.How.TheVariants.{Begun}
-use Rattle.tcap_faults.specs.Closed.{was_closed}
+use Rattle.tcap_faults.specs.ClosedHalves.{was_closed}
 use Rattle.tcap_faults.specs.Counts.{count, is_nothing}
-use Rattle.tcap_faults.specs.HalfOf.{answered_from, begun_from, continued_to, from_first, heard_of, responds}
-use Rattle.tcap_faults.specs.Tangled.{goes_to_begun, is_own_tangled, owns_of, peers_of}
-use Rattle.tcap_faults.specs.Told.{began, begin_from, begins_from, goes_on_from, goes_on_to, is_request_of, told}
+use Rattle.tcap_faults.specs.HalfByPeerId.{answered_from, begun_from, continued_to, from_first, heard_of, responds}
+use Rattle.tcap_faults.specs.TangledIds.{goes_to_begun, is_own_tangled, owns_of, peers_of}
+use Rattle.tcap_faults.specs.SentToId.{began, begin_from, begins_from, goes_on_from, goes_on_to, is_request_of, told}
 use Rattle.tcap_faults.proofs.kind_laws.HalfFacts.{not_nothing}
 use Rattle.tcap_faults.proofs.list_laws.FindLaws.{filter_is, find_has, find_none}
 use Rattle.tcap_faults.proofs.kind_laws.OwnHalfLaws.{begun_there, only_first}
 use Rattle.tcap_faults.proofs.transaction_laws.TangledLaws.{began_used, joins}
 use Rattle.tcap_faults.proofs.list_laws.TwoTests.{any_found, none_passes}
-use Rattle.tcap_grounds.specs.HalvesShown.{Begins}
-use Rattle.tcap_evidence.specs.Numbered.{entries_where}
+use Rattle.tcap_grounds.specs.HalfEvidence.{Begins}
+use Rattle.tcap_evidence.specs.NumberedMessages.{entries_where}
 use Rattle.tcap_evidence.specs.Scene.{Scene, is_that, own_id, to_half}
-use Rattle.tcap_grounds.specs.Shown.{ListsOne}
+use Rattle.tcap_grounds.specs.ListedEntries.{ListsOne}
 use Rattle.tcap_grounds.proofs.ClosedShows.{closed_by}
 use Rattle.tcap_grounds.proofs.ListsLaws.{none_pass, none_there, one_aborts, one_sent, one_there, one_told}
 use Rattle.tcap_grounds.proofs.SceneLists.{IsTo, half_are}
@@ -37,7 +37,7 @@ use Rattle.tcap_model.proofs.ListLaws.{contains_first}
 use Rattle.tcap_refute.proofs.BeforeLaws.{is_that_id}
 use Rattle.tcap_record.specs.Ends.{other}
 use Rattle.tcap_msg.specs.declared.kind.Kind.TheVariants as forms
-use Rattle.tcap_evidence.specs.declared.what.What.TheVariants as whats
+use Rattle.tcap_evidence.specs.declared.shown_things.What.TheVariants as whats
 
 -- ---- lists
 

@@ -13,33 +13,33 @@ use Rattle.tcap_end.specs.End.{is_id}
 use Rattle.tcap_end.specs.Table.{Table}
 use Rattle.tcap_model.specs.World.{Item}
 use Rattle.tcap_model.proofs.TurnLaws.{id_is}
-use Rattle.tcap_refute.specs.Before.{asked, has_a, is_a}
+use Rattle.tcap_refute.specs.EarlierMessages.{asked, has_a, is_a}
 use Rattle.tcap_refute.specs.Kind.{or_else}
 use Rattle.tcap_faults.specs.declared.dialogue.half_origin.How.{How}
 use Rattle.tcap_faults.specs.declared.dialogue.half_origin.How.TheVariants.{Accepted, Refused, Begun, Unanswered}
-use Rattle.tcap_faults.specs.Closed.{was_closed}
+use Rattle.tcap_faults.specs.ClosedHalves.{was_closed}
 use Rattle.tcap_faults.specs.Counts.{is_nothing}
 use Rattle.tcap_faults.specs.HalfKinds.{goes_from_other, is_another, is_wrong_half, may_not_speak}
-use Rattle.tcap_faults.specs.HalfOf.{answered_from, begun_from, continued_to, half_by, half_of, heard_of}
-use Rattle.tcap_faults.specs.Tangled.{are_tangled, goes_over_tangled, goes_to_begun, is_own_tangled, near, own_of_continue, owns_of}
-use Rattle.tcap_faults.specs.Told.{began, begin_from, was_refused}
+use Rattle.tcap_faults.specs.HalfByPeerId.{answered_from, begun_from, continued_to, half_by, half_of, heard_of}
+use Rattle.tcap_faults.specs.TangledIds.{are_tangled, goes_over_tangled, goes_to_begun, is_own_tangled, near, own_of_continue, owns_of}
+use Rattle.tcap_faults.specs.SentToId.{began, begin_from, was_refused}
 use Rattle.tcap_faults.proofs.list_laws.CountLaws.{one}
 use Rattle.tcap_faults.proofs.list_laws.TwoTests.{passes_not}
-use Rattle.tcap_grounds.specs.HalvesShown.{ShowsWrongHalf}
-use Rattle.tcap_evidence.specs.Numbered.{entries_where}
+use Rattle.tcap_grounds.specs.HalfEvidence.{ShowsWrongHalf}
+use Rattle.tcap_evidence.specs.NumberedMessages.{entries_where}
 use Rattle.tcap_evidence.specs.Scene.{Scene, there}
-use Rattle.tcap_grounds.specs.Shown.{AreDifferent, HasKind, ListsOne, items_before, scene_at}
+use Rattle.tcap_grounds.specs.ListedEntries.{AreDifferent, HasKind, ListsOne, items_before, scene_at}
 use Rattle.tcap_grounds.proofs.CountedLaws.{scene_over, scene_to}
 use Rattle.tcap_grounds.proofs.HasKindLaws.{further_so, goes_so, half_so}
 use Rattle.tcap_grounds.proofs.ListsLaws.{none_aborts, none_there, one_aborts, one_there}
 use Rattle.tcap_grounds.proofs.SceneLists.{IsOver, IsTo}
 use Rattle.tcap_refute.proofs.BeforeLaws.{is_that_id}
 use Rattle.tcap_record.specs.Ends.{other}
-use Rattle.tcap_faults.specs.Subject.{subject}
+use Rattle.tcap_faults.specs.FaultSubject.{subject}
 use Rattle.tcap_grounds.proofs.HalfScene.{begun_one, none_begun, starts, unanswered, told_one, begun_closed, accepted_closed, ArePlain}
 use Rattle.tcap_msg.specs.declared.kind.Kind.TheVariants as forms
 use Rattle.tcap_refute.specs.declared.kind.Kind.TheVariants as kinds
-use Rattle.tcap_evidence.specs.declared.what.What.TheVariants as whats
+use Rattle.tcap_evidence.specs.declared.shown_things.What.TheVariants as whats
 
 -- The scene is that of a message which this end sends after these items.
 pub record IsFrom (side : Side) (items : List Item) (m : Message) (s : Scene) : Type 0 where

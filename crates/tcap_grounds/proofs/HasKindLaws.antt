@@ -10,9 +10,9 @@ use Rattle.tcap_refute.specs.declared.kind.Kind.{Kind}
 use Rattle.tcap_refute.specs.FirstKinds.{is_of_first_kind}
 use Rattle.tcap_refute.specs.Kind.{is_of_kind}
 use Rattle.tcap_faults.specs.Fault.{is_fault, is_of_alone_kind, is_of_further_kind, is_of_half_kind, is_of_kind_to, is_of_reply_kind}
-use Rattle.tcap_faults.specs.HalfOf.{HalfOf, half_of}
-use Rattle.tcap_faults.specs.Tangled.{goes_over_tangled}
-use Rattle.tcap_grounds.specs.Shown.{HasKind}
+use Rattle.tcap_faults.specs.HalfByPeerId.{HalfOf, half_of}
+use Rattle.tcap_faults.specs.TangledIds.{goes_over_tangled}
+use Rattle.tcap_grounds.specs.ListedEntries.{HasKind}
 use Rattle.tcap_refute.specs.declared.kind.Kind.TheVariants as kinds
 
 -- F2 to F4, F6 and F7, which are the same for one end and for both

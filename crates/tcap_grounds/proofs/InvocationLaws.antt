@@ -15,28 +15,28 @@ use Rattle.tcap_model.specs.declared.reason.Reason.{Reason}
 use Rattle.tcap_model.specs.World.{Item, Sent}
 use Rattle.tcap_model.specs.Entries.{item_of}
 use Rattle.tcap_model.proofs.ListLaws.{contains_first}
-use Rattle.tcap_refute.specs.Before.{is_invoke_id}
+use Rattle.tcap_refute.specs.EarlierMessages.{is_invoke_id}
 use Rattle.tcap_refute.specs.declared.kind.Kind.{Kind}
 use Rattle.tcap_refute.specs.declared.kind.Kind.TheVariants as kinds
 use Rattle.tcap_refute.specs.declared.kind.Refutation.{Refutation}
 use Rattle.tcap_refute.proofs.Members.{has_not}
-use Rattle.tcap_faults.specs.Subject.{subject, subject_by, subject_of}
-use Rattle.tcap_faults.specs.Tallied.{is_sort}
+use Rattle.tcap_faults.specs.FaultSubject.{subject, subject_by, subject_of}
+use Rattle.tcap_faults.specs.InvokeCounts.{is_sort}
 use Rattle.tcap_faults.specs.declared.component.component_sort.Class.TheVariants.{Any}
 use Rattle.tcap_faults.specs.declared.component.component_sort.Sort.TheVariants as sorts
 use Rattle.tcap_faults.specs.declared.verdict.fault_subject.Subject.{Subject}
 use Rattle.tcap_faults.proofs.story_laws.InvokeListLaws.{id_same}
 use Rattle.tcap_faults.proofs.list_laws.TwoTests.{flat_map_is}
 use Rattle.tcap_evidence.specs.declared.operations.Invocation.{Invocation}
-use Rattle.tcap_evidence.specs.declared.what.What.{What}
-use Rattle.tcap_evidence.specs.declared.what.What.TheVariants as whats
+use Rattle.tcap_evidence.specs.declared.shown_things.What.{What}
+use Rattle.tcap_evidence.specs.declared.shown_things.What.TheVariants as whats
 use Rattle.tcap_evidence.specs.Evidence.{component_at, scene_of}
-use Rattle.tcap_grounds.specs.Given.{IsInvoke, invokes_listed}
-use Rattle.tcap_evidence.specs.Numbered.{Numbered, entries_with, in_order, sent_before}
+use Rattle.tcap_grounds.specs.GivenLists.{IsInvoke, invokes_listed}
+use Rattle.tcap_evidence.specs.NumberedMessages.{Numbered, entries_with, in_order, sent_before}
 use Rattle.tcap_evidence.specs.Operations.{answers, compared, invocation_in, invocations_at, invocations_in, invocations_of, rejects_answer}
 use Rattle.tcap_evidence.specs.Scene.{Scene, heard_by, invoked_by, shown, there, with_sort}
-use Rattle.tcap_grounds.specs.Shown.{component_with, items_before, scene_at}
-use Rattle.tcap_evidence.specs.Words.{sender_of}
+use Rattle.tcap_grounds.specs.ListedEntries.{component_with, items_before, scene_at}
+use Rattle.tcap_evidence.specs.EvidenceWords.{sender_of}
 use Rattle.tcap_grounds.proofs.OrderLaws.{in_order_is}
 use Rattle.tcap_grounds.proofs.SentBefore.{was_sent}
 use Rattle.tcap_grounds.proofs.SuchLaws.{heard_is, invoked_is, there_is}

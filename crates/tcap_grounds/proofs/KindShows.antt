@@ -11,20 +11,20 @@ use Rattle.tcap_record.specs.declared.entry.Entry.{Entry}
 use Rattle.tcap_end.specs.End.{is_id}
 use Rattle.tcap_end.specs.Table.{Table}
 use Rattle.tcap_model.specs.World.{Item}
-use Rattle.tcap_model.specs.Since.{ended_by}
+use Rattle.tcap_model.specs.SinceMark.{ended_by}
 use Rattle.tcap_refute.specs.declared.kind.Kind.TheVariants as kinds
-use Rattle.tcap_refute.specs.Before.{asked, has_a, is_a, sent_by}
+use Rattle.tcap_refute.specs.EarlierMessages.{asked, has_a, is_a, sent_by}
 use Rattle.tcap_refute.specs.Kind.{goes_elsewhere, is_after_end, is_reused, is_unasked, is_unknown_transaction}
-use Rattle.tcap_faults.specs.Closed.{is_surely_open}
+use Rattle.tcap_faults.specs.ClosedHalves.{is_surely_open}
 use Rattle.tcap_faults.proofs.list_laws.FindLaws.{any_is}
 use Rattle.tcap_refute.proofs.Members.{any_has}
 use Rattle.tcap_faults.specs.declared.verdict.fault_subject.Subject.{Subject}
 use Rattle.tcap_faults.specs.Fault.{is_left_open, is_open_at_mark}
-use Rattle.tcap_evidence.specs.declared.what.What.TheVariants as whats
+use Rattle.tcap_evidence.specs.declared.shown_things.What.TheVariants as whats
 use Rattle.tcap_evidence.specs.Evidence.{mark_scene, scene_of}
-use Rattle.tcap_evidence.specs.Numbered.{entries_where}
+use Rattle.tcap_evidence.specs.NumberedMessages.{entries_where}
 use Rattle.tcap_evidence.specs.Scene.{Scene, is_open_continue, there}
-use Rattle.tcap_grounds.specs.Shown.{HasKind, ListsNone, ListsOne, ShowsReused, ShowsUnknown, items_before}
+use Rattle.tcap_grounds.specs.ListedEntries.{HasKind, ListsNone, ListsOne, ShowsReused, ShowsUnknown, items_before}
 use Rattle.tcap_grounds.proofs.CountedLaws.{scene_to}
 use Rattle.tcap_grounds.proofs.HasKindLaws.{kind_so}
 use Rattle.tcap_grounds.proofs.ListsLaws.{none_there, sent_one}

@@ -10,19 +10,19 @@ use Rattle.tcap_msg.specs.declared.message.Message.TheVariants.{Unidirectional, 
 use Rattle.tcap_msg.specs.Parts.{cause_in, components_in, dtid_in, kind_in, otid_in}
 use Rattle.tcap_record.specs.declared.entry.Entry.{Entry}
 use Rattle.tcap_record.specs.Ends.{other}
-use Rattle.tcap_model.specs.Since.{ended_by}
-use Rattle.tcap_refute.specs.Before.{is_a}
+use Rattle.tcap_model.specs.SinceMark.{ended_by}
+use Rattle.tcap_refute.specs.EarlierMessages.{is_a}
 use Rattle.tcap_refute.specs.Kind.{is_begin_with_request}
-use Rattle.tcap_faults.specs.Told.{is_cause}
-use Rattle.tcap_faults.specs.Closed.{is_surely_open}
+use Rattle.tcap_faults.specs.SentToId.{is_cause}
+use Rattle.tcap_faults.specs.ClosedHalves.{is_surely_open}
 use Rattle.tcap_refute.proofs.Members.{filter_has}
 use Rattle.tcap_faults.specs.declared.component.component_sort.Sort.{Sort}
-use Rattle.tcap_faults.specs.Tallied.{is_sort}
-use Rattle.tcap_evidence.specs.declared.what.What.{What}
-use Rattle.tcap_evidence.specs.declared.what.What.TheVariants as whats
-use Rattle.tcap_evidence.specs.Numbered.{Numbered, entries_where, sent_before}
+use Rattle.tcap_faults.specs.InvokeCounts.{is_sort}
+use Rattle.tcap_evidence.specs.declared.shown_things.What.{What}
+use Rattle.tcap_evidence.specs.declared.shown_things.What.TheVariants as whats
+use Rattle.tcap_evidence.specs.NumberedMessages.{Numbered, entries_where, sent_before}
 use Rattle.tcap_evidence.specs.Scene.{Scene, is_open_continue, is_that, own_id, shown, there, told_there, went_elsewhere, with_sort, with_sort_in}
-use Rattle.tcap_grounds.specs.Shown.{AreSame, AreDifferent, HasSort, IsEntryOf, IsItself, IsOpen, IsSentBefore, IsShown, IsToldTo, is_heard_or_invoked}
+use Rattle.tcap_grounds.specs.ListedEntries.{AreSame, AreDifferent, HasSort, IsEntryOf, IsItself, IsOpen, IsSentBefore, IsShown, IsToldTo, is_heard_or_invoked}
 use Rattle.tcap_grounds.proofs.NumberedLists.{map_has, where_has, with_has}
 use Rattle.tcap_grounds.proofs.MessageTests.{cause_so, elsewhere_so, end_so, form_so, one_so}
 use Rattle.tcap_grounds.proofs.SentBefore.{is_sent}

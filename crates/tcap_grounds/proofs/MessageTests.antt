@@ -8,14 +8,14 @@ use Rattle.tcap_msg.specs.declared.message.Message.TheVariants.{Unidirectional, 
 use Rattle.tcap_msg.specs.Parts.{dtid_in, kind_in, otid_in, reason_cause}
 use Rattle.tcap_end.specs.End.{is_id}
 use Rattle.tcap_end.proofs.StepLaws.{none_is}
-use Rattle.tcap_model.specs.Since.{ended_by}
+use Rattle.tcap_model.specs.SinceMark.{ended_by}
 use Rattle.tcap_model.proofs.TurnLaws.{id_is}
-use Rattle.tcap_refute.specs.Before.{is_a, is_form}
+use Rattle.tcap_refute.specs.EarlierMessages.{is_a, is_form}
 use Rattle.tcap_refute.proofs.BeforeLaws.{is_that_id}
 use Rattle.tcap_refute.specs.Kind.{goes_elsewhere}
-use Rattle.tcap_faults.specs.Told.{is_cause}
+use Rattle.tcap_faults.specs.SentToId.{is_cause}
 use Rattle.tcap_evidence.specs.Scene.{is_that}
-use Rattle.tcap_grounds.specs.Shown.{AreSame, AreDifferent, IsEndTo}
+use Rattle.tcap_grounds.specs.ListedEntries.{AreSame, AreDifferent, IsEndTo}
 
 -- The message has this form.
 pub form_is : (a b : Form) → is_form a b ≡ true → b ≡ a

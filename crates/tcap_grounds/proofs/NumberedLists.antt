@@ -8,15 +8,15 @@ use Rattle.tcap_parts.specs.declared.component.Component.{Component}
 use Rattle.tcap_msg.specs.declared.message.Message.{Message}
 use Rattle.tcap_msg.specs.Parts.{components_in}
 use Rattle.tcap_model.proofs.ListLaws.{contains_first}
-use Rattle.tcap_refute.specs.Before.{components_of}
+use Rattle.tcap_refute.specs.EarlierMessages.{components_of}
 use Rattle.tcap_faults.specs.Counts.{count}
-use Rattle.tcap_faults.specs.Told.{is_request_of}
+use Rattle.tcap_faults.specs.SentToId.{is_request_of}
 use Rattle.tcap_faults.proofs.list_laws.FindLaws.{filter_is}
 use Rattle.tcap_faults.proofs.list_laws.CountLaws.{count_both}
 use Rattle.tcap_refute.proofs.Members.{filter_has, flat_map_has, has_first, has_later, has_not}
-use Rattle.tcap_faults.specs.HalfOf.{from_first}
+use Rattle.tcap_faults.specs.HalfByPeerId.{from_first}
 use Rattle.tcap_faults.proofs.list_laws.TwoTests.{flat_map_is}
-use Rattle.tcap_evidence.specs.Numbered.{Numbered, entries_where, entries_with}
+use Rattle.tcap_evidence.specs.NumberedMessages.{Numbered, entries_where, entries_with}
 use Rattle.tcap_evidence.specs.Scene.{has_request, since_first}
 use Rattle.tcap_grounds.proofs.SentBefore.{messages}
 

@@ -16,18 +16,18 @@ use Rattle.tcap_end.specs.Component.{class_reports, is_code}
 use Rattle.tcap_end.specs.Table.{Table, class_of, operation_of}
 use Rattle.tcap_end.proofs.StepLaws.{none_is}
 use Rattle.tcap_model.specs.World.{Item}
-use Rattle.tcap_refute.specs.Before.{asked, components_of, is_invoke_id}
+use Rattle.tcap_refute.specs.EarlierMessages.{asked, components_of, is_invoke_id}
 use Rattle.tcap_refute.specs.FirstComponent.{is_wrong_in}
 use Rattle.tcap_refute.specs.Kind.{is_not_of_class_4, is_unknown_operation, is_wrong_operation, may_be_answered, no_class_allows}
 use Rattle.tcap_refute.proofs.Members.{any_has}
 use Rattle.tcap_faults.specs.Counts.{count, has_class, is_class}
-use Rattle.tcap_faults.specs.Subject.{subject}
-use Rattle.tcap_faults.specs.Tallied.{is_sort, is_of_class}
+use Rattle.tcap_faults.specs.FaultSubject.{subject}
+use Rattle.tcap_faults.specs.InvokeCounts.{is_sort, is_of_class}
 use Rattle.tcap_faults.specs.declared.component.component_sort.Class.TheVariants.{One, Two, Three}
 use Rattle.tcap_faults.proofs.list_laws.FindLaws.{any_is}
-use Rattle.tcap_grounds.specs.ComponentsShown.{NoneAllowsResult, ShowsWrongOperation, entries_so, operates}
+use Rattle.tcap_grounds.specs.ComponentEvidence.{NoneAllowsResult, ShowsWrongOperation, entries_so, operates}
 use Rattle.tcap_evidence.specs.Scene.{Scene, there, shown}
-use Rattle.tcap_grounds.specs.Shown.{HasKind, ListsNone, component_with, items_before, scene_at}
+use Rattle.tcap_grounds.specs.ListedEntries.{HasKind, ListsNone, component_with, items_before, scene_at}
 use Rattle.tcap_grounds.proofs.AskedShows.{AreThere}
 use Rattle.tcap_grounds.proofs.CountedLaws.{components_counted, scene_to}
 use Rattle.tcap_grounds.proofs.HasKindLaws.{kind_so}
@@ -38,7 +38,7 @@ use Rattle.tcap_evidence.specs.Evidence.{invoke_id_of}
 use Rattle.tcap_faults.specs.declared.component.component_sort.Class.{Class}
 use Rattle.tcap_refute.specs.declared.kind.Kind.TheVariants as kinds
 use Rattle.tcap_faults.specs.declared.component.component_sort.Sort.TheVariants as sorts
-use Rattle.tcap_evidence.specs.declared.what.What.TheVariants as whats
+use Rattle.tcap_evidence.specs.declared.shown_things.What.TheVariants as whats
 
 -- ---- lists of components
 

@@ -11,14 +11,14 @@ use Rattle.tcap_model.specs.declared.reason.Reason.{Reason}
 use Rattle.tcap_model.specs.World.{Item, Sent, is_side}
 use Rattle.tcap_model.specs.Entries.{item_of}
 use Rattle.tcap_model.proofs.ListLaws.{contains_first}
-use Rattle.tcap_refute.specs.Before.{components_of}
+use Rattle.tcap_refute.specs.EarlierMessages.{components_of}
 use Rattle.tcap_refute.proofs.Members.{has_first, has_later, has_not}
 use Rattle.tcap_faults.specs.Counts.{count}
 use Rattle.tcap_faults.proofs.list_laws.FindLaws.{filter_is}
 use Rattle.tcap_faults.proofs.list_laws.CountLaws.{count_both}
-use Rattle.tcap_evidence.specs.Numbered.{Numbered, entries_where, entries_with, in_order, inserted, sent_before, with_entries}
+use Rattle.tcap_evidence.specs.NumberedMessages.{Numbered, entries_where, entries_with, in_order, inserted, sent_before, with_entries}
 use Rattle.tcap_evidence.specs.Scene.{since_first}
-use Rattle.tcap_grounds.specs.Given.{IsAscending}
+use Rattle.tcap_grounds.specs.GivenLists.{IsAscending}
 use Rattle.tcap_grounds.proofs.NumberedLists.{map_is, with_is}
 use Rattle.tcap_grounds.proofs.SentBefore.{messages}
 

@@ -12,10 +12,10 @@ use Rattle.tcap_model.specs.World.{Item, Sent, is_side}
 use Rattle.tcap_model.specs.Entries.{item_of}
 use Rattle.tcap_model.proofs.RunLaws.{same_side}
 use Rattle.tcap_refute.proofs.Members.{has_not}
-use Rattle.tcap_faults.specs.Told.{begins_from}
-use Rattle.tcap_evidence.specs.Pairing.{Pairing, anew, no_pairing, paired_before, partner_in, with_message, with_pair, with_pairs, with_partner}
+use Rattle.tcap_faults.specs.SentToId.{begins_from}
+use Rattle.tcap_evidence.specs.Partners.{Pairing, anew, no_pairing, paired_before, partner_in, with_message, with_pair, with_pairs, with_partner}
 use Rattle.tcap_evidence.specs.Scene.{is_that}
-use Rattle.tcap_grounds.specs.Shown.{IsSentBefore}
+use Rattle.tcap_grounds.specs.ListedEntries.{IsSentBefore}
 use Rattle.tcap_grounds.proofs.EntryPlaces.{Entries, here_at, keeps_at, push_at, within_at}
 use Rattle.tcap_grounds.proofs.SentBefore.{taken_at, taken_below}
 

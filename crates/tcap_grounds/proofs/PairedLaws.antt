@@ -16,12 +16,12 @@ use Rattle.tcap_model.specs.World.{Item, Sent, is_side}
 use Rattle.tcap_model.specs.Entries.{item_of}
 use Rattle.tcap_model.specs.Run.{where_so}
 use Rattle.tcap_model.proofs.TurnLaws.{id_is}
-use Rattle.tcap_refute.specs.Before.{is_a}
+use Rattle.tcap_refute.specs.EarlierMessages.{is_a}
 use Rattle.tcap_model.proofs.WorldLaws.{itself}
-use Rattle.tcap_faults.specs.Told.{begins_from, goes_on_from}
-use Rattle.tcap_evidence.specs.Pairing.{Pairing, anew, no_pairing, paired_before, partner_in, with_message, with_pair, with_pairs, with_partner}
+use Rattle.tcap_faults.specs.SentToId.{begins_from, goes_on_from}
+use Rattle.tcap_evidence.specs.Partners.{Pairing, anew, no_pairing, paired_before, partner_in, with_message, with_pair, with_pairs, with_partner}
 use Rattle.tcap_evidence.specs.Scene.{is_that}
-use Rattle.tcap_grounds.specs.Shown.{IsPaired, IsSentBefore}
+use Rattle.tcap_grounds.specs.ListedEntries.{IsPaired, IsSentBefore}
 use Rattle.tcap_grounds.proofs.EntryPlaces.{Entries, front_at, here_at, keeps_at, push_at, within_at}
 use Rattle.tcap_grounds.proofs.MessageTests.{not_both}
 use Rattle.tcap_grounds.proofs.SentBefore.{taken_at, taken_below}

@@ -14,23 +14,23 @@ use Rattle.tcap_record.specs.declared.entry.Entry.{Entry}
 use Rattle.tcap_end.specs.Component.{is_code}
 use Rattle.tcap_end.specs.Table.{Table}
 use Rattle.tcap_model.specs.World.{Item}
-use Rattle.tcap_refute.specs.Before.{invokes, is_invoke_id}
+use Rattle.tcap_refute.specs.EarlierMessages.{invokes, is_invoke_id}
 use Rattle.tcap_faults.specs.declared.dialogue.half_origin.How.TheVariants.{Nowhere}
 use Rattle.tcap_faults.specs.ComponentKinds.{is_answer_reject_wrong, is_expected, is_invoke_reject_wrong, is_link_fine, is_of_no_operation, rejects_wrongly}
 use Rattle.tcap_faults.specs.Components.{is_linked_to, is_of_link, is_problem, lists_nothing}
 use Rattle.tcap_faults.specs.Counts.{any_problem, count, has_class, count_class, count_suited, invokes_linked, invokes_so, is_error, is_result, rejects_error, rejects_invoke, rejects_result}
 use Rattle.tcap_faults.specs.HalfKinds.{is_wrong_half}
-use Rattle.tcap_faults.specs.HalfOf.{HalfOf, half_of}
-use Rattle.tcap_faults.specs.Tallied.{is_sort, results_so}
+use Rattle.tcap_faults.specs.HalfByPeerId.{HalfOf, half_of}
+use Rattle.tcap_faults.specs.InvokeCounts.{is_sort, results_so}
 use Rattle.tcap_faults.specs.declared.component.component_sort.Class.{Class}
 use Rattle.tcap_faults.specs.declared.component.component_sort.Class.TheVariants.{Any, One, Two, Three}
 use Rattle.tcap_faults.specs.declared.component.component_sort.Sort.{Sort}
 use Rattle.tcap_faults.proofs.component_laws.FewSums.{any_same, count_invokes, count_same}
 use Rattle.tcap_faults.proofs.story_laws.InvokeListLaws.{id_itself}
-use Rattle.tcap_grounds.specs.ComponentsShown.{NoneLinked, NoneUnexpected, ShowsAnswerRejected, ShowsInvokeRejected, ShowsRejected, heard_so, invoked_components, lists_others, suited}
+use Rattle.tcap_grounds.specs.ComponentEvidence.{NoneLinked, NoneUnexpected, ShowsAnswerRejected, ShowsInvokeRejected, ShowsRejected, heard_so, invoked_components, lists_others, suited}
 use Rattle.tcap_evidence.specs.Evidence.{invoke_id_of}
 use Rattle.tcap_evidence.specs.Scene.{Scene}
-use Rattle.tcap_grounds.specs.Shown.{HasKind, component_with, items_before, many, scene_at}
+use Rattle.tcap_grounds.specs.ListedEntries.{HasKind, component_with, items_before, many, scene_at}
 use Rattle.tcap_grounds.proofs.AnswerShows.{one_more}
 use Rattle.tcap_grounds.proofs.HasKindLaws.{goes_so, half_so}
 use Rattle.tcap_grounds.proofs.SoLaws.{IsCounted, are_counted, component_is, none_so, scene_of_it, so_earlier, speaks_half, zero_more}
@@ -38,7 +38,7 @@ use Rattle.tcap_record.specs.Ends.{other}
 use Rattle.tcap_parts.specs.declared.problem.Problem.TheVariants as problems
 use Rattle.tcap_refute.specs.declared.kind.Kind.TheVariants as kinds
 use Rattle.tcap_faults.specs.declared.component.component_sort.Sort.TheVariants as sorts
-use Rattle.tcap_evidence.specs.declared.what.What.TheVariants as whats
+use Rattle.tcap_evidence.specs.declared.shown_things.What.TheVariants as whats
 
 module _ (s : Scene) (h : HalfOf) (cs : List Component) (id : ℤ) (counts : IsCounted s h cs id) where
   abbrev before : List Component

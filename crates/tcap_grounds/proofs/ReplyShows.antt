@@ -12,22 +12,22 @@ use Rattle.tcap_record.specs.declared.entry.Entry.{Entry}
 use Rattle.tcap_end.specs.Dialogue.{accepts_dialogue, refuses_dialogue}
 use Rattle.tcap_end.specs.Table.{Table}
 use Rattle.tcap_model.specs.World.{Item}
-use Rattle.tcap_refute.specs.Before.{asked, has_a, is_a, sent_by}
+use Rattle.tcap_refute.specs.EarlierMessages.{asked, has_a, is_a, sent_by}
 use Rattle.tcap_refute.specs.Kind.{is_begin_with_request, is_misplaced_aborting, is_misplaced_dialogue, is_misplaced_going_on}
 use Rattle.tcap_faults.specs.declared.dialogue.half_origin.How.TheVariants.{Accepted, Refused}
 use Rattle.tcap_faults.specs.declared.verdict.fault_subject.Subject.{Subject}
-use Rattle.tcap_faults.specs.Closed.{all_go_to_open, is_surely_open}
+use Rattle.tcap_faults.specs.ClosedHalves.{all_go_to_open, is_surely_open}
 use Rattle.tcap_faults.specs.Counts.{count, is_nothing}
 use Rattle.tcap_faults.specs.Fault.{count_received, is_wrong_reply}
 use Rattle.tcap_faults.specs.HalfKinds.{is_accepted}
-use Rattle.tcap_faults.specs.HalfOf.{HalfOf, begun_from, half_by, half_of}
-use Rattle.tcap_faults.specs.Told.{is_abort_with, told, was_refused}
+use Rattle.tcap_faults.specs.HalfByPeerId.{HalfOf, begun_from, half_by, half_of}
+use Rattle.tcap_faults.specs.SentToId.{is_abort_with, told, was_refused}
 use Rattle.tcap_faults.proofs.list_laws.TwoTests.{none_passes, passes_not}
 use Rattle.tcap_evidence.specs.Evidence.{scene_of}
-use Rattle.tcap_grounds.specs.HalvesShown.{AcceptsNone, NoBeginLeft, NoContinueLeft, ShowsMisplaced, ShowsWrongReply, goes_to_open}
-use Rattle.tcap_evidence.specs.Numbered.{entries_where}
+use Rattle.tcap_grounds.specs.HalfEvidence.{AcceptsNone, NoBeginLeft, NoContinueLeft, ShowsMisplaced, ShowsWrongReply, goes_to_open}
+use Rattle.tcap_evidence.specs.NumberedMessages.{entries_where}
 use Rattle.tcap_evidence.specs.Scene.{Scene}
-use Rattle.tcap_grounds.specs.Shown.{AreAllThere, HasKind, ListsNone, items_before}
+use Rattle.tcap_grounds.specs.ListedEntries.{AreAllThere, HasKind, ListsNone, items_before}
 use Rattle.tcap_grounds.proofs.CountedLaws.{messages_counted, scene_to}
 use Rattle.tcap_grounds.proofs.HasKindLaws.{goes_so, kind_so, reply_so}
 use Rattle.tcap_grounds.proofs.ListsLaws.{none_there, nothing_there, one_aborts, one_there, something_told}
@@ -35,7 +35,7 @@ use Rattle.tcap_grounds.proofs.SceneLists.{IsTo}
 use Rattle.tcap_parts.specs.declared.dialogue.Dialogue.TheVariants as dialogues
 use Rattle.tcap_msg.specs.declared.kind.Kind.TheVariants as forms
 use Rattle.tcap_refute.specs.declared.kind.Kind.TheVariants as kinds
-use Rattle.tcap_evidence.specs.declared.what.What.TheVariants as whats
+use Rattle.tcap_evidence.specs.declared.shown_things.What.TheVariants as whats
 
 -- ---- F7
 

@@ -12,13 +12,13 @@ use Rattle.tcap_record.specs.declared.entry.End.{End as Side}
 use Rattle.tcap_record.specs.Ends.{other}
 use Rattle.tcap_end.specs.Dialogue.{is_response}
 use Rattle.tcap_model.specs.World.{Item}
-use Rattle.tcap_refute.specs.Before.{asked, components_of, has_a, is_a, sent_by}
-use Rattle.tcap_faults.specs.Told.{begin_from, goes_on_to, is_request_of, told, was_refused}
+use Rattle.tcap_refute.specs.EarlierMessages.{asked, components_of, has_a, is_a, sent_by}
+use Rattle.tcap_faults.specs.SentToId.{begin_from, goes_on_to, is_request_of, told, was_refused}
 use Rattle.tcap_faults.specs.Counts.{is_nothing}
 use Rattle.tcap_faults.specs.declared.dialogue.half_origin.How.{How}
 use Rattle.tcap_faults.specs.declared.dialogue.half_origin.How.TheVariants.{Accepted, Begun, Nowhere, Refused, Unanswered}
-use Rattle.tcap_faults.specs.HalfOf.{answered_from, begun_from, continued_to, from_first, half_by, half_of, heard_of, responds}
-use Rattle.tcap_evidence.specs.Numbered.{Numbered}
+use Rattle.tcap_faults.specs.HalfByPeerId.{answered_from, begun_from, continued_to, from_first, half_by, half_of, heard_of, responds}
+use Rattle.tcap_evidence.specs.NumberedMessages.{Numbered}
 use Rattle.tcap_evidence.specs.Scene.{Scene, has_request, heard_by, invoked_by, is_that, own_begin, since_first, there, to_half, told_there}
 use Rattle.tcap_grounds.proofs.SentBefore.{messages}
 use Rattle.tcap_grounds.proofs.NumberedLists.{first_is, kept_are, one_is, requests, since_are}

@@ -13,13 +13,13 @@ use Rattle.tcap_model.specs.World.{Item, Sent, is_side}
 use Rattle.tcap_model.specs.Entries.{item_of}
 use Rattle.tcap_model.specs.Run.{where_so}
 use Rattle.tcap_model.proofs.RunLaws.{same_side}
-use Rattle.tcap_refute.specs.Before.{message_of, sent_by, since_quiet}
+use Rattle.tcap_refute.specs.EarlierMessages.{message_of, sent_by, since_quiet}
 use Rattle.tcap_model.proofs.WorldLaws.{itself}
 use Rattle.tcap_refute.proofs.ItemLaws.{since_mark, since_more}
 use Rattle.tcap_refute.proofs.Members.{has_not}
-use Rattle.tcap_faults.specs.Subject.{items_among}
-use Rattle.tcap_evidence.specs.Numbered.{Numbered, sent_before, with_entries}
-use Rattle.tcap_grounds.specs.Shown.{IsSentBefore, items_before}
+use Rattle.tcap_faults.specs.FaultSubject.{items_among}
+use Rattle.tcap_evidence.specs.NumberedMessages.{Numbered, sent_before, with_entries}
+use Rattle.tcap_grounds.specs.ListedEntries.{IsSentBefore, items_before}
 
 -- the messages, without their numbers
 abbrev pub messages : List Numbered → List Message

@@ -12,30 +12,30 @@ use Rattle.tcap_record.specs.declared.entry.Entry.{Entry}
 use Rattle.tcap_end.specs.Table.{Table}
 use Rattle.tcap_model.specs.World.{Item}
 use Rattle.tcap_refute.specs.declared.kind.Kind.{Kind}
-use Rattle.tcap_refute.specs.Before.{components_of}
+use Rattle.tcap_refute.specs.EarlierMessages.{components_of}
 use Rattle.tcap_refute.specs.FirstComponent.{first_so}
 use Rattle.tcap_refute.specs.Kind.{or_else}
 use Rattle.tcap_refute.proofs.Members.{any_has, has_first, has_later}
-use Rattle.tcap_grounds.specs.Shown.{AreCounted, component_with, items_before, many, scene_at}
+use Rattle.tcap_grounds.specs.ListedEntries.{AreCounted, component_with, items_before, many, scene_at}
 use Rattle.tcap_grounds.proofs.SceneLists.{IsOver, IsTo, heard_are, invoked_are, told_are, told_of}
 use Rattle.tcap_faults.specs.Components.{has_component}
 use Rattle.tcap_faults.specs.Counts.{count}
-use Rattle.tcap_faults.specs.Subject.{component_of, component_so, subject}
+use Rattle.tcap_faults.specs.FaultSubject.{component_of, component_so, subject}
 use Rattle.tcap_faults.specs.HalfKinds.{is_wrong_half}
-use Rattle.tcap_faults.specs.HalfOf.{HalfOf, half_of}
-use Rattle.tcap_faults.specs.Tallied.{is_sort}
+use Rattle.tcap_faults.specs.HalfByPeerId.{HalfOf, half_of}
+use Rattle.tcap_faults.specs.InvokeCounts.{is_sort}
 use Rattle.tcap_faults.specs.declared.dialogue.half_origin.How.TheVariants.{Nowhere}
 use Rattle.tcap_faults.specs.declared.component.component_sort.Sort.{Sort}
 use Rattle.tcap_faults.proofs.list_laws.CountLaws.{any_counts, count_both, count_more, one}
-use Rattle.tcap_grounds.specs.ComponentsShown.{before_so, entries_so, heard_so, invoked_components, itself_so}
+use Rattle.tcap_grounds.specs.ComponentEvidence.{before_so, entries_so, heard_so, invoked_components, itself_so}
 use Rattle.tcap_evidence.specs.Evidence.{component_at, components_before, invoke_id_in, invoke_id_of}
-use Rattle.tcap_evidence.specs.Numbered.{Numbered}
+use Rattle.tcap_evidence.specs.NumberedMessages.{Numbered}
 use Rattle.tcap_evidence.specs.Scene.{Scene, heard_by, told_there}
 use Rattle.tcap_grounds.proofs.CountedLaws.{components_counted, scene_over, scene_to}
 use Rattle.tcap_grounds.proofs.ListsLaws.{empty_is}
 use Rattle.tcap_grounds.proofs.NumberedLists.{with_counted}
 use Rattle.tcap_grounds.proofs.SentBefore.{messages}
-use Rattle.tcap_evidence.specs.declared.what.What.TheVariants as whats
+use Rattle.tcap_evidence.specs.declared.shown_things.What.TheVariants as whats
 
 -- ---- the component
 

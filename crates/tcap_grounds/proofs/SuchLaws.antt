@@ -12,18 +12,18 @@ use Rattle.tcap_msg.specs.Parts.{cause_in, components_in, dialogue_in, dtid_in, 
 use Rattle.tcap_end.specs.Dialogue.{is_response}
 use Rattle.tcap_end.proofs.StepLaws.{none_is}
 use Rattle.tcap_model.proofs.ListLaws.{contains_first}
-use Rattle.tcap_refute.specs.Before.{is_a}
-use Rattle.tcap_faults.specs.Told.{goes_on_to}
-use Rattle.tcap_faults.specs.Closed.{is_surely_open}
+use Rattle.tcap_refute.specs.EarlierMessages.{is_a}
+use Rattle.tcap_faults.specs.SentToId.{goes_on_to}
+use Rattle.tcap_faults.specs.ClosedHalves.{is_surely_open}
 use Rattle.tcap_faults.proofs.list_laws.FindLaws.{filter_is, find_has}
 use Rattle.tcap_refute.proofs.Members.{has_later, has_not}
 use Rattle.tcap_faults.specs.declared.dialogue.half_origin.How.{How}
 use Rattle.tcap_faults.specs.declared.dialogue.half_origin.How.TheVariants.{Accepted, Begun, Nowhere, Refused, Unanswered}
 use Rattle.tcap_faults.specs.declared.component.component_sort.Sort.{Sort}
-use Rattle.tcap_faults.specs.Tallied.{is_sort}
-use Rattle.tcap_evidence.specs.Numbered.{Numbered}
+use Rattle.tcap_faults.specs.InvokeCounts.{is_sort}
+use Rattle.tcap_evidence.specs.NumberedMessages.{Numbered}
 use Rattle.tcap_evidence.specs.Scene.{Scene, has_request, heard_by, invoked_by, is_open_continue, is_that, own_begin, since_first, there, to_half, told_there, went_elsewhere, with_sort, with_sort_in}
-use Rattle.tcap_grounds.specs.Shown.{AreSame, AreDifferent, HasSort, IsHeardBy, IsInvokedIn, IsItself, IsOpen, IsToldTo}
+use Rattle.tcap_grounds.specs.ListedEntries.{AreSame, AreDifferent, HasSort, IsHeardBy, IsInvokedIn, IsItself, IsOpen, IsToldTo}
 use Rattle.tcap_grounds.proofs.NumberedLists.{map_is, with_is}
 use Rattle.tcap_grounds.proofs.MessageTests.{elsewhere_is, form_is, one_is}
 

@@ -1,4 +1,4 @@
-pub mod Shown
-pub mod HalvesShown
-pub mod ComponentsShown
-pub mod Given
+pub mod ListedEntries
+pub mod HalfEvidence
+pub mod ComponentEvidence
+pub mod GivenLists

@@ -17,21 +17,21 @@ ghost use Rattle.tcap_faults.specs.declared.dialogue.half_origin.How.TheVariants
 ghost use Rattle.tcap_faults.specs.declared.component.component_sort.Sort.{Sort};
 ghost use Rattle.tcap_faults.specs.declared.verdict.fault_subject.Subject.{Subject};
 ghost use Rattle.tcap_faults.specs.Fault.{is_fault, is_open_at_mark};
-ghost use Rattle.tcap_faults.specs.HalfOf.{half_of};
-ghost use Rattle.tcap_faults.specs.Tallied.{is_sort};
-ghost use Rattle.tcap_faults.specs.Told.{begins_from};
+ghost use Rattle.tcap_faults.specs.HalfByPeerId.{half_of};
+ghost use Rattle.tcap_faults.specs.InvokeCounts.{is_sort};
+ghost use Rattle.tcap_faults.specs.SentToId.{begins_from};
 ghost use Rattle.tcap_evidence.specs.declared.operations.Invocation.{Invocation};
-ghost use Rattle.tcap_evidence.specs.declared.what.What.{What};
-ghost use Rattle.tcap_evidence.specs.declared.what.What.TheVariants as whats;
-ghost use Rattle.tcap_grounds.specs.ComponentsShown.{ShowsAnswered, ShowsBadLink, ShowsBusy, ShowsRejected, ShowsUnasked, ShowsWrongOperation};
+ghost use Rattle.tcap_evidence.specs.declared.shown_things.What.{What};
+ghost use Rattle.tcap_evidence.specs.declared.shown_things.What.TheVariants as whats;
+ghost use Rattle.tcap_grounds.specs.ComponentEvidence.{ShowsAnswered, ShowsBadLink, ShowsBusy, ShowsRejected, ShowsUnasked, ShowsWrongOperation};
 ghost use Rattle.tcap_evidence.specs.Evidence.{grounds_of, mark_scene, scene_of};
-ghost use Rattle.tcap_grounds.specs.Given.{AreGiven, IsAscending, IsInvoke, invokes_listed, spoken_of};
-ghost use Rattle.tcap_grounds.specs.HalvesShown.{ShowsMisplaced, ShowsWrongDialogue, ShowsWrongHalf, ShowsWrongReply};
+ghost use Rattle.tcap_grounds.specs.GivenLists.{AreGiven, IsAscending, IsInvoke, invokes_listed, spoken_of};
+ghost use Rattle.tcap_grounds.specs.HalfEvidence.{ShowsMisplaced, ShowsWrongDialogue, ShowsWrongHalf, ShowsWrongReply};
 ghost use Rattle.tcap_evidence.specs.Operations.{invocations_at};
-ghost use Rattle.tcap_evidence.specs.Pairing.{paired_before, partner_in};
+ghost use Rattle.tcap_evidence.specs.Partners.{paired_before, partner_in};
 ghost use Rattle.tcap_evidence.specs.Scene.{shown};
-ghost use Rattle.tcap_grounds.specs.Shown.{AreAllThere, AreCounted, HasKind, IsPaired, IsSentBefore, IsShown, ListsOne, ShowsReused, ShowsUnknown, SortsAre, component_with, has_kind_by, is_of_component, is_heard_or_invoked, items_before, scene_at};
-ghost use Rattle.tcap_evidence.specs.Words.{sender_of};
+ghost use Rattle.tcap_grounds.specs.ListedEntries.{AreAllThere, AreCounted, HasKind, IsPaired, IsSentBefore, IsShown, ListsOne, ShowsReused, ShowsUnknown, SortsAre, component_with, has_kind_by, is_of_component, is_heard_or_invoked, items_before, scene_at};
+ghost use Rattle.tcap_evidence.specs.EvidenceWords.{sender_of};
 
 /// Shows that the entries given as grounds are those of `shown`.
 ///

@@ -11,23 +11,23 @@ use Rattle.tcap_model.specs.Entries.{AreItems, IsItem}
 use Rattle.tcap_model.specs.Run.{IsLawful, IsLawfulFor}
 use Rattle.tcap_model.specs.World.{Item, Sent}
 use Rattle.tcap_refute.specs.declared.kind.Refutation.{Refutation}
-use Rattle.tcap_faults.specs.AtFault.{IsAtFaultOf}
+use Rattle.tcap_faults.specs.BlameMeaning.{IsAtFaultOf}
 use Rattle.tcap_faults.specs.Fault.{blamed}
-use Rattle.tcap_judge.specs.declared.finding.Ends.{Ends}
-use Rattle.tcap_judge.specs.declared.finding.Finding.{Finding}
-use Rattle.tcap_judge.specs.declared.finding.Finding.TheVariants as findings
+use Rattle.tcap_judge.specs.declared.findings.Ends.{Ends}
+use Rattle.tcap_judge.specs.declared.findings.Finding.{Finding}
+use Rattle.tcap_judge.specs.declared.findings.Finding.TheVariants as findings
 use Rattle.tcap_judge.specs.declared.outcome.Outcome.{Outcome}
 use Rattle.tcap_judge.specs.declared.outcome.Outcome.TheVariants.{Lawful, LawfulFor, NotShown, Refuted, Undecided, Faulty}
 use Rattle.tcap_lines.specs.declared.status.Status.{Status}
 use Rattle.tcap_lines.specs.declared.status.Status.TheVariants as statuses
 use Rattle.tcap_lines.specs.declared.status.WriteFailed.{WriteFailed}
 use Rattle.tcap_judge.specs.Outcome.{outcome_line, outcome_status}
-use Rattle.tcap_judge.specs.Judged.{AreLawful, AreLawfulUnheard, IsShown, MayBeSent, MayBeSentUnheard, replayed_by}
-use Rattle.tcap_judge.specs.Checked.{ReadsRecord, ReadsTable, out_of_memory}
+use Rattle.tcap_judge.specs.LawfulOutcome.{AreLawful, AreLawfulUnheard, IsShown, MayBeSent, MayBeSentUnheard, replayed_by}
+use Rattle.tcap_judge.specs.CheckOutcome.{ReadsRecord, ReadsTable, out_of_memory}
 use Rattle.tcap_judge.specs.Device.{Device}
 use Rattle.tcap_judge.specs.Verdict.{named_by, proposed_by, record_verdict, verdict}
-use Rattle.tcap_judge.specs.EachEnd.{AreBlamed}
-use Rattle.tcap_judge.specs.Blamed.{AreFound, FindsLawfulEnds, GivesBlame, GivesBlameWith, IsBlamed, IsFound, PrintsBlame, SaysLines, blame_status, ends_lines, ends_of, finding, is_blamed, is_lawful, joint_record_verdict, joint_verdict, lines_behind, record_ends, unblamed_status, verdict_by_ends}
+use Rattle.tcap_judge.specs.EndFindings.{AreBlamed}
+use Rattle.tcap_judge.specs.BlameOutcome.{AreFound, FindsLawfulEnds, GivesBlame, GivesBlameWith, IsBlamed, IsFound, PrintsBlame, SaysLines, blame_status, ends_lines, ends_of, finding, is_blamed, is_lawful, joint_record_verdict, joint_verdict, lines_behind, record_ends, unblamed_status, verdict_by_ends}
 use Rattle.tcap_judge.proofs.LawfulLaws.{IsFineOf, fine_fault, finds, found_said as found_by_verdict, table_fault}
 use Rattle.tcap_judge.proofs.SpellsNothingLaws.{spells_nothing}
 use Rattle.tcap_judge.proofs.VerdictLaws.{between, verdict_is}

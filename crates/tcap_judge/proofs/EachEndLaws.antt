@@ -6,11 +6,11 @@ use Rattle.tcap_record.specs.declared.entry.End.{End as Side}
 use Rattle.tcap_end.specs.Table.{Table}
 use Rattle.tcap_certificate.specs.declared.certificate.Fate.{Fate}
 use Rattle.tcap_certificate.specs.declared.certificate.Fate.TheVariants.{Gap, Lost, By}
-use Rattle.tcap_certificate.specs.Unheard.{unheard_of}
+use Rattle.tcap_certificate.specs.LossCounts.{unheard_of}
 use Rattle.tcap_certificate.specs.Certificate.{Certificate}
 use Rattle.tcap_model.specs.Entries.{AreItems, item_of}
-use Rattle.tcap_certificate.specs.Follows.{lost_from}
-use Rattle.tcap_certificate.specs.Replayed.{replayed_by}
+use Rattle.tcap_certificate.specs.DescribedRun.{lost_from}
+use Rattle.tcap_certificate.specs.Replay.{replayed_by}
 use Rattle.tcap_model.specs.Run.{Event}
 use Rattle.tcap_record.specs.Ends.{other}
 use Rattle.tcap_model.specs.World.{Item, Sent, is_side}
@@ -20,11 +20,11 @@ use Rattle.tcap_check.proofs.one_end_laws.AloneRuns.{gives_for}
 use Rattle.tcap_check.proofs.given_run_laws.GivenRuns.{gives}
 use Rattle.tcap_faults.specs.Fault.{blamed}
 use Rattle.tcap_refute.specs.declared.kind.Refutation.{Refutation}
-use Rattle.tcap_search.specs.Proposed.{proposed_for}
-use Rattle.tcap_judge.specs.Blamed.{finding, finding_by, items_before}
-use Rattle.tcap_judge.specs.declared.finding.Finding.TheVariants as findings
-use Rattle.tcap_judge.specs.EachEnd.{lost_by, lost_of}
-use Rattle.tcap_judge.specs.Judged.{AreLawfulUnheard}
+use Rattle.tcap_search.specs.ProposedCertificate.{proposed_for}
+use Rattle.tcap_judge.specs.BlameOutcome.{finding, finding_by, items_before}
+use Rattle.tcap_judge.specs.declared.findings.Finding.TheVariants as findings
+use Rattle.tcap_judge.specs.EndFindings.{lost_by, lost_of}
+use Rattle.tcap_judge.specs.LawfulOutcome.{AreLawfulUnheard}
 use Rattle.tcap_judge.specs.Verdict.{verdict_by}
 
 -- ---- nothing is blamed

@@ -6,7 +6,7 @@ use Rattle.tcap_record.specs.declared.entry.End.TheVariants as sides
 use Rattle.tcap_record.specs.declared.entry.Entry.{Entry}
 use Rattle.tcap_end.specs.Table.{Table}
 use Rattle.tcap_certificate.specs.declared.fault.CheckFault.{CheckFault}
-use Rattle.tcap_certificate.specs.Unheard.{unheard_of}
+use Rattle.tcap_certificate.specs.LossCounts.{unheard_of}
 use Rattle.tcap_model.specs.Entries.{item_of}
 use Rattle.tcap_model.specs.Run.{Event}
 use Rattle.tcap_model.proofs.WholeLaws.{lawful_together}
@@ -14,10 +14,10 @@ use Rattle.tcap_refute.specs.declared.kind.Refutation.{Refutation}
 use Rattle.tcap_refute.specs.Kind.{refuted}
 use Rattle.tcap_refute.proofs.RefutedLaws.{never_lawful}
 use Rattle.tcap_judge.specs.declared.outcome.Outcome.TheVariants.{Lawful, LawfulFor, Refuted}
-use Rattle.tcap_judge.specs.Checked.{replay_says}
-use Rattle.tcap_judge.specs.Judged.{replayed_by}
+use Rattle.tcap_judge.specs.CheckOutcome.{replay_says}
+use Rattle.tcap_judge.specs.LawfulOutcome.{replayed_by}
 use Rattle.tcap_judge.specs.Verdict.{named_by, proposed_by, verdict, verdict_by}
-use Rattle.tcap_judge.specs.Blamed.{IsFound, finding, finding_by, is_lawful, items_before, joint_verdict}
+use Rattle.tcap_judge.specs.BlameOutcome.{IsFound, finding, finding_by, is_lawful, items_before, joint_verdict}
 use Rattle.tcap_judge.proofs.BlamedLaws.{are_found}
 use Rattle.tcap_judge.proofs.LawfulLaws.{shown_by_replay}
 

@@ -4,17 +4,17 @@ use Rattle.std.specs.Prelude.{None, Option, Result, Ok, Err}
 use Rattle.tcap_record.specs.declared.entry.End.{End as Side}
 use Rattle.tcap_record.specs.declared.entry.Entry.{Entry}
 use Rattle.tcap_record.specs.declared.fault.FeedFault.{FeedFault}
-use Rattle.tcap_record.specs.Held.{Held, Fed, dropped, grown}
+use Rattle.tcap_record.specs.PartialRecord.{Held, Fed, dropped, grown}
 use Rattle.std.specs.Io.KnownBytes.{IsAtEnd}
-use Rattle.tcap_record.specs.Feeding.{FinishesAs}
+use Rattle.tcap_record.specs.FeederResult.{FinishesAs}
 use Rattle.tcap_record.specs.Reading.{EndsOnlyAtEnd, FailsOnlyByReader}
 use Rattle.tcap_lines.proofs.ShowLaws.{ended_counts}
 use Rattle.tcap_record.proofs.FeederLaws.{taken_all, taken_on}
 use Rattle.tcap_end.specs.Table.{Table}
 use Rattle.tcap_certificate.specs.declared.fault.CheckFault.{CheckFault}
 use Rattle.tcap_certificate.specs.Certificate.{Certificate}
-use Rattle.tcap_check.specs.Checking.{Checking}
-use Rattle.tcap_judge.specs.Judging.{EndsWith, Leads, LeadsFed, IsCheckerOf, Takes, TakenSoFar}
+use Rattle.tcap_check.specs.CheckerMeaning.{Checking}
+use Rattle.tcap_judge.specs.PiecewiseReplay.{EndsWith, Leads, LeadsFed, IsCheckerOf, Takes, TakenSoFar}
 
 -- more octets are taken
 pub leads_fed : (h : Held) (old : Result Checking CheckFault) (piece rest : List ℕ) (n m : ℕ) (mid new : Held)

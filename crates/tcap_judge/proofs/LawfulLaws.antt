@@ -6,7 +6,7 @@ use Rattle.tcap_record.specs.declared.entry.Entry.{Entry}
 use Rattle.tcap_record.specs.declared.entry.Body.{Body}
 use Rattle.tcap_record.specs.declared.entry.End.{End as Side}
 use Rattle.tcap_record.specs.declared.fault.FeedFault.{FeedFault}
-use Rattle.tcap_record.specs.Framed.{FramedFrom, IsBody, octet_of}
+use Rattle.tcap_record.specs.RecordOctets.{FramedFrom, IsBody, octet_of}
 use Rattle.tcap_end.specs.Fault.{table_number_of}
 use Rattle.tcap_end.specs.Table.{Table}
 use Rattle.tcap_end.specs.TableText.{IsTableOf}
@@ -15,9 +15,9 @@ use Rattle.tcap_model.specs.World.{Item, Sent}
 use Rattle.tcap_model.specs.Run.{Event}
 use Rattle.tcap_certificate.specs.Certificate.{Certificate}
 use Rattle.tcap_model.specs.Entries.{AreItems}
-use Rattle.tcap_check.specs.Given.{SaysLawful}
+use Rattle.tcap_check.specs.GivenRun.{SaysLawful}
 use Rattle.tcap_check.specs.declared.checker.Report.{Report}
-use Rattle.tcap_certificate.specs.Unheard.{unheard_of}
+use Rattle.tcap_certificate.specs.LossCounts.{unheard_of}
 use Rattle.tcap_check.proofs.one_end_laws.AloneRuns.{gives_for}
 use Rattle.tcap_check.proofs.given_run_laws.GivenRuns.{gives}
 use Rattle.tcap_check.proofs.described_run_laws.HalfNameLaws.{described_is_given}
@@ -32,8 +32,8 @@ use Rattle.tcap_lines.specs.declared.status.Status.TheVariants as statuses
 use Rattle.tcap_lines.specs.declared.status.WriteFailed.{WriteFailed}
 use Rattle.tcap_judge.specs.Outcome.{Says, SaysWith, outcome_line, outcome_status}
 use Rattle.tcap_judge.specs.Text.{ReadsText}
-use Rattle.tcap_judge.specs.Judged.{AreLawfulUnheard, IsShown, MayBeSentUnheard, lawful_by, replayed_by, said_lawful}
-use Rattle.tcap_judge.specs.Checked.{Checks, IsCertificateGiven, IsReasoned, IsTableGiven, Judges, JudgesBy, JudgesRecord, JudgesWith, ReadsCertificate, ReadsRecord, ReadsTable, SaysOfDescribed, out_of_memory, record_says, replay_says, said_of_text, text_limit}
+use Rattle.tcap_judge.specs.LawfulOutcome.{AreLawfulUnheard, IsShown, MayBeSentUnheard, lawful_by, replayed_by, said_lawful}
+use Rattle.tcap_judge.specs.CheckOutcome.{Checks, IsCertificateGiven, IsReasoned, IsTableGiven, Judges, JudgesBy, JudgesRecord, JudgesWith, ReadsCertificate, ReadsRecord, ReadsTable, SaysOfDescribed, out_of_memory, record_says, replay_says, said_of_text, text_limit}
 use Rattle.tcap_judge.specs.Device.{Device}
 use Rattle.tcap_judge.specs.LawfulEnd.{FindsLawfulBy}
 use Rattle.tcap_judge.specs.LawfulRecord.{SpellsRecord, TellsAll, TellsItems}

@@ -8,8 +8,8 @@ use Rattle.tcap_ber.specs.declared.element.Outer.{Outer}
 use Rattle.tcap_ber.specs.declared.element.Outer.TheVariants.{Whole}
 use Rattle.tcap_ber.specs.Element.{IsRaw}
 use Rattle.tcap_ber.specs.Reading.{fault}
-use Rattle.tcap_ber.specs.Walked.{IsWalkFault}
-use Rattle.tcap_ber.specs.Walking.{outer_at}
+use Rattle.tcap_ber.specs.WalkPlaces.{IsWalkFault}
+use Rattle.tcap_ber.specs.WalkResult.{outer_at}
 use Rattle.tcap_ber.proofs.OuterLaws.{outer_of_element, outer_refused}
 use Rattle.tcap_ber.proofs.Steps.{ok_not_err}
 use Rattle.tcap_msg.specs.declared.message.Message.{Message}
@@ -23,23 +23,23 @@ use Rattle.tcap_record.specs.declared.entry.Entry.{Entry}
 use Rattle.tcap_record.specs.declared.fault.FeedFault.{FeedFault}
 use Rattle.tcap_record.specs.declared.fault.FeedReason.{FeedReason}
 use Rattle.tcap_record.specs.declared.fault.FeedReason.TheVariants as feed
-use Rattle.tcap_record.specs.Framed.{FramedFrom, IsBody, IsEndOctet, IsRestFault, entry_limit, octet_of, quiet_octet}
+use Rattle.tcap_record.specs.RecordOctets.{FramedFrom, IsBody, IsEndOctet, IsRestFault, entry_limit, octet_of, quiet_octet}
 use Rattle.tcap_record.specs.Reading.{EndsAs, IsReadAs}
 use Rattle.tcap_model.specs.World.{Item, Sent}
 use Rattle.tcap_model.specs.Entries.{AreItems}
 use Rattle.tcap_model.specs.Run.{Event, IsRunOf}
 use Rattle.tcap_end.specs.Table.{Table}
 use Rattle.tcap_certificate.specs.Certificate.{Certificate, IsPrompt, prompt}
-use Rattle.tcap_certificate.specs.Follows.{IsPlain}
-use Rattle.tcap_check.specs.Given.{DeliversAtOnce, IsSeen}
-use Rattle.tcap_certificate.specs.Replayed.{replayed_by}
+use Rattle.tcap_certificate.specs.DescribedRun.{IsPlain}
+use Rattle.tcap_check.specs.GivenRun.{DeliversAtOnce, IsSeen}
+use Rattle.tcap_certificate.specs.Replay.{replayed_by}
 use Rattle.tcap_check.proofs.prompt_laws.AtOnceLaws.{at_once_follows, followed_at_once}
 use Rattle.tcap_check.proofs.described_run_laws.DescribedRuns.{followed_is_given}
 use Rattle.tcap_check.proofs.given_run_laws.GivenRuns.{gives}
 use Rattle.tcap_check.proofs.prompt_laws.PromptLaws.{prompt_plain}
 use Rattle.tcap_check.proofs.refusal_laws.ReasonGaps.{as_many}
 use Rattle.tcap_judge.specs.LawfulRecord.{SpellsRecord}
-use Rattle.tcap_judge.specs.OctetsRead.{IsOfOctets}
+use Rattle.tcap_judge.specs.RecordReading.{IsOfOctets}
 use Rattle.tcap_judge.proofs.LawfulLaws.{spells_items}
 
 -- ---- the front of a record

@@ -8,7 +8,7 @@ use Rattle.tcap_record.specs.declared.entry.Body.{Body}
 use Rattle.tcap_record.specs.declared.entry.Body.TheVariants.{Good, Bad, Quiet}
 use Rattle.tcap_record.specs.declared.entry.End.{End as Side}
 use Rattle.tcap_record.specs.declared.entry.Entry.{Entry}
-use Rattle.tcap_record.specs.Framed.{Framed, FramedFrom}
+use Rattle.tcap_record.specs.RecordOctets.{Framed, FramedFrom}
 use Rattle.tcap_end.specs.Table.{Table}
 use Rattle.tcap_model.specs.declared.reason.Reason.TheVariants.{BadMessage}
 use Rattle.tcap_model.specs.Entries.{item_by, item_of}
@@ -16,9 +16,9 @@ use Rattle.tcap_model.specs.World.{Item}
 use Rattle.tcap_refute.specs.declared.kind.Kind.{Kind}
 use Rattle.tcap_refute.specs.declared.kind.Kind.TheVariants as kinds
 use Rattle.tcap_refute.specs.declared.kind.Refutation.{Refutation}
-use Rattle.tcap_refute.specs.Before.{since_quiet}
+use Rattle.tcap_refute.specs.EarlierMessages.{since_quiet}
 use Rattle.tcap_refute.proofs.RefutedLaws.{bad_by_kind}
-use Rattle.tcap_faults.specs.AtFault.{IsBadEntryOf}
+use Rattle.tcap_faults.specs.BlameMeaning.{IsBadEntryOf}
 use Rattle.tcap_faults.specs.Fault.{is_fault, is_of_further_kind, is_of_kind_to}
 use Rattle.tcap_faults.proofs.kind_laws.BlamedLaws.{bad_has_none}
 use Rattle.tcap_judge.specs.Verdict.{IsAtFaultBy, SpellsNothing}

@@ -14,7 +14,7 @@ use Rattle.tcap_model.specs.World.{Item}
 use Rattle.tcap_refute.specs.declared.kind.Refutation.{Refutation}
 use Rattle.tcap_refute.specs.Kind.{refuted}
 use Rattle.tcap_refute.specs.Unsendable.{IsAtFault}
-use Rattle.tcap_faults.specs.AtFault.{IsAtFaultOf}
+use Rattle.tcap_faults.specs.BlameMeaning.{IsAtFaultOf}
 use Rattle.tcap_faults.specs.Fault.{blamed}
 use Rattle.tcap_judge.specs.declared.outcome.Outcome.{Outcome}
 use Rattle.tcap_judge.specs.declared.outcome.Outcome.TheVariants.{Lawful, LawfulFor, NotShown, Refuted, Undecided, Faulty}
@@ -22,8 +22,8 @@ use Rattle.tcap_lines.specs.declared.status.Status.{Status}
 use Rattle.tcap_lines.specs.declared.status.Status.TheVariants as statuses
 use Rattle.tcap_lines.specs.declared.status.WriteFailed.{WriteFailed}
 use Rattle.tcap_judge.specs.Outcome.{SaysWith, outcome_line, outcome_status, refuted_line}
-use Rattle.tcap_judge.specs.Judged.{IsShown, replayed_by, said_lawful}
-use Rattle.tcap_judge.specs.Checked.{ReadsRecord, ReadsTable, out_of_memory}
+use Rattle.tcap_judge.specs.LawfulOutcome.{IsShown, replayed_by, said_lawful}
+use Rattle.tcap_judge.specs.CheckOutcome.{ReadsRecord, ReadsTable, out_of_memory}
 use Rattle.tcap_judge.specs.Device.{Device}
 use Rattle.tcap_judge.specs.Verdict.{FindsFault, FindsLawfulThen, GivesVerdict, GivesVerdictWith, IsAtFaultBy, IsCertificateLine, IsJudged, PrintsVerdict, certificate_line, named_by, proposed_by, record_verdict, verdict_by}
 use Rattle.tcap_judge.proofs.LawfulLaws.{IsFineOf, IsFoundBy, fine_fault, finds, found_said, lawful_is, no_fault, table_fault, table_text}

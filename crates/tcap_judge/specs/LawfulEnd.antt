@@ -4,7 +4,7 @@ use Rattle.std.specs.Io.KnownBytes.{Appends}
 use Rattle.tcap_record.specs.declared.entry.End.{End as Side}
 use Rattle.tcap_end.specs.Table.{Table}
 use Rattle.tcap_model.specs.World.{Item}
-use Rattle.tcap_certificate.specs.Unheard.{IsLawfulUnheard}
+use Rattle.tcap_certificate.specs.LossCounts.{IsLawfulUnheard}
 use Rattle.tcap_judge.specs.declared.outcome.Outcome.TheVariants.{LawfulFor}
 use Rattle.tcap_judge.specs.Device.{Device}
 use Rattle.tcap_judge.specs.LawfulRecord.{FindsLawful, TellsItems}

@@ -4,7 +4,7 @@ use Rattle.std.specs.Prelude.{◌≡◌, ℕ, List, [], ◌∷◌, ◌++◌, len
 use Rattle.std.specs.Fmt.{decimal}
 use Rattle.std.specs.Io.KnownBytes.{Appends, Consumes, IsAtEnd}
 use Rattle.tcap_msg.specs.Message.{Spells}
-use Rattle.tcap_record.specs.Framed.{octet_of, quiet_octet}
+use Rattle.tcap_record.specs.RecordOctets.{octet_of, quiet_octet}
 use Rattle.tcap_record.specs.Lines.{line_end}
 use Rattle.tcap_end.specs.Table.{Table}
 use Rattle.tcap_end.specs.TableText.{IsTableOf}

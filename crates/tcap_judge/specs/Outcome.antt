@@ -10,7 +10,7 @@ use Rattle.tcap_model.specs.declared.reason.Reason.TheVariants as reasons
 use Rattle.tcap_model.specs.Reason.{reason_number}
 use Rattle.tcap_refute.specs.declared.kind.Refutation.{Refutation}
 use Rattle.tcap_refute.specs.Kind.{kind_number}
-use Rattle.tcap_lines.specs.Shown.{memory_line}
+use Rattle.tcap_lines.specs.ShowRun.{memory_line}
 use Rattle.tcap_judge.specs.declared.outcome.Outcome.{Outcome}
 use Rattle.tcap_judge.specs.declared.outcome.Outcome.TheVariants.{Lawful, LawfulFor, NotShown, Refuted, Undecided, Faulty}
 use Rattle.tcap_judge.specs.LawfulRecord.{lawful_line}

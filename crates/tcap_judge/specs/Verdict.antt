@@ -6,7 +6,7 @@ use Rattle.serde_json.specs.Written.{compact_text}
 use Rattle.tcap_record.specs.declared.entry.End.{End as Side}
 use Rattle.tcap_record.specs.declared.entry.Entry.{Entry}
 use Rattle.tcap_record.specs.declared.fault.FeedFault.{FeedFault}
-use Rattle.tcap_record.specs.FeedFault.{feed_number_of}
+use Rattle.tcap_record.specs.FaultNumber.{feed_number_of}
 use Rattle.tcap_record.specs.Lines.{line_end}
 use Rattle.tcap_record.specs.Reading.{IsReadAs}
 use Rattle.tcap_end.specs.Table.{Table}
@@ -20,15 +20,15 @@ use Rattle.tcap_refute.specs.declared.kind.Kind.TheVariants as kinds
 use Rattle.tcap_refute.specs.declared.kind.Refutation.{Refutation}
 use Rattle.tcap_refute.specs.Kind.{refuted}
 use Rattle.tcap_refute.specs.Unsendable.{IsAtFault}
-use Rattle.tcap_faults.specs.AtFault.{HasNoMessage, IsAtFaultOf}
+use Rattle.tcap_faults.specs.BlameMeaning.{HasNoMessage, IsAtFaultOf}
 use Rattle.tcap_faults.specs.Fault.{blamed}
-use Rattle.tcap_search.specs.Proposed.{proposed, proposed_for}
+use Rattle.tcap_search.specs.ProposedCertificate.{proposed, proposed_for}
 use Rattle.tcap_judge.specs.declared.outcome.Outcome.{Outcome}
 use Rattle.tcap_judge.specs.declared.outcome.Outcome.TheVariants.{Lawful, LawfulFor, Refuted, Undecided, Faulty}
 use Rattle.tcap_lines.specs.declared.status.Status.{Status}
-use Rattle.tcap_judge.specs.Judged.{IsShown, lawful_by, replayed_by}
+use Rattle.tcap_judge.specs.LawfulOutcome.{IsShown, lawful_by, replayed_by}
 use Rattle.tcap_judge.specs.Outcome.{SaysWith, refuted_line}
-use Rattle.tcap_judge.specs.Checked.{ReadsRecord, ReadsTable, out_of_memory}
+use Rattle.tcap_judge.specs.CheckOutcome.{ReadsRecord, ReadsTable, out_of_memory}
 use Rattle.tcap_judge.specs.Device.{Device, IsUntouched}
 use Rattle.tcap_judge.specs.LawfulEnd.{FindsLawfulBy}
 use Rattle.tcap_judge.specs.LawfulRecord.{TellsAll}

@@ -3,13 +3,13 @@
 ghost use Rattle.std.specs.Prelude.{◌≡◌, ◌≤◌, List, length, map, None, Ok, IfOk};
 ghost use Rattle.tcap_model.specs.Entries.{item_of};
 ghost use Rattle.tcap_model.specs.Run.{Event};
-ghost use Rattle.tcap_certificate.specs.Replayed.{replayed_by};
+ghost use Rattle.tcap_certificate.specs.Replay.{replayed_by};
 ghost use Rattle.tcap_faults.specs.Fault.{blamed};
-ghost use Rattle.tcap_search.specs.Proposed.{proposed_for};
-ghost use Rattle.tcap_judge.specs.Blamed.{IsFound, finding, items_before};
-ghost use Rattle.tcap_judge.specs.EachEnd.{lost_by, lost_of};
+ghost use Rattle.tcap_search.specs.ProposedCertificate.{proposed_for};
+ghost use Rattle.tcap_judge.specs.BlameOutcome.{IsFound, finding, items_before};
+ghost use Rattle.tcap_judge.specs.EndFindings.{lost_by, lost_of};
 
-use crate::finding::Finding;
+use crate::findings::Finding;
 use crate::laws;
 use crate::outcome::Outcome;
 use crate::verdicts::replay;

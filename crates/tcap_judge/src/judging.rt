@@ -6,7 +6,7 @@ ghost use Rattle.tcap_ber.specs.Device.{one_more};
 ghost use Rattle.tcap_judge.specs.Device.{device};
 ghost use Rattle.tcap_judge.specs.Verdict.{FindsFault, FindsLawfulThen, GivesVerdict, IsJudged, PrintsVerdict};
 
-use crate::given::read_table;
+use crate::case_reading::read_table;
 use crate::outcome::{OUT_OF_MEMORY, Outcome, write_outcome};
 use crate::verdicts::{Said, judge_record};
 use std::alloc::{AllocError, Global};

@@ -6,20 +6,20 @@ ghost use Rattle.std.specs.List.{AllByRecursion};
 ghost use Rattle.tcap_record.specs.declared.entry.End.{End as Side};
 ghost use Rattle.tcap_record.specs.declared.entry.Entry.{Entry};
 ghost use Rattle.tcap_record.specs.declared.fault.FeedFault.{FeedFault};
-ghost use Rattle.tcap_record.specs.Framed.{entry_limit};
+ghost use Rattle.tcap_record.specs.RecordOctets.{entry_limit};
 ghost use Rattle.tcap_record.specs.Reading.{IsReadAs};
 ghost use Rattle.tcap_end.specs.Table.{Table};
 ghost use Rattle.tcap_model.specs.Entries.{AreItems};
 ghost use Rattle.tcap_model.specs.Run.{Event, IsRunOf};
 ghost use Rattle.tcap_model.specs.World.{Item};
 ghost use Rattle.tcap_certificate.specs.Certificate.{Certificate, IsPrompt, prompt};
-ghost use Rattle.tcap_certificate.specs.Follows.{IsPlain};
-ghost use Rattle.tcap_check.specs.Given.{DeliversAtOnce, IsSeen};
-ghost use Rattle.tcap_certificate.specs.Replayed.{replayed_by};
+ghost use Rattle.tcap_certificate.specs.DescribedRun.{IsPlain};
+ghost use Rattle.tcap_check.specs.GivenRun.{DeliversAtOnce, IsSeen};
+ghost use Rattle.tcap_certificate.specs.Replay.{replayed_by};
 ghost use Rattle.tcap_refute.specs.declared.kind.Refutation.{Refutation};
 ghost use Rattle.tcap_faults.specs.Fault.{blamed};
 ghost use Rattle.tcap_judge.specs.LawfulRecord.{SpellsRecord};
-ghost use Rattle.tcap_judge.specs.OctetsRead.{IsOfOctets};
+ghost use Rattle.tcap_judge.specs.RecordReading.{IsOfOctets};
 
 /// Shows that no certificate gives a run for an end on which an entry is blamed: no end is both lawful alone and at
 /// fault.

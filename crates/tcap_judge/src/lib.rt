@@ -2,10 +2,10 @@
 #![tactic(auto)]
 
 mod blaming;
+mod case_reading;
 mod checking;
 mod each_end;
-mod finding;
-mod given;
+mod findings;
 mod judging;
 pub mod laws;
 mod outcome;
@@ -13,9 +13,9 @@ mod text_reading;
 mod verdicts;
 
 pub use blaming::{Blame, blame_outcome, blame_record, find_both, run_blame};
+pub use case_reading::{read_certificate, read_table};
 pub use checking::{check_outcome, run_check};
-pub use finding::{Ends, Finding, blame_status, push_finding, stands_behind};
-pub use given::{read_certificate, read_table};
+pub use findings::{Ends, Finding, blame_status, push_finding, stands_behind};
 pub use judging::{judge_outcome, run_judge};
 pub use outcome::{OUT_OF_MEMORY, Outcome, inner_number, push_outcome, write_outcome};
 pub use tcap_certificate_text::CertificateText;

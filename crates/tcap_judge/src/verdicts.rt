@@ -2,12 +2,12 @@
 
 ghost use Rattle.std.specs.Prelude.{◌≡◌, ◌≢◌, [], ◌≤◌, length, map, is_some, Some, Err, IfOk};
 ghost use Rattle.std.specs.String.{string_bytes};
-ghost use Rattle.tcap_check.specs.Checking.{map_ok};
-ghost use Rattle.tcap_certificate.specs.Replayed.{fault_at};
+ghost use Rattle.tcap_check.specs.CheckerMeaning.{map_ok};
+ghost use Rattle.tcap_certificate.specs.Replay.{fault_at};
 ghost use Rattle.tcap_model.specs.declared.reason.Reason.TheVariants as reasons;
 ghost use Rattle.tcap_model.specs.Entries.{item_of};
 ghost use Rattle.tcap_refute.specs.Kind.{refuted};
-ghost use Rattle.tcap_judge.specs.Judged.{IsShown, lawful_by, replayed_by};
+ghost use Rattle.tcap_judge.specs.LawfulOutcome.{IsShown, lawful_by, replayed_by};
 ghost use Rattle.tcap_judge.specs.Verdict.{IsVerdict, IsVerdictBySearch, line_asked, line_of_certificate, named_by, proposed_by};
 
 use crate::checking::lawful_of;

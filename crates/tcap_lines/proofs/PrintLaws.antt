@@ -7,7 +7,7 @@ use Rattle.tcap_record.specs.declared.entry.Entry.{Entry}
 use Rattle.tcap_record.specs.declared.fault.FeedFault.{FeedFault}
 use Rattle.tcap_record.specs.Lines.{lines_of}
 use Rattle.tcap_lines.specs.declared.status.Status.TheVariants as statuses
-use Rattle.tcap_lines.specs.Shown.{Prints, feed_fault_line, memory_line}
+use Rattle.tcap_lines.specs.ShowRun.{Prints, feed_fault_line, memory_line}
 
 -- all lines, and then the fault's or the memory line
 pub faulted : (entries : List Entry) (fault : FeedFault) (old mid new : Option (List ℕ))

@@ -9,10 +9,10 @@ use Rattle.tcap_record.specs.declared.entry.Entry.{Entry}
 use Rattle.tcap_record.specs.declared.fault.FeedFault.{FeedFault}
 use Rattle.tcap_record.specs.declared.fault.FeedReason.{FeedReason}
 use Rattle.tcap_record.specs.declared.fault.FeedReason.TheVariants as feed
-use Rattle.tcap_record.specs.Framed.{IsRestFault}
-use Rattle.tcap_record.specs.Framing.{feed_fault}
-use Rattle.tcap_record.specs.Feeding.{FailsFrom, FinishesAs}
-use Rattle.tcap_record.specs.Held.{Held, Fed, IsHeld, IsHeldWith, IsPart, IsWhole, nothing_held}
+use Rattle.tcap_record.specs.RecordOctets.{IsRestFault}
+use Rattle.tcap_record.specs.FramingResult.{feed_fault}
+use Rattle.tcap_record.specs.FeederResult.{FailsFrom, FinishesAs}
+use Rattle.tcap_record.specs.PartialRecord.{Held, Fed, IsHeld, IsHeldWith, IsPart, IsWhole, nothing_held}
 use Rattle.tcap_record.proofs.FedLaws.{fed_grown}
 use Rattle.tcap_record.proofs.FeederLaws.{taken_on}
 use Rattle.tcap_lines.specs.declared.showing.Stop.{Stop}
@@ -21,8 +21,8 @@ use Rattle.tcap_record.specs.Lines.{lines_of, entry_lines}
 use Rattle.tcap_record.specs.Reading.{IsReadAs, FailsOnlyByReader}
 use Rattle.tcap_record.proofs.ReadingLaws.{read_to_memory, read_to_fault}
 use Rattle.tcap_record.proofs.LineLaws.{lines_one_more}
-use Rattle.tcap_lines.specs.Shown.{is_bad}
-use Rattle.tcap_lines.specs.Showing.{ShownSoFar, Leads, UnlessWrite}
+use Rattle.tcap_lines.specs.ShowRun.{is_bad}
+use Rattle.tcap_lines.specs.RecordLines.{ShownSoFar, Leads, UnlessWrite}
 
 -- more octets were taken
 pub leads_fed : (h : Held) (bad : Bool) (taken : Option (List ℕ)) (piece rest : List ℕ) (n m : ℕ) (mid new : Held) (mid_bad : Bool) (mid_taken : Option (List ℕ)) → rest ≡ drop n piece

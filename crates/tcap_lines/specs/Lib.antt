@@ -1,3 +1,3 @@
-pub mod Shown
-pub mod Showing
-pub mod Packed
+pub mod ShowRun
+pub mod RecordLines
+pub mod PackRun

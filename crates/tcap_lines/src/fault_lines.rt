@@ -3,7 +3,7 @@
 ghost use Rattle.std.specs.Prelude.{◌≡◌, ◌⊎◌, ℕ, List, OnOk, OnErr};
 ghost use Rattle.std.specs.Io.KnownBytes.{Appends};
 ghost use Rattle.tcap_ber.specs.Device.{one_more};
-ghost use Rattle.tcap_lines.specs.Shown.{feed_fault_line, memory_line};
+ghost use Rattle.tcap_lines.specs.ShowRun.{feed_fault_line, memory_line};
 
 use crate::status::WriteFailed;
 use std::alloc::{AllocError, Global};

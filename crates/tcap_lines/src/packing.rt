@@ -2,7 +2,7 @@
 
 ghost use Rattle.std.specs.Prelude.{◌≡◌, IfOk, OnOk, OnErr, ◌⊎◌};
 ghost use Rattle.tcap_ber.specs.Device.{one_more};
-ghost use Rattle.tcap_lines.specs.Packed.{PacksTold};
+ghost use Rattle.tcap_lines.specs.PackRun.{PacksTold};
 
 use crate::fault_lines::write_fault;
 use crate::status::{Status, WriteFailed};

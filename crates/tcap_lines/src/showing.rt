@@ -6,13 +6,13 @@ ghost use Rattle.tcap_ber.specs.Device.{one_more};
 ghost use Rattle.tcap_record.specs.declared.fault.FeedFault.{FeedFault};
 ghost use Rattle.tcap_record.specs.declared.fault.FeedReason.{FeedReason};
 ghost use Rattle.tcap_record.specs.declared.entry.Entry.{Entry};
-ghost use Rattle.tcap_record.specs.Framing.{feed_fault};
-ghost use Rattle.tcap_record.specs.Held.{IsFront, IsHeld, IsPart, IsWhole, nothing_held};
+ghost use Rattle.tcap_record.specs.FramingResult.{feed_fault};
+ghost use Rattle.tcap_record.specs.PartialRecord.{IsFront, IsHeld, IsPart, IsWhole, nothing_held};
 ghost use Rattle.tcap_record.specs.Lines.{entry_lines};
-ghost use Rattle.tcap_record.specs.Viewed.{entry_read};
+ghost use Rattle.tcap_record.specs.EntryView.{entry_read};
 ghost use Rattle.tcap_lines.specs.declared.showing.Stop.{Stop};
-ghost use Rattle.tcap_lines.specs.Shown.{Shows, is_bad};
-ghost use Rattle.tcap_lines.specs.Showing.{Leads, ShowsAll, UnlessWrite};
+ghost use Rattle.tcap_lines.specs.ShowRun.{Shows, is_bad};
+ghost use Rattle.tcap_lines.specs.RecordLines.{Leads, ShowsAll, UnlessWrite};
 
 use crate::fault_lines::write_fault;
 use crate::status::{Status, WriteFailed};

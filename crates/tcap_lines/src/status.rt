@@ -1,7 +1,7 @@
 //! The status of a run.
 
 ghost use Rattle.std.specs.Prelude.{◌≡◌};
-ghost use Rattle.tcap_lines.specs.Shown.{status_number};
+ghost use Rattle.tcap_lines.specs.ShowRun.{status_number};
 
 use thiserror::Error;
 

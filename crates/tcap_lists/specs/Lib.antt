@@ -1,6 +1,6 @@
 pub mod Items
 pub mod CodeMap
-pub mod InPlace
+pub mod InlineList
 pub mod Room
 pub mod Chains
 pub mod KindIndex

@@ -1,8 +1,8 @@
 -- Which items a list holds that stores its first item in place.
 use Rattle.std.specs.Option.{option_to_list}
-use Rattle.tcap_lists.specs.InPlace.{Items}
-use Rattle.tcap_lists.specs.declared.in_place.Room.{Room}
-use Rattle.tcap_lists.specs.declared.in_place.Room.TheVariants.{Inside, Outside}
+use Rattle.tcap_lists.specs.InlineList.{Items}
+use Rattle.tcap_lists.specs.declared.inline_list.Room.{Room}
+use Rattle.tcap_lists.specs.declared.inline_list.Room.TheVariants.{Inside, Outside}
 
 -- the items, stored in place or in a vector
 abbrev pub items_in : {T : Type 0} → Room T → Items T

@@ -6,7 +6,7 @@ ghost use Rattle.tcap_lists.specs.Row.{stood};
 
 use crate::chains::Chains;
 use crate::kind_numbers::{KindNumbers, SORTS};
-use crate::wanted::stood;
+use crate::place_search::stood;
 use std::alloc::{AllocError, Global};
 use std::marker::Model;
 use tcap_parts::CodeView;

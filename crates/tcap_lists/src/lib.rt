@@ -3,12 +3,12 @@
 
 mod chains;
 mod code_map;
-mod in_place;
+mod inline_list;
 mod kind_index;
 mod kind_numbers;
 mod lists;
+mod place_search;
 mod row;
-mod wanted;
 
 pub use code_map::{CodeKey, CodeMap};
 pub use kind_numbers::SORTS;

@@ -6,10 +6,10 @@ ghost use Rattle.tcap_lists.specs.Chains.{AreMarked, kinds_in};
 ghost use Rattle.tcap_lists.specs.Row.{AreNumbered, AreOldest, IsOldest, is_wanted, stood};
 
 use crate::chains::Chains;
-use crate::in_place::InPlace;
+use crate::inline_list::InPlace;
 use crate::kind_index::KindIndex;
 use crate::kind_numbers::SORTS;
-use crate::wanted::{is_wanted, oldest_before, oldest_behind, stood};
+use crate::place_search::{is_wanted, oldest_before, oldest_behind, stood};
 use smallvec::SmallVec;
 use std::alloc::{AllocError, Global};
 use std::cell::Cell;

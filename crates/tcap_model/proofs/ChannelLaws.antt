@@ -16,7 +16,7 @@ use Rattle.tcap_end.specs.End.{End}
 use Rattle.tcap_record.specs.Ends.{other}
 use Rattle.tcap_model.specs.World.{Item, OnItsWay, Sent, World, channel_from, empty, is_side, with_channel, with_end}
 use Rattle.tcap_model.specs.Run.{Event, Sends, Receives, Replies, Loses, Expires, Closes, Quiet, Tells, Runs, after, joined, numbers_of, numbers_sent, numbers_taken, takes_from}
-use Rattle.tcap_model.specs.Since.{WasSent}
+use Rattle.tcap_model.specs.SinceMark.{WasSent}
 use Rattle.tcap_model.proofs.ListLaws.{all_both, all_weaker}
 use Rattle.tcap_model.proofs.RunLaws.{IsQuiet, closing, delivery, expiry, loss, quiet, reply, runs_keep, sending, telling}
 use Rattle.tcap_model.proofs.WorldLaws.{itself}

@@ -10,9 +10,9 @@ use Rattle.tcap_end.specs.declared.half.Phase.TheVariants as phases
 use Rattle.tcap_end.specs.declared.half.Standing.TheVariants as standings
 use Rattle.tcap_end.specs.Half.{Answer, Half, Invocation, fresh, listed}
 use Rattle.tcap_end.specs.End.{End, KeptHalf}
-use Rattle.tcap_end.specs.Sound.{Has}
-use Rattle.tcap_model.specs.Since.{originating}
-use Rattle.tcap_model.specs.Since.{IsAnswer, asks}
+use Rattle.tcap_end.specs.ReachableEnd.{Has}
+use Rattle.tcap_model.specs.SinceMark.{originating}
+use Rattle.tcap_model.specs.SinceMark.{IsAnswer, asks}
 
 -- a half before its first step
 abbrev pub blank : Half

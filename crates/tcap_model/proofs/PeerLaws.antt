@@ -11,12 +11,12 @@ use Rattle.tcap_end.specs.declared.half.Standing.TheVariants as standings
 use Rattle.tcap_end.specs.Table.{Table}
 use Rattle.tcap_end.specs.Half.{Answer, Half, Invocation, listed}
 use Rattle.tcap_end.specs.End.{KeptHalf}
-use Rattle.tcap_end.specs.Sound.{FitsPhase, Has, IsEnd, IsHalf}
+use Rattle.tcap_end.specs.ReachableEnd.{FitsPhase, Has, IsEnd, IsHalf}
 use Rattle.tcap_record.specs.Ends.{other}
 use Rattle.tcap_model.specs.World.{World, end_at}
 use Rattle.tcap_model.specs.Run.{Event, Runs}
-use Rattle.tcap_model.specs.Since.{originating}
-use Rattle.tcap_model.specs.Since.{AnswersWereSent, CameFromPeer, InvokesWereSent, IsAnswer, PeerWasSent, RequestWasSent, SentSince, asks}
+use Rattle.tcap_model.specs.SinceMark.{originating}
+use Rattle.tcap_model.specs.SinceMark.{AnswersWereSent, CameFromPeer, InvokesWereSent, IsAnswer, PeerWasSent, RequestWasSent, SentSince, asks}
 use Rattle.tcap_model.proofs.ListLaws.{all_weaker}
 use Rattle.tcap_model.proofs.Moves.{HasCome, IsAsked, IsFrom, Turns, blank}
 use Rattle.tcap_model.proofs.WorldMoves.{Advances, CameSince, EndMoves, SentMore, worlds_keep}

@@ -27,13 +27,13 @@ use Rattle.tcap_end.specs.Component.{answer_problems, answered_operation, receiv
 use Rattle.tcap_end.specs.End.{End, KeptHalf, is_id, put, with_own, with_peer}
 use Rattle.tcap_end.specs.Dialogue.{answers_request, first_standing, is_request}
 use Rattle.tcap_end.specs.Message.{active_half, receive_over, receive_components, receive_continue, receive_end, receive}
-use Rattle.tcap_end.specs.Sound.{FitsPhase, Has, IsEnd, IsHalf}
+use Rattle.tcap_end.specs.ReachableEnd.{FitsPhase, Has, IsEnd, IsHalf}
 use Rattle.tcap_end.proofs.AnsweringLaws.{needs_ok, ok_same, some_ok, then_ok}
 use Rattle.tcap_end.proofs.ComponentLaws.{Receives, all_receives}
 use Rattle.tcap_end.proofs.FoundLaws.{none_peer, own_has}
 use Rattle.tcap_end.proofs.MapLaws.{found_inserted, kept_at}
 use Rattle.tcap_end.proofs.StepLaws.{none_is}
-use Rattle.tcap_model.specs.Since.{IsAnswer}
+use Rattle.tcap_model.specs.SinceMark.{IsAnswer}
 use Rattle.tcap_model.proofs.Moves.{HasCome, Moves, Turns, blank}
 use Rattle.tcap_model.proofs.ListLaws.{all_more}
 use Rattle.tcap_model.proofs.TurnLaws.{id_is, moves_nowhere, new_moves, put_moves, turns_closed}

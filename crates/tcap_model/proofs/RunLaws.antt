@@ -14,9 +14,9 @@ use Rattle.tcap_end.specs.declared.fault.EndFault.{EndFault}
 use Rattle.tcap_end.specs.declared.fault.EndFault.TheVariants as faults
 use Rattle.tcap_end.specs.End.{End, all_closed, nothing}
 use Rattle.tcap_end.specs.Step.{needs, ◌>>◌}
-use Rattle.tcap_end.specs.Hidden.{close, expire}
+use Rattle.tcap_end.specs.HiddenSteps.{close, expire}
 use Rattle.tcap_end.specs.Message.{receive, send}
-use Rattle.tcap_end.specs.Sound.{IsEnd}
+use Rattle.tcap_end.specs.ReachableEnd.{IsEnd}
 use Rattle.tcap_end.proofs.EndLaws.{nothing_sound}
 use Rattle.tcap_end.proofs.StepLaws.{closes, expires, receives, sends}
 use Rattle.tcap_record.specs.Ends.{other}

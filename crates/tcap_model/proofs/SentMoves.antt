@@ -25,15 +25,15 @@ use Rattle.tcap_end.specs.Half.{Answer, Half, Invocation, closed_half, fresh, is
 use Rattle.tcap_end.specs.Component.{allows, allows_for, may_answer, may_link, own_invocation, send_answer, send_component, send_invoke, send_reject}
 use Rattle.tcap_end.specs.End.{End, KeptHalf, first_half, half_where, is_id, named, put, with_own, with_peer}
 use Rattle.tcap_end.specs.Dialogue.{first_standing, may_abort, may_be_uni, may_begin, may_go_on}
-use Rattle.tcap_end.specs.Hidden.{close, expire, may_close, may_expire, without_invocation}
+use Rattle.tcap_end.specs.HiddenSteps.{close, expire, may_close, may_expire, without_invocation}
 use Rattle.tcap_end.specs.Message.{active_half, is_active, is_received, send, send_abort, send_begin, send_components, send_continue, send_end, send_first_continue, send_next_continue, send_uni_components}
-use Rattle.tcap_end.specs.Sound.{FitsPhase, Has, IsEnd, IsHalf, Rises}
+use Rattle.tcap_end.specs.ReachableEnd.{FitsPhase, Has, IsEnd, IsHalf, Rises}
 use Rattle.tcap_end.proofs.AnsweringLaws.{needs_ok, ok_same, some_ok, then_ok}
 use Rattle.tcap_end.proofs.ComponentLaws.{all_sends}
 use Rattle.tcap_end.proofs.FoundLaws.{named_has, none_own, own_has, peer_has}
 use Rattle.tcap_end.proofs.HalfLaws.{Follows, IsListed, half_sent, received_is}
 use Rattle.tcap_end.proofs.StepLaws.{none_is}
-use Rattle.tcap_model.specs.Since.{ended_by}
+use Rattle.tcap_model.specs.SinceMark.{ended_by}
 use Rattle.tcap_model.proofs.Moves.{Moves, Turns, blank}
 use Rattle.tcap_model.proofs.TurnLaws.{Lists, id_is, lists_self, lists_then, moves_nowhere, new_moves, put_moves, put_there, taken_loses, turns_closed, turns_kept}
 

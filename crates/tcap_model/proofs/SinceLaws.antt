@@ -5,7 +5,7 @@ use Rattle.tcap_msg.specs.declared.message.Message.{Message}
 use Rattle.tcap_record.specs.declared.entry.End.{End as Side}
 use Rattle.tcap_model.specs.World.{Item, Sent}
 use Rattle.tcap_model.specs.World.{has_quiet, is_quiet}
-use Rattle.tcap_model.specs.Since.{SentSince}
+use Rattle.tcap_model.specs.SinceMark.{SentSince}
 
 -- Another message adds no quiet mark.
 pub no_quiet : (other : Side) (n : Message) (items : List Item) → has_quiet items ≡ false → has_quiet (items ++ Sent other n ∷ []) ≡ false

@@ -15,7 +15,7 @@ use Rattle.tcap_end.specs.declared.half.Slot.{Slot}
 use Rattle.tcap_end.specs.declared.half.Slot.TheVariants.{Begun, Accepted}
 use Rattle.tcap_end.specs.Half.{Half, closed_half, listed, listed_by, with_listed, without_oldest, without_oldest_of}
 use Rattle.tcap_end.specs.End.{End, KeptHalf, is_id, put}
-use Rattle.tcap_end.specs.Sound.{Has, Rises, halves_of}
+use Rattle.tcap_end.specs.ReachableEnd.{Has, Rises, halves_of}
 use Rattle.tcap_end.proofs.FoundLaws.{half_at, octets_total}
 use Rattle.tcap_end.proofs.MapLaws.{found_inserted, found_new, keys_eq, kept_at}
 use Rattle.tcap_end.proofs.PlacedLaws.{slots_eq}

@@ -6,10 +6,10 @@ use Rattle.tcap_msg.specs.declared.message.Message.TheVariants.{Unidirectional, 
 use Rattle.tcap_record.specs.declared.entry.End.{End as Side}
 use Rattle.tcap_end.specs.Table.{Table}
 use Rattle.tcap_end.specs.End.{End, KeptHalf}
-use Rattle.tcap_end.specs.Sound.{Has, IsEnd, IsSame}
+use Rattle.tcap_end.specs.ReachableEnd.{Has, IsEnd, IsSame}
 use Rattle.tcap_model.specs.World.{World, end_at}
 use Rattle.tcap_model.specs.Run.{Event, KeepsRules, Runs, is_told_by, tells}
-use Rattle.tcap_model.specs.Since.{EndedIsClosed, HasUsed, SentSince}
+use Rattle.tcap_model.specs.SinceMark.{EndedIsClosed, HasUsed, SentSince}
 use Rattle.tcap_model.proofs.RunLaws.{sound}
 use Rattle.tcap_model.proofs.WorldMoves.{Advances, HasEnded, worlds_keep}
 

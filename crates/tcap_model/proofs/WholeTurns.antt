@@ -8,7 +8,7 @@ use Rattle.tcap_record.specs.declared.entry.End.TheVariants as sides
 use Rattle.tcap_end.specs.declared.half.HalfName.{HalfName}
 use Rattle.tcap_end.specs.Table.{Table}
 use Rattle.tcap_end.specs.End.{End, nothing, quiet}
-use Rattle.tcap_end.specs.Hidden.{close, expire}
+use Rattle.tcap_end.specs.HiddenSteps.{close, expire}
 use Rattle.tcap_end.specs.Message.{receive, send}
 use Rattle.tcap_record.specs.Ends.{other}
 use Rattle.tcap_model.specs.World.{Item, OnItsWay, Sent, World, is_side, with_channel, with_end}

@@ -12,12 +12,12 @@ use Rattle.tcap_end.specs.declared.half.Phase.TheVariants as phases
 use Rattle.tcap_end.specs.Table.{Table}
 use Rattle.tcap_end.specs.End.{End, KeptHalf, nothing}
 use Rattle.tcap_end.specs.Message.{send}
-use Rattle.tcap_end.specs.Sound.{Has, IsEnd}
+use Rattle.tcap_end.specs.ReachableEnd.{Has, IsEnd}
 use Rattle.tcap_end.proofs.EndLaws.{no_half}
 use Rattle.tcap_record.specs.Ends.{other}
 use Rattle.tcap_model.specs.World.{OnItsWay, Sent, World, channel_from, empty, end_at, is_side, with_channel, with_end}
 use Rattle.tcap_model.specs.Run.{Event, Sends, Receives, Replies, Loses, Expires, Closes, Quiet, Tells, Runs, after, is_told_by, joined, reply_to}
-use Rattle.tcap_model.specs.Since.{HasUsed, SentSince, WasSent, ended_by}
+use Rattle.tcap_model.specs.SinceMark.{HasUsed, SentSince, WasSent, ended_by}
 use Rattle.tcap_model.proofs.Moves.{Moves}
 use Rattle.tcap_model.proofs.TurnLaws.{moves_nowhere}
 use Rattle.tcap_model.proofs.SentMoves.{begin_uses, closed_moves, continue_uses, ending_closes, expired_moves, sent_moves}

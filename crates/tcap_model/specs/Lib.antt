@@ -1,6 +1,6 @@
 pub mod World
 pub mod Run
-pub mod Since
+pub mod SinceMark
 pub mod Entries
 pub mod Reason
 pub mod WorkedItems

@@ -12,10 +12,10 @@ ghost use Rattle.tcap_record.specs.declared.entry.End.{End as Side};
 ghost use Rattle.tcap_record.specs.declared.entry.End.TheVariants as sides;
 ghost use Rattle.tcap_end.specs.Table.{Table};
 ghost use Rattle.tcap_end.specs.End.{KeptHalf};
-ghost use Rattle.tcap_end.specs.Sound.{Has, IsEnd};
+ghost use Rattle.tcap_end.specs.ReachableEnd.{Has, IsEnd};
 ghost use Rattle.tcap_model.specs.World.{Item, World, channel_from, end_at};
 ghost use Rattle.tcap_model.specs.Run.{Adds, Event, IsLawful, IsLawfulFor, KeepsRules, Runs, after, numbers_of, numbers_sent, numbers_taken};
-ghost use Rattle.tcap_model.specs.Since.{
+ghost use Rattle.tcap_model.specs.SinceMark.{
   AnswersWereSent,
   EndedIsClosed,
   HasUsed,

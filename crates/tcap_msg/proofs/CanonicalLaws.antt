@@ -2,7 +2,7 @@
 use Rattle.std.proofs.Common.{◌≡◌, ◌≢◌, ℕ, ◌%◌, List, [], ◌∷◌, Option, Some, None, refl, sym, ap, subst, ◌∙◌, inl, inr, arith}
 use Rattle.std.proofs.lemmas.List.{append-nil}
 use Rattle.tcap_ber.specs.Grammar.{Content, BeginsWith, SpellsOptional, required, optional, absent, ended, ◌⨾◌, ◌⨾▹◌}
-use Rattle.tcap_ber.specs.Small.{small}
+use Rattle.tcap_ber.specs.SmallInteger.{small}
 use Rattle.tcap_ber.specs.Canonical.{◌⧺◌, element_around}
 use Rattle.tcap_ber.proofs.CanonicalLaws.{some_is, apart, begins_with-tag, element_around-spells, element_of-spells, one_around-spells, join_assoc, decides-spells, then-spells, last-spells}
 use Rattle.tcap_ber.proofs.PutLaws.{join_nil, nil_join}

@@ -5,10 +5,10 @@ use Rattle.std.proofs.lemmas.Bool.{ltb-true, lt-ltb, and_parts, and_from, false_
 use Rattle.tcap_ber.specs.declared.fault.Fault.{Fault}
 use Rattle.tcap_ber.specs.declared.fault.Reason.TheVariants.{BadTransactionId, UnexpectedTag}
 use Rattle.tcap_ber.specs.Grammar.{required, optional, ended, ◌⨾◌, ◌⨾▹◌}
-use Rattle.tcap_ber.specs.Small.{small}
+use Rattle.tcap_ber.specs.SmallInteger.{small}
 use Rattle.tcap_ber.specs.Reading.{◌>>=◌, fault, small_at, end_at}
 use Rattle.tcap_ber.proofs.Steps.{chosen, ok_is, err_is}
-use Rattle.tcap_ber.specs.Reads.{ReadsField, ReadsBody, ReadsContent}
+use Rattle.tcap_ber.specs.ExactReader.{ReadsField, ReadsBody, ReadsContent}
 use Rattle.tcap_ber.proofs.FaultLaws.{refused_by}
 use Rattle.tcap_ber.proofs.GrammarLaws.{reads_required, reads_optional, reads_absent, reads_ended, reads_then_by, reads_then, reads_structure}
 use Rattle.tcap_ber.proofs.ChoiceLaws.{reads_tagged, reads_others, reads_one_of}

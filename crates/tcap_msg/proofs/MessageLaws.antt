@@ -7,7 +7,7 @@ use Rattle.tcap_ber.specs.declared.fault.Reason.TheVariants as reasons
 use Rattle.tcap_ber.specs.declared.element.Outer.{Outer}
 use Rattle.tcap_ber.specs.declared.element.Outer.TheVariants.{Whole, Need}
 use Rattle.tcap_ber.specs.Element.{IsElement}
-use Rattle.tcap_ber.specs.Walked.{IsWalkFault, IsUnfinished}
+use Rattle.tcap_ber.specs.WalkPlaces.{IsWalkFault, IsUnfinished}
 use Rattle.tcap_ber.specs.Grammar.{after}
 use Rattle.tcap_ber.specs.Span.{Span}
 use Rattle.tcap_ber.specs.Reading.{◌>>=◌, fault, outer_at}

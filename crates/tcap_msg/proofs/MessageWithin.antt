@@ -3,7 +3,7 @@ use Rattle.std.proofs.Common.{ℕ, ◌≤◌, List, length, Option, Some, None, 
 use Rattle.tcap_ber.specs.declared.fault.Reason.{Reason}
 use Rattle.tcap_ber.specs.declared.fault.Reason.TheVariants.{UnexpectedTag}
 use Rattle.tcap_ber.specs.Grammar.{required, optional, ended, ◌⨾◌, ◌⨾▹◌}
-use Rattle.tcap_ber.specs.Small.{small}
+use Rattle.tcap_ber.specs.SmallInteger.{small}
 use Rattle.tcap_ber.proofs.OuterLaws.{walk_fault_within}
 use Rattle.tcap_ber.proofs.WithinLaws.{BodyWithin, FieldWithin, ContentWithin, required_within, optional_within, absent_within, ended_within, then_by_within, then_within, small_within, others_within, tagged_within, one_of_within}
 use Rattle.tcap_parts.specs.declared.dialogue.Dialogue.{Dialogue}

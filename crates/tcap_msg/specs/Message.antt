@@ -3,10 +3,10 @@ use Rattle.std.specs.Prelude.{◌≡◌, ℕ, ◌⊎◌, List, [], ◌++◌, len
 use Rattle.tcap_ber.specs.declared.fault.Reason.{Reason}
 use Rattle.tcap_ber.specs.declared.fault.Reason.TheVariants.{Cut, UnexpectedTag}
 use Rattle.tcap_ber.specs.Span.{Span}
-use Rattle.tcap_ber.specs.Walked.{IsWalkFault, IsUnfinished}
+use Rattle.tcap_ber.specs.WalkPlaces.{IsWalkFault, IsUnfinished}
 use Rattle.tcap_ber.specs.Grammar.{Body, Field, required, optional, absent, ended, ◌⨾◌, ◌⨾▹◌, structure, made}
 use Rattle.tcap_ber.specs.Choice.{Choice, ◌▹◌, ◌∣◌, others_are, IsFaultyChoice, one_of}
-use Rattle.tcap_ber.specs.Small.{small}
+use Rattle.tcap_ber.specs.SmallInteger.{small}
 use Rattle.tcap_parts.specs.declared.component.Component.{Component}
 use Rattle.tcap_parts.specs.declared.dialogue.Dialogue.{Dialogue}
 use Rattle.tcap_parts.specs.Component.{portion}

@@ -4,10 +4,10 @@ use Rattle.tcap_ber.specs.declared.fault.Reason.TheVariants.{BadSize, Unexpected
 use Rattle.tcap_ber.specs.Grammar.{required, optional, parameter, ended, ◌⨾◌, made, integer}
 use Rattle.tcap_ber.specs.Choice.{◌▹◌, ◌∣◌, others_are, one_of}
 use Rattle.tcap_ber.specs.ObjectId.{object_id}
-use Rattle.tcap_ber.specs.Small.{small, null}
+use Rattle.tcap_ber.specs.SmallInteger.{small, null}
 use Rattle.tcap_ber.specs.Reading.{◌>>=◌, small_integer_at, small_at, null_at, object_id_at, parameter_at, end_at, tagged_at, refused_at}
 use Rattle.tcap_ber.proofs.ElementLaws.{element_len_at_least}
-use Rattle.tcap_ber.specs.Reads.{ReadsField, ReadsBody, ReadsContent}
+use Rattle.tcap_ber.specs.ExactReader.{ReadsField, ReadsBody, ReadsContent}
 use Rattle.tcap_ber.proofs.EachLaws.{HasOctets}
 use Rattle.tcap_ber.proofs.GrammarLaws.{reads_required, reads_optional, reads_parameter, reads_ended, reads_then, reads_structure}
 use Rattle.tcap_ber.proofs.BodyLaws.{reads_integer, reads_made}

@@ -3,7 +3,7 @@ use Rattle.std.proofs.Common.{◌≡◌, ◌≢◌, ℕ, ◌%◌, ◌<◌, List,
 use Rattle.tcap_ber.specs.Grammar.{Content, IsElementOf, SpellsOptional, required, optional, ended, single, ◌⨾◌}
 use Rattle.tcap_ber.specs.Choice.{IsOneOf, one_of}
 use Rattle.tcap_ber.specs.ObjectId.{IsObjectId, object_id}
-use Rattle.tcap_ber.specs.Small.{small}
+use Rattle.tcap_ber.specs.SmallInteger.{small}
 use Rattle.tcap_ber.specs.Canonical.{◌⧺◌, element_around}
 use Rattle.tcap_ber.proofs.CanonicalLaws.{some_is, apart, element_around-spells, element_of-spells, one_around-spells, one_of-spells, join_assoc, decides-spells, then-spells, last-spells, single-spells}
 use Rattle.tcap_parts.specs.declared.dialogue.Syntax.{Syntax}

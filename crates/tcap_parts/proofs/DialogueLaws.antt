@@ -8,9 +8,9 @@ use Rattle.tcap_ber.specs.declared.fault.Reason.TheVariants.{BadObjectId, Unexpe
 use Rattle.tcap_ber.specs.Grammar.{required, optional, ended, ◌⨾◌, ◌⨾▹◌, single}
 use Rattle.tcap_ber.specs.Choice.{one_of}
 use Rattle.tcap_ber.specs.ObjectId.{IsObjectId, object_id}
-use Rattle.tcap_ber.specs.Small.{small}
+use Rattle.tcap_ber.specs.SmallInteger.{small}
 use Rattle.tcap_ber.specs.Reading.{◌>>=◌, fault, Element, required_at, with_body, small_at, is_object_id, object_id_at, end_at, refused_at}
-use Rattle.tcap_ber.specs.Reads.{ReadsField, ReadsBody, ReadsChoice, ReadsContent}
+use Rattle.tcap_ber.specs.ExactReader.{ReadsField, ReadsBody, ReadsChoice, ReadsContent}
 use Rattle.tcap_ber.proofs.Steps.{chosen, bind_ok, bind_err, ok_is, err_is}
 use Rattle.tcap_ber.proofs.FaultLaws.{refused_by}
 use Rattle.tcap_ber.proofs.GrammarLaws.{reads_required, reads_optional, reads_ended, reads_then, reads_then_by, reads_structure, reads_single}

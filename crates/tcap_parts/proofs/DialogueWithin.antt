@@ -4,7 +4,7 @@ use Rattle.tcap_ber.specs.declared.fault.Reason.TheVariants.{UnexpectedTag, Dial
 use Rattle.tcap_ber.specs.Grammar.{required, optional, ended, ◌⨾◌, single}
 use Rattle.tcap_ber.specs.Choice.{one_of}
 use Rattle.tcap_ber.specs.ObjectId.{object_id}
-use Rattle.tcap_ber.specs.Small.{small}
+use Rattle.tcap_ber.specs.SmallInteger.{small}
 use Rattle.tcap_ber.proofs.WithinLaws.{BodyWithin, FieldWithin, ContentWithin, ChoiceWithin, required_within, optional_within, verbatim_within, ended_within, then_by_within, then_within, each_within, single_within, object_id_within, small_within, others_within, tagged_within, one_of_within}
 use Rattle.tcap_parts.specs.declared.dialogue.Syntax.{Syntax}
 use Rattle.tcap_parts.specs.declared.dialogue.Syntax.TheVariants.{Structured, Unstructured}

@@ -5,7 +5,7 @@ use Rattle.tcap_ber.specs.declared.fault.Fault.{Fault}
 use Rattle.tcap_ber.specs.Span.{Span}
 use Rattle.tcap_ber.specs.Grammar.{each}
 use Rattle.tcap_ber.specs.Reading.{is_read, read_or_none}
-use Rattle.tcap_ber.specs.Reads.{ReadsField, ReadsBody, ReadsContent}
+use Rattle.tcap_ber.specs.ExactReader.{ReadsField, ReadsBody, ReadsContent}
 use Rattle.tcap_ber.proofs.Steps.{bind_ok, bind_err, ok_is}
 use Rattle.tcap_ber.proofs.EachLaws.{each_of-empty, reads_each}
 use Rattle.tcap_ber.proofs.EachLoopLaws as items

@@ -8,7 +8,7 @@ use Rattle.tcap_ber.specs.declared.fault.Reason.TheVariants.{EmptyComponents}
 use Rattle.tcap_ber.specs.Span.{Span}
 use Rattle.tcap_ber.specs.Reading.{fault, Element, is_read, read_or_none}
 use Rattle.tcap_ber.proofs.Steps.{chosen, err_is}
-use Rattle.tcap_ber.specs.Reads.{ReadsBody, ReadsContent}
+use Rattle.tcap_ber.specs.ExactReader.{ReadsBody, ReadsContent}
 use Rattle.tcap_ber.proofs.FaultLaws.{refused_by}
 use Rattle.tcap_ber.proofs.EachLaws.{wrong_after_some, each_of-empty, reads_each}
 use Rattle.tcap_ber.proofs.EachLoopLaws as items

@@ -3,7 +3,7 @@ use Rattle.std.proofs.Common.{◌≡◌, ℕ, ℤ, ◌+◌, List, [], ◌∷◌,
 use Rattle.std.specs.Prelude.{◌≢◌}
 use Rattle.std.proofs.lemmas.Bool.{le-ltb, ne_eqb}
 use Rattle.tcap_ber.specs.Span.{Span, behind}
-use Rattle.tcap_ber.specs.Short.{IsShort}
+use Rattle.tcap_ber.specs.ShortHeader.{IsShort}
 use Rattle.tcap_ber.specs.Reading.{Element, next_at, required_at, some_at, small_integer_at, integer_at}
 use Rattle.tcap_ber.proofs.ShortLaws.{short_next}
 use Rattle.tcap_parts.specs.declared.code.Code.TheVariants.{Local}

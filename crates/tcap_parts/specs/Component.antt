@@ -4,7 +4,7 @@ use Rattle.tcap_ber.specs.declared.fault.Reason.TheVariants.{BadSize, Unexpected
 use Rattle.tcap_ber.specs.Grammar.{Body, Field, required, optional, parameter, ended, ◌⨾◌, each, structure, made, integer}
 use Rattle.tcap_ber.specs.Choice.{Choice, ◌▹◌, ◌∣◌, others_are, one_of}
 use Rattle.tcap_ber.specs.ObjectId.{object_id}
-use Rattle.tcap_ber.specs.Small.{small, null}
+use Rattle.tcap_ber.specs.SmallInteger.{small, null}
 use Rattle.tcap_parts.specs.declared.code.Code.{Code}
 use Rattle.tcap_parts.specs.declared.code.Code.TheVariants.{Local, Global}
 use Rattle.tcap_parts.specs.declared.problem.Problem.{Problem}

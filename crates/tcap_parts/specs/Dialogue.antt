@@ -4,7 +4,7 @@ use Rattle.tcap_ber.specs.declared.fault.Reason.TheVariants.{BadObjectId, Unexpe
 use Rattle.tcap_ber.specs.Grammar.{Body, required, optional, ended, ◌⨾◌, ◌⨾▹◌, structure, made, single}
 use Rattle.tcap_ber.specs.Choice.{Choice, ◌▹◌, ◌∣◌, others_are, one_of}
 use Rattle.tcap_ber.specs.ObjectId.{IsObjectId, object_id}
-use Rattle.tcap_ber.specs.Small.{small}
+use Rattle.tcap_ber.specs.SmallInteger.{small}
 use Rattle.tcap_parts.specs.declared.dialogue.Syntax.{Syntax}
 use Rattle.tcap_parts.specs.declared.dialogue.Syntax.TheVariants.{Structured, Unstructured}
 use Rattle.tcap_parts.specs.declared.dialogue.Source.{Source}

@@ -3,7 +3,7 @@
 ghost use Rattle.std.specs.Prelude.{◌≡◌, ◌<◌, ◌↔◌, ◌++◌, ℕ, List, length, Err, IfOk, IsOkAnd};
 ghost use Rattle.std.specs.Option.{option_map};
 ghost use Rattle.tcap_ber.specs.declared.fault.Fault.{Fault};
-ghost use Rattle.tcap_ber.specs.Found.{Taken};
+ghost use Rattle.tcap_ber.specs.FrontElement.{Taken};
 ghost use Rattle.tcap_ber.specs.Reading.{Gives, span, element};
 ghost use Rattle.tcap_parts.specs.declared.component.Component.{Component};
 ghost use Rattle.tcap_parts.specs.Component.{component, SpellsComponent};

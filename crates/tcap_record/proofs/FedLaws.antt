@@ -3,8 +3,8 @@ use Rattle.std.proofs.Common.{◌≡◌, ℕ, ◌+◌, ◌-◌, List, [], ◌∷
 use Rattle.std.proofs.lemmas.List.{length-append}
 use Rattle.tcap_record.specs.declared.entry.Entry.{Entry}
 use Rattle.tcap_record.specs.declared.fault.FeedFault.{FeedFault}
-use Rattle.tcap_record.specs.Framed.{octet_of, IsEntry, FramedFrom}
-use Rattle.tcap_record.specs.Held.{Held, Fed, IsFront, grown, dropped}
+use Rattle.tcap_record.specs.RecordOctets.{octet_of, IsEntry, FramedFrom}
+use Rattle.tcap_record.specs.PartialRecord.{Held, Fed, IsFront, grown, dropped}
 use Rattle.tcap_record.proofs.FramingLaws.{IsEntryAt, entry_shorter, framed_more}
 
 -- an entry stays at the front if more octets follow

@@ -6,9 +6,9 @@ use Rattle.std.proofs.lemmas.List.{length-drop, take_at}
 use Rattle.std.proofs.Math.Seq.{take-length}
 use Rattle.tcap_record.specs.declared.entry.Entry.{Entry}
 use Rattle.tcap_record.specs.declared.fault.FeedFault.{FeedFault}
-use Rattle.tcap_record.specs.Framed.{entry_limit}
-use Rattle.tcap_record.specs.Held.{Held, Fed, IsHeld, IsHeldWith, IsPart, IsWhole, dropped, grown, cut_to}
-use Rattle.tcap_record.specs.Feeding.{FinishesAs}
+use Rattle.tcap_record.specs.RecordOctets.{entry_limit}
+use Rattle.tcap_record.specs.PartialRecord.{Held, Fed, IsHeld, IsHeldWith, IsPart, IsWhole, dropped, grown, cut_to}
+use Rattle.tcap_record.specs.FeederResult.{FinishesAs}
 use Rattle.tcap_record.proofs.FrontLaws.{part_not_whole}
 
 pub no_less : (n all : ℕ) → n ≤ all → (n < all → ⊥) → n ≡ all

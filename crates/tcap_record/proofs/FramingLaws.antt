@@ -18,8 +18,8 @@ use Rattle.tcap_record.specs.declared.entry.End.TheVariants as ends
 use Rattle.tcap_record.specs.declared.entry.Entry.{Entry}
 use Rattle.tcap_record.specs.declared.fault.FeedReason.{FeedReason}
 use Rattle.tcap_record.specs.declared.fault.FeedReason.TheVariants as feed
-use Rattle.tcap_record.specs.Framed.{octet_of, IsBody, IsEntry, FramedFrom, IsEndOctet, IsRestFault}
-use Rattle.tcap_record.specs.Framing.{end_in, body_of, body_at}
+use Rattle.tcap_record.specs.RecordOctets.{octet_of, IsBody, IsEntry, FramedFrom, IsEndOctet, IsRestFault}
+use Rattle.tcap_record.specs.FramingResult.{end_in, body_of, body_at}
 use Rattle.tcap_record.specs.Reading.{EndsAs}
 use Rattle.tcap_msg.proofs.MessageLaws.{message_sound, message_complete, message_refused}
 use Rattle.tcap_msg.proofs.MessageWithin.{faulty_within}

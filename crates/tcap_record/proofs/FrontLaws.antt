@@ -4,17 +4,17 @@ use Rattle.std.specs.Prelude.{true, false, nat_lt, ◌==◌}
 use Rattle.tcap_ber.specs.declared.fault.Fault.{Fault}
 use Rattle.tcap_ber.specs.declared.element.Outer.{Outer}
 use Rattle.tcap_ber.specs.declared.element.Outer.TheVariants.{Whole as WholeElement, Need}
-use Rattle.tcap_ber.specs.Walked.{IsUnfinished, BeginsElement}
-use Rattle.tcap_ber.specs.Walking.{outer_at}
+use Rattle.tcap_ber.specs.WalkPlaces.{IsUnfinished, BeginsElement}
+use Rattle.tcap_ber.specs.WalkResult.{outer_at}
 use Rattle.tcap_record.specs.declared.entry.End.{End}
 use Rattle.tcap_record.specs.declared.fault.FeedReason.{FeedReason}
 use Rattle.tcap_record.specs.declared.fault.FeedReason.TheVariants as feed
 use Rattle.tcap_record.specs.declared.frames.Front.{Front}
 use Rattle.tcap_record.specs.declared.frames.Front.TheVariants.{Whole, Part, Refused}
-use Rattle.tcap_record.specs.Framed.{octet_of, quiet_octet, entry_limit, IsEndOctet, IsRestFault}
-use Rattle.tcap_record.specs.Framing.{end_in}
-use Rattle.tcap_record.specs.Held.{IsPart, IsWhole}
-use Rattle.tcap_record.specs.Front.{front_by, front_of, front_at}
+use Rattle.tcap_record.specs.RecordOctets.{octet_of, quiet_octet, entry_limit, IsEndOctet, IsRestFault}
+use Rattle.tcap_record.specs.FramingResult.{end_in}
+use Rattle.tcap_record.specs.PartialRecord.{IsPart, IsWhole}
+use Rattle.tcap_record.specs.FrontEntry.{front_by, front_of, front_at}
 use Rattle.tcap_ber.proofs.Steps.{chosen}
 use Rattle.tcap_ber.proofs.OuterLaws.{outer_whole, outer_fault, is_unfinished}
 use Rattle.tcap_ber.proofs.RoomLaws.{need_within}

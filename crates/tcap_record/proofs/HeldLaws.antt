@@ -11,10 +11,10 @@ use Rattle.tcap_record.specs.declared.entry.End.{End}
 use Rattle.tcap_record.specs.declared.entry.End.TheVariants as ends
 use Rattle.tcap_record.specs.declared.entry.Body.{Body}
 use Rattle.tcap_record.specs.declared.fault.FeedFault.{FeedFault}
-use Rattle.tcap_record.specs.Framed.{octet_of, quiet_octet, IsEntry}
-use Rattle.tcap_record.specs.Framing.{end_in, body_at}
-use Rattle.tcap_record.specs.Held.{IsPart, IsWhole}
-use Rattle.tcap_record.specs.Front.{IsAnswerWithin}
+use Rattle.tcap_record.specs.RecordOctets.{octet_of, quiet_octet, IsEntry}
+use Rattle.tcap_record.specs.FramingResult.{end_in, body_at}
+use Rattle.tcap_record.specs.PartialRecord.{IsPart, IsWhole}
+use Rattle.tcap_record.specs.FrontEntry.{IsAnswerWithin}
 use Rattle.tcap_record.proofs.FramingLaws.{outer_fault_within, element_is}
 use Rattle.tcap_record.proofs.FrontLaws.{part_not_whole}
 

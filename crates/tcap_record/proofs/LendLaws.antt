@@ -17,11 +17,11 @@ use Rattle.tcap_record.specs.declared.entry.Body.TheVariants.{Good}
 use Rattle.tcap_record.specs.declared.entry.Entry.{Entry}
 use Rattle.tcap_record.specs.declared.frames.Front.{Front}
 use Rattle.tcap_record.specs.declared.frames.Front.TheVariants.{Whole, Part, Refused}
-use Rattle.tcap_record.specs.Framed.{octet_of, quiet_octet, IsEntry, entry_limit}
-use Rattle.tcap_record.specs.Framing.{end_in}
-use Rattle.tcap_record.specs.Front.{front_by, front_at, whole_in}
-use Rattle.tcap_record.specs.Held.{Held, IsHeld, IsWhole, IsFront, Fed, dropped, grown}
-use Rattle.tcap_record.specs.Lent.{IsLent}
+use Rattle.tcap_record.specs.RecordOctets.{octet_of, quiet_octet, IsEntry, entry_limit}
+use Rattle.tcap_record.specs.FramingResult.{end_in}
+use Rattle.tcap_record.specs.FrontEntry.{front_by, front_at, whole_in}
+use Rattle.tcap_record.specs.PartialRecord.{Held, IsHeld, IsWhole, IsFront, Fed, dropped, grown}
+use Rattle.tcap_record.specs.LentEntry.{IsLent}
 use Rattle.tcap_record.proofs.FrontLaws.{front_whole}
 use Rattle.tcap_record.proofs.FramingLaws.{end_is}
 use Rattle.tcap_record.proofs.FedLaws.{fed_grown, fed_dropped}

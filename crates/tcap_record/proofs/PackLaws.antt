@@ -13,7 +13,7 @@ use Rattle.tcap_record.specs.declared.packing.LineFault.{LineFault}
 use Rattle.tcap_record.specs.declared.packing.LineFault.TheVariants.{Bad, Memory}
 use Rattle.tcap_record.specs.declared.packing.PackFault.{PackFault}
 use Rattle.tcap_record.specs.declared.packing.Packing.{Packing}
-use Rattle.tcap_record.specs.Framing.{feed_fault}
+use Rattle.tcap_record.specs.FramingResult.{feed_fault}
 use Rattle.tcap_record.specs.HexLines.{AreLines, EndsInReturn, HasNoNewline, IsEndedLine, IsNoLine, IsPacked, IsPackedUpTo, IsRefusedLine, StandsFor, StopsAs, carriage_return, entries_in, line_limit, lines_limit, newline}
 use Rattle.tcap_record.specs.Packing.{Finishes, IsBehind, IsContentOf, IsFresh, IsLineRefused, IsOpen, Packs, PacksUpTo, line_fault}
 

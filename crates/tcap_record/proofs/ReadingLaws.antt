@@ -6,11 +6,11 @@ use Rattle.tcap_record.specs.declared.entry.Entry.{Entry}
 use Rattle.tcap_record.specs.declared.fault.FeedFault.{FeedFault}
 use Rattle.tcap_record.specs.declared.fault.FeedReason.{FeedReason}
 use Rattle.tcap_record.specs.declared.fault.FeedReason.TheVariants as feed
-use Rattle.tcap_record.specs.Framed.{entry_limit, IsRestFault}
-use Rattle.tcap_record.specs.Framing.{feed_fault}
-use Rattle.tcap_record.specs.Held.{Held, Fed, IsHeld, IsHeldWith, IsPart}
-use Rattle.tcap_record.specs.Feeding.{FinishesAs}
-use Rattle.tcap_record.specs.Kept.{Kept, FedTo, FeedsNot}
+use Rattle.tcap_record.specs.RecordOctets.{entry_limit, IsRestFault}
+use Rattle.tcap_record.specs.FramingResult.{feed_fault}
+use Rattle.tcap_record.specs.PartialRecord.{Held, Fed, IsHeld, IsHeldWith, IsPart}
+use Rattle.tcap_record.specs.FeederResult.{FinishesAs}
+use Rattle.tcap_record.specs.FeederState.{Kept, FedTo, FeedsNot}
 use Rattle.tcap_record.specs.Reading.{IsReadAs}
 use Rattle.tcap_record.proofs.FramingLaws.{ends_as}
 use Rattle.tcap_record.proofs.FrontLaws.{part_not_whole}

@@ -6,9 +6,9 @@ use Rattle.tcap_record.specs.declared.fault.FeedReason.{FeedReason}
 use Rattle.tcap_record.specs.declared.fault.FeedReason.TheVariants as feed
 use Rattle.tcap_record.specs.declared.frames.Front.{Front}
 use Rattle.tcap_record.specs.declared.frames.Front.TheVariants.{Whole, Part, Refused}
-use Rattle.tcap_record.specs.Framed.{entry_limit, IsRestFault}
-use Rattle.tcap_record.specs.Held.{IsPart, IsWhole}
-use Rattle.tcap_record.specs.Front.{entry_room, front_at, taken_of, IsLonger, BeginsAs, IsTaken}
+use Rattle.tcap_record.specs.RecordOctets.{entry_limit, IsRestFault}
+use Rattle.tcap_record.specs.PartialRecord.{IsPart, IsWhole}
+use Rattle.tcap_record.specs.FrontEntry.{entry_room, front_at, taken_of, IsLonger, BeginsAs, IsTaken}
 use Rattle.tcap_ber.proofs.OuterLaws.{walk_fault_within}
 use Rattle.tcap_record.proofs.FrontLaws.{front_whole, front_part, front_refused, part_longer, part_within}
 

@@ -8,7 +8,7 @@ use Rattle.tcap_record.specs.declared.entry.End.{End}
 use Rattle.tcap_record.specs.declared.fault.FeedFault.{FeedFault}
 use Rattle.tcap_record.specs.declared.fault.FeedReason.{FeedReason}
 use Rattle.tcap_record.specs.declared.fault.FeedReason.TheVariants as feed
-use Rattle.tcap_record.specs.Framed.{octet_of, quiet_octet}
+use Rattle.tcap_record.specs.RecordOctets.{octet_of, quiet_octet}
 
 abbrev pub newline : ℕ
 newline = 10

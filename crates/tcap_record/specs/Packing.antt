@@ -9,8 +9,8 @@ use Rattle.tcap_record.specs.declared.packing.Line.TheVariants.{Skipped, Mark, S
 use Rattle.tcap_record.specs.declared.packing.LineFault.{LineFault}
 use Rattle.tcap_record.specs.declared.packing.LineFault.TheVariants.{Bad, Memory}
 use Rattle.tcap_record.specs.declared.packing.Packing.{Packing}
-use Rattle.tcap_record.specs.Framed.{octet_of, quiet_octet}
-use Rattle.tcap_record.specs.Framing.{feed_fault}
+use Rattle.tcap_record.specs.RecordOctets.{octet_of, quiet_octet}
+use Rattle.tcap_record.specs.FramingResult.{feed_fault}
 use Rattle.tcap_record.specs.HexLines.{AreLines, EndsInReturn, HasNoNewline, IsNoLine, StandsFor, StopsAs, carriage_return, entries_in, line_limit, lines_limit}
 
 -- the content of a line before its newline: without a carriage return at its end

@@ -6,7 +6,7 @@ use Rattle.tcap_record.specs.declared.entry.Entry.{Entry}
 use Rattle.tcap_record.specs.declared.fault.FeedFault.{FeedFault}
 use Rattle.tcap_record.specs.declared.fault.FeedReason.{FeedReason}
 use Rattle.tcap_record.specs.declared.fault.FeedReason.TheVariants as feed
-use Rattle.tcap_record.specs.Framed.{Framed, IsRestFault, entry_limit}
+use Rattle.tcap_record.specs.RecordOctets.{Framed, IsRestFault, entry_limit}
 
 -- The rest after the entries, at a fault. If the reader failed, it is empty or a cut entry. If memory ran out, it is
 -- any. Otherwise it has this fault.

@@ -1,7 +1,7 @@
 //! The entries of a record.
 
 ghost use Rattle.std.specs.Prelude.{◌≡◌, IfOk};
-ghost use Rattle.tcap_record.specs.Viewed.{body_read, entry_read};
+ghost use Rattle.tcap_record.specs.EntryView.{body_read, entry_read};
 
 use std::alloc::{AllocError, Global};
 use tcap_ber::Fault;

@@ -5,7 +5,7 @@ ghost use Rattle.std.specs.Fmt.{decimal};
 ghost use Rattle.std.specs.String.{string_bytes};
 ghost use Rattle.tcap_record.specs.declared.entry.Body.TheVariants.{Quiet};
 ghost use Rattle.tcap_record.specs.Lines.{body_text, entry_lines, fault_line, side_text};
-ghost use Rattle.tcap_record.specs.Viewed.{body_read, entry_read};
+ghost use Rattle.tcap_record.specs.EntryView.{body_read, entry_read};
 
 use crate::entry::{BodyView, End, EntryView};
 use crate::lines::push_message;

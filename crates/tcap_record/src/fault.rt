@@ -1,7 +1,7 @@
 //! Why octets are not a record.
 
 ghost use Rattle.std.specs.Prelude.{◌≡◌};
-ghost use Rattle.tcap_record.specs.FeedFault.{feed_number_of};
+ghost use Rattle.tcap_record.specs.FaultNumber.{feed_number_of};
 
 use tcap_ber::Reason;
 

@@ -4,8 +4,8 @@ ghost use Rattle.std.specs.Prelude.{◌≡◌, ◌≢◌, ◌++◌, ◌∷◌, �
 ghost use Rattle.tcap_record.specs.declared.entry.Entry.{Entry};
 ghost use Rattle.tcap_record.specs.declared.fault.FeedFault.{FeedFault};
 ghost use Rattle.tcap_record.specs.declared.fault.FeedReason.{FeedReason};
-ghost use Rattle.tcap_record.specs.Framing.{feed_fault};
-ghost use Rattle.tcap_record.specs.Held.{Fed, IsFront, IsHeld, IsPart, IsWhole};
+ghost use Rattle.tcap_record.specs.FramingResult.{feed_fault};
+ghost use Rattle.tcap_record.specs.PartialRecord.{Fed, IsFront, IsHeld, IsPart, IsWhole};
 
 use crate::entry::Entry;
 use crate::fault::{FeedFault, FeedReason};
@@ -27,8 +27,8 @@ pub struct Feeder {
 
 impl Model for Feeder {
     ghost use Rattle.std.specs.Prelude.{◌≡◌, None};
-    ghost use Rattle.tcap_record.specs.Held.{IsPart, IsHeld};
-    ghost use Rattle.tcap_record.specs.Kept.{Kept};
+    ghost use Rattle.tcap_record.specs.PartialRecord.{IsPart, IsHeld};
+    ghost use Rattle.tcap_record.specs.FeederState.{Kept};
 
     ghost Value = { Kept };
 
@@ -132,9 +132,9 @@ impl Feeder {
     ghost use Rattle.std.specs.Prelude.{◌≡◌, ◌+◌, ◌++◌, ◌∷◌, ◌≤◌, ◌↔◌, [], ℕ, List, length, take, Some, None, Err, IsOk, OnOk, MatchResult, MatchOption};
     ghost use Rattle.tcap_record.specs.declared.entry.Entry.{Entry};
     ghost use Rattle.tcap_record.specs.declared.fault.FeedFault.{FeedFault};
-    ghost use Rattle.tcap_record.specs.Held.{nothing_held, IsHeld, IsPart};
-    ghost use Rattle.tcap_record.specs.Feeding.{FinishesAs};
-    ghost use Rattle.tcap_record.specs.Kept.{Kept, FedTo, FeedsNot};
+    ghost use Rattle.tcap_record.specs.PartialRecord.{nothing_held, IsHeld, IsPart};
+    ghost use Rattle.tcap_record.specs.FeederResult.{FinishesAs};
+    ghost use Rattle.tcap_record.specs.FeederState.{Kept, FedTo, FeedsNot};
 
     /// Creates a feeder to which nothing was fed.
     pub fn new(alloc: Global) -> Feeder

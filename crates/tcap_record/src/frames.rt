@@ -1,12 +1,12 @@
 //! Framing the entries of a record in pieces, one entry at a time.
 
 ghost use Rattle.std.specs.Prelude.{◌≡◌, ◌≢◌, ◌+◌, ◌<◌, ◌≤◌, ◌++◌, [], ℕ, List, length, drop, Result, IfOk, IfErr};
-ghost use Rattle.tcap_ber.specs.Walking.{outer_at};
-ghost use Rattle.tcap_ber.specs.Resuming.{resumes};
+ghost use Rattle.tcap_ber.specs.WalkResult.{outer_at};
+ghost use Rattle.tcap_ber.specs.ResumedWalk.{resumes};
 ghost use Rattle.tcap_record.specs.declared.frames.Front.{Front};
-ghost use Rattle.tcap_record.specs.Framed.{entry_limit};
-ghost use Rattle.tcap_record.specs.Held.{IsPart};
-ghost use Rattle.tcap_record.specs.Front.{IsAnswerWithin, IsLonger, IsTaken, entry_room, front_by, front_at, taken_of};
+ghost use Rattle.tcap_record.specs.RecordOctets.{entry_limit};
+ghost use Rattle.tcap_record.specs.PartialRecord.{IsPart};
+ghost use Rattle.tcap_record.specs.FrontEntry.{IsAnswerWithin, IsLonger, IsTaken, entry_room, front_by, front_at, taken_of};
 
 use crate::entry::EntryView;
 use crate::fault::{FeedFault, FeedReason};
@@ -50,11 +50,11 @@ pub struct Frames {
 
 impl Model for Frames {
     ghost use Rattle.std.specs.Prelude.{◌≡◌, ◌+◌, ◌*◌, ◌<◌, ◌≤◌, ◌++◌, ℕ, List, length, drop, true, false, None};
-    ghost use Rattle.tcap_ber.specs.Walking.{outer_at};
-    ghost use Rattle.tcap_ber.specs.Resuming.{resumes};
-    ghost use Rattle.tcap_record.specs.Framed.{entry_limit};
-    ghost use Rattle.tcap_record.specs.Front.{entry_room};
-    ghost use Rattle.tcap_record.specs.Held.{Held, IsPart, IsWhole, IsHeld};
+    ghost use Rattle.tcap_ber.specs.WalkResult.{outer_at};
+    ghost use Rattle.tcap_ber.specs.ResumedWalk.{resumes};
+    ghost use Rattle.tcap_record.specs.RecordOctets.{entry_limit};
+    ghost use Rattle.tcap_record.specs.FrontEntry.{entry_room};
+    ghost use Rattle.tcap_record.specs.PartialRecord.{Held, IsPart, IsWhole, IsHeld};
 
     ghost Value = { Held };
 
@@ -175,16 +175,16 @@ fn extend(
 
 impl Frames {
     ghost use Rattle.std.specs.Prelude.{◌≡◌, ◌<◌, ◌≤◌, ◌↔◌, ◌++◌, ◌∷◌, [], ℕ, List, length, take, drop, Some, None, Ok, Err, IfOk, MatchResult, IfSome, IsSome, IsTrue};
-    ghost use Rattle.tcap_ber.specs.Walking.{outer_at};
-    ghost use Rattle.tcap_ber.specs.Resuming.{resumes};
+    ghost use Rattle.tcap_ber.specs.WalkResult.{outer_at};
+    ghost use Rattle.tcap_ber.specs.ResumedWalk.{resumes};
     ghost use Rattle.tcap_record.specs.declared.entry.Entry.{Entry};
     ghost use Rattle.tcap_record.specs.declared.fault.FeedFault.{FeedFault};
-    ghost use Rattle.tcap_record.specs.Framed.{IsEntry, entry_limit};
-    ghost use Rattle.tcap_record.specs.Held.{IsPart, IsWhole, IsHeld, IsFront, Fed, nothing_held, grown, dropped, cut_to};
-    ghost use Rattle.tcap_record.specs.Feeding.{FailsFrom, FinishesAs};
-    ghost use Rattle.tcap_record.specs.Front.{entry_room};
-    ghost use Rattle.tcap_record.specs.Viewed.{entry_read};
-    ghost use Rattle.tcap_record.specs.Lent.{IsLent};
+    ghost use Rattle.tcap_record.specs.RecordOctets.{IsEntry, entry_limit};
+    ghost use Rattle.tcap_record.specs.PartialRecord.{IsPart, IsWhole, IsHeld, IsFront, Fed, nothing_held, grown, dropped, cut_to};
+    ghost use Rattle.tcap_record.specs.FeederResult.{FailsFrom, FinishesAs};
+    ghost use Rattle.tcap_record.specs.FrontEntry.{entry_room};
+    ghost use Rattle.tcap_record.specs.EntryView.{entry_read};
+    ghost use Rattle.tcap_record.specs.LentEntry.{IsLent};
 
     /// Creates an empty framer.
     pub fn new(alloc: Global) -> Frames

@@ -2,8 +2,8 @@
 
 ghost use Rattle.std.specs.Prelude.{◌≡◌};
 ghost use Rattle.tcap_record.specs.declared.fault.FeedReason.{FeedReason};
-ghost use Rattle.tcap_record.specs.Framed.{octet_of};
-ghost use Rattle.tcap_record.specs.Framing.{end_in};
+ghost use Rattle.tcap_record.specs.RecordOctets.{octet_of};
+ghost use Rattle.tcap_record.specs.FramingResult.{end_in};
 
 use crate::entry::End;
 use crate::fault::{FeedFault, FeedReason};
@@ -21,7 +21,7 @@ pub(crate) const OUT_OF_MEMORY: FeedFault = FeedFault {
 };
 
 impl From<AllocError> for FeedFault {
-    ghost use Rattle.tcap_record.specs.Framing.{feed_fault};
+    ghost use Rattle.tcap_record.specs.FramingResult.{feed_fault};
 
     ghost from_gives = { λ _ fault. fault ≡ feed_fault FeedReason.Memory 0 };
 
@@ -31,7 +31,7 @@ impl From<AllocError> for FeedFault {
 }
 
 impl<T: Drop> From<AllocFailed<T>> for FeedFault {
-    ghost use Rattle.tcap_record.specs.Framing.{feed_fault};
+    ghost use Rattle.tcap_record.specs.FramingResult.{feed_fault};
 
     ghost from_gives = { λ _ fault. fault ≡ feed_fault FeedReason.Memory 0 };
 

@@ -2,12 +2,12 @@
 
 ghost use Rattle.std.specs.Prelude.{◌≡◌, ◌+◌, ◌^◌, ◌<◌, [], ℕ, length, take, None, IfSome};
 ghost use Rattle.tcap_ber.specs.Reading.{span};
-ghost use Rattle.tcap_record.specs.Framed.{IsEntry};
-ghost use Rattle.tcap_record.specs.Framing.{body_at};
-ghost use Rattle.tcap_record.specs.Front.{entry_room, front_at, whole_in};
-ghost use Rattle.tcap_record.specs.Held.{IsWhole};
-ghost use Rattle.tcap_record.specs.Lent.{IsLent};
-ghost use Rattle.tcap_record.specs.Viewed.{body_read, entry_read};
+ghost use Rattle.tcap_record.specs.RecordOctets.{IsEntry};
+ghost use Rattle.tcap_record.specs.FramingResult.{body_at};
+ghost use Rattle.tcap_record.specs.FrontEntry.{entry_room, front_at, whole_in};
+ghost use Rattle.tcap_record.specs.PartialRecord.{IsWhole};
+ghost use Rattle.tcap_record.specs.LentEntry.{IsLent};
+ghost use Rattle.tcap_record.specs.EntryView.{body_read, entry_read};
 
 use crate::entry::{BodyView, EntryView};
 use crate::framing::{QUIET_OCTET, end_of};

@@ -10,7 +10,7 @@ ghost use Rattle.tcap_record.specs.declared.fault.FeedFault.{FeedFault};
 ghost use Rattle.tcap_record.specs.declared.fault.FeedReason.{FeedReason};
 ghost use Rattle.tcap_record.specs.declared.packing.LineFault.{LineFault};
 ghost use Rattle.tcap_record.specs.declared.packing.PackFault.{PackFault};
-ghost use Rattle.tcap_record.specs.Framing.{feed_fault};
+ghost use Rattle.tcap_record.specs.FramingResult.{feed_fault};
 ghost use Rattle.tcap_record.specs.HexLines.{HasNoNewline, IsNoLine, StandsFor, IsPacked, IsPackedUpTo, entries_in, line_limit, lines_limit, newline};
 ghost use Rattle.tcap_record.specs.Packing.{Finishes, IsBehind, IsContentOf, IsFresh, IsLineRefused, IsOpen, Packs, PacksFrom, PacksUpTo, line_fault, line_of};
 

@@ -4,9 +4,9 @@ ghost use Rattle.std.specs.Prelude.{◌≡◌, [], ℕ, List, MatchResult, Ok, E
 ghost use Rattle.std.specs.Io.KnownBytes.{Consumes};
 ghost use Rattle.tcap_record.specs.declared.entry.Entry.{Entry};
 ghost use Rattle.tcap_record.specs.declared.fault.FeedFault.{FeedFault};
-ghost use Rattle.tcap_record.specs.Held.{nothing_held};
+ghost use Rattle.tcap_record.specs.PartialRecord.{nothing_held};
 ghost use Rattle.tcap_record.specs.Reading.{IsReadAs, EndsOnlyAtEnd, FailsOnlyByReader};
-ghost use Rattle.tcap_record.specs.Framing.{outcome};
+ghost use Rattle.tcap_record.specs.FramingResult.{outcome};
 
 use crate::entry::Record;
 use crate::fault::{FeedFault, FeedReason};

@@ -14,15 +14,15 @@ use Rattle.tcap_record.specs.Ends.{other}
 use Rattle.tcap_model.specs.World.{Item, Sent}
 use Rattle.tcap_refute.specs.declared.kind.Kind.{Kind}
 use Rattle.tcap_refute.specs.declared.kind.Kind.TheVariants as kinds
-use Rattle.tcap_refute.specs.declared.from_id.FromId.{FromId}
+use Rattle.tcap_refute.specs.declared.sent_from_id.FromId.{FromId}
 use Rattle.tcap_refute.specs.declared.notes.Notes.{Notes}
-use Rattle.tcap_refute.specs.Before.{asked, sent_by, since_quiet}
+use Rattle.tcap_refute.specs.EarlierMessages.{asked, sent_by, since_quiet}
 use Rattle.tcap_refute.specs.Kind.{goes_elsewhere, is_after_end, is_begin_with_request, is_misplaced_dialogue, is_reused, is_unasked, is_unknown_transaction, is_wrong_operation, lowest_kind, or_else}
 use Rattle.tcap_refute.specs.FirstKinds.{first_kinds, is_of_first_kind}
 use Rattle.tcap_refute.specs.FirstComponent.{first_component}
 use Rattle.tcap_refute.specs.Facts.{FromFact, Spoke, Asked, WentElsewhere, From, Ended, shows_from, told_by_list}
-use Rattle.tcap_refute.specs.Kept.{AreNotesOf, kept_from, notes_at, tells_end, told_by_from}
-use Rattle.tcap_refute.specs.Asking.{AreOfIds, comes_after_end, component_by, dialogue_is_misplaced, id_is_reused, kind_by, told_ended, told_from, transaction_is_unknown, was_not_asked}
+use Rattle.tcap_refute.specs.KeptFacts.{AreNotesOf, kept_from, notes_at, tells_end, told_by_from}
+use Rattle.tcap_refute.specs.KindsByFacts.{AreOfIds, comes_after_end, component_by, dialogue_is_misplaced, id_is_reused, kind_by, told_ended, told_from, transaction_is_unknown, was_not_asked}
 use Rattle.tcap_refute.proofs.TestLaws.{and_false}
 use Rattle.tcap_refute.proofs.ToldLaws.{answering, component_told, from_id, nothing_of, same_any, there, told_is, told_of, wrong}
 

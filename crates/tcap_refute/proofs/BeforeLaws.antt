@@ -14,11 +14,11 @@ use Rattle.tcap_record.specs.Ends.{other}
 use Rattle.tcap_model.specs.World.{Item, Sent, is_side}
 use Rattle.tcap_model.specs.Run.{where_so}
 use Rattle.tcap_model.specs.World.{has_quiet}
-use Rattle.tcap_model.specs.Since.{originating}
-use Rattle.tcap_model.specs.Since.{SentSince}
+use Rattle.tcap_model.specs.SinceMark.{originating}
+use Rattle.tcap_model.specs.SinceMark.{SentSince}
 use Rattle.tcap_model.proofs.WorldLaws.{itself}
 use Rattle.tcap_model.proofs.RunLaws.{same_side}
-use Rattle.tcap_refute.specs.Before.{asked, components_of, message_of, sent_by, since_quiet}
+use Rattle.tcap_refute.specs.EarlierMessages.{asked, components_of, message_of, sent_by, since_quiet}
 use Rattle.tcap_refute.proofs.Members.{filter_has, filter_map_has, flat_map_has, has_first, has_later}
 
 -- ---- tests

@@ -26,8 +26,8 @@ use Rattle.tcap_end.specs.Table.{Table, class_of, operation_of}
 use Rattle.tcap_end.proofs.AnsweringLaws.{needs_ok, some_ok, then_ok}
 use Rattle.tcap_model.specs.World.{World, end_at}
 use Rattle.tcap_model.specs.Run.{Event}
-use Rattle.tcap_model.specs.Since.{IsAnswer}
-use Rattle.tcap_refute.specs.Before.{answers, asked, components_of, invokes, is_answer, is_invoke_id, is_reject, since_quiet}
+use Rattle.tcap_model.specs.SinceMark.{IsAnswer}
+use Rattle.tcap_refute.specs.EarlierMessages.{answers, asked, components_of, invokes, is_answer, is_invoke_id, is_reject, since_quiet}
 use Rattle.tcap_refute.specs.Kind.{answers_none_of, answers_nothing, is_not_of_class_4, is_unknown_operation, is_wrong_operation, may_be_answered, no_class_allows}
 use Rattle.tcap_refute.proofs.Members.{any_has, has_not}
 use Rattle.tcap_refute.proofs.SentLaws.{IsSent}

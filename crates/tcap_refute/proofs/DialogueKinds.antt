@@ -20,9 +20,9 @@ use Rattle.tcap_end.specs.End.{with_own}
 use Rattle.tcap_end.proofs.AnsweringLaws.{needs_ok}
 use Rattle.tcap_model.specs.World.{World, end_at}
 use Rattle.tcap_model.specs.Run.{Event}
-use Rattle.tcap_model.specs.Since.{asks}
+use Rattle.tcap_model.specs.SinceMark.{asks}
 use Rattle.tcap_model.proofs.PeerLaws.{knows}
-use Rattle.tcap_refute.specs.Before.{asked, since_quiet}
+use Rattle.tcap_refute.specs.EarlierMessages.{asked, since_quiet}
 use Rattle.tcap_refute.specs.Kind.{is_begin_with_request, is_misplaced_aborting, is_misplaced_dialogue, is_misplaced_going_on}
 use Rattle.tcap_refute.proofs.BeforeLaws.{asked_has, originating_is}
 use Rattle.tcap_refute.proofs.Members.{any_has}

@@ -13,11 +13,11 @@ use Rattle.std.proofs.lemmas.Slice.Eq.{bytes_eq-Decides}
 use Rattle.tcap_msg.specs.declared.message.Message.{Message}
 use Rattle.tcap_end.specs.End.{is_id}
 use Rattle.tcap_end.specs.Table.{Table, octets_cmp}
-use Rattle.tcap_model.specs.Since.{ended_by}
-use Rattle.tcap_refute.specs.declared.from_id.FromId.{FromId}
+use Rattle.tcap_model.specs.SinceMark.{ended_by}
+use Rattle.tcap_refute.specs.declared.sent_from_id.FromId.{FromId}
 use Rattle.tcap_refute.specs.declared.notes.EndNotes.{EndNotes}
 use Rattle.tcap_refute.specs.Facts.{FromFact, EndFact, From, Ended, shows_end, shows_from}
-use Rattle.tcap_refute.specs.Kept.{tells_end, tells_from}
+use Rattle.tcap_refute.specs.KeptFacts.{tells_end, tells_from}
 use Rattle.tcap_refute.proofs.SetLaws.{Puts, any_inserted, made, told_at, written}
 
 -- ---- transaction IDs

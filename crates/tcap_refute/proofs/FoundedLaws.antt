@@ -22,19 +22,19 @@ use Rattle.tcap_end.specs.Dialogue.{first_standing, may_begin}
 use Rattle.tcap_end.specs.End.{End, KeptHalf, put, with_own}
 use Rattle.tcap_end.specs.Half.{Answer, Half, Invocation, fresh, listed, one_fits, without_oldest_of}
 use Rattle.tcap_end.specs.Message.{send_begin, send_components}
-use Rattle.tcap_end.specs.Sound.{Rises}
+use Rattle.tcap_end.specs.ReachableEnd.{Rises}
 use Rattle.tcap_end.specs.Table.{Table, operation_of}
 use Rattle.tcap_end.proofs.AnsweringLaws.{needs_ok, ok_same, then_ok}
 use Rattle.tcap_end.proofs.ComponentLaws.{all_sends}
 use Rattle.tcap_end.proofs.HalfLaws.{Follows, IsListed, half_sent}
 use Rattle.tcap_model.specs.World.{World, end_at}
 use Rattle.tcap_model.specs.Run.{Event, Runs}
-use Rattle.tcap_model.specs.Since.{CameFromPeer, IsAnswer}
+use Rattle.tcap_model.specs.SinceMark.{CameFromPeer, IsAnswer}
 use Rattle.tcap_model.proofs.ListLaws.{all_weaker}
 use Rattle.tcap_model.proofs.PeerLaws.{Knows, knows}
 use Rattle.tcap_model.proofs.RunLaws.{sound}
 use Rattle.tcap_model.proofs.TurnLaws.{taken_loses}
-use Rattle.tcap_refute.specs.Before.{asked, components_of, since_quiet}
+use Rattle.tcap_refute.specs.EarlierMessages.{asked, components_of, since_quiet}
 use Rattle.tcap_refute.proofs.BeforeLaws.{component_has, originating_is}
 use Rattle.tcap_refute.proofs.OverLaws.{IsOver}
 use Rattle.tcap_refute.proofs.SentLaws.{IsSent, half_over}

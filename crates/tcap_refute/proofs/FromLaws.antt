@@ -7,13 +7,13 @@ use Rattle.tcap_msg.specs.declared.kind.Kind.TheVariants as forms
 use Rattle.tcap_msg.specs.declared.message.Message.{Message}
 use Rattle.tcap_msg.specs.Parts.{components_in, dtid_in}
 use Rattle.tcap_end.specs.Table.{Table}
-use Rattle.tcap_refute.specs.declared.from_id.FromId.{FromId}
-use Rattle.tcap_refute.specs.declared.from_id.Toward.{Toward}
-use Rattle.tcap_refute.specs.declared.from_id.Toward.TheVariants.{One, Several}
-use Rattle.tcap_refute.specs.Before.{is_a}
+use Rattle.tcap_refute.specs.declared.sent_from_id.FromId.{FromId}
+use Rattle.tcap_refute.specs.declared.sent_from_id.Toward.{Toward}
+use Rattle.tcap_refute.specs.declared.sent_from_id.Toward.TheVariants.{One, Several}
+use Rattle.tcap_refute.specs.EarlierMessages.{is_a}
 use Rattle.tcap_refute.specs.Facts.{IdFact, FromFact, Spoke, Begun, Asked, WentOn, WentElsewhere, OfId, is_other, shows, shows_from}
-use Rattle.tcap_refute.specs.Kept.{is_elsewhere, tells, tells_from}
-use Rattle.tcap_refute.specs.Noting.{IsHeaded, IsSameHead, toward_behind, toward_with}
+use Rattle.tcap_refute.specs.KeptFacts.{is_elsewhere, tells, tells_from}
+use Rattle.tcap_refute.specs.NotesUpdate.{IsHeaded, IsSameHead, toward_behind, toward_with}
 use Rattle.tcap_refute.proofs.TestLaws.{or_none}
 use Rattle.tcap_refute.proofs.SetLaws.{told_at}
 

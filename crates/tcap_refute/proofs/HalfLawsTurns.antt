@@ -13,15 +13,15 @@ use Rattle.tcap_end.specs.Table.{Table}
 use Rattle.tcap_end.specs.Half.{Half, is_closed}
 use Rattle.tcap_end.specs.Dialogue.{answers_request, confirm, first_standing}
 use Rattle.tcap_end.specs.End.{End, KeptHalf, put, with_own, with_peer}
-use Rattle.tcap_end.specs.Hidden.{may_close}
-use Rattle.tcap_end.specs.Sound.{Has, halves_of}
+use Rattle.tcap_end.specs.HiddenSteps.{may_close}
+use Rattle.tcap_end.specs.ReachableEnd.{Has, halves_of}
 use Rattle.tcap_end.proofs.EndLaws.{IsThere, put_has, put_other}
 use Rattle.tcap_end.proofs.FoundLaws.{half_at, octets_total}
 use Rattle.tcap_end.proofs.MapLaws.{keys_eq}
 use Rattle.tcap_end.proofs.PlacedLaws.{slots_eq}
-use Rattle.tcap_model.specs.Since.{ended_by}
+use Rattle.tcap_model.specs.SinceMark.{ended_by}
 use Rattle.tcap_model.proofs.TurnLaws.{put_there}
-use Rattle.tcap_refute.specs.Before.{ends_to}
+use Rattle.tcap_refute.specs.EarlierMessages.{ends_to}
 
 -- ---- one half
 

@@ -9,9 +9,9 @@ use Rattle.tcap_parts.specs.declared.component.Component.{Component}
 use Rattle.tcap_parts.specs.declared.component.Component.TheVariants.{Invoke, ReturnResult, ReturnError, Reject}
 use Rattle.tcap_end.specs.Component.{class_reports, names}
 use Rattle.tcap_end.specs.Table.{Table}
-use Rattle.tcap_refute.specs.declared.by_id.ById.{ById}
+use Rattle.tcap_refute.specs.declared.sent_with_invoke_id.ById.{ById}
 use Rattle.tcap_refute.specs.Facts.{IdFact, Invoked, Answered, Succeeds, Fails, noted_id, shows}
-use Rattle.tcap_refute.specs.Kept.{tells}
+use Rattle.tcap_refute.specs.KeptFacts.{tells}
 use Rattle.tcap_refute.proofs.TestLaws.{and_false, and_true}
 use Rattle.tcap_refute.proofs.SetLaws.{Puts, made, told_at, written}
 

@@ -13,11 +13,11 @@ use Rattle.tcap_model.specs.Run.{where_so}
 use Rattle.tcap_refute.specs.declared.judging.Judged.TheVariants.{Passed}
 use Rattle.tcap_refute.specs.declared.kind.Kind.{Kind}
 use Rattle.tcap_refute.specs.declared.notes.Notes.{Notes}
-use Rattle.tcap_refute.specs.Before.{message_of, sent_by, since_quiet}
+use Rattle.tcap_refute.specs.EarlierMessages.{message_of, sent_by, since_quiet}
 use Rattle.tcap_refute.specs.Facts.{EndFact, shows_end, told_by_list}
-use Rattle.tcap_refute.specs.Kept.{AreNotesOf, told_by_notes}
+use Rattle.tcap_refute.specs.KeptFacts.{AreNotesOf, told_by_notes}
 use Rattle.tcap_refute.specs.Kind.{lowest_kind, refuted, refuted_behind}
-use Rattle.tcap_refute.specs.Judging.{Judges}
+use Rattle.tcap_refute.specs.EntryConclusion.{Judges}
 use Rattle.tcap_refute.proofs.TestLaws.{or_none}
 
 -- ---- one more message

@@ -11,7 +11,7 @@ use Rattle.tcap_model.specs.World.{Item, Sent, World, end_at}
 use Rattle.tcap_model.specs.Run.{Event, KeepsRules, Runs, provider_abort, reply_to}
 use Rattle.tcap_refute.specs.declared.kind.Kind.{Kind}
 use Rattle.tcap_refute.specs.declared.kind.Kind.TheVariants as kinds
-use Rattle.tcap_refute.specs.Before.{since_quiet}
+use Rattle.tcap_refute.specs.EarlierMessages.{since_quiet}
 use Rattle.tcap_refute.specs.Kind.{is_of_kind}
 use Rattle.tcap_refute.proofs.ComponentKinds.{answers_nothing_sent, wrong_operation_sent}
 use Rattle.tcap_refute.proofs.DialogueKinds.{misplaced_sent}

@@ -19,7 +19,7 @@ use Rattle.tcap_end.specs.Half.{Half, closed_half, is_closed}
 use Rattle.tcap_end.specs.Dialogue.{may_abort, may_go_on}
 use Rattle.tcap_end.specs.End.{End, KeptHalf, first_half, half_where, is_id, put, with_own, with_peer}
 use Rattle.tcap_end.specs.Message.{active_half, is_active, is_received, send, send_abort, send_components, send_continue, send_end, send_first_continue, send_next_continue}
-use Rattle.tcap_end.specs.Sound.{Has, IsEnd}
+use Rattle.tcap_end.specs.ReachableEnd.{Has, IsEnd}
 use Rattle.tcap_end.proofs.AnsweringLaws.{needs_ok, some_ok, then_ok}
 use Rattle.tcap_end.proofs.ComponentLaws.{all_sends}
 use Rattle.tcap_end.proofs.FoundLaws.{own_has, peer_has}

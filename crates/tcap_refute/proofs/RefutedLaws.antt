@@ -16,7 +16,7 @@ use Rattle.tcap_model.specs.Entries.{AreItems, item_of}
 use Rattle.tcap_refute.specs.declared.kind.Kind.{Kind}
 use Rattle.tcap_refute.specs.declared.kind.Kind.TheVariants as kinds
 use Rattle.tcap_refute.specs.declared.kind.Refutation.{Refutation}
-use Rattle.tcap_refute.specs.Before.{since_quiet}
+use Rattle.tcap_refute.specs.EarlierMessages.{since_quiet}
 use Rattle.tcap_refute.specs.Kind.{is_limit, is_of_kind, kind_of_reason, or_else, refutation_at, refuted, refuted_behind, refuting_kinds}
 use Rattle.tcap_refute.specs.Unsendable.{IsAtFault, IsBadByKind}
 use Rattle.tcap_refute.proofs.KindLaws.{none_of_kind}

@@ -9,7 +9,7 @@ use Rattle.tcap_end.specs.Message.{send}
 use Rattle.tcap_record.specs.Ends.{other}
 use Rattle.tcap_model.specs.World.{World, end_at}
 use Rattle.tcap_model.specs.Run.{Event, KeepsRules, Runs}
-use Rattle.tcap_model.specs.Since.{SentSince}
+use Rattle.tcap_model.specs.SinceMark.{SentSince}
 use Rattle.tcap_model.proofs.PeerLaws.{knows}
 use Rattle.tcap_model.proofs.RunLaws.{sound}
 use Rattle.tcap_refute.proofs.BeforeLaws.{originating_is}

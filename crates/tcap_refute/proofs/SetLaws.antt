@@ -12,7 +12,7 @@ use Rattle.tcap_parts.specs.declared.code.Code.{Code}
 use Rattle.tcap_parts.specs.declared.code.Code.TheVariants.{Local, Global}
 use Rattle.tcap_end.specs.Component.{is_code}
 use Rattle.tcap_refute.specs.declared.codes.CodeSets.{CodeSets}
-use Rattle.tcap_refute.specs.Kept.{holds, is_among}
+use Rattle.tcap_refute.specs.KeptFacts.{holds, is_among}
 use Rattle.tcap_refute.proofs.TestLaws.{or_none}
 
 -- ---- sets

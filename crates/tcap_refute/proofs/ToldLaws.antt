@@ -16,12 +16,12 @@ use Rattle.tcap_record.specs.Ends.{other}
 use Rattle.tcap_model.specs.World.{Item}
 use Rattle.tcap_refute.specs.declared.kind.Kind.{Kind}
 use Rattle.tcap_refute.specs.declared.kind.Kind.TheVariants as kinds
-use Rattle.tcap_refute.specs.Before.{answers, asked, components_of, invokes, is_invoke_id, sent_by, since_quiet}
+use Rattle.tcap_refute.specs.EarlierMessages.{answers, asked, components_of, invokes, is_invoke_id, sent_by, since_quiet}
 use Rattle.tcap_refute.specs.Kind.{answers_none_of, answers_nothing, is_unknown_operation, is_wrong_operation, no_class_allows}
 use Rattle.tcap_refute.specs.FirstKinds.{answers_none as answers_none_there, answers_nothing_there, is_of_id}
 use Rattle.tcap_refute.specs.FirstComponent.{answers_nothing_in, first_component, first_so, is_wrong_in}
 use Rattle.tcap_refute.specs.Facts.{IdFact, Invoked, Answered, Succeeds, Fails, FromFact, OfId, shows, shows_from, told_by_list}
-use Rattle.tcap_refute.specs.Asking.{answer_test, answers_none, component_by, has_come, is_not_allowed, is_wrong, operation_test, passes, told_from}
+use Rattle.tcap_refute.specs.KindsByFacts.{answer_test, answers_none, component_by, has_come, is_not_allowed, is_wrong, operation_test, passes, told_from}
 use Rattle.tcap_refute.proofs.TestLaws.{or_none, some_first}
 
 -- ---- tests of lists

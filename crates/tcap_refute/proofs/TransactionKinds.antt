@@ -16,21 +16,21 @@ use Rattle.tcap_end.specs.Table.{Table}
 use Rattle.tcap_end.specs.Half.{Half, is_closed}
 use Rattle.tcap_end.specs.End.{End, KeptHalf, is_id, with_own}
 use Rattle.tcap_end.specs.Message.{send}
-use Rattle.tcap_end.specs.Sound.{Has, IsEnd, IsSame}
+use Rattle.tcap_end.specs.ReachableEnd.{Has, IsEnd, IsSame}
 use Rattle.tcap_end.proofs.AnsweringLaws.{needs_ok}
 use Rattle.tcap_end.proofs.FoundLaws.{none_own}
 use Rattle.tcap_end.proofs.StepLaws.{none_is, sends}
 use Rattle.tcap_record.specs.Ends.{other}
 use Rattle.tcap_model.specs.World.{World, end_at}
 use Rattle.tcap_model.specs.Run.{Event, Runs, provider_abort, reply_to}
-use Rattle.tcap_model.specs.Since.{HasUsed, SentSince, WasSent, ended_by}
+use Rattle.tcap_model.specs.SinceMark.{HasUsed, SentSince, WasSent, ended_by}
 use Rattle.tcap_model.proofs.ChannelLaws.{were_sent}
 use Rattle.tcap_model.proofs.RunLaws.{sound}
 use Rattle.tcap_model.proofs.SentMoves.{continue_uses, sent_moves}
 use Rattle.tcap_model.proofs.SinceLaws.{since_at}
 use Rattle.tcap_model.proofs.TurnLaws.{id_is}
 use Rattle.tcap_model.proofs.UsedLaws.{ended_closed, ids_used}
-use Rattle.tcap_refute.specs.Before.{asked, is_a, since_quiet, sent_by}
+use Rattle.tcap_refute.specs.EarlierMessages.{asked, is_a, since_quiet, sent_by}
 use Rattle.tcap_refute.specs.Kind.{goes_elsewhere, is_after_end, is_cause_unfounded, is_reused, is_unasked, is_unknown_transaction}
 use Rattle.tcap_refute.proofs.BeforeLaws.{asked_has, found_since, is_that_id}
 use Rattle.tcap_refute.proofs.Members.{any_has, has_not}

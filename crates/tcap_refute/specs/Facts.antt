@@ -13,8 +13,8 @@ use Rattle.tcap_end.specs.Dialogue.{is_request}
 use Rattle.tcap_end.specs.End.{is_id}
 use Rattle.tcap_end.specs.Table.{Table}
 use Rattle.tcap_model.specs.World.{Item}
-use Rattle.tcap_model.specs.Since.{ended_by}
-use Rattle.tcap_refute.specs.Before.{answers, invokes, is_a, sent_by, since_quiet}
+use Rattle.tcap_model.specs.SinceMark.{ended_by}
+use Rattle.tcap_refute.specs.EarlierMessages.{answers, invokes, is_a, sent_by, since_quiet}
 use Rattle.tcap_refute.specs.Kind.{may_be_answered}
 
 -- ---- facts about an invoke ID, in the messages from one originating ID

@@ -9,7 +9,7 @@ use Rattle.tcap_end.specs.Table.{Table}
 use Rattle.tcap_model.specs.World.{Item}
 use Rattle.tcap_refute.specs.declared.kind.Kind.{Kind}
 use Rattle.tcap_refute.specs.declared.kind.Kind.TheVariants as kinds
-use Rattle.tcap_refute.specs.Before.{asked, components_of, is_answer, is_reject}
+use Rattle.tcap_refute.specs.EarlierMessages.{asked, components_of, is_answer, is_reject}
 use Rattle.tcap_refute.specs.FirstKinds.{answers_none}
 use Rattle.tcap_refute.specs.Kind.{answers_none_of, is_not_of_class_4, is_unknown_operation, no_class_allows}
 

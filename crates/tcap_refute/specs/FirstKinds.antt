@@ -12,7 +12,7 @@ use Rattle.tcap_end.specs.Table.{Table}
 use Rattle.tcap_model.specs.World.{Item}
 use Rattle.tcap_refute.specs.declared.kind.Kind.{Kind}
 use Rattle.tcap_refute.specs.declared.kind.Kind.TheVariants as kinds
-use Rattle.tcap_refute.specs.Before.{asked, components_of, is_invoke_id}
+use Rattle.tcap_refute.specs.EarlierMessages.{asked, components_of, is_invoke_id}
 use Rattle.tcap_refute.specs.Kind.{answers_none_of, answers_nothing, is_of_kind}
 
 -- An Invoke, a Return Result or a Return Error with this ID.

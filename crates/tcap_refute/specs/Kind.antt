@@ -22,13 +22,13 @@ use Rattle.tcap_end.specs.Dialogue.{accepts_dialogue, is_request, is_uni, refuse
 use Rattle.tcap_end.specs.End.{is_id}
 use Rattle.tcap_end.specs.Table.{Table, class_of, operation_of}
 use Rattle.tcap_model.specs.World.{Item, Sent}
-use Rattle.tcap_model.specs.Since.{ended_by}
+use Rattle.tcap_model.specs.SinceMark.{ended_by}
 use Rattle.tcap_model.specs.declared.reason.Reason.{Reason}
 use Rattle.tcap_model.specs.declared.reason.Reason.TheVariants.{BadMessage}
 use Rattle.tcap_refute.specs.declared.kind.Kind.{Kind}
 use Rattle.tcap_refute.specs.declared.kind.Kind.TheVariants as kinds
 use Rattle.tcap_refute.specs.declared.kind.Refutation.{Refutation}
-use Rattle.tcap_refute.specs.Before.{answers, asked, components_of, has_a, invokes, is_answer, is_invoke_id, is_reject, sent_by, since_quiet}
+use Rattle.tcap_refute.specs.EarlierMessages.{answers, asked, components_of, has_a, invokes, is_answer, is_invoke_id, is_reject, sent_by, since_quiet}
 
 -- ---- F1: octets that are no message (Q.773, X.690)
 

@@ -1,12 +1,12 @@
-pub mod Before
+pub mod EarlierMessages
 pub mod Kind
 pub mod FirstKinds
 pub mod FirstComponent
 pub mod Facts
-pub mod Asking
-pub mod Kept
-pub mod Noting
-pub mod Judging
+pub mod KindsByFacts
+pub mod KeptFacts
+pub mod NotesUpdate
+pub mod EntryConclusion
 pub mod WorkedKinds
 pub mod WorkedTables
 pub mod Unsendable

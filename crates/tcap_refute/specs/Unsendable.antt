@@ -10,7 +10,7 @@ use Rattle.tcap_model.specs.World.{Item, Sent, World}
 use Rattle.tcap_model.specs.Run.{Event, KeepsRules, Runs}
 use Rattle.tcap_refute.specs.declared.kind.Kind.TheVariants as kinds
 use Rattle.tcap_refute.specs.declared.kind.Refutation.{Refutation}
-use Rattle.tcap_refute.specs.Before.{since_quiet}
+use Rattle.tcap_refute.specs.EarlierMessages.{since_quiet}
 use Rattle.tcap_refute.specs.Kind.{is_limit, is_of_kind}
 
 -- No run in which the end keeps the rules sends this message directly after these items, no matter what the other end

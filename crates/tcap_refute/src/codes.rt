@@ -4,7 +4,7 @@ ghost use Rattle.std.specs.Prelude.{◌≡◌, ◌||◌, false, OnOk};
 ghost use Rattle.tcap_parts.specs.declared.code.Code.{Code};
 ghost use Rattle.tcap_parts.specs.Meaning.{code_of};
 ghost use Rattle.tcap_end.specs.Component.{is_code};
-ghost use Rattle.tcap_refute.specs.Kept.{has_code, is_among, is_first};
+ghost use Rattle.tcap_refute.specs.KeptFacts.{has_code, is_among, is_first};
 
 use std::alloc::{AllocError, Global};
 use std::collections::BTreeSet;

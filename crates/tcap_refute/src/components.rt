@@ -5,12 +5,12 @@ ghost use Rattle.tcap_parts.specs.Meaning.{body_of, code_of, component_of, probl
 ghost use Rattle.tcap_end.specs.Class.{of_class, reports_neither};
 ghost use Rattle.tcap_end.specs.Table.{class_of};
 ghost use Rattle.tcap_refute.specs.Facts.{Answered, Fails, Invoked, OfId, Succeeds};
-ghost use Rattle.tcap_refute.specs.Kept.{id_in, told_by_from};
-ghost use Rattle.tcap_refute.specs.Asking.{answer_test, answers_none, component_by, first_passing, has_come, is_not_allowed, operation_test, passes, rejects_none};
+ghost use Rattle.tcap_refute.specs.KeptFacts.{id_in, told_by_from};
+ghost use Rattle.tcap_refute.specs.KindsByFacts.{answer_test, answers_none, component_by, first_passing, has_come, is_not_allowed, operation_test, passes, rejects_none};
 
-use crate::by_id::ById;
-use crate::from_id::FromId;
 use crate::kind::Kind;
+use crate::sent_from_id::FromId;
+use crate::sent_with_invoke_id::ById;
 use tcap_end::{Table, reports_neither};
 use tcap_msg::{Kind as Form, MessageParts};
 use tcap_parts::{CodeView, ComponentView, ProblemView, ResultBodyView};

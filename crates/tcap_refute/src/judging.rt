@@ -5,8 +5,8 @@ ghost use Rattle.tcap_end.specs.Table.{Table};
 ghost use Rattle.tcap_model.specs.World.{Item, Sent};
 ghost use Rattle.tcap_model.specs.Entries.{item_of};
 ghost use Rattle.tcap_refute.specs.Kind.{is_limit};
-ghost use Rattle.tcap_refute.specs.Kept.{AreNotesOf};
-ghost use Rattle.tcap_refute.specs.Judging.{Judges, judged_fault};
+ghost use Rattle.tcap_refute.specs.KeptFacts.{AreNotesOf};
+ghost use Rattle.tcap_refute.specs.EntryConclusion.{Judges, judged_fault};
 
 use crate::kind::Kind;
 use crate::notes::Notes;

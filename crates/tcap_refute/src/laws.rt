@@ -13,7 +13,7 @@ ghost use Rattle.tcap_model.specs.Entries.{AreItems, item_of};
 ghost use Rattle.tcap_model.specs.Run.{IsLawful};
 ghost use Rattle.tcap_refute.specs.declared.kind.Kind.{Kind};
 ghost use Rattle.tcap_refute.specs.declared.kind.Refutation.{Refutation};
-ghost use Rattle.tcap_refute.specs.Before.{since_quiet};
+ghost use Rattle.tcap_refute.specs.EarlierMessages.{since_quiet};
 ghost use Rattle.tcap_refute.specs.Kind.{is_of_kind, refuted};
 ghost use Rattle.tcap_refute.specs.Unsendable.{IsAtFault};
 

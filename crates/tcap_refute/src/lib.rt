@@ -2,21 +2,21 @@
 //! of such an entry is a fact about a list of messages.
 #![tactic(auto)]
 
-mod asking;
-mod by_id;
 mod codes;
 mod components;
 mod dialogues;
 mod first_kinds;
-mod from_id;
 mod judging;
 mod kind;
+mod kinds_by_notes;
 pub mod laws;
 mod notes;
 mod refuting;
+mod sent_from_id;
+mod sent_with_invoke_id;
 pub mod worked;
 
 pub use first_kinds::{faulty_component, first_kind, kind_of_reason};
-pub use from_id::FromId;
 pub use kind::{Kind, Refutation};
 pub use refuting::{SearchFault, refute};
+pub use sent_from_id::FromId;

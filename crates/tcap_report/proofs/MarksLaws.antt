@@ -16,7 +16,7 @@ use Rattle.tcap_report.specs.declared.before_marks.Before.{Before}
 use Rattle.tcap_report.specs.declared.before_marks.Change.{Change}
 use Rattle.tcap_report.specs.declared.before_marks.Change.TheVariants as changes
 use Rattle.tcap_report.specs.declared.before_marks.EndMarks.{EndMarks}
-use Rattle.tcap_report.specs.BeforeMarks.{changed, known_after, known_by, known_in}
+use Rattle.tcap_report.specs.IdsBeforeMarks.{changed, known_after, known_by, known_in}
 
 -- ---- Booleans
 

@@ -7,13 +7,13 @@ use Rattle.std.proofs.lemmas.List.{length_push, map-append}
 use Rattle.std.proofs.lemmas.List.Elements.{filter-append}
 use Rattle.std.proofs.lemmas.List.Sums.{sum_by_push}
 use Rattle.tcap_record.specs.declared.entry.End.{End as Side}
-use Rattle.tcap_traces.specs.declared.said.Circumstances.{Circumstances}
+use Rattle.tcap_traces.specs.declared.end_result.Circumstances.{Circumstances}
 use Rattle.tcap_traces.specs.declared.verdict.Verdict.{Verdict}
 use Rattle.tcap_traces.specs.Verdict.{trace_verdict}
 use Rattle.tcap_dialogues.specs.Course.{Heading, courses_of, courses_so_far, is_free}
-use Rattle.tcap_dialogues.specs.Gathered.{AreGathered}
-use Rattle.tcap_dialogues.specs.Held.{IsCut}
-use Rattle.tcap_dialogues.specs.declared.gathered.Gathered.{Gathered}
+use Rattle.tcap_dialogues.specs.CutDialogues.{AreGathered}
+use Rattle.tcap_dialogues.specs.CutState.{IsCut}
+use Rattle.tcap_dialogues.specs.declared.complete_dialogue.Gathered.{Gathered}
 use Rattle.tcap_dialogues.proofs.CutLists.{none_in}
 use Rattle.tcap_dialogues.proofs.WholeLaws.{all_gathered, next_gathered}
 use Rattle.tcap_report.specs.declared.case.Behind.{Behind}
@@ -25,8 +25,8 @@ use Rattle.tcap_report.specs.declared.trace.Asked.{Asked}
 use Rattle.tcap_report.specs.declared.trace.Trace.{Trace}
 use Rattle.tcap_report.specs.Counts.{more, with_each, with_one, with_read, with_verdict}
 use Rattle.tcap_report.specs.Dialogue.{Dialogue, IsNoted, IsNotedOf, verdict_on}
-use Rattle.tcap_report.specs.Stretch.{Stretch, counts_in, is_fail, messages_in, readable_in, those_judged}
-use Rattle.tcap_report.specs.Judged.{IsJudged}
+use Rattle.tcap_report.specs.SegmentVerdicts.{Stretch, counts_in, is_fail, messages_in, readable_in, those_judged}
+use Rattle.tcap_report.specs.TraceVerdict.{IsJudged}
 use Rattle.tcap_report.proofs.CountsLaws.{each_append}
 use Rattle.tcap_report.specs.Progress.{HasRead, IsBetween, IsStopped, IsWithin, Judges, Reads, UnlessStopped, is_fault, is_told_if}
 

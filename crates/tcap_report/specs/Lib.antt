@@ -1,10 +1,10 @@
-pub mod BeforeMarks
+pub mod IdsBeforeMarks
 pub mod Counts
 pub mod Course
 pub mod Dialogue
 pub mod Directive
-pub mod Judged
+pub mod TraceVerdict
 pub mod Progress
-pub mod Stretch
-pub mod Untold
+pub mod SegmentVerdicts
+pub mod FreshTrace
 pub mod WorkedDirectives

@@ -3,9 +3,9 @@ use Rattle.std.specs.List.{AllByRecursion}
 use Rattle.std.specs.Prelude.{◌≡◌, Bool, true, false, not, ◌||◌, List, [], ◌∷◌, Option, Result, Ok, Err, filter, map}
 use Rattle.tcap_record.specs.declared.entry.End.{End as Side}
 use Rattle.tcap_dialogues.specs.Course.{courses_so_far}
-use Rattle.tcap_dialogues.specs.Gathered.{AreGathered}
-use Rattle.tcap_dialogues.specs.Held.{IsCut}
-use Rattle.tcap_dialogues.specs.declared.gathered.Gathered.{Gathered}
+use Rattle.tcap_dialogues.specs.CutDialogues.{AreGathered}
+use Rattle.tcap_dialogues.specs.CutState.{IsCut}
+use Rattle.tcap_dialogues.specs.declared.complete_dialogue.Gathered.{Gathered}
 use Rattle.tcap_report.specs.declared.case.Behind.{Behind}
 use Rattle.tcap_report.specs.declared.case.Behind.TheVariants as behinds
 use Rattle.tcap_report.specs.declared.fault.Halt.{Halt}
@@ -14,7 +14,7 @@ use Rattle.tcap_report.specs.declared.trace.Asked.{Asked}
 use Rattle.tcap_report.specs.declared.trace.Trace.{Trace}
 use Rattle.tcap_report.specs.Counts.{with_each}
 use Rattle.tcap_report.specs.Dialogue.{Dialogue, IsNoted, verdict_on}
-use Rattle.tcap_report.specs.Stretch.{AreNoted, AreWhole, IsBrokenOff, Stretch, counts_in, is_told, messages_in, readable_in, those_judged}
+use Rattle.tcap_report.specs.SegmentVerdicts.{AreNoted, AreWhole, IsBrokenOff, Stretch, counts_in, is_told, messages_in, readable_in, those_judged}
 
 -- The options, and what was noted and counted of these segments, the last one first.
 pub record HasRead (asked : Asked) (stretches : List Stretch) (trace : Trace) : Type 0 where

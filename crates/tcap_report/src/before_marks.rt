@@ -4,9 +4,9 @@ ghost use Rattle.std.specs.Prelude.{◌≡◌, ◌&&◌, ◌||◌, ℕ, List, co
 ghost use Rattle.std.specs.BTreeSet as set;
 ghost use Rattle.tcap_record.specs.Ends.{other};
 ghost use Rattle.tcap_end.specs.Table.{octets_cmp};
-ghost use Rattle.tcap_dialogues.specs.Gathered.{by_end};
+ghost use Rattle.tcap_dialogues.specs.CutDialogues.{by_end};
 ghost use Rattle.tcap_dialogues.specs.HeadingReading.{heading_read};
-ghost use Rattle.tcap_report.specs.BeforeMarks.{IsInUse, changed, has_open, is_in_use, is_sent_to, known_after, known_in};
+ghost use Rattle.tcap_report.specs.IdsBeforeMarks.{IsInUse, changed, has_open, is_in_use, is_sent_to, known_after, known_in};
 
 use std::alloc::{AllocError, Global};
 use std::collections::{BTreeMap, BTreeSet};

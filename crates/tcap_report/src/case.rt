@@ -1,12 +1,12 @@
 //! A dialogue, and how it is judged.
 
 ghost use Rattle.std.specs.Prelude.{◌≡◌, ◌≤◌, true, false, None, IfOk, OnOk, is_some, length, option_map};
-ghost use Rattle.tcap_traces.specs.declared.said.Circumstances.{Circumstances as Known};
+ghost use Rattle.tcap_traces.specs.declared.end_result.Circumstances.{Circumstances as Known};
 ghost use Rattle.tcap_report.specs.Dialogue.{IsNotedOf, ends_by, verdict_by};
 
 use crate::before_marks::InUse;
-use crate::choosing::{Chosen, choose};
 use crate::fault::Stop;
+use crate::table_choice::{Chosen, choose};
 use std::alloc::{AllocError, Global};
 use tcap_books::{Book, NamedTable};
 use tcap_dialogues::{Gathered, HeadingView, read_heading};

@@ -6,8 +6,8 @@ ghost use Rattle.tcap_traces.specs.Verdict.{trace_verdict};
 ghost use Rattle.tcap_report.specs.Counts.{HasJudged, no_counts, with_read, with_verdict};
 
 use crate::fault::{FormFault, Stop};
+use crate::sinks::{Lines, Sinks, Told, write_text};
 use crate::sum::{Sum, push_counts};
-use crate::telling::{Lines, Sinks, Told, write_text};
 use crate::trace::{Asked, Trace, Watch};
 use crate::words::push_hint;
 use std::alloc::{AllocError, Global};

@@ -5,7 +5,7 @@ ghost use Rattle.tcap_record.specs.HexLines.{line_limit};
 ghost use Rattle.tcap_report.specs.declared.entries.Form.TheVariants as forms;
 ghost use Rattle.tcap_report.specs.Course.{IsPieceOf, IsWrong, UnlessStops, has_named, may_come, named, noted};
 ghost use Rattle.tcap_report.specs.Directive.{said_of};
-ghost use Rattle.tcap_report.specs.Untold.{HasNothing};
+ghost use Rattle.tcap_report.specs.FreshTrace.{HasNothing};
 
 use crate::directive::{Directive, directive_of};
 use crate::fault::{FormFault, Halt};

@@ -1,7 +1,7 @@
 //! The evidence for the faults of a dialogue.
 
 use crate::case::Judged;
-use crate::listed::blamed_by;
+use crate::listed_entries::blamed_by;
 use crate::order::{is_asked, later_end};
 use std::alloc::{AllocError, Global};
 use std::collections::BTreeSet;

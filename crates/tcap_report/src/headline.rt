@@ -2,10 +2,10 @@
 //!
 //! Each function returns `AllocError` if memory runs out.
 
+use crate::awaited_answers::push_first_wait;
 use crate::case::{Case, Judged};
 use crate::order::{in_order, is_asked};
 use crate::text::no_table_words;
-use crate::waiting::push_first_wait;
 use crate::words::{line_of, push_doubt, push_said};
 use std::alloc::{AllocError, Global};
 use tcap_evidence::push_sentence;

@@ -2,16 +2,16 @@
 //!
 //! Each function returns `AllocError` if memory runs out.
 
+use crate::awaited_answers::push_waiting;
 use crate::case::{Behind, Case, Judged, sent_by};
 use crate::fields::{push_some, push_sums, push_verdicts};
 use crate::grounds::Grounds;
 use crate::messages::push_messages;
 use crate::order::{is_asked, last_open};
 use crate::reason::push_reason;
+use crate::sinks::Told;
 use crate::sum::Sum;
-use crate::telling::Told;
 use crate::text::{push_behind, push_undecided};
-use crate::waiting::push_waiting;
 use crate::words::{comment_of, ids_of, line_of, push_doubt};
 use std::alloc::{AllocError, Global};
 use tcap_evidence::{Evidence, push_what};

@@ -2,40 +2,40 @@
 //! page.
 #![tactic(auto)]
 
+mod awaited_answers;
 mod before_marks;
 mod case;
-mod choosing;
 mod directive;
 mod ending;
 mod entries;
 mod fault;
+mod fault_details;
 mod fields;
 mod grounds;
 mod headline;
 mod json;
 mod junit;
-mod listed;
+mod listed_entries;
 mod messages;
 mod no_message;
 mod noting;
 mod order;
 mod page;
 mod reason;
+mod sinks;
 mod sum;
-mod telling;
+mod table_choice;
 mod text;
 mod trace;
 mod unheard;
-mod unread;
+mod unreadable_entries;
 mod used_again;
-mod waiting;
-mod which;
 mod words;
 
 pub use ending::tell_unread;
 pub use fault::Stop;
 pub use junit::Junit;
 pub use page::Page;
+pub use sinks::{Lines, Sinks};
 pub use sum::Sum;
-pub use telling::{Lines, Sinks};
 pub use trace::{Asked, Watch, run_trace};

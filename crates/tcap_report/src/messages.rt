@@ -2,7 +2,7 @@
 
 use crate::case::{Case, Judged};
 use crate::grounds::Grounds;
-use crate::listed::{is_near, last_listed};
+use crate::listed_entries::{is_near, last_listed};
 use crate::no_message::push_no_message;
 use crate::words::{comment_of, line_of};
 use std::alloc::{AllocError, Global};

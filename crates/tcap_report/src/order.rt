@@ -1,6 +1,6 @@
 //! The order in which the ends of a dialogue are reported.
 
-use crate::listed::blamed_by;
+use crate::listed_entries::blamed_by;
 use tcap_record::End;
 use tcap_traces::{Ends, Said};
 

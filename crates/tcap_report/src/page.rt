@@ -2,8 +2,8 @@
 
 use crate::fault::Stop;
 use crate::json::push_total;
+use crate::sinks::write_text;
 use crate::sum::Sum;
-use crate::telling::write_text;
 use std::alloc::Global;
 use tcap_ber::Write;
 use tcap_page::{FRAME_HEAD, FRAME_TAIL};

@@ -3,9 +3,9 @@
 //! Each function returns `AllocError` if memory runs out.
 
 use crate::case::{Case, Judged};
+use crate::fault_details::push_which;
 use crate::grounds::Grounds;
 use crate::no_message::push_why;
-use crate::which::push_which;
 use std::alloc::{AllocError, Global};
 use tcap_evidence::push_fault;
 use tcap_record::End;

@@ -2,13 +2,13 @@
 //!
 //! Each function returns `AllocError` if memory runs out.
 
+use crate::awaited_answers::push_waiting;
 use crate::case::{Case, Judged};
 use crate::grounds::Grounds;
-use crate::listed::{is_near, last_listed};
+use crate::listed_entries::{is_near, last_listed};
 use crate::no_message::push_no_message;
 use crate::order::{in_order, is_asked, last_open};
 use crate::reason::push_reason;
-use crate::waiting::push_waiting;
 use crate::words::{comment_of, ids_of, line_of, push_doubt, push_ids, push_said};
 use std::alloc::{AllocError, Global};
 use tcap_books::NamedTable;

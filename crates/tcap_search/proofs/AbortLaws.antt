@@ -9,9 +9,9 @@ use Rattle.tcap_msg.specs.declared.message.Message.TheVariants.{Unidirectional, 
 use Rattle.tcap_record.specs.declared.entry.Entry.{Entry}
 use Rattle.tcap_search.specs.declared.tie.Tie.{Tie}
 use Rattle.tcap_search.specs.Aborts.{aborts_by_provider}
-use Rattle.tcap_search.specs.Lines.{Line, lines_of, message_of}
-use Rattle.tcap_search.specs.Proposed.{is_provider_abort, ties_from, with_tie_by}
-use Rattle.tcap_search.specs.Traced.{AreTies}
+use Rattle.tcap_search.specs.SegmentEntries.{Line, lines_of, message_of}
+use Rattle.tcap_search.specs.ProposedCertificate.{is_provider_abort, ties_from, with_tie_by}
+use Rattle.tcap_search.specs.SegmentLists.{AreTies}
 use Rattle.tcap_search.proofs.RejectedLaws.{neither}
 use Rattle.tcap_search.proofs.UnansweredLaws.{any_line}
 

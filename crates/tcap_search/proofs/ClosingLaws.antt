@@ -11,11 +11,11 @@ use Rattle.tcap_model.specs.World.{is_side}
 use Rattle.tcap_certificate.specs.declared.certificate.Closing.{Closing}
 use Rattle.tcap_search.specs.declared.leasts.Leasts.{Leasts}
 use Rattle.tcap_search.specs.declared.tie.Tie.{Tie}
-use Rattle.tcap_search.specs.Leasts.{HasRoom, is_below, is_within, least_at, lesser}
-use Rattle.tcap_search.specs.Lines.{Line, line_behind, lines_of, message_of}
-use Rattle.tcap_search.specs.Proposed.{Fated, closing_by, closings_from, closings_of, is_closing_of, is_continue, was_ended, was_told, with_closing}
-use Rattle.tcap_search.specs.Shown.{KeepsEnded, KeepsListed, KeepsTold, both_of, shown_by}
-use Rattle.tcap_search.specs.Traced.{AreTransactions}
+use Rattle.tcap_search.specs.LeastNumbers.{HasRoom, is_below, is_within, least_at, lesser}
+use Rattle.tcap_search.specs.SegmentEntries.{Line, line_behind, lines_of, message_of}
+use Rattle.tcap_search.specs.ProposedCertificate.{Fated, closing_by, closings_from, closings_of, is_closing_of, is_continue, was_ended, was_told, with_closing}
+use Rattle.tcap_search.specs.ClosedByTie.{KeepsEnded, KeepsListed, KeepsTold, both_of, shown_by}
+use Rattle.tcap_search.specs.SegmentLists.{AreTransactions}
 use Rattle.tcap_search.proofs.LineLaws.{count_lines, line_at, transaction_below, transaction_is}
 use Rattle.tcap_search.proofs.NotedLaws.{any_push, eqb_turned}
 use Rattle.tcap_search.proofs.TestLaws.{or_false}

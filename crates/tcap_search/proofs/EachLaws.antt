@@ -3,7 +3,7 @@ use Rattle.std.proofs.Common.{◌≡◌, true, false, ℕ, ◌+◌, ◌-◌, ◌
 use Rattle.tcap_record.specs.declared.entry.End.{End as Side}
 use Rattle.tcap_record.specs.declared.entry.Entry.{Entry}
 use Rattle.tcap_certificate.specs.Certificate.{Certificate}
-use Rattle.tcap_search.specs.Proposed.{behind, is_mark, of_mark, of_stretch, of_stretches, proposed_by, stretches, then_certificate}
+use Rattle.tcap_search.specs.ProposedCertificate.{behind, is_mark, of_mark, of_stretch, of_stretches, proposed_by, stretches, then_certificate}
 use Rattle.tcap_search.proofs.StretchLaws.{begins_at, count_begins, count_ends, ends_at, has_mark}
 
 -- The certificate found before a segment has the fates of the entries before it. With the certificate proposed from

@@ -6,10 +6,10 @@ use Rattle.tcap_record.specs.declared.entry.End.{End as Side}
 use Rattle.tcap_record.specs.declared.entry.Entry.{Entry}
 use Rattle.tcap_record.specs.Ends.{other}
 use Rattle.tcap_search.specs.declared.leasts.Leasts.{Leasts}
-use Rattle.tcap_search.specs.Leasts.{HasRoom, is_below, is_transaction, least_at, lesser}
-use Rattle.tcap_search.specs.Lines.{Line, is_end, is_of_peer, line_behind, lines_of, message_of, share_transaction}
-use Rattle.tcap_search.specs.Proposed.{ends, was_ended}
-use Rattle.tcap_search.specs.Shown.{KeepsEnded}
+use Rattle.tcap_search.specs.LeastNumbers.{HasRoom, is_below, is_transaction, least_at, lesser}
+use Rattle.tcap_search.specs.SegmentEntries.{Line, is_end, is_of_peer, line_behind, lines_of, message_of, share_transaction}
+use Rattle.tcap_search.specs.ProposedCertificate.{ends, was_ended}
+use Rattle.tcap_search.specs.ClosedByTie.{KeepsEnded}
 use Rattle.tcap_search.proofs.LineLaws.{count_taken, lines_more}
 use Rattle.tcap_search.proofs.NotedLaws.{any_push, below_lesser, same_tests, shares, test_noted}
 use Rattle.tcap_search.proofs.PeerLaws.{of_peer}

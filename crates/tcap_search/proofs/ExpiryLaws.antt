@@ -13,10 +13,10 @@ use Rattle.tcap_certificate.specs.declared.certificate.Expiry.{Expiry}
 use Rattle.tcap_certificate.specs.declared.certificate.Fate.{Fate}
 use Rattle.tcap_certificate.specs.declared.certificate.Fate.TheVariants.{Gap, Lost, By}
 use Rattle.tcap_search.specs.declared.sweep.Answer.{Answer}
-use Rattle.tcap_search.specs.Lines.{Line, are_of_one_end, is_of_peer, last, share_transaction}
-use Rattle.tcap_search.specs.Proposed.{Fated, components_at, expiries_by, expiries_from, expiry_by, invocation_at, is_answer_of, is_delivered_by, last_invocation, rejected_line, unrecognized, with_expiry}
+use Rattle.tcap_search.specs.SegmentEntries.{Line, are_of_one_end, is_of_peer, last, share_transaction}
+use Rattle.tcap_search.specs.ProposedCertificate.{Fated, components_at, expiries_by, expiries_from, expiry_by, invocation_at, is_answer_of, is_delivered_by, last_invocation, rejected_line, unrecognized, with_expiry}
 use Rattle.tcap_search.specs.Fates.{is_line_of}
-use Rattle.tcap_search.specs.Listed.{all_rejected, entry_rejected, rejected_of, with_answer}
+use Rattle.tcap_search.specs.ListedExpiries.{all_rejected, entry_rejected, rejected_of, with_answer}
 use Rattle.tcap_search.specs.Sweep.{components_of, invoked_in}
 use Rattle.tcap_search.proofs.GapLaws.{of_both, shares_none}
 use Rattle.tcap_search.proofs.PeerLaws.{of_peer, of_peer_none, one_end}

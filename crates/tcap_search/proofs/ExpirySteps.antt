@@ -10,14 +10,14 @@ use Rattle.tcap_certificate.specs.declared.certificate.Expiry.{Expiry}
 use Rattle.tcap_certificate.specs.declared.certificate.Fate.{Fate}
 use Rattle.tcap_certificate.specs.declared.certificate.Fate.TheVariants.{Gap, Lost, By}
 use Rattle.tcap_search.specs.declared.sweep.Sweep.{Sweep}
-use Rattle.tcap_search.specs.Lines.{Line, lines_of, or_else}
-use Rattle.tcap_search.specs.Proposed.{Fated, components_at, expiries_by, expiries_from, fated}
-use Rattle.tcap_search.specs.Order.{AreInOrder}
-use Rattle.tcap_search.specs.Traced.{AreTransactions}
-use Rattle.tcap_search.specs.ByInvocation.{kept_at}
-use Rattle.tcap_search.specs.Due.{due_in}
+use Rattle.tcap_search.specs.SegmentEntries.{Line, lines_of, or_else}
+use Rattle.tcap_search.specs.ProposedCertificate.{Fated, components_at, expiries_by, expiries_from, fated}
+use Rattle.tcap_search.specs.DeliveryOrder.{AreInOrder}
+use Rattle.tcap_search.specs.SegmentLists.{AreTransactions}
+use Rattle.tcap_search.specs.InvocationMap.{kept_at}
+use Rattle.tcap_search.specs.GapDeliveries.{due_in}
 use Rattle.tcap_search.specs.Fates.{is_of}
-use Rattle.tcap_search.specs.Listed.{entry_rejected}
+use Rattle.tcap_search.specs.ListedExpiries.{entry_rejected}
 use Rattle.tcap_search.specs.Sweep.{answer_at, answer_kept, answer_rejected, answers_at, invoked_by, invoked_in}
 use Rattle.tcap_search.proofs.ExpiryLaws.{answered_by, entry_same, expiries_more, line_adds}
 use Rattle.tcap_search.proofs.FateSteps.{lines_more}

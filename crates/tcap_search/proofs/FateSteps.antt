@@ -8,13 +8,13 @@ use Rattle.tcap_record.specs.declared.entry.Entry.{Entry}
 use Rattle.tcap_record.specs.Ends.{other}
 use Rattle.tcap_certificate.specs.declared.certificate.Fate.{Fate}
 use Rattle.tcap_certificate.specs.declared.certificate.Fate.TheVariants.{Gap}
-use Rattle.tcap_certificate.specs.Replayed.{time_of}
-use Rattle.tcap_search.specs.declared.per_end.PerEnd.{PerEnd}
+use Rattle.tcap_certificate.specs.Replay.{time_of}
+use Rattle.tcap_search.specs.declared.end_values.PerEnd.{PerEnd}
 use Rattle.tcap_search.specs.declared.tie.Tie.{Tie}
-use Rattle.tcap_search.specs.Lines.{Line, is_end, lines_of, message_of}
-use Rattle.tcap_search.specs.Proposed.{Fated, fate_before, fate_of, fated, gap_behind_reply, holds_back, reply_of, with_losses}
-use Rattle.tcap_search.specs.Traced.{AreTies, AreTransactions}
-use Rattle.tcap_search.specs.PerEnd.{at_end}
+use Rattle.tcap_search.specs.SegmentEntries.{Line, is_end, lines_of, message_of}
+use Rattle.tcap_search.specs.ProposedCertificate.{Fated, fate_before, fate_of, fated, gap_behind_reply, holds_back, reply_of, with_losses}
+use Rattle.tcap_search.specs.SegmentLists.{AreTies, AreTransactions}
+use Rattle.tcap_search.specs.EndValues.{at_end}
 use Rattle.tcap_search.specs.Fates.{fate_behind_least, fate_from, gap_behind_last, gap_kept, gap_raised, highest, is_of, least_time, receiver_gap, sooner, time_kept}
 use Rattle.tcap_search.proofs.GapLaws.{fate_is, gap_more, gap_of_receiver, gap_so_far, highest_more, reply_more}
 use Rattle.tcap_search.proofs.LossLaws.{count_fated, entries_fated, fate_before_is, fates_fated, least_so_far}

@@ -6,11 +6,11 @@ use Rattle.tcap_certificate.specs.Certificate.{Certificate}
 use Rattle.tcap_certificate.specs.declared.certificate.Closing.{Closing}
 use Rattle.tcap_certificate.specs.declared.certificate.Expiry.{Expiry}
 use Rattle.tcap_certificate.specs.declared.certificate.Fate.{Fate}
-use Rattle.tcap_search.specs.Lines.{lines_of}
-use Rattle.tcap_search.specs.Proposed.{Fated, all_fated, closings_of, expiries_of, fated, number_limit, of_stretch, ties_of}
-use Rattle.tcap_search.specs.Found.{FitsBehind}
-use Rattle.tcap_search.specs.Order.{AreInOrder}
-use Rattle.tcap_search.specs.Traced.{AreFates}
+use Rattle.tcap_search.specs.SegmentEntries.{lines_of}
+use Rattle.tcap_search.specs.ProposedCertificate.{Fated, all_fated, closings_of, expiries_of, fated, number_limit, of_stretch, ties_of}
+use Rattle.tcap_search.specs.CertificateSoFar.{FitsBehind}
+use Rattle.tcap_search.specs.DeliveryOrder.{AreInOrder}
+use Rattle.tcap_search.specs.SegmentLists.{AreFates}
 use Rattle.tcap_search.proofs.LimitLaws.{closings_fit, expiries_fit, fates_fit}
 use Rattle.tcap_search.proofs.LossLaws.{all_is, before_losses}
 use Rattle.tcap_search.proofs.OrderLaws.{losses_order}

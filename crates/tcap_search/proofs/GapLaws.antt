@@ -11,8 +11,8 @@ use Rattle.tcap_record.specs.Ends.{other}
 use Rattle.tcap_model.specs.Run.{where_so}
 use Rattle.tcap_certificate.specs.declared.certificate.Fate.TheVariants.{Gap}
 use Rattle.tcap_search.specs.declared.tie.Tie.{Tie}
-use Rattle.tcap_search.specs.Lines.{Line, is_end, is_of_peer, last, message_of, or_else, share_transaction}
-use Rattle.tcap_search.specs.Proposed.{fate_by, fate_of, first_gap, first_gap_by, gap_behind, gap_behind_reply, holds_back, last_of_receiver, raised, reply_of}
+use Rattle.tcap_search.specs.SegmentEntries.{Line, is_end, is_of_peer, last, message_of, or_else, share_transaction}
+use Rattle.tcap_search.specs.ProposedCertificate.{fate_by, fate_of, first_gap, first_gap_by, gap_behind, gap_behind_reply, holds_back, last_of_receiver, raised, reply_of}
 use Rattle.tcap_search.specs.Fates.{earliest, fate_from, gap_behind_last, gap_behind_line, highest, holds_back_in, is_line_of, is_of, untied_fate}
 use Rattle.tcap_search.proofs.LastLaws.{last_never, last_same}
 use Rattle.tcap_search.proofs.LineLaws.{last_push}

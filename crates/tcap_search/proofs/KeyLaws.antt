@@ -10,7 +10,7 @@ use Rattle.std.proofs.lemmas.Cmp.{int_cmp_total}
 use Rattle.tcap_record.specs.declared.entry.End.{End as Side}
 use Rattle.tcap_record.specs.declared.entry.End.TheVariants as sides
 use Rattle.tcap_model.specs.World.{is_side}
-use Rattle.tcap_search.specs.ByInvocation.{half_number, key_cmp, key_of}
+use Rattle.tcap_search.specs.InvocationMap.{half_number, key_cmp, key_of}
 
 pub then_equal : (o p : Ordering) → is_eq (ordering_then o p) ≡ (is_eq o && is_eq p)
 then_equal Less p = refl

@@ -3,7 +3,7 @@ use Rattle.std.proofs.Common.{◌≡◌, ℕ, zero, suc, ◌+◌, ◌≤◌, Boo
 use Rattle.std.specs.Prelude.{◌&&◌, is_some, nat_lt}
 use Rattle.std.proofs.lemmas.Bool.{false≢true, le-ltb, lt-ltb}
 use Rattle.tcap_model.specs.Run.{then_so, where_so}
-use Rattle.tcap_search.specs.Lines.{Line, last, or_else}
+use Rattle.tcap_search.specs.SegmentEntries.{Line, last, or_else}
 use Rattle.tcap_search.specs.Sweep.{last_given}
 use Rattle.tcap_search.proofs.LastLaws.{last_passes, or_none, or_or}
 use Rattle.tcap_search.proofs.NumberedLaws.{AreNumbered}

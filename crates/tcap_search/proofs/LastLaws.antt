@@ -3,7 +3,7 @@ use Rattle.std.proofs.Common.{◌≡◌, Bool, true, false, List, [], ◌∷◌,
 use Rattle.std.specs.List.{AllByRecursion}
 use Rattle.std.proofs.lemmas.Option.{none-some, same_Some}
 use Rattle.tcap_model.specs.Run.{where_so}
-use Rattle.tcap_search.specs.Lines.{last, or_else}
+use Rattle.tcap_search.specs.SegmentEntries.{last, or_else}
 
 -- None is a right unit of `or_else`.
 pub or_none : {A : Type 0} (o : Option A) → or_else o None ≡ o

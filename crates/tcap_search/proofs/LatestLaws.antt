@@ -14,8 +14,8 @@ use Rattle.tcap_record.specs.Ends.{other}
 use Rattle.tcap_model.specs.World.{is_side}
 use Rattle.tcap_model.specs.Run.{then_so}
 use Rattle.tcap_search.specs.declared.lines.Latest.{Latest}
-use Rattle.tcap_search.specs.Latest.{belongs, belongs_by, latest_asked, latest_at, latest_of}
-use Rattle.tcap_search.specs.Lines.{Line, is_end, is_from, last, line_behind, lines_of, message_of, transaction_by, transaction_from}
+use Rattle.tcap_search.specs.LastEntries.{belongs, belongs_by, latest_asked, latest_at, latest_of}
+use Rattle.tcap_search.specs.SegmentEntries.{Line, is_end, is_from, last, line_behind, lines_of, message_of, transaction_by, transaction_from}
 use Rattle.tcap_search.proofs.IdLaws.{same_id}
 use Rattle.tcap_search.proofs.LineLaws.{count_taken, last_none, last_push, lines_more}
 

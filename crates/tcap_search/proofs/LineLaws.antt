@@ -7,8 +7,8 @@ use Rattle.tcap_msg.specs.declared.message.Message.{Message}
 use Rattle.tcap_msg.specs.declared.message.Message.TheVariants.{Unidirectional, Begin, Continue, End as EndMessage, Abort}
 use Rattle.tcap_record.specs.declared.entry.Entry.{Entry}
 use Rattle.tcap_model.specs.Run.{where_so}
-use Rattle.tcap_search.specs.Lines.{Line, is_asked_from, last, line_behind, lines_behind, lines_of, message_of, or_else, transaction_by, transaction_from}
-use Rattle.tcap_search.specs.Traced.{AreTransactions}
+use Rattle.tcap_search.specs.SegmentEntries.{Line, is_asked_from, last, line_behind, lines_behind, lines_of, message_of, or_else, transaction_by, transaction_from}
+use Rattle.tcap_search.specs.SegmentLists.{AreTransactions}
 use Rattle.std.proofs.lemmas.Option.{get_or_from_slice_get, slice_get-map, slice_get_read}
 
 -- ---- one more entry

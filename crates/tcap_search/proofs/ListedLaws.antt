@@ -8,9 +8,9 @@ use Rattle.std.proofs.lemmas.Bool.Decides.{nat_tests}
 use Rattle.std.proofs.lemmas.List.Folds.{list_any-append}
 use Rattle.tcap_record.specs.declared.entry.End.{End as Side}
 use Rattle.tcap_certificate.specs.declared.certificate.Expiry.{Expiry}
-use Rattle.tcap_search.specs.Proposed.{is_expiry_of, with_expiry}
-use Rattle.tcap_search.specs.Due.{due_at}
-use Rattle.tcap_search.specs.Listed.{pair_cmp}
+use Rattle.tcap_search.specs.ProposedCertificate.{is_expiry_of, with_expiry}
+use Rattle.tcap_search.specs.GapDeliveries.{due_at}
+use Rattle.tcap_search.specs.ListedExpiries.{pair_cmp}
 use Rattle.tcap_search.proofs.KeyLaws.{then_equal}
 
 abbrev pub expiry_at : ℕ → ℕ → Side → ℕ → Expiry

@@ -8,11 +8,11 @@ use Rattle.tcap_record.specs.declared.entry.End.{End as Side}
 use Rattle.tcap_record.specs.declared.entry.Entry.{Entry}
 use Rattle.tcap_certificate.specs.declared.certificate.Fate.{Fate}
 use Rattle.tcap_certificate.specs.declared.certificate.Fate.TheVariants.{Lost}
-use Rattle.tcap_certificate.specs.Replayed.{is_later, time_of}
-use Rattle.tcap_search.specs.Lines.{Line, is_end, lines_of, message_of}
-use Rattle.tcap_search.specs.Proposed.{Fated, all_fated, fate_before, fate_of, fated, first_fates, is_gap, is_overtaken, ties_of, with_losses, without_unanswered}
+use Rattle.tcap_certificate.specs.Replay.{is_later, time_of}
+use Rattle.tcap_search.specs.SegmentEntries.{Line, is_end, lines_of, message_of}
+use Rattle.tcap_search.specs.ProposedCertificate.{Fated, all_fated, fate_before, fate_of, fated, first_fates, is_gap, is_overtaken, ties_of, with_losses, without_unanswered}
 use Rattle.tcap_search.specs.declared.tie.Tie.{Tie}
-use Rattle.tcap_search.specs.Traced.{AreFates, AreTies}
+use Rattle.tcap_search.specs.SegmentLists.{AreFates, AreTies}
 use Rattle.tcap_search.specs.Fates.{fate_behind_least, least_time, sooner}
 use Rattle.tcap_search.proofs.LineLaws.{count_lines}
 use Rattle.tcap_search.proofs.PeerLaws.{one_end, one_end_none}

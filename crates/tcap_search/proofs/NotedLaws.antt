@@ -6,8 +6,8 @@ use Rattle.std.proofs.lemmas.Bool.{eq-eqb, eqb-false, eqb-true, ne_eqb}
 use Rattle.std.proofs.lemmas.Bool.Decides.{nat_tests}
 use Rattle.std.proofs.lemmas.List.Folds.{list_any-append}
 use Rattle.tcap_record.specs.Ends.{other}
-use Rattle.tcap_search.specs.Leasts.{is_below, is_transaction, is_within, lesser}
-use Rattle.tcap_search.specs.Lines.{Line, share_transaction}
+use Rattle.tcap_search.specs.LeastNumbers.{is_below, is_transaction, is_within, lesser}
+use Rattle.tcap_search.specs.SegmentEntries.{Line, share_transaction}
 use Rattle.tcap_search.proofs.TestLaws.{and_true, or_false}
 
 -- ---- noted numbers

@@ -4,8 +4,8 @@ use Rattle.std.specs.Prelude.{option_map, slice_get}
 use Rattle.std.proofs.lemmas.List.{append-nil, get_or-map, map-append, take_more}
 use Rattle.std.proofs.lemmas.Option.{none-some, same_Some, slice_get-map, slice_get_read}
 use Rattle.tcap_record.specs.declared.entry.Entry.{Entry}
-use Rattle.tcap_search.specs.Lines.{Line, line_behind, lines_behind, lines_of}
-use Rattle.tcap_search.specs.Traced.{AreTransactions}
+use Rattle.tcap_search.specs.SegmentEntries.{Line, line_behind, lines_behind, lines_of}
+use Rattle.tcap_search.specs.SegmentLists.{AreTransactions}
 use Rattle.tcap_search.proofs.LineLaws.{count_lines, count_transactions, transaction_below}
 
 -- ---- entries

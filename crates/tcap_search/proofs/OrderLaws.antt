@@ -5,10 +5,10 @@ use Rattle.std.specs.List.{AllByRecursion, list_any}
 use Rattle.std.proofs.lemmas.Bool.{ltb-false, or_parts}
 use Rattle.tcap_certificate.specs.declared.certificate.Fate.{Fate}
 use Rattle.tcap_certificate.specs.declared.certificate.Fate.TheVariants.{Gap, Lost, By}
-use Rattle.tcap_certificate.specs.Replayed.{is_later, time_of}
-use Rattle.tcap_search.specs.Lines.{Line, are_of_one_end, message_of}
-use Rattle.tcap_search.specs.Proposed.{Fated, fate_before, is_gap, is_overtaken, with_losses}
-use Rattle.tcap_search.specs.Order.{AreInOrder, ComesNoEarlier}
+use Rattle.tcap_certificate.specs.Replay.{is_later, time_of}
+use Rattle.tcap_search.specs.SegmentEntries.{Line, are_of_one_end, message_of}
+use Rattle.tcap_search.specs.ProposedCertificate.{Fated, fate_before, is_gap, is_overtaken, with_losses}
+use Rattle.tcap_search.specs.DeliveryOrder.{AreInOrder, ComesNoEarlier}
 use Rattle.tcap_search.proofs.LossLaws.{fated_at}
 
 -- A gap after losses was the gap before, and is not overtaken.

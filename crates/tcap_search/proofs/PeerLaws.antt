@@ -3,7 +3,7 @@ use Rattle.std.proofs.Common.{◌≡◌, false, Some, None, refl}
 use Rattle.tcap_record.specs.declared.entry.End.{End as Side}
 use Rattle.tcap_record.specs.declared.entry.Entry.{Entry}
 use Rattle.tcap_record.specs.Ends.{other}
-use Rattle.tcap_search.specs.Lines.{are_of_one_end, is_end, is_of_peer}
+use Rattle.tcap_search.specs.SegmentEntries.{are_of_one_end, is_end, is_of_peer}
 
 -- from one end
 pub one_end : (e f : Entry) (side : Side) → e.side ≡ Some side → are_of_one_end e f ≡ is_end side f.side

@@ -5,9 +5,9 @@ use Rattle.std.specs.List.{list_any}
 use Rattle.tcap_parts.specs.declared.component.Component.{Component}
 use Rattle.tcap_record.specs.declared.entry.Entry.{Entry}
 use Rattle.tcap_certificate.specs.declared.certificate.Expiry.{Expiry}
-use Rattle.tcap_search.specs.Lines.{Line, lines_of}
-use Rattle.tcap_search.specs.Proposed.{Fated, expiries_by, expiries_from, expiries_of, expiry_by, unrecognized}
-use Rattle.tcap_search.specs.Rejected.{has_rejection, rejects}
+use Rattle.tcap_search.specs.SegmentEntries.{Line, lines_of}
+use Rattle.tcap_search.specs.ProposedCertificate.{Fated, expiries_by, expiries_from, expiries_of, expiry_by, unrecognized}
+use Rattle.tcap_search.specs.Rejections.{has_rejection, rejects}
 use Rattle.tcap_search.specs.Sweep.{components_of}
 use Rattle.tcap_search.proofs.UnansweredLaws.{any_line}
 

@@ -9,9 +9,9 @@ use Rattle.tcap_msg.specs.declared.message.Message.TheVariants.{Unidirectional, 
 use Rattle.tcap_record.specs.declared.entry.Entry.{Entry}
 use Rattle.tcap_model.proofs.ListLaws.{all_more}
 use Rattle.tcap_search.specs.declared.tie.Tie.{Tie}
-use Rattle.tcap_search.specs.Lines.{Line, last, lines_of, message_of}
-use Rattle.tcap_search.specs.Proposed.{answered_line, gap_behind_reply, reply_of, ties_from, with_tie_by}
-use Rattle.tcap_search.specs.Traced.{AreTies}
+use Rattle.tcap_search.specs.SegmentEntries.{Line, last, lines_of, message_of}
+use Rattle.tcap_search.specs.ProposedCertificate.{answered_line, gap_behind_reply, reply_of, ties_from, with_tie_by}
+use Rattle.tcap_search.specs.SegmentLists.{AreTies}
 use Rattle.tcap_search.proofs.LastLaws.{last_among}
 use Rattle.tcap_search.proofs.LineLaws.{count_lines}
 use Rattle.tcap_search.proofs.NumberedLaws.{AreNumbered, lines_numbered}

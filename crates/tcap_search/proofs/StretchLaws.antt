@@ -8,7 +8,7 @@ use Rattle.std.proofs.Math.Seq.{drop-nil, take-length}
 use Rattle.tcap_record.specs.declared.entry.End.{End as Side}
 use Rattle.tcap_record.specs.declared.entry.Entry.{Entry}
 use Rattle.tcap_certificate.specs.Certificate.{Certificate}
-use Rattle.tcap_search.specs.Proposed.{behind, fate_behind, is_mark, of_mark, of_stretch, of_stretches, stretches, then_certificate, with_entry}
+use Rattle.tcap_search.specs.ProposedCertificate.{behind, fate_behind, is_mark, of_mark, of_stretch, of_stretches, stretches, then_certificate, with_entry}
 use Rattle.tcap_search.proofs.LimitLaws.{count_of_stretch}
 
 abbrev pub has_mark : List Entry → Bool

@@ -15,11 +15,11 @@ use Rattle.tcap_model.specs.World.{is_side}
 use Rattle.tcap_model.specs.Run.{where_so}
 use Rattle.tcap_certificate.specs.declared.certificate.Fate.{Fate}
 use Rattle.tcap_certificate.specs.declared.certificate.Fate.TheVariants.{Gap, Lost, By}
-use Rattle.tcap_search.specs.Due.{due_in}
+use Rattle.tcap_search.specs.GapDeliveries.{due_in}
 use Rattle.tcap_search.specs.declared.sweep.Answer.{Answer}
-use Rattle.tcap_search.specs.Lines.{Line, are_of_one_end, is_end, message_of, or_else}
-use Rattle.tcap_search.specs.Proposed.{Fated, components_at, invocation_at, is_answer_of}
-use Rattle.tcap_search.specs.Order.{AreInOrder, ComesNoEarlier}
+use Rattle.tcap_search.specs.SegmentEntries.{Line, are_of_one_end, is_end, message_of, or_else}
+use Rattle.tcap_search.specs.ProposedCertificate.{Fated, components_at, invocation_at, is_answer_of}
+use Rattle.tcap_search.specs.DeliveryOrder.{AreInOrder, ComesNoEarlier}
 use Rattle.tcap_search.specs.Fates.{is_line_of, is_of}
 use Rattle.tcap_search.specs.Sweep.{answer_at, answers, answers_at, components_of, invoked_by, invoked_in, last_given, message_components}
 use Rattle.tcap_search.proofs.LastGivenLaws.{given_more}

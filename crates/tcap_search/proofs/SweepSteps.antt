@@ -7,8 +7,8 @@ use Rattle.tcap_record.specs.declared.entry.End.{End as Side}
 use Rattle.tcap_record.specs.declared.entry.Entry.{Entry}
 use Rattle.tcap_model.specs.World.{is_side}
 use Rattle.tcap_model.specs.Run.{where_so}
-use Rattle.tcap_search.specs.Lines.{message_of, or_else}
-use Rattle.tcap_search.specs.Proposed.{is_invoke_of, last_invoke, may_invoke, number_limit}
+use Rattle.tcap_search.specs.SegmentEntries.{message_of, or_else}
+use Rattle.tcap_search.specs.ProposedCertificate.{is_invoke_of, last_invoke, may_invoke, number_limit}
 use Rattle.tcap_search.specs.Fates.{is_of}
 use Rattle.tcap_search.specs.Sweep.{components_of, invoked_by}
 use Rattle.tcap_search.proofs.TestLaws.{and_swap}

@@ -18,8 +18,8 @@ use Rattle.tcap_model.specs.World.{is_side}
 use Rattle.tcap_search.specs.declared.candidates.Candidates.{Candidates}
 use Rattle.tcap_search.specs.declared.tie.Tie.{Tie}
 use Rattle.tcap_search.specs.Candidates.{AreUntied, answered_by, answered_of, asks, asks_by, candidates_at, is_candidate, newest_of, top, under_top, untied, without}
-use Rattle.tcap_search.specs.Lines.{Line, is_end, is_from, line_behind, lines_of, message_of}
-use Rattle.tcap_search.specs.Proposed.{answered_line, is_answered_by, is_tied, ties_from, ties_of, with_tie, with_tie_by}
+use Rattle.tcap_search.specs.SegmentEntries.{Line, is_end, is_from, line_behind, lines_of, message_of}
+use Rattle.tcap_search.specs.ProposedCertificate.{answered_line, is_answered_by, is_tied, ties_from, ties_of, with_tie, with_tie_by}
 use Rattle.tcap_search.proofs.LineLaws.{count_taken, last_none, lines_more, reverse_push}
 use Rattle.tcap_search.proofs.UntiedLaws.{AreBelow, Falls, are_below, falls_of, first_holds, first_passes, is_left, last_reversed, left, left_others, left_popped, top_of}
 

@@ -8,10 +8,10 @@ use Rattle.tcap_record.specs.declared.entry.Entry.{Entry}
 use Rattle.tcap_certificate.specs.declared.certificate.Fate.{Fate}
 use Rattle.tcap_certificate.specs.declared.certificate.Fate.TheVariants.{Gap, Lost, By}
 use Rattle.tcap_search.specs.declared.leasts.Leasts.{Leasts}
-use Rattle.tcap_search.specs.Leasts.{HasRoom, is_transaction, is_within, least_at, lesser}
-use Rattle.tcap_search.specs.Lines.{Line, are_of_one_end, is_end, line_behind, lines_of, message_of, share_transaction}
-use Rattle.tcap_search.specs.Proposed.{Fated, fated, is_delivered_by, is_end_or_abort, was_told}
-use Rattle.tcap_search.specs.Shown.{KeepsTold, gap_told}
+use Rattle.tcap_search.specs.LeastNumbers.{HasRoom, is_transaction, is_within, least_at, lesser}
+use Rattle.tcap_search.specs.SegmentEntries.{Line, are_of_one_end, is_end, line_behind, lines_of, message_of, share_transaction}
+use Rattle.tcap_search.specs.ProposedCertificate.{Fated, fated, is_delivered_by, is_end_or_abort, was_told}
+use Rattle.tcap_search.specs.ClosedByTie.{KeepsTold, gap_told}
 use Rattle.tcap_search.proofs.LineLaws.{count_taken, lines_more}
 use Rattle.tcap_search.proofs.NotedLaws.{any_push, shares, test_noted, turned_tests, within_lesser}
 use Rattle.tcap_search.proofs.PeerLaws.{one_end}

@@ -18,9 +18,9 @@ use Rattle.tcap_record.specs.Ends.{other}
 use Rattle.tcap_certificate.specs.declared.certificate.Fate.{Fate}
 use Rattle.tcap_certificate.specs.declared.certificate.Fate.TheVariants.{Gap, Lost}
 use Rattle.tcap_search.specs.declared.unanswered.Spoken.{Spoken}
-use Rattle.tcap_search.specs.Lines.{Line, is_end, lines_of, message_of}
-use Rattle.tcap_search.specs.Proposed.{Fated, fate_unanswered, fated, goes_on_from, is_gap, is_unanswered, speaks_to, without_unanswered}
-use Rattle.tcap_search.specs.Unanswered.{IsSpoken, fate_heard, unanswered_by}
+use Rattle.tcap_search.specs.SegmentEntries.{Line, is_end, lines_of, message_of}
+use Rattle.tcap_search.specs.ProposedCertificate.{Fated, fate_unanswered, fated, goes_on_from, is_gap, is_unanswered, speaks_to, without_unanswered}
+use Rattle.tcap_search.specs.UnansweredIds.{IsSpoken, fate_heard, unanswered_by}
 use Rattle.tcap_search.proofs.FateSteps.{entry_here, fate_here}
 use Rattle.tcap_search.proofs.IdLaws.{same_id}
 use Rattle.tcap_search.proofs.LineLaws.{count_lines}

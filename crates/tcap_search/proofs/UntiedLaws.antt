@@ -7,8 +7,8 @@ use Rattle.std.proofs.lemmas.List.{length-reverse, reverse-append}
 use Rattle.tcap_record.specs.declared.entry.Entry.{Entry}
 use Rattle.tcap_search.specs.declared.tie.Tie.{Tie}
 use Rattle.tcap_search.specs.Candidates.{top}
-use Rattle.tcap_search.specs.Lines.{Line, last, line_behind, lines_behind, lines_of}
-use Rattle.tcap_search.specs.Proposed.{is_tied}
+use Rattle.tcap_search.specs.SegmentEntries.{Line, last, line_behind, lines_behind, lines_of}
+use Rattle.tcap_search.specs.ProposedCertificate.{is_tied}
 use Rattle.tcap_search.proofs.LineLaws.{last_push, reverse_push}
 
 -- ---- the numbers of lines, newest first, fall to 0

@@ -15,8 +15,8 @@ use Rattle.tcap_record.specs.Ends.{other}
 use Rattle.tcap_search.specs.declared.stacks.Stacks.{Stacks}
 use Rattle.tcap_search.specs.declared.candidates.Candidates.{Candidates}
 use Rattle.tcap_search.specs.declared.tie.Tie.{Tie}
-use Rattle.tcap_search.specs.Lines.{Line, is_end, is_from, message_of}
-use Rattle.tcap_search.specs.Proposed.{is_answered_by, is_tied}
+use Rattle.tcap_search.specs.SegmentEntries.{Line, is_end, is_from, message_of}
+use Rattle.tcap_search.specs.ProposedCertificate.{is_answered_by, is_tied}
 
 -- ---- stacks
 

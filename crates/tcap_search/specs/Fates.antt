@@ -8,12 +8,12 @@ use Rattle.tcap_record.specs.declared.entry.Entry.{Entry}
 use Rattle.tcap_record.specs.Ends.{other}
 use Rattle.tcap_certificate.specs.declared.certificate.Fate.{Fate}
 use Rattle.tcap_certificate.specs.declared.certificate.Fate.TheVariants.{Gap, Lost, By}
-use Rattle.tcap_certificate.specs.Replayed.{is_later, time_of}
-use Rattle.tcap_search.specs.declared.per_end.PerEnd.{PerEnd}
+use Rattle.tcap_certificate.specs.Replay.{is_later, time_of}
+use Rattle.tcap_search.specs.declared.end_values.PerEnd.{PerEnd}
 use Rattle.tcap_search.specs.declared.tie.Tie.{Tie}
-use Rattle.tcap_search.specs.Lines.{Line, is_end, last, message_of}
-use Rattle.tcap_search.specs.Proposed.{Fated, gap_behind_reply, holds_back, is_gap, reply_of}
-use Rattle.tcap_search.specs.PerEnd.{at_end}
+use Rattle.tcap_search.specs.SegmentEntries.{Line, is_end, last, message_of}
+use Rattle.tcap_search.specs.ProposedCertificate.{Fated, gap_behind_reply, holds_back, is_gap, reply_of}
+use Rattle.tcap_search.specs.EndValues.{at_end}
 
 -- ---- the last entry of each end in each transaction
 

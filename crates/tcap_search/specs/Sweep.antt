@@ -11,9 +11,9 @@ use Rattle.tcap_record.specs.Ends.{other}
 use Rattle.tcap_model.specs.Run.{where_so}
 use Rattle.tcap_search.specs.declared.sweep.Answer.{Answer}
 use Rattle.tcap_search.specs.declared.sweep.Sweep.{Sweep}
-use Rattle.tcap_search.specs.Lines.{Line, message_of, or_else}
-use Rattle.tcap_search.specs.Proposed.{invocation_at, is_answer_of, last_invoke, may_invoke}
-use Rattle.tcap_search.specs.ByInvocation.{kept_at}
+use Rattle.tcap_search.specs.SegmentEntries.{Line, message_of, or_else}
+use Rattle.tcap_search.specs.ProposedCertificate.{invocation_at, is_answer_of, last_invoke, may_invoke}
+use Rattle.tcap_search.specs.InvocationMap.{kept_at}
 use Rattle.tcap_search.specs.Fates.{is_line_of, is_of}
 
 -- the last value that `f` gives for the elements of a list

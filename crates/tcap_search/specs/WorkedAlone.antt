@@ -8,9 +8,9 @@ use Rattle.tcap_end.specs.Table.{Table}
 use Rattle.tcap_model.specs.declared.reason.Reason.{Reason}
 use Rattle.tcap_model.specs.World.{Item, Sent}
 use Rattle.tcap_model.specs.Entries.{entry_of}
-use Rattle.tcap_certificate.specs.Replayed.{map_ok, refused, replayed_by}
-use Rattle.tcap_certificate.specs.Unheard.{unheard_of}
-use Rattle.tcap_search.specs.Proposed.{proposed_for}
+use Rattle.tcap_certificate.specs.Replay.{map_ok, refused, replayed_by}
+use Rattle.tcap_certificate.specs.LossCounts.{unheard_of}
+use Rattle.tcap_search.specs.ProposedCertificate.{proposed_for}
 use Rattle.tcap_msg.specs.declared.message.AbortReason.TheVariants as aborts
 use Rattle.tcap_msg.specs.declared.message.Message.TheVariants.{Begin, Continue, Abort}
 use Rattle.tcap_model.specs.declared.reason.Reason.TheVariants.{BadReply}

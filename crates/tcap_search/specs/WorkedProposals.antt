@@ -13,8 +13,8 @@ use Rattle.tcap_certificate.specs.Certificate.{Certificate}
 use Rattle.tcap_certificate.specs.declared.certificate.Fate.TheVariants.{Gap, Lost, By}
 use Rattle.tcap_model.specs.Entries.{entry_of}
 use Rattle.tcap_model.specs.WorkedItems.{answer, begin, end_to, id}
-use Rattle.tcap_certificate.specs.Worked.{Worked, by_fates, both_again, closed_half, crossing, delayed, empty_record, end_implies, late_reject, over_a_mark, refused_begin, three_entries, two_entries}
-use Rattle.tcap_search.specs.Proposed.{proposed, proposed_for}
+use Rattle.tcap_certificate.specs.WorkedRuns.{Worked, by_fates, both_again, closed_half, crossing, delayed, empty_record, end_implies, late_reject, over_a_mark, refused_begin, three_entries, two_entries}
+use Rattle.tcap_search.specs.ProposedCertificate.{proposed, proposed_for}
 
 -- The certificate proposed for the items of a worked run is the one that describes the run.
 abbrev pub IsProposed : Worked → Type 0

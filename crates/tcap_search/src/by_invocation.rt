@@ -1,7 +1,7 @@
 //! Values by transaction, end and invoke ID.
 
 ghost use Rattle.std.specs.Prelude.{◌≡◌};
-ghost use Rattle.tcap_search.specs.ByInvocation.{key_of};
+ghost use Rattle.tcap_search.specs.InvocationMap.{key_of};
 
 use std::alloc::{AllocError, Global};
 use std::collections::BTreeMap;
@@ -30,7 +30,7 @@ impl<T: Copy> ByInvocation<T> {
     ghost use Rattle.std.specs.BTreeMap.{is_at};
     ghost use Rattle.tcap_record.specs.declared.entry.End.{End as Side};
     ghost use Rattle.tcap_model.specs.World.{is_side};
-    ghost use Rattle.tcap_search.specs.ByInvocation.{kept_at};
+    ghost use Rattle.tcap_search.specs.InvocationMap.{kept_at};
 
     /// Creates an empty map.
     pub(crate) fn new(alloc: Global) -> ByInvocation<T>

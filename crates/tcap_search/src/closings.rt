@@ -2,11 +2,11 @@
 
 ghost use Rattle.std.specs.Prelude.{◌≡◌, ◌≤◌, ◌&&◌, not, List, length, option_copied, slice_get, IfOk};
 ghost use Rattle.tcap_record.specs.Ends.{other};
-ghost use Rattle.tcap_search.specs.Leasts.{is_below, is_within, least_at};
-ghost use Rattle.tcap_search.specs.Lines.{lines_of, message_of};
-ghost use Rattle.tcap_search.specs.Proposed.{Fated, closings_of, ends, fated, is_continue, ties_of};
-ghost use Rattle.tcap_search.specs.Shown.{KeepsEnded, KeepsTold, gap_told, shown_by};
-ghost use Rattle.tcap_search.specs.Traced.{AreTies, AreTransactions};
+ghost use Rattle.tcap_search.specs.LeastNumbers.{is_below, is_within, least_at};
+ghost use Rattle.tcap_search.specs.SegmentEntries.{lines_of, message_of};
+ghost use Rattle.tcap_search.specs.ProposedCertificate.{Fated, closings_of, ends, fated, is_continue, ties_of};
+ghost use Rattle.tcap_search.specs.ClosedByTie.{KeepsEnded, KeepsTold, gap_told, shown_by};
+ghost use Rattle.tcap_search.specs.SegmentLists.{AreTies, AreTransactions};
 
 use crate::leasts::Leasts;
 use crate::tie::Tie;

@@ -2,13 +2,13 @@
 
 ghost use Rattle.std.specs.Prelude.{◌≡◌, ◌≤◌, ◌<◌, ◌++◌, ◌∷◌, [], ◌==◌, ℕ, Some, cond, length, IfOk, OnOk};
 ghost use Rattle.std.specs.List.{list_any};
-ghost use Rattle.tcap_search.specs.Lines.{lines_of};
-ghost use Rattle.tcap_search.specs.Proposed.{expiries_of, fated, with_expiry};
-ghost use Rattle.tcap_search.specs.Order.{AreInOrder};
-ghost use Rattle.tcap_search.specs.Traced.{AreTransactions};
-ghost use Rattle.tcap_search.specs.Due.{due_at, due_in};
-ghost use Rattle.tcap_search.specs.Listed.{IsListed, all_rejected, entry_rejected};
-ghost use Rattle.tcap_search.specs.Rejected.{has_rejection, rejects};
+ghost use Rattle.tcap_search.specs.SegmentEntries.{lines_of};
+ghost use Rattle.tcap_search.specs.ProposedCertificate.{expiries_of, fated, with_expiry};
+ghost use Rattle.tcap_search.specs.DeliveryOrder.{AreInOrder};
+ghost use Rattle.tcap_search.specs.SegmentLists.{AreTransactions};
+ghost use Rattle.tcap_search.specs.GapDeliveries.{due_at, due_in};
+ghost use Rattle.tcap_search.specs.ListedExpiries.{IsListed, all_rejected, entry_rejected};
+ghost use Rattle.tcap_search.specs.Rejections.{has_rejection, rejects};
 ghost use Rattle.tcap_search.specs.Sweep.{answer_rejected};
 
 use crate::sweep::{Answer, Sweep, components_of, unrecognized};

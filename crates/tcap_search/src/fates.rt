@@ -2,15 +2,15 @@
 
 ghost use Rattle.std.specs.Prelude.{◌≡◌, ◌≤◌, ◌<◌, ◌+◌, ◌^◌, ◌==◌, ◌&&◌, ℕ, max, cond, length, map, slice_get, Some, None, IfOk};
 ghost use Rattle.tcap_record.specs.declared.entry.End.{End as Side};
-ghost use Rattle.tcap_certificate.specs.Replayed.{time_of};
-ghost use Rattle.tcap_search.specs.Lines.{is_end, lines_of, message_of};
-ghost use Rattle.tcap_search.specs.Proposed.{fated, first_fates, gap_behind_reply, holds_back, is_provider_abort, reply_of, with_losses};
-ghost use Rattle.tcap_search.specs.Traced.{AreFates, AreTies, AreTransactions};
-ghost use Rattle.tcap_search.specs.PerEnd.{at_end};
+ghost use Rattle.tcap_certificate.specs.Replay.{time_of};
+ghost use Rattle.tcap_search.specs.SegmentEntries.{is_end, lines_of, message_of};
+ghost use Rattle.tcap_search.specs.ProposedCertificate.{fated, first_fates, gap_behind_reply, holds_back, is_provider_abort, reply_of, with_losses};
+ghost use Rattle.tcap_search.specs.SegmentLists.{AreFates, AreTies, AreTransactions};
+ghost use Rattle.tcap_search.specs.EndValues.{at_end};
 ghost use Rattle.tcap_search.specs.Fates.{fate_behind_least, fate_from, gap_behind_last, gap_kept, gap_raised, is_of};
 ghost use Rattle.tcap_search.specs.Fates.{receiver_gap, sooner, time_kept};
 
-use crate::per_end::PerEnd;
+use crate::end_values::PerEnd;
 use crate::tie::Tie;
 use crate::unanswered::without_unanswered;
 use std::alloc::{AllocError, Global};

@@ -3,8 +3,8 @@
 ghost use Rattle.std.specs.Prelude.{◌≡◌, ◌<◌, ◌&&◌, ◌==◌, ℕ, None, cond, length, slice_get, IfOk};
 ghost use Rattle.tcap_record.specs.declared.entry.End.{End as Side};
 ghost use Rattle.tcap_model.specs.Run.{then_so};
-ghost use Rattle.tcap_search.specs.Leasts.{HasRoom, is_below, is_transaction, is_within, least_at, lesser};
-ghost use Rattle.tcap_search.specs.Lines.{is_end};
+ghost use Rattle.tcap_search.specs.LeastNumbers.{HasRoom, is_below, is_transaction, is_within, least_at, lesser};
+ghost use Rattle.tcap_search.specs.SegmentEntries.{is_end};
 
 use std::alloc::{AllocError, Global};
 use tcap_record::End;

@@ -4,14 +4,14 @@
 
 mod by_invocation;
 mod candidates;
+mod certificate_so_far;
 mod closings;
-mod each;
+mod end_values;
 mod expiries;
 mod fates;
-mod found;
 mod leasts;
 mod lines;
-mod per_end;
+mod proposals;
 mod searching;
 mod stacks;
 mod sweep;
@@ -20,6 +20,6 @@ mod ties;
 mod unanswered;
 pub mod worked;
 
-pub use each::{Proposals, search_each};
+pub use proposals::{Proposals, search_each};
 pub use searching::{search, search_for};
 pub use tcap_refute::{Kind, Refutation, SearchFault, refute};

@@ -4,9 +4,9 @@ ghost use Rattle.std.specs.Prelude.{◌≡◌, ◌≤◌, ◌&&◌, ℕ, List, N
 ghost use Rattle.std.specs.Str.{bytes_eq};
 ghost use Rattle.tcap_record.specs.declared.entry.End.{End as Side};
 ghost use Rattle.tcap_model.specs.World.{is_side};
-ghost use Rattle.tcap_search.specs.Latest.{belongs, latest_at};
-ghost use Rattle.tcap_search.specs.Lines.{is_end, is_from};
-ghost use Rattle.tcap_search.specs.Traced.{AreTransactions};
+ghost use Rattle.tcap_search.specs.LastEntries.{belongs, latest_at};
+ghost use Rattle.tcap_search.specs.SegmentEntries.{is_end, is_from};
+ghost use Rattle.tcap_search.specs.SegmentLists.{AreTransactions};
 
 use std::alloc::{AllocError, Global};
 use std::collections::BTreeMap;

@@ -1,9 +1,9 @@
 //! The certificate proposed for a record.
 
 ghost use Rattle.std.specs.Prelude.{◌≡◌, ◌≤◌, ◌+◌, length, IfOk};
-ghost use Rattle.tcap_search.specs.Proposed.{is_mark, proposed, proposed_by, proposed_for};
+ghost use Rattle.tcap_search.specs.ProposedCertificate.{is_mark, proposed, proposed_by, proposed_for};
 
-use crate::found::Found;
+use crate::certificate_so_far::Found;
 use std::alloc::{AllocError, Global};
 use tcap_certificate::Certificate;
 use tcap_record::{Body, End, Entry, Record};

@@ -6,9 +6,9 @@ ghost use Rattle.tcap_record.specs.declared.entry.End.{End as Side};
 ghost use Rattle.tcap_msg.specs.Parts.{items_of};
 ghost use Rattle.tcap_model.specs.World.{is_side};
 ghost use Rattle.tcap_model.specs.Run.{where_so};
-ghost use Rattle.tcap_search.specs.Lines.{message_of, or_else};
-ghost use Rattle.tcap_search.specs.Proposed.{is_answer_of, is_invoke_of, last_invoke, may_invoke, number_limit, unrecognized};
-ghost use Rattle.tcap_search.specs.ByInvocation.{kept_at};
+ghost use Rattle.tcap_search.specs.SegmentEntries.{message_of, or_else};
+ghost use Rattle.tcap_search.specs.ProposedCertificate.{is_answer_of, is_invoke_of, last_invoke, may_invoke, number_limit, unrecognized};
+ghost use Rattle.tcap_search.specs.InvocationMap.{kept_at};
 ghost use Rattle.tcap_search.specs.Fates.{is_of};
 ghost use Rattle.tcap_search.specs.Sweep.{answer_at, answer_kept, answer_rejected, answers, answers_at, components_of, invoked_by};
 

@@ -4,8 +4,8 @@ ghost use Rattle.std.specs.Prelude.{◌≡◌, ◌≤◌, [], length, reverse, I
 ghost use Rattle.std.specs.List.{list_any};
 ghost use Rattle.tcap_search.specs.Candidates.{AreUntied};
 ghost use Rattle.tcap_search.specs.Aborts.{aborts_by_provider};
-ghost use Rattle.tcap_search.specs.Lines.{lines_of};
-ghost use Rattle.tcap_search.specs.Traced.{AreTies};
+ghost use Rattle.tcap_search.specs.SegmentEntries.{lines_of};
+ghost use Rattle.tcap_search.specs.SegmentLists.{AreTies};
 
 use crate::candidates::Candidates;
 use crate::fates::is_provider_abort;

@@ -6,9 +6,9 @@ ghost use Rattle.tcap_msg.specs.Meaning.{id_of};
 ghost use Rattle.tcap_record.specs.declared.entry.End.{End as Side};
 ghost use Rattle.tcap_end.specs.End.{is_id};
 ghost use Rattle.tcap_end.specs.Table.{octets_cmp};
-ghost use Rattle.tcap_search.specs.Lines.{is_end, lines_of, message_of};
-ghost use Rattle.tcap_search.specs.Proposed.{fated, goes_on_from, speaks_to, without_unanswered};
-ghost use Rattle.tcap_search.specs.Unanswered.{IsSpoken, continued_from, fate_heard, unanswered_by};
+ghost use Rattle.tcap_search.specs.SegmentEntries.{is_end, lines_of, message_of};
+ghost use Rattle.tcap_search.specs.ProposedCertificate.{fated, goes_on_from, speaks_to, without_unanswered};
+ghost use Rattle.tcap_search.specs.UnansweredIds.{IsSpoken, continued_from, fate_heard, unanswered_by};
 
 use std::alloc::{AllocError, Global};
 use std::collections::BTreeSet;

@@ -6,14 +6,14 @@ use Rattle.tcap_record.specs.declared.entry.Entry.{Entry}
 use Rattle.tcap_end.specs.Table.{Table}
 use Rattle.tcap_model.specs.Entries.{item_of}
 use Rattle.tcap_refute.specs.Kind.{or_else}
-use Rattle.tcap_judge.specs.declared.finding.Finding.{Finding}
-use Rattle.tcap_judge.specs.declared.finding.Finding.TheVariants.{Blamed, Lawful, NotBlamed}
+use Rattle.tcap_judge.specs.declared.findings.Finding.{Finding}
+use Rattle.tcap_judge.specs.declared.findings.Finding.TheVariants.{Blamed, Lawful, NotBlamed}
 use Rattle.tcap_judge.specs.declared.outcome.Outcome.{Outcome}
 use Rattle.tcap_judge.specs.declared.outcome.Outcome.TheVariants as outcomes
-use Rattle.tcap_judge.specs.Blamed.{finding, finding_by, items_before}
+use Rattle.tcap_judge.specs.BlameOutcome.{finding, finding_by, items_before}
 use Rattle.tcap_judge.specs.Verdict.{verdict_for}
-use Rattle.tcap_traces.specs.declared.said.Circumstances.{Circumstances}
-use Rattle.tcap_traces.specs.declared.said.Said.{Said}
+use Rattle.tcap_traces.specs.declared.end_result.Circumstances.{Circumstances}
+use Rattle.tcap_traces.specs.declared.end_result.Said.{Said}
 use Rattle.tcap_traces.specs.Verdict.{found_before, no_message_at, said_by, said_of}
 
 -- ---- an end that is not blamed: the number of entries before the first that is no message

@@ -10,19 +10,19 @@ use Rattle.tcap_model.specs.Run.{Event}
 use Rattle.tcap_model.specs.Entries.{item_of}
 use Rattle.tcap_refute.specs.declared.kind.Refutation.{Refutation}
 use Rattle.tcap_refute.specs.Kind.{or_else}
-use Rattle.tcap_faults.specs.AtFault.{IsAtFaultOf}
+use Rattle.tcap_faults.specs.BlameMeaning.{IsAtFaultOf}
 use Rattle.tcap_faults.specs.Fault.{blamed}
-use Rattle.tcap_judge.specs.declared.finding.Finding.{Finding}
-use Rattle.tcap_judge.specs.declared.finding.Finding.TheVariants.{Blamed, Lawful, NotBlamed}
-use Rattle.tcap_judge.specs.Blamed.{IsFound, finding, finding_by, items_before}
-use Rattle.tcap_judge.specs.Judged.{AreLawfulUnheard, replayed_by}
+use Rattle.tcap_judge.specs.declared.findings.Finding.{Finding}
+use Rattle.tcap_judge.specs.declared.findings.Finding.TheVariants.{Blamed, Lawful, NotBlamed}
+use Rattle.tcap_judge.specs.BlameOutcome.{IsFound, finding, finding_by, items_before}
+use Rattle.tcap_judge.specs.LawfulOutcome.{AreLawfulUnheard, replayed_by}
 use Rattle.tcap_judge.specs.Verdict.{proposed_by, verdict_by}
 use Rattle.tcap_judge.proofs.BlamedLaws.{are_lawful}
-use Rattle.tcap_traces.specs.declared.said.Circumstances.{Circumstances}
-use Rattle.tcap_traces.specs.declared.said.Doubt.{Doubt}
-use Rattle.tcap_traces.specs.declared.said.Said.{Said}
-use Rattle.tcap_traces.specs.declared.said.Said.TheVariants as saids
-use Rattle.tcap_traces.specs.Shown.{IsFoundBefore, IsSo, MayHaveSentUnheard}
+use Rattle.tcap_traces.specs.declared.end_result.Circumstances.{Circumstances}
+use Rattle.tcap_traces.specs.declared.end_result.Doubt.{Doubt}
+use Rattle.tcap_traces.specs.declared.end_result.Said.{Said}
+use Rattle.tcap_traces.specs.declared.end_result.Said.TheVariants as saids
+use Rattle.tcap_traces.specs.ResultMeaning.{IsFoundBefore, IsSo, MayHaveSentUnheard}
 use Rattle.tcap_traces.specs.Verdict.{doubt_of, fails, found_before, is_of, no_message_at, passes, said_before, said_by}
 use Rattle.tcap_traces.proofs.JudgingLaws.{counted, number_in, or_before, or_behind}
 

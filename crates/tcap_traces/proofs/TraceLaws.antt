@@ -18,8 +18,8 @@ use Rattle.tcap_dialogues.proofs.CourseEnds.{course_keeps}
 use Rattle.tcap_dialogues.proofs.StretchLaws.{stretch_keeps}
 use Rattle.tcap_refute.specs.declared.kind.Refutation.{Refutation}
 use Rattle.tcap_refute.proofs.RefutedLaws.{are_oks, oks}
-use Rattle.tcap_faults.specs.AtFault.{IsAtFaultOf}
-use Rattle.tcap_traces.specs.Shown.{IsFaultOfTrace}
+use Rattle.tcap_faults.specs.BlameMeaning.{IsAtFaultOf}
+use Rattle.tcap_traces.specs.ResultMeaning.{IsFaultOfTrace}
 
 -- the first items, with the next one
 up_to : (before : List Item) (item : Item) (more : List (Result Item Reason)) (n : ℕ) → length before ≡ n

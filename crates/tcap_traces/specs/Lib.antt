@@ -1,4 +1,4 @@
 pub mod Verdict
-pub mod Asked
-pub mod Shown
+pub mod ResultOfEnd
+pub mod ResultMeaning
 pub mod WorkedVerdicts

@@ -20,22 +20,22 @@ use Rattle.tcap_model.specs.Entries.{item_of}
 use Rattle.tcap_refute.specs.declared.kind.Kind.{Kind}
 use Rattle.tcap_refute.specs.declared.kind.Kind.TheVariants as kinds
 use Rattle.tcap_refute.specs.declared.kind.Refutation.{Refutation}
-use Rattle.tcap_refute.specs.Before.{is_a}
+use Rattle.tcap_refute.specs.EarlierMessages.{is_a}
 use Rattle.tcap_refute.specs.Kind.{is_unknown_operation}
 use Rattle.tcap_faults.specs.Counts.{invokes_so}
 use Rattle.tcap_faults.specs.Fault.{is_entry_of}
-use Rattle.tcap_faults.specs.Subject.{subject_of}
+use Rattle.tcap_faults.specs.FaultSubject.{subject_of}
 use Rattle.tcap_evidence.specs.Evidence.{component_at}
-use Rattle.tcap_judge.specs.declared.finding.Finding.{Finding}
-use Rattle.tcap_judge.specs.declared.finding.Finding.TheVariants as findings
-use Rattle.tcap_judge.specs.Blamed.{finding}
+use Rattle.tcap_judge.specs.declared.findings.Finding.{Finding}
+use Rattle.tcap_judge.specs.declared.findings.Finding.TheVariants as findings
+use Rattle.tcap_judge.specs.BlameOutcome.{finding}
 use Rattle.tcap_traces.specs.declared.verdict.Verdict.{Verdict}
 use Rattle.tcap_traces.specs.declared.verdict.Verdict.TheVariants as verdicts
-use Rattle.tcap_traces.specs.declared.said.Doubt.{Doubt}
-use Rattle.tcap_traces.specs.declared.said.Doubt.TheVariants as doubts
-use Rattle.tcap_traces.specs.declared.said.Said.{Said}
-use Rattle.tcap_traces.specs.declared.said.Said.TheVariants as saids
-use Rattle.tcap_traces.specs.declared.said.Circumstances.{Circumstances}
+use Rattle.tcap_traces.specs.declared.end_result.Doubt.{Doubt}
+use Rattle.tcap_traces.specs.declared.end_result.Doubt.TheVariants as doubts
+use Rattle.tcap_traces.specs.declared.end_result.Said.{Said}
+use Rattle.tcap_traces.specs.declared.end_result.Said.TheVariants as saids
+use Rattle.tcap_traces.specs.declared.end_result.Circumstances.{Circumstances}
 
 -- ---- what a blame may depend on besides the end
 

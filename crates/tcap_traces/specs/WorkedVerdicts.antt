@@ -11,10 +11,10 @@ use Rattle.tcap_model.specs.WorkedItems.{answer, begin, end_to, id, invoke, prea
 use Rattle.tcap_refute.specs.declared.kind.Kind.{Kind}
 use Rattle.tcap_refute.specs.declared.kind.Kind.TheVariants as kinds
 use Rattle.tcap_traces.specs.declared.verdict.Verdict.TheVariants.{Pass, Inconclusive, Fail, Error}
-use Rattle.tcap_traces.specs.declared.said.Doubt.{Doubt}
-use Rattle.tcap_traces.specs.declared.said.Doubt.TheVariants as doubts
-use Rattle.tcap_traces.specs.declared.said.Said.TheVariants as saids
-use Rattle.tcap_traces.specs.declared.said.Circumstances.{Circumstances}
+use Rattle.tcap_traces.specs.declared.end_result.Doubt.{Doubt}
+use Rattle.tcap_traces.specs.declared.end_result.Doubt.TheVariants as doubts
+use Rattle.tcap_traces.specs.declared.end_result.Said.TheVariants as saids
+use Rattle.tcap_traces.specs.declared.end_result.Circumstances.{Circumstances}
 use Rattle.tcap_traces.specs.Verdict.{doubt_of, is_heard, passes, trace_verdict, verdict_asked, worse}
 
 -- ---- messages sent to an ID

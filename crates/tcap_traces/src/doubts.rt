@@ -9,12 +9,12 @@ ghost use Rattle.tcap_msg.specs.Parts.{components_in};
 ghost use Rattle.tcap_end.specs.End.{is_id};
 ghost use Rattle.tcap_end.specs.Table.{operation_of};
 ghost use Rattle.tcap_model.specs.Entries.{item_of};
-ghost use Rattle.tcap_refute.specs.Before.{is_a};
+ghost use Rattle.tcap_refute.specs.EarlierMessages.{is_a};
 ghost use Rattle.tcap_refute.specs.Kind.{is_unknown_operation};
 ghost use Rattle.tcap_evidence.specs.Evidence.{component_at};
 ghost use Rattle.tcap_traces.specs.Verdict.{doubt_of, faulty_component, heard_id, invokes_lacking, is_begun_by_peer, is_from, is_heard, is_heard_with, is_silent, lacks_heard, may_be_over, message_at, rests_on_lack, rests_on_table, sends_lacking};
 
-use crate::said::{Circumstances, Doubt};
+use crate::end_result::{Circumstances, Doubt};
 use std::alloc::{AllocError, Global};
 use tcap_end::Table;
 use tcap_faults::subject_of;

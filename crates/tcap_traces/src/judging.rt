@@ -4,12 +4,12 @@ ghost use Rattle.std.specs.Prelude.{◌≡◌, ◌≤◌, drop, length, take, If
 ghost use Rattle.std.specs.List.{list_any};
 ghost use Rattle.tcap_record.specs.declared.entry.End.TheVariants as sides;
 ghost use Rattle.tcap_refute.specs.Kind.{or_else};
-ghost use Rattle.tcap_judge.specs.Blamed.{IsFound, finding};
-ghost use Rattle.tcap_traces.specs.Shown.{IsFoundBefore, IsSo};
+ghost use Rattle.tcap_judge.specs.BlameOutcome.{IsFound, finding};
+ghost use Rattle.tcap_traces.specs.ResultMeaning.{IsFoundBefore, IsSo};
 ghost use Rattle.tcap_traces.specs.Verdict.{found_before, is_of, no_message_at, passes, said_before, said_by, said_of, verdict_asked};
 
 use crate::doubts::doubt_of;
-use crate::said::{Circumstances, Said};
+use crate::end_result::{Circumstances, Said};
 use crate::verdict::Verdict;
 use std::alloc::{AllocError, Global};
 use tcap_end::Table;
@@ -27,7 +27,7 @@ pub struct Ends {
 }
 
 impl Ends {
-    ghost use Rattle.tcap_traces.specs.Asked.{said_at};
+    ghost use Rattle.tcap_traces.specs.ResultOfEnd.{said_at};
 
     /// Returns the result for an end.
     pub fn of(self, end: End) -> Said

@@ -11,8 +11,8 @@ ghost use Rattle.tcap_dialogues.specs.Course.{Course, Heading, bare, courses_of,
 ghost use Rattle.tcap_dialogues.specs.declared.reuse.Reuse.{Reuse};
 ghost use Rattle.tcap_dialogues.specs.Part.{part_of};
 ghost use Rattle.tcap_refute.specs.declared.kind.Refutation.{Refutation};
-ghost use Rattle.tcap_faults.specs.AtFault.{IsAtFaultOf};
-ghost use Rattle.tcap_traces.specs.Shown.{IsFaultOfTrace};
+ghost use Rattle.tcap_faults.specs.BlameMeaning.{IsAtFaultOf};
+ghost use Rattle.tcap_traces.specs.ResultMeaning.{IsFaultOfTrace};
 
 /// Shows that an end at fault in a dialogue is at fault in its trace.
 ///

@@ -2,11 +2,11 @@
 #![tactic(auto)]
 
 mod doubts;
+mod end_result;
 mod judging;
 pub mod laws;
-mod said;
 mod verdict;
 
+pub use end_result::{Circumstances, Doubt, Said};
 pub use judging::{Ends, judge_dialogue};
-pub use said::{Circumstances, Doubt, Said};
 pub use verdict::{Verdict, trace_verdict};

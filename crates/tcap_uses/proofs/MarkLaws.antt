@@ -5,7 +5,7 @@ use Rattle.tcap_record.specs.declared.entry.End.{End as Side}
 use Rattle.tcap_model.specs.World.{Item}
 use Rattle.tcap_certificate.specs.declared.certificate.Fate.{Fate}
 use Rattle.tcap_certificate.specs.declared.fault.CheckFault.{CheckFault}
-use Rattle.tcap_check.specs.Checking.{answer_of, count_ahead}
+use Rattle.tcap_check.specs.CheckerMeaning.{answer_of, count_ahead}
 
 -- What is answered for ever is answered at the end too.
 pub not_before : {A R : Type 0} (so_far : Result A CheckFault) (answer : Result (Unit {0}) CheckFault) (report : Result R CheckFault)

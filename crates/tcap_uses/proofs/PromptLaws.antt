@@ -9,9 +9,9 @@ use Rattle.tcap_certificate.specs.declared.certificate.Fate.{Fate}
 use Rattle.tcap_certificate.specs.declared.certificate.Fate.TheVariants.{Gap}
 use Rattle.tcap_certificate.specs.declared.fault.CheckFault.{CheckFault}
 use Rattle.tcap_certificate.specs.Certificate.{Certificate, IsPrompt, prompt, prompt_fates}
-use Rattle.tcap_certificate.specs.Replayed.{fault_at, map_ok, replayed_by}
+use Rattle.tcap_certificate.specs.Replay.{fault_at, map_ok, replayed_by}
 use Rattle.tcap_check.specs.declared.checker.Report.{Report}
-use Rattle.tcap_check.specs.Checking.{reported}
+use Rattle.tcap_check.specs.CheckerMeaning.{reported}
 use Rattle.tcap_check.proofs.prompt_laws.AtOnceRuns.{fates_prompt}
 use Rattle.tcap_uses.proofs.Results.{told_all}
 

@@ -1,8 +1,8 @@
 ghost use Rattle.std.specs.Prelude.{◌≡◌, ◌≢◌, ◌∷◌, [], Ok, Err, IfOk, None, Some};
 ghost use Rattle.tcap_model.specs.declared.reason.Reason.TheVariants as reasons;
 ghost use Rattle.tcap_model.specs.World.{Item};
-ghost use Rattle.tcap_check.specs.Checking.{map_ok, reported};
-ghost use Rattle.tcap_certificate.specs.Replayed.{fault_at, run_by};
+ghost use Rattle.tcap_check.specs.CheckerMeaning.{map_ok, reported};
+ghost use Rattle.tcap_certificate.specs.Replay.{fault_at, run_by};
 
 use std::alloc::Global;
 use tcap_check::{Certificate, CheckFault, Checker, Report};

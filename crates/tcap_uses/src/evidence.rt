@@ -1,6 +1,6 @@
 ghost use Rattle.std.specs.Prelude.{◌≡◌, true, IfOk, slice_get};
 ghost use Rattle.std.specs.String.{string_bytes};
-ghost use Rattle.tcap_evidence.specs.Words.{is_for, told_text};
+ghost use Rattle.tcap_evidence.specs.EvidenceWords.{is_for, told_text};
 
 use std::alloc::{AllocError, Global};
 use tcap_end::Table;

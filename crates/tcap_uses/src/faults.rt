@@ -1,5 +1,5 @@
 ghost use Rattle.std.specs.Prelude.{IfOk, IfSome};
-ghost use Rattle.tcap_faults.specs.AtFault.{IsAtFaultOf};
+ghost use Rattle.tcap_faults.specs.BlameMeaning.{IsAtFaultOf};
 
 use std::alloc::Global;
 use tcap_end::Table;

@@ -2,7 +2,7 @@ ghost use Rattle.std.specs.Prelude.{◌≡◌, ◌++◌, ℕ, List, Result, IfOk
 ghost use Rattle.tcap_record.specs.declared.entry.Entry.{Entry};
 ghost use Rattle.tcap_record.specs.declared.fault.FeedFault.{FeedFault};
 ghost use Rattle.tcap_record.specs.Reading.{IsReadAs};
-ghost use Rattle.tcap_lines.specs.Shown.{Prints};
+ghost use Rattle.tcap_lines.specs.ShowRun.{Prints};
 
 use std::alloc::Global;
 use tcap_ber::Counted;

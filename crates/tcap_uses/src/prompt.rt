@@ -1,11 +1,11 @@
 ghost use Rattle.std.specs.Prelude.{◌≡◌, ◌≤◌, ℕ, List, true, false, length, IfSome, Some};
 ghost use Rattle.std.specs.List.{AllByRecursion};
-ghost use Rattle.tcap_record.specs.Framed.{entry_limit};
+ghost use Rattle.tcap_record.specs.RecordOctets.{entry_limit};
 ghost use Rattle.tcap_model.specs.World.{Item};
 ghost use Rattle.tcap_model.specs.Run.{Event, IsRunOf};
 ghost use Rattle.tcap_certificate.specs.Certificate.{prompt};
-ghost use Rattle.tcap_certificate.specs.Follows.{IsPlain};
-ghost use Rattle.tcap_check.specs.Given.{DeliversAtOnce, IsSeen};
+ghost use Rattle.tcap_certificate.specs.DescribedRun.{IsPlain};
+ghost use Rattle.tcap_check.specs.GivenRun.{DeliversAtOnce, IsSeen};
 ghost use Rattle.tcap_judge.specs.LawfulRecord.{SpellsRecord};
 
 use std::alloc::Global;

@@ -1,5 +1,5 @@
 ghost use Rattle.std.specs.Prelude.{◌≡◌, [], ◌++◌, IfOk};
-ghost use Rattle.tcap_record.specs.Framed.{Framed};
+ghost use Rattle.tcap_record.specs.RecordOctets.{Framed};
 ghost use Rattle.tcap_uses.specs.Ids.{ids_in, id_in};
 
 use std::alloc::{AllocError, Global};

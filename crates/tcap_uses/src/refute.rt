@@ -4,7 +4,7 @@ ghost use Rattle.tcap_end.specs.Table.{Table};
 ghost use Rattle.tcap_certificate.specs.Certificate.{Certificate};
 ghost use Rattle.tcap_model.specs.Entries.{item_of};
 ghost use Rattle.tcap_model.specs.Run.{Event};
-ghost use Rattle.tcap_certificate.specs.Replayed.{replayed_by};
+ghost use Rattle.tcap_certificate.specs.Replay.{replayed_by};
 ghost use Rattle.tcap_refute.specs.declared.kind.Refutation.{Refutation};
 ghost use Rattle.tcap_refute.specs.Kind.{refuted};
 

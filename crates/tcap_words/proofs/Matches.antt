@@ -16,8 +16,8 @@ use Rattle.tcap_record.specs.Ends.{letter}
 use Rattle.tcap_words.specs.CommandLine.{tool}
 use Rattle.tcap_words.specs.Tests.{values_of}
 use Rattle.tcap_words.specs.Words.{Asks, Explains, Tested, blamed_paths, checked_paths, end_value, explained_paths, is_ids_word, is_letter, is_number, is_set, judged_paths, named_with, named_with_flag, named_with_flags, named_with_paths, named_with_traces, named_with_two, path_text, shown_path, tested}
-use Rattle.tcap_words.specs.declared.asked.Request.{Request}
-use Rattle.tcap_words.specs.declared.asked.Request.TheVariants.{Show, Pack, Check, Judge, Explain, Blame, Table, Test}
+use Rattle.tcap_words.specs.declared.requests.Request.{Request}
+use Rattle.tcap_words.specs.declared.requests.Request.TheVariants.{Show, Pack, Check, Judge, Explain, Blame, Table, Test}
 use Rattle.tcap_words.proofs.Tool.{IsKnown, fused, named}
 use Rattle.tcap_words.proofs.Needed.{needed_there}
 

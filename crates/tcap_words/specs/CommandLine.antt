@@ -8,8 +8,8 @@ use Rattle.clap.specs.declared.builder.value_parser.ValueParser.{ValueParser}
 use Rattle.clap.specs.declared.builder.value_parser.ValueParser.TheVariants as vp
 use Rattle.tcap_record.specs.declared.entry.End.TheVariants as sides
 use Rattle.tcap_record.specs.Ends.{letter}
-use Rattle.tcap_words.specs.declared.asked.Ids.{Ids}
-use Rattle.tcap_words.specs.declared.asked.Ids.TheVariants.{Again, Settled, Once}
+use Rattle.tcap_words.specs.declared.requests.Ids.{Ids}
+use Rattle.tcap_words.specs.declared.requests.Ids.TheVariants.{Again, Settled, Once}
 
 -- a reference to this value, at address 0
 abbrev pub at_first : {X : Type 0} → X → Bor X

@@ -9,8 +9,8 @@ use Rattle.clap.specs.Walk.{texts}
 use Rattle.clap.specs.Words.{Row, Text, all_of, first_of}
 use Rattle.tcap_record.specs.Ends.{letter}
 use Rattle.tcap_words.specs.CommandLine.{ids_word, number_parser}
-use Rattle.tcap_words.specs.declared.asked.Ids.TheVariants.{Again, Settled, Once}
-use Rattle.tcap_words.specs.declared.asked.Test.{Test}
+use Rattle.tcap_words.specs.declared.requests.Ids.TheVariants.{Again, Settled, Once}
+use Rattle.tcap_words.specs.declared.requests.Test.{Test}
 
 -- whether a flag is set: its value is the word `true`
 abbrev pub is_set : Option Text → Bool

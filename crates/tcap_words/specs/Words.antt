@@ -11,8 +11,8 @@ use Rattle.tcap_record.specs.declared.entry.End.TheVariants as sides
 use Rattle.tcap_record.specs.Ends.{letter}
 use Rattle.tcap_words.specs.CommandLine.{tool}
 pub use Rattle.tcap_words.specs.Tests.{Tested, is_ids_word, is_number, is_set, number_of, path_text, requested, tested}
-use Rattle.tcap_words.specs.declared.asked.Request.{Request}
-use Rattle.tcap_words.specs.declared.asked.Request.TheVariants.{Show, Pack, Check, Judge, Explain, Blame, Table, Test}
+use Rattle.tcap_words.specs.declared.requests.Request.{Request}
+use Rattle.tcap_words.specs.declared.requests.Request.TheVariants.{Show, Pack, Check, Judge, Explain, Blame, Table, Test}
 use Rattle.tcap_words.specs.declared.words.WordsFault.{WordsFault}
 use Rattle.tcap_words.specs.declared.words.WordsFault.TheVariants.{Words, Memory}
 

@@ -1,9 +1,9 @@
 //! Reads the command line of `tcapjudge`.
 #![tactic(auto)]
 
-mod asked;
 mod command_line;
+mod requests;
 mod words;
 
-pub use asked::{Ids, Request, Test};
+pub use requests::{Ids, Request, Test};
 pub use words::{WordsFault, request};

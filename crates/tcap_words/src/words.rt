@@ -10,10 +10,10 @@ ghost use Rattle.tcap_words.specs.CommandLine.{ids_word, tool};
 ghost use Rattle.tcap_words.specs.Tests.{ids_value, linger_value, values_of};
 ghost use Rattle.tcap_words.specs.Words.{Asks, Becomes, Explains, IsFaultOf, IsMemory, is_letter, is_printed};
 ghost use Rattle.tcap_words.specs.Words.{is_ids_word, is_number, is_set, number_of, requested, tested, words_status};
-ghost use Rattle.tcap_words.specs.declared.asked.Request.TheVariants as asked;
+ghost use Rattle.tcap_words.specs.declared.requests.Request.TheVariants as asked;
 
-use crate::asked::{Ids, Request, Test};
 use crate::command_line::command;
+use crate::requests::{Ids, Request, Test};
 use clap::error::ErrorKind;
 use clap::{ArgMatches, Error};
 use std::alloc::{AllocError, Global};

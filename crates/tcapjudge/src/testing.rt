@@ -4,7 +4,7 @@ ghost use Rattle.std.specs.Prelude.{◌≡◌, [], ◌∷◌, true, is_some, IfO
 ghost use Rattle.tcap_traces.specs.declared.verdict.Verdict.TheVariants as verdicts;
 ghost use Rattle.tcap_traces.specs.Verdict.{status_of};
 ghost use Rattle.tcap_report.specs.Counts.{HasJudged, worst_of};
-ghost use Rattle.tcapjudge.specs.Tested.{AreCounted, IsStatus, IsWorst};
+ghost use Rattle.tcapjudge.specs.TestStatus.{AreCounted, IsStatus, IsWorst};
 
 use crate::opening::{is_folder, tell_codes, tell_text};
 use crate::outputs::{INPUT, Outputs, stand_ins};

@@ -3,10 +3,10 @@ use Rattle.std.proofs.lemmas.List.{length-append}
 use Rattle.tcap_ber.specs.declared.fault.Fault.{Fault}
 use Rattle.tcap_ber.specs.declared.element.Outer.{Outer}
 use Rattle.tcap_ber.specs.declared.element.Outer.TheVariants.{Whole, Need}
-use Rattle.tcap_ber.specs.Walking.{outer_at}
+use Rattle.tcap_ber.specs.WalkResult.{outer_at}
 use Rattle.tcap_ber.proofs.ElementLaws.{element_len_at_least}
 use Rattle.tcap_ber.proofs.OuterLaws.{outer_whole}
-use Rattle.tcap_bench.specs.Whole.{whole_len}
+use Rattle.tcap_bench.specs.ElementLength.{whole_len}
 use Rattle.tcap_bench.proofs.count_walked.Goals as goal
 
 -- no octets contain no whole element

@@ -1,7 +1,7 @@
 use Rattle.std.proofs.Common.{◌≡◌, [], length}
-use Rattle.tcap_ber.specs.Walking.{outer_at}
-use Rattle.tcap_ber.specs.Resuming.{resumes}
-use Rattle.tcap_bench.specs.Whole.{whole_len}
+use Rattle.tcap_ber.specs.WalkResult.{outer_at}
+use Rattle.tcap_ber.specs.ResumedWalk.{resumes}
+use Rattle.tcap_bench.specs.ElementLength.{whole_len}
 use Rattle.tcap_bench.proofs.count_walked.Given as goal
 
 -- the walk of the rest gives the answer for all octets, and `len` is the length in the answer so far

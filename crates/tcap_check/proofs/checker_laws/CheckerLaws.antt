@@ -14,10 +14,10 @@ use Rattle.tcap_model.specs.World.{Item}
 use Rattle.tcap_model.specs.Run.{Event}
 use Rattle.tcap_certificate.specs.Certificate.{Certificate}
 use Rattle.tcap_check.specs.Progress.{nothing_kept}
-use Rattle.tcap_certificate.specs.Replayed.{Replay, certificate_fits, discards_by, entries_by, lost_last, nothing_replayed, replay_by, run_by}
-use Rattle.tcap_check.specs.Checking.{Checking, Kept, TookListed, count_ahead, count_waiting, kept_ended, kept_next, kept_of, map_ok, progress_of, report_of, reported, so_far_of, taken}
+use Rattle.tcap_certificate.specs.Replay.{Replay, certificate_fits, discards_by, entries_by, lost_last, nothing_replayed, replay_by, run_by}
+use Rattle.tcap_check.specs.CheckerMeaning.{Checking, Kept, TookListed, count_ahead, count_waiting, kept_ended, kept_next, kept_of, map_ok, progress_of, report_of, reported, so_far_of, taken}
 use Rattle.tcap_check.specs.declared.step.Step.{Step}
-use Rattle.tcap_check.specs.Told.{Told, discards_of, events_of, told_if, told_of}
+use Rattle.tcap_check.specs.ReportedSteps.{Told, discards_of, events_of, told_if, told_of}
 use Rattle.tcap_check.proofs.checker_laws.EntryLaws.{took_end, took_next}
 use Rattle.tcap_check.proofs.progress_laws.KeptPending.{pending_is}
 

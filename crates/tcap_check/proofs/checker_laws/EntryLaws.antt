@@ -12,10 +12,10 @@ use Rattle.tcap_check.specs.declared.outline.Outline.{Outline}
 use Rattle.tcap_check.specs.declared.progress.Progress.{Progress}
 use Rattle.tcap_model.specs.World.{Item}
 use Rattle.tcap_certificate.specs.Certificate.{Certificate}
-use Rattle.tcap_certificate.specs.Replayed.{Replay, certificate_fits, entries_by, entry_by, fault_at, gap_by, item_by, lost_last, next_entry, nothing_replayed}
-use Rattle.tcap_check.specs.Outlines.{is_named, outline_of, outlines_from, since_from}
+use Rattle.tcap_certificate.specs.Replay.{Replay, certificate_fits, entries_by, entry_by, fault_at, gap_by, item_by, lost_last, next_entry, nothing_replayed}
+use Rattle.tcap_check.specs.EntryOutlines.{is_named, outline_of, outlines_from, since_from}
 use Rattle.tcap_check.specs.Progress.{last_lost}
-use Rattle.tcap_check.specs.Checking.{Checking, Kept, TookListed, ended, entry_kept, gap_before, kept_ended, kept_next, kept_of, kept_with, map_ok, progress_of, taken, taken_from, taken_next}
+use Rattle.tcap_check.specs.CheckerMeaning.{Checking, Kept, TookListed, ended, entry_kept, gap_before, kept_ended, kept_next, kept_of, kept_with, map_ok, progress_of, taken, taken_from, taken_next}
 use Rattle.tcap_check.proofs.progress_laws.KeptBasics.{last_is, map_both, ok_behind, then_same, then_then}
 use Rattle.tcap_check.proofs.progress_laws.KeptEntries.{item_is, item_sends, outlines_more, since_more}
 use Rattle.tcap_check.proofs.progress_laws.KeptGaps.{gap_is}

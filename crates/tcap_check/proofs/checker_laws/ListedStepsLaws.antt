@@ -12,12 +12,12 @@ use Rattle.tcap_check.specs.declared.replaying.Replaying.{Replaying}
 use Rattle.tcap_check.specs.declared.runs.Partial.{Partial}
 use Rattle.tcap_check.specs.declared.step.Step.{Step}
 use Rattle.tcap_certificate.specs.Certificate.{Certificate}
-use Rattle.tcap_check.specs.Checking.{TookListed, kept_ended, map_ok}
+use Rattle.tcap_check.specs.CheckerMeaning.{TookListed, kept_ended, map_ok}
 use Rattle.tcap_check.specs.Progress.{YieldsInMemory}
-use Rattle.tcap_check.specs.Ready.{checking_of, kept_in}
-use Rattle.tcap_certificate.specs.Replayed.{certificate_fits, discards_by, fault_at, replay_by, replayed_by}
-use Rattle.tcap_check.specs.Stands.{EndsListed, UnlessMemory, IsAnswered, IsRefusedThere, ShowsAmong, answered}
-use Rattle.tcap_check.specs.Told.{discards_of, events_of, told_of}
+use Rattle.tcap_check.specs.ReplayInvariants.{checking_of, kept_in}
+use Rattle.tcap_certificate.specs.Replay.{certificate_fits, discards_by, fault_at, replay_by, replayed_by}
+use Rattle.tcap_check.specs.RunSoFar.{EndsListed, UnlessMemory, IsAnswered, IsRefusedThere, ShowsAmong, answered}
+use Rattle.tcap_check.specs.ReportedSteps.{discards_of, events_of, told_of}
 use Rattle.tcap_check.proofs.checker_laws.CheckerLaws.{discards_so, ends_so, listed_err, listed_ok}
 use Rattle.tcap_check.proofs.checker_laws.RecordLaws.{run_given, run_may}
 use Rattle.tcap_check.proofs.refusal_laws.SendShows.{unfit_shows}

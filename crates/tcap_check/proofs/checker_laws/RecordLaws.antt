@@ -16,13 +16,13 @@ use Rattle.tcap_model.specs.World.{Item}
 use Rattle.tcap_model.specs.Run.{Event}
 use Rattle.tcap_certificate.specs.Certificate.{Certificate}
 use Rattle.tcap_model.specs.Entries.{AreItems, item_of}
-use Rattle.tcap_check.specs.AloneGiven.{IsGivenTo}
-use Rattle.tcap_check.specs.Given.{SaysLawful}
-use Rattle.tcap_certificate.specs.Replayed.{Replay, discards_by, fault_at, replay_by, replayed_by}
-use Rattle.tcap_check.specs.Told.{MayAllBeDiscarded}
+use Rattle.tcap_check.specs.OneEndRun.{IsGivenTo}
+use Rattle.tcap_check.specs.GivenRun.{SaysLawful}
+use Rattle.tcap_certificate.specs.Replay.{Replay, discards_by, fault_at, replay_by, replayed_by}
+use Rattle.tcap_check.specs.ReportedSteps.{MayAllBeDiscarded}
 use Rattle.tcap_model.specs.declared.reason.Reason.TheVariants.{Memory}
-use Rattle.tcap_check.specs.Checking.{Checking, Kept, TookListed, ended, kept_next, kept_of, map_ok, reported, taken, taken_next}
-use Rattle.tcap_check.specs.Ready.{checking_of, kept_in}
+use Rattle.tcap_check.specs.CheckerMeaning.{Checking, Kept, TookListed, ended, kept_next, kept_of, map_ok, reported, taken, taken_next}
+use Rattle.tcap_check.specs.ReplayInvariants.{checking_of, kept_in}
 use Rattle.tcap_check.proofs.one_end_laws.AloneRuns.{gives_for}
 use Rattle.tcap_check.proofs.checker_laws.CheckerLaws.{checking, ends_so, given, refusing, took_err, took_ok}
 use Rattle.tcap_check.proofs.replay_laws.DiscardLaws.{all_may}

@@ -15,11 +15,11 @@ use Rattle.tcap_model.specs.World.{Item, Sent}
 use Rattle.tcap_check.specs.declared.checker.Report.{Report}
 use Rattle.tcap_certificate.specs.declared.fault.CheckFault.{CheckFault}
 use Rattle.tcap_certificate.specs.Certificate.{Certificate}
-use Rattle.tcap_check.specs.Checking.{Checking, Kept, Took, answer_of, ended, map_ok, reported, taken}
-use Rattle.tcap_check.specs.Given.{IsBounded, IsRefused, RefusesForGood, SaysLawful, ShowsReason}
-use Rattle.tcap_certificate.specs.Named.{IsDescribedBy}
-use Rattle.tcap_certificate.specs.Replayed.{Replay, certificate_fits, entries_by, fault_at, nothing_replayed, replayed_by, run_by}
-use Rattle.tcap_certificate.specs.Unheard.{steps_of, unheard_of}
+use Rattle.tcap_check.specs.CheckerMeaning.{Checking, Kept, Took, answer_of, ended, map_ok, reported, taken}
+use Rattle.tcap_check.specs.GivenRun.{IsBounded, IsRefused, RefusesForGood, SaysLawful, ShowsReason}
+use Rattle.tcap_certificate.specs.HalfNames.{IsDescribedBy}
+use Rattle.tcap_certificate.specs.Replay.{Replay, certificate_fits, entries_by, fault_at, nothing_replayed, replayed_by, run_by}
+use Rattle.tcap_certificate.specs.LossCounts.{steps_of, unheard_of}
 use Rattle.tcap_check.proofs.one_end_laws.AloneReplays.{entries_lead}
 use Rattle.tcap_check.proofs.one_end_laws.AloneRuns.{gives_for}
 use Rattle.tcap_check.proofs.checker_laws.CheckerLaws.{ends_so, given, refusing}

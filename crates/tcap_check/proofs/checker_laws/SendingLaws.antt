@@ -12,11 +12,11 @@ use Rattle.tcap_model.specs.declared.reason.Reason.TheVariants.{BadReply}
 use Rattle.tcap_check.specs.declared.progress.Progress.{Progress}
 use Rattle.tcap_check.specs.declared.progress.Waiting.{Waiting}
 use Rattle.tcap_record.specs.Ends.{other}
-use Rattle.tcap_certificate.specs.Follows.{invoke_id}
-use Rattle.tcap_certificate.specs.Replayed.{fault_at}
+use Rattle.tcap_certificate.specs.DescribedRun.{invoke_id}
+use Rattle.tcap_certificate.specs.Replay.{fault_at}
 use Rattle.tcap_end.specs.declared.fault.EndFault.{EndFault}
 use Rattle.tcap_end.specs.End.{End}
-use Rattle.tcap_end.specs.Hidden.{expire}
+use Rattle.tcap_end.specs.HiddenSteps.{expire}
 use Rattle.tcap_model.specs.Run.{Event, Expires, Replies}
 use Rattle.tcap_check.specs.Progress.{IsAsMany, end_tried, moved, or_still, seat_at, with_seat_end, with_waiting, first_answered, first_may_be_answered, ids_ended_over, invoked_ended, sent_by}
 

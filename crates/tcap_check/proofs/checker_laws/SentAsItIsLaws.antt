@@ -9,14 +9,14 @@ use Rattle.tcap_record.specs.declared.entry.End.{End as Side}
 use Rattle.tcap_end.specs.declared.fault.EndFault.{EndFault}
 use Rattle.tcap_end.specs.declared.half.HalfName.{HalfName}
 use Rattle.tcap_end.specs.End.{End}
-use Rattle.tcap_end.specs.Hidden.{expire}
+use Rattle.tcap_end.specs.HiddenSteps.{expire}
 use Rattle.tcap_end.specs.Message.{send}
 use Rattle.tcap_end.specs.Table.{Table}
 use Rattle.tcap_certificate.specs.declared.certificate.Fate.{Fate}
 use Rattle.tcap_check.specs.declared.progress.Progress.{Progress}
 use Rattle.tcap_model.specs.Run.{Expires, Sends}
-use Rattle.tcap_certificate.specs.Follows.{invoke_id, invoking_half}
-use Rattle.tcap_check.specs.Given.{IsInUse}
+use Rattle.tcap_certificate.specs.DescribedRun.{invoke_id, invoking_half}
+use Rattle.tcap_check.specs.GivenRun.{IsInUse}
 use Rattle.tcap_check.specs.Progress.{ids_ended, ids_ended_over, or_still, seat_at, send_kept, sent_by, sent_or_not, with_seat_end}
 use Rattle.tcap_check.proofs.described_run_laws.ExpiryLaws.{ends_in_use}
 use Rattle.tcap_check.proofs.described_run_laws.ImpliedLaws.{sent_frees}

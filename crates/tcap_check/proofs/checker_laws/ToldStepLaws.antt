@@ -6,7 +6,7 @@ use Rattle.tcap_end.specs.declared.fault.EndFault.{EndFault}
 use Rattle.tcap_model.specs.Run.{Event, Loses}
 use Rattle.tcap_check.specs.declared.step.Step.{Step}
 use Rattle.tcap_check.specs.declared.step.Step.TheVariants as steps
-use Rattle.tcap_check.specs.Told.{Told, discard_more, discard_of, discards_of, event_of, events_of, more_told, told_if, told_of}
+use Rattle.tcap_check.specs.ReportedSteps.{Told, discard_more, discard_of, discards_of, event_of, events_of, more_told, told_if, told_of}
 
 events_more : (list : List Step) (step : Step) → events_of (list ++ step ∷ []) ≡ events_of list ++ event_of step ∷ []
 events_more [] step = refl

@@ -9,7 +9,7 @@ use Rattle.tcap_record.specs.declared.entry.End.TheVariants as sides
 use Rattle.tcap_end.specs.declared.half.HalfName.{HalfName}
 use Rattle.tcap_end.specs.Table.{Table}
 use Rattle.tcap_end.specs.End.{End}
-use Rattle.tcap_end.specs.Hidden.{close, expire}
+use Rattle.tcap_end.specs.HiddenSteps.{close, expire}
 use Rattle.tcap_end.specs.Message.{receive}
 use Rattle.tcap_certificate.specs.declared.certificate.Fate.{Fate}
 use Rattle.tcap_certificate.specs.declared.certificate.Fate.TheVariants.{Gap, Lost, By}
@@ -17,8 +17,8 @@ use Rattle.tcap_certificate.specs.Certificate.{Certificate}
 use Rattle.tcap_record.specs.Ends.{other}
 use Rattle.tcap_model.specs.World.{Item, OnItsWay, World, channel_from, empty, end_at, with_channel, with_end}
 use Rattle.tcap_model.specs.Run.{Event, Sends, Receives, Replies, Loses, Expires, Closes, Quiet, Tells, Runs, after, joined, played, reply_to}
-use Rattle.tcap_certificate.specs.Follows.{without_losses}
-use Rattle.tcap_certificate.specs.Replayed.{Replay, if_lost, lost_before, lost_from_both, lost_from_front, lost_front, stepped, with_step}
+use Rattle.tcap_certificate.specs.DescribedRun.{without_losses}
+use Rattle.tcap_certificate.specs.Replay.{Replay, if_lost, lost_before, lost_from_both, lost_from_front, lost_front, stepped, with_step}
 use Rattle.tcap_model.proofs.RunLaws.{played_on}
 use Rattle.tcap_check.proofs.replay_laws.ReplaySteps.{channel_with}
 use Rattle.tcap_check.proofs.replay_laws.WaitingLaws.{behind_lost, waiting, waiting_by}

@@ -18,8 +18,8 @@ use Rattle.tcap_model.specs.World.{Item, Sent, World, channel_from, is_side}
 use Rattle.tcap_model.specs.Run.{Event, Receives, Replies, Runs, numbers_of, numbers_taken, takes_from, then_so, where_so}
 use Rattle.tcap_certificate.specs.Certificate.{Certificate}
 use Rattle.tcap_model.specs.World.{has_quiet}
-use Rattle.tcap_certificate.specs.Follows.{FatesFit, Follows, FollowsFrom, closing_by, closing_event, deliveries, expiry_by, expiry_event, gap_events, named_entry, taken_by, without_losses}
-use Rattle.tcap_certificate.specs.Replayed.{all_fit, certificate_fits, fates_fit, is_later, is_overtaking, time_of}
+use Rattle.tcap_certificate.specs.DescribedRun.{FatesFit, Follows, FollowsFrom, closing_by, closing_event, deliveries, expiry_by, expiry_event, gap_events, named_entry, taken_by, without_losses}
+use Rattle.tcap_certificate.specs.Replay.{all_fit, certificate_fits, fates_fit, is_later, is_overtaking, time_of}
 use Rattle.tcap_model.proofs.ListLaws.{all_weaker}
 use Rattle.tcap_model.proofs.ChannelLaws.{in_order}
 use Rattle.tcap_check.proofs.described_run_laws.OrderLaws.{Rises, Takes, here_takes, in_turn, rises_front, rises_without, run_timed, sending_takes, step_takes}

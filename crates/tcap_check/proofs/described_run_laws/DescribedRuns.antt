@@ -18,8 +18,8 @@ use Rattle.tcap_model.specs.declared.reason.Reason.{Reason}
 use Rattle.tcap_model.specs.declared.reason.Reason.TheVariants.{FateCount, FateRange, NotQuiet, OutOfOrder}
 use Rattle.tcap_certificate.specs.Certificate.{Certificate}
 use Rattle.tcap_model.specs.Entries.{AreItems, IsItem, item_of}
-use Rattle.tcap_certificate.specs.Follows.{FatesFit, Follows, FollowsFrom, IsImplied, gap_events, losses_from, lost_from, quiet_by, sending, sending_by, taken_by, without_losses}
-use Rattle.tcap_certificate.specs.Replayed.{Replay, certificate_fits, entries_by, fault_at, gap_by, happens, is_gap, is_nothing, is_overtaking, item_by, lost_before, lost_from_both, mark_judged, next_entry, nothing_replayed, own_judged, replayed_by, stepped}
+use Rattle.tcap_certificate.specs.DescribedRun.{FatesFit, Follows, FollowsFrom, IsImplied, gap_events, losses_from, lost_from, quiet_by, sending, sending_by, taken_by, without_losses}
+use Rattle.tcap_certificate.specs.Replay.{Replay, certificate_fits, entries_by, fault_at, gap_by, happens, is_gap, is_nothing, is_overtaking, item_by, lost_before, lost_from_both, mark_judged, next_entry, nothing_replayed, own_judged, replayed_by, stepped}
 use Rattle.tcap_model.proofs.RunLaws.{grows, where_some}
 use Rattle.tcap_check.proofs.replay_laws.ReplaySteps.{both_replay}
 use Rattle.tcap_check.proofs.replay_laws.ReplayGaps.{gap_events_before}

@@ -15,7 +15,7 @@ use Rattle.tcap_end.specs.declared.half.HalfName.{HalfName}
 use Rattle.tcap_end.specs.End.{End}
 use Rattle.tcap_end.specs.Table.{Table}
 use Rattle.tcap_end.specs.Message.{send}
-use Rattle.tcap_end.specs.Sound.{IsEnd}
+use Rattle.tcap_end.specs.ReachableEnd.{IsEnd}
 use Rattle.tcap_model.specs.World.{Item, Sent, World, end_at, with_end}
 use Rattle.tcap_model.specs.Run.{Event, Sends, Receives, Replies, Loses, Expires, Closes, Quiet, Tells, after, joined, played, then_so}
 use Rattle.tcap_certificate.specs.declared.certificate.Fate.{Fate}
@@ -23,8 +23,8 @@ use Rattle.tcap_certificate.specs.declared.certificate.Fate.TheVariants.{By}
 use Rattle.tcap_certificate.specs.declared.fault.CheckFault.{CheckFault}
 use Rattle.tcap_model.specs.declared.reason.Reason.TheVariants.{BadReply}
 use Rattle.tcap_certificate.specs.Certificate.{Certificate}
-use Rattle.tcap_certificate.specs.Follows.{IsImplied, invoke_id, invoking_half, sending, sending_by, taken_by}
-use Rattle.tcap_certificate.specs.Replayed.{Replay, fault_at, happens, implied, implied_over, is_abort, lost_before, message_by, next_entry, or_same, own_message, reply_replayed, send_replayed, stepped, with_step}
+use Rattle.tcap_certificate.specs.DescribedRun.{IsImplied, invoke_id, invoking_half, sending, sending_by, taken_by}
+use Rattle.tcap_certificate.specs.Replay.{Replay, fault_at, happens, implied, implied_over, is_abort, lost_before, message_by, next_entry, or_same, own_message, reply_replayed, send_replayed, stepped, with_step}
 use Rattle.tcap_model.proofs.ChannelLaws.{get_new}
 use Rattle.tcap_model.proofs.RunLaws.{expiry, grows, map_some, sending as sending_of, sound}
 use Rattle.tcap_check.proofs.replay_laws.ReplayLaws.{reply_replays, send_replays}

@@ -18,18 +18,18 @@ use Rattle.tcap_end.specs.declared.half.HalfName.{HalfName}
 use Rattle.tcap_end.specs.declared.half.HalfName.TheVariants as names
 use Rattle.tcap_end.specs.declared.half.Slot.{Slot}
 use Rattle.tcap_end.specs.declared.half.Slot.TheVariants.{Begun, Accepted}
-use Rattle.tcap_end.specs.declared.outs.OwnInvocation.{OwnInvocation}
+use Rattle.tcap_end.specs.declared.own_invocations.OwnInvocation.{OwnInvocation}
 use Rattle.tcap_end.specs.Component.{own_invocation}
 use Rattle.tcap_end.specs.End.{End, KeptHalf, first_half, half_where, is_id, named, put}
 use Rattle.tcap_end.specs.Half.{Half, is_closed}
-use Rattle.tcap_end.specs.Hidden.{expire, may_expire, without_invocation}
-use Rattle.tcap_end.specs.Sound.{IsEnd, Rises}
+use Rattle.tcap_end.specs.HiddenSteps.{expire, may_expire, without_invocation}
+use Rattle.tcap_end.specs.ReachableEnd.{IsEnd, Rises}
 use Rattle.tcap_end.specs.Table.{Table, octets_cmp}
 use Rattle.tcap_end.proofs.AnsweringLaws.{needs_ok, ok_same, some_ok, then_ok}
 use Rattle.tcap_end.proofs.FoundLaws.{named_has, octets_total}
 use Rattle.tcap_end.proofs.HiddenLaws.{invoked_ends}
 use Rattle.tcap_end.proofs.MapLaws.{behind_first, insert_twice, keys_eq}
-use Rattle.tcap_check.specs.Given.{IsInUse}
+use Rattle.tcap_check.specs.GivenRun.{IsInUse}
 use Rattle.tcap_model.proofs.ListLaws.{contains_first}
 
 -- ---- entries by key

@@ -9,15 +9,15 @@ use Rattle.tcap_end.specs.Table.{Table}
 use Rattle.tcap_end.specs.Half.{closed_half, is_closed}
 use Rattle.tcap_end.specs.Component.{own_invocation}
 use Rattle.tcap_end.specs.End.{End, KeptHalf, put}
-use Rattle.tcap_end.specs.Hidden.{may_close, may_expire, without_invocation}
+use Rattle.tcap_end.specs.HiddenSteps.{may_close, may_expire, without_invocation}
 use Rattle.tcap_end.specs.Step.{needs, ◌>>◌, ◌>>=◌}
 use Rattle.tcap_model.specs.World.{Item, World, empty, end_at, with_end}
 use Rattle.tcap_model.specs.Run.{Event, Sends, Receives, Replies, Loses, Expires, Closes, Quiet, Tells, IsRunOf, after, played, then_so}
 use Rattle.tcap_certificate.specs.Certificate.{Certificate}
 use Rattle.tcap_model.specs.Entries.{AreItems}
-use Rattle.tcap_certificate.specs.Follows.{Follows}
-use Rattle.tcap_certificate.specs.Named.{AreSameEvents, IsDescribedBy, IsSameEvent}
-use Rattle.tcap_certificate.specs.Replayed.{replayed_by}
+use Rattle.tcap_certificate.specs.DescribedRun.{Follows}
+use Rattle.tcap_certificate.specs.HalfNames.{AreSameEvents, IsDescribedBy, IsSameEvent}
+use Rattle.tcap_certificate.specs.Replay.{replayed_by}
 use Rattle.tcap_check.proofs.described_run_laws.DescribedRuns.{followed_is_given}
 
 -- the end after an expiry on the half that the name finds, if it can happen

@@ -24,23 +24,23 @@ use Rattle.tcap_end.specs.declared.fault.EndFault.TheVariants as faults
 use Rattle.tcap_end.specs.declared.half.HalfName.{HalfName}
 use Rattle.tcap_end.specs.declared.half.HalfName.TheVariants as names
 use Rattle.tcap_end.specs.declared.half.InvocationState.TheVariants as states
-use Rattle.tcap_end.specs.declared.outs.OwnInvocation.{OwnInvocation}
+use Rattle.tcap_end.specs.declared.own_invocations.OwnInvocation.{OwnInvocation}
 use Rattle.tcap_end.specs.Component.{may_answer, may_link, own_invocation, send_answer, send_component, send_invoke, send_reject}
 use Rattle.tcap_end.specs.Dialogue.{may_go_on}
 use Rattle.tcap_end.specs.Half.{Half, closed_half, is_closed, one_fits, without_oldest_of}
-use Rattle.tcap_end.specs.Hidden.{expire}
+use Rattle.tcap_end.specs.HiddenSteps.{expire}
 use Rattle.tcap_end.specs.Table.{Table, operation_of}
 use Rattle.tcap_end.specs.End.{End, KeptHalf, is_id, named, put as put_half, with_own, with_peer}
 use Rattle.tcap_end.specs.Message.{is_active, send, send_components, send_continue, send_end, send_next_continue}
-use Rattle.tcap_end.specs.Sound.{IsEnd}
+use Rattle.tcap_end.specs.ReachableEnd.{IsEnd}
 use Rattle.tcap_end.proofs.AnsweringLaws.{needs_ok, ok_same, some_ok, then_ok}
 use Rattle.tcap_end.proofs.MapLaws.{found_other}
 use Rattle.tcap_end.proofs.StepLaws.{expires, none_is}
 use Rattle.tcap_model.specs.World.{Sent, World, end_at, with_end}
 use Rattle.tcap_model.specs.Run.{Event, Sends, Receives, Replies, Loses, Expires, Closes, Quiet, Tells, after, played, then_so}
-use Rattle.tcap_certificate.specs.Follows.{IsImplied, invoke_id, invoking_half}
-use Rattle.tcap_check.specs.Given.{IsInUse}
-use Rattle.tcap_certificate.specs.Replayed.{Replay, implied, or_same, stepped, with_step}
+use Rattle.tcap_certificate.specs.DescribedRun.{IsImplied, invoke_id, invoking_half}
+use Rattle.tcap_check.specs.GivenRun.{IsInUse}
+use Rattle.tcap_certificate.specs.Replay.{Replay, implied, or_same, stepped, with_step}
 use Rattle.tcap_model.proofs.RunLaws.{expiry}
 use Rattle.tcap_model.proofs.ListLaws.{contains_first}
 use Rattle.tcap_check.proofs.described_run_laws.ExpiryLaws.{Expire, all_in_use, ends_in_use, expires_first, in_use, not_in_use, one_of_them}

@@ -17,8 +17,8 @@ use Rattle.tcap_model.specs.Run.{Event, Sends, Replies, numbers_taken, takes_fro
 use Rattle.tcap_certificate.specs.declared.certificate.Fate.{Fate}
 use Rattle.tcap_certificate.specs.declared.certificate.Fate.TheVariants.{Gap, Lost, By}
 use Rattle.tcap_certificate.specs.Certificate.{Certificate}
-use Rattle.tcap_certificate.specs.Follows.{FollowsFrom, IsImplied, deliveries, gap_events, is_loss, quiet_by, sending_by, taken_by, without_losses}
-use Rattle.tcap_certificate.specs.Replayed.{time_of}
+use Rattle.tcap_certificate.specs.DescribedRun.{FollowsFrom, IsImplied, deliveries, gap_events, is_loss, quiet_by, sending_by, taken_by, without_losses}
+use Rattle.tcap_certificate.specs.Replay.{time_of}
 use Rattle.tcap_model.proofs.ListLaws.{all_both, all_weaker}
 use Rattle.tcap_model.proofs.RunLaws.{where_some, some_is}
 use Rattle.tcap_check.proofs.replay_laws.ListedEventLaws.{gap_split, all_implied}

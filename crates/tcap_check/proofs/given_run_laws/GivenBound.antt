@@ -13,7 +13,7 @@ use Rattle.tcap_record.specs.declared.entry.End.{End as Side}
 use Rattle.tcap_record.specs.declared.entry.End.TheVariants.{A, B}
 use Rattle.tcap_end.specs.declared.half.HalfName.{HalfName}
 use Rattle.tcap_end.specs.End.{End}
-use Rattle.tcap_end.specs.Sound.{IsEnd}
+use Rattle.tcap_end.specs.ReachableEnd.{IsEnd}
 use Rattle.tcap_end.specs.Table.{Table}
 use Rattle.tcap_end.proofs.StepLaws.{expires}
 use Rattle.tcap_model.specs.World.{Item, OnItsWay, Sent, World, empty, end_at, with_channel, with_end}
@@ -24,7 +24,7 @@ use Rattle.tcap_certificate.specs.declared.certificate.Fate.{Fate}
 use Rattle.tcap_certificate.specs.declared.certificate.Fate.TheVariants.{Gap, Lost, By}
 use Rattle.tcap_certificate.specs.Certificate.{Certificate}
 use Rattle.tcap_model.specs.Entries.{count_components}
-use Rattle.tcap_certificate.specs.Follows.{Follows, FollowsFrom, IsImplied, closing_event, deliveries, expiry_event, gap_events, invoke_id, invoking_half, is_loss, quiet_by, sending, sending_by, taken_by, without_losses}
+use Rattle.tcap_certificate.specs.DescribedRun.{Follows, FollowsFrom, IsImplied, closing_event, deliveries, expiry_event, gap_events, invoke_id, invoking_half, is_loss, quiet_by, sending, sending_by, taken_by, without_losses}
 use Rattle.tcap_model.proofs.RunLaws.{played_on}
 use Rattle.tcap_model.proofs.RunLaws.{expiry, loss, sound as ends_sound}
 use Rattle.tcap_check.proofs.given_run_laws.StepCounts.{expired, fewer, filter_map_most, hides, in_use, joins_most, one, one_most, steps_most, taken_most, total, total_both, total_most}

@@ -14,7 +14,7 @@ use Rattle.tcap_model.specs.Run.{Event, Sends, Replies, Quiet, numbers_taken, ta
 use Rattle.tcap_certificate.specs.declared.certificate.Fate.{Fate}
 use Rattle.tcap_certificate.specs.declared.certificate.Fate.TheVariants.{Gap, Lost, By}
 use Rattle.tcap_certificate.specs.Certificate.{Certificate}
-use Rattle.tcap_certificate.specs.Follows.{FollowsFrom, IsImplied, deliveries, gap_events, quiet_by, sending, sending_by, taken_by}
+use Rattle.tcap_certificate.specs.DescribedRun.{FollowsFrom, IsImplied, deliveries, gap_events, quiet_by, sending, sending_by, taken_by}
 use Rattle.tcap_check.proofs.given_run_laws.GivenLosses.{IsFated, is_lost, taken_fated, says_lost}
 use Rattle.tcap_model.proofs.ListLaws.{all_both}
 use Rattle.tcap_model.proofs.RunLaws.{some_is}

@@ -14,8 +14,8 @@ use Rattle.tcap_model.specs.World.{Item, OnItsWay, Sent, World, channel_from, is
 use Rattle.tcap_model.specs.Run.{Event, Sends, Receives, Replies, Loses, Expires, Closes, Quiet, Tells, KeepsRules, Runs, numbers_of, numbers_sent, numbers_taken, takes_from}
 use Rattle.tcap_certificate.specs.declared.certificate.Fate.{Fate}
 use Rattle.tcap_certificate.specs.declared.certificate.Fate.TheVariants.{Gap, Lost, By}
-use Rattle.tcap_certificate.specs.Follows.{FatesFit, is_loss, losses_from, lost_from, taken_by, without_losses}
-use Rattle.tcap_model.specs.Since.{WasSent}
+use Rattle.tcap_certificate.specs.DescribedRun.{FatesFit, is_loss, losses_from, lost_from, taken_by, without_losses}
+use Rattle.tcap_model.specs.SinceMark.{WasSent}
 use Rattle.tcap_model.proofs.ChannelLaws.{are_whole, in_order, were_sent}
 use Rattle.tcap_check.proofs.given_run_laws.NumberLaws.{among_losses, among_plain, filter_all, loss_of, losses_apart, losses_first, parts_apart}
 use Rattle.tcap_model.proofs.ListLaws.{all_weaker}

@@ -23,9 +23,9 @@ use Rattle.tcap_certificate.specs.declared.fault.CheckFault.{CheckFault}
 use Rattle.tcap_model.specs.declared.reason.Reason.{Reason}
 use Rattle.tcap_certificate.specs.Certificate.{Certificate}
 use Rattle.tcap_model.specs.Entries.{AreItems, count_components, item_of}
-use Rattle.tcap_certificate.specs.Follows.{FatesFit, Follows, FollowsFrom, deliveries, taken_by, without_losses}
-use Rattle.tcap_check.specs.Given.{IsGiven}
-use Rattle.tcap_certificate.specs.Replayed.{Replay, all_fit, certificate_fits, entries_by, fates_fit, if_lost, lost_from_both, lost_front, nothing_replayed, replayed_by}
+use Rattle.tcap_certificate.specs.DescribedRun.{FatesFit, Follows, FollowsFrom, deliveries, taken_by, without_losses}
+use Rattle.tcap_check.specs.GivenRun.{IsGiven}
+use Rattle.tcap_certificate.specs.Replay.{Replay, all_fit, certificate_fits, entries_by, fates_fit, if_lost, lost_from_both, lost_front, nothing_replayed, replayed_by}
 use Rattle.tcap_check.proofs.given_run_laws.GivenBound.{described_bound}
 use Rattle.tcap_check.proofs.given_run_laws.NumberLaws.{among_plain, taken_right}
 use Rattle.tcap_check.proofs.given_run_laws.GivenLosses.{IsFated, IsSettled, fated_keeps, fits_gap, fits_reply, is_lost, left_lost, losses_are, says_lost}

@@ -7,7 +7,7 @@ use Rattle.tcap_end.specs.Table.{Table}
 use Rattle.tcap_model.specs.World.{Item, OnItsWay, World, channel_from}
 use Rattle.tcap_model.specs.Run.{Event, Runs, numbers_of, numbers_sent, numbers_taken}
 use Rattle.tcap_certificate.specs.Certificate.{Certificate}
-use Rattle.tcap_certificate.specs.Follows.{Follows, lost_from, without_losses}
+use Rattle.tcap_certificate.specs.DescribedRun.{Follows, lost_from, without_losses}
 use Rattle.tcap_model.proofs.ChannelLaws.{are_whole, in_order}
 use Rattle.tcap_check.proofs.given_run_laws.NumberLaws.{among_losses, among_plain, parts_apart}
 use Rattle.tcap_check.proofs.given_run_laws.GivenLosses.{IsSettled, filter_sent, is_lost, left_lost}

@@ -5,15 +5,15 @@ use Rattle.std.specs.List.{cons_option}
 use Rattle.std.proofs.lemmas.List.{length-append}
 use Rattle.tcap_record.specs.declared.entry.End.TheVariants.{A, B}
 use Rattle.tcap_end.specs.declared.half.HalfName.{HalfName}
-use Rattle.tcap_end.specs.declared.outs.OwnInvocation.{OwnInvocation}
+use Rattle.tcap_end.specs.declared.own_invocations.OwnInvocation.{OwnInvocation}
 use Rattle.tcap_end.specs.Component.{own_invocation}
 use Rattle.tcap_end.specs.End.{End, KeptHalf, named}
-use Rattle.tcap_end.specs.Hidden.{expire}
-use Rattle.tcap_end.specs.Sound.{IsEnd}
+use Rattle.tcap_end.specs.HiddenSteps.{expire}
+use Rattle.tcap_end.specs.ReachableEnd.{IsEnd}
 use Rattle.tcap_end.specs.Table.{Table}
 use Rattle.tcap_model.specs.World.{Item, Sent, World, channel_from}
 use Rattle.tcap_model.specs.Run.{Adds, Event, Sends, Receives, Replies, Loses, Expires, Closes, Quiet, Tells, Runs, after, numbers_of, numbers_sent, numbers_taken, takes_from, then_so}
-use Rattle.tcap_check.specs.Given.{IsInUse}
+use Rattle.tcap_check.specs.GivenRun.{IsInUse}
 use Rattle.tcap_model.proofs.ChannelLaws.{are_whole}
 use Rattle.tcap_check.proofs.described_run_laws.ExpiryLaws.{ends_in_use, not_in_use, was_in_use}
 use Rattle.tcap_model.proofs.RunLaws.{grows, runs_keep}

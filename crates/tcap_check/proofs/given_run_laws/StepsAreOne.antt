@@ -13,7 +13,7 @@ use Rattle.tcap_model.proofs.ListLaws.{contains_first}
 use Rattle.tcap_model.proofs.RunLaws.{same_side, some_is}
 use Rattle.tcap_check.specs.declared.step.Step.{Step}
 use Rattle.tcap_check.specs.declared.step.Step.TheVariants as steps
-use Rattle.tcap_check.specs.Told.{discard_of, discards_of, event_of, events_of}
+use Rattle.tcap_check.specs.ReportedSteps.{discard_of, discards_of, event_of, events_of}
 use Rattle.tcap_check.proofs.replay_laws.DiscardReasons.{none_in}
 use Rattle.tcap_model.proofs.WorldLaws.{itself}
 use Rattle.tcap_check.proofs.refusal_laws.TakenNumberLaws.{taken_sent}

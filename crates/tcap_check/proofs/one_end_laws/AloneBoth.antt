@@ -11,7 +11,7 @@ use Rattle.tcap_end.specs.declared.half.HalfName.{HalfName}
 use Rattle.tcap_end.specs.declared.half.HalfName.TheVariants as names
 use Rattle.tcap_end.specs.Half.{Half, is_closed}
 use Rattle.tcap_end.specs.Table.{Table}
-use Rattle.tcap_end.specs.Hidden.{open_halves, open_names}
+use Rattle.tcap_end.specs.HiddenSteps.{open_halves, open_names}
 use Rattle.tcap_end.specs.End.{End, all_closed}
 use Rattle.tcap_end.proofs.AnsweringLaws.{needs_ok, ok_same, some_ok, then_ok}
 use Rattle.tcap_certificate.specs.declared.certificate.Fate.{Fate}
@@ -24,9 +24,9 @@ use Rattle.tcap_model.specs.Run.{Event, Quiet, after}
 use Rattle.tcap_certificate.specs.declared.certificate.Fate.TheVariants.{Lost}
 use Rattle.tcap_certificate.specs.Certificate.{Certificate}
 use Rattle.tcap_model.specs.Entries.{AreItems, item_of}
-use Rattle.tcap_certificate.specs.Follows.{losses_from, lost_from, sending_by, taken_by}
-use Rattle.tcap_certificate.specs.Replayed.{Replay, all_lost_from, certificate_fits, closed_at_mark, discards_by, entries_by, entry_by, fault_at, gap_by, is_gap, is_nothing, is_overtaking, item_by, lost_from_both, lost_from_front, mark_judged, message_by, next_entry, nothing_replayed, own_judged, own_message, replayed_by, stepped, tied, told_replayed}
-use Rattle.tcap_check.specs.AloneGiven.{DiscardsNothing}
+use Rattle.tcap_certificate.specs.DescribedRun.{losses_from, lost_from, sending_by, taken_by}
+use Rattle.tcap_certificate.specs.Replay.{Replay, all_lost_from, certificate_fits, closed_at_mark, discards_by, entries_by, entry_by, fault_at, gap_by, is_gap, is_nothing, is_overtaking, item_by, lost_from_both, lost_from_front, mark_judged, message_by, next_entry, nothing_replayed, own_judged, own_message, replayed_by, stepped, tied, told_replayed}
+use Rattle.tcap_check.specs.OneEndRun.{DiscardsNothing}
 use Rattle.tcap_check.proofs.replay_laws.DiscardReasons.{none_discarded}
 use Rattle.tcap_check.proofs.described_run_laws.DescribedGaps.{ok_both, ok_needs, ok_some, ok_then}
 use Rattle.tcap_check.proofs.described_run_laws.DescribedRuns.{items_of, items_same}

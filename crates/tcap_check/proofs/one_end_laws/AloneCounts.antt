@@ -10,12 +10,12 @@ use Rattle.tcap_record.specs.declared.entry.End.TheVariants.{A, B}
 use Rattle.tcap_end.specs.declared.half.HalfName.{HalfName}
 use Rattle.tcap_end.specs.Table.{Table}
 use Rattle.tcap_end.specs.End.{End}
-use Rattle.tcap_end.specs.Sound.{IsEnd}
+use Rattle.tcap_end.specs.ReachableEnd.{IsEnd}
 use Rattle.tcap_record.specs.Ends.{other}
 use Rattle.tcap_model.specs.World.{Item, OnItsWay, Sent, World, channel_from, empty, end_at, is_side, with_channel, with_end}
 use Rattle.tcap_model.specs.Run.{Event, Sends, Receives, Replies, Loses, Expires, Closes, Quiet, Tells, KeepsRules, Runs, after, joined, numbers_taken}
 use Rattle.tcap_model.specs.Entries.{count_components}
-use Rattle.tcap_certificate.specs.Unheard.{is_lost_from, steps_of, unheard_of}
+use Rattle.tcap_certificate.specs.LossCounts.{is_lost_from, steps_of, unheard_of}
 use Rattle.tcap_model.proofs.RunLaws.{closing, delivery, expiry, loss, quiet, reply, runs_keep, sending, sound as ends_sound, telling}
 use Rattle.tcap_model.proofs.WorldLaws.{sent_with_channel}
 use Rattle.tcap_check.proofs.given_run_laws.StepCounts.{taken_most}

@@ -17,15 +17,15 @@ use Rattle.tcap_record.specs.Ends.{other}
 use Rattle.tcap_model.specs.World.{Item, Sent, World, is_side, with_channel, with_end}
 use Rattle.tcap_model.specs.Run.{Event, Receives, Expires, Closes, after}
 use Rattle.tcap_certificate.specs.Certificate.{Certificate}
-use Rattle.tcap_certificate.specs.Follows.{losses_from}
-use Rattle.tcap_certificate.specs.Replayed.{Replay, deliveries_by, delivery_by, fault_at, gap_by, happens, heard, lost_before, lost_from_front, next_entry, stepped}
+use Rattle.tcap_certificate.specs.DescribedRun.{losses_from}
+use Rattle.tcap_certificate.specs.Replay.{Replay, deliveries_by, delivery_by, fault_at, gap_by, happens, heard, lost_before, lost_from_front, next_entry, stepped}
 use Rattle.tcap_check.proofs.described_run_laws.DescribedGaps.{ok_some}
 use Rattle.tcap_model.proofs.RunLaws.{same_side}
 use Rattle.tcap_model.proofs.RunLaws.{closing, delivery, expiry}
 use Rattle.tcap_check.proofs.one_end_laws.AloneMirrors.{Mirrors, Reflects, front_mirrors, own_front_mirrors, reflects_then, reflects_this, same_sent, seen_step, unseen_step}
 use Rattle.tcap_check.proofs.one_end_laws.AloneViews.{seen_by, seen_closing, seen_delivery, seen_expiry, unseen_channel, unseen_end}
-use Rattle.tcap_check.specs.declared.listed.Listed.{Listed}
-use Rattle.tcap_check.specs.Listed.{all_replayed, entry_of, event_listed, listed_for, listed_in, listed_judged, listed_replayed, side_of, why_refused}
+use Rattle.tcap_check.specs.declared.listed_steps.Listed.{Listed}
+use Rattle.tcap_check.specs.ListedSteps.{all_replayed, entry_of, event_listed, listed_for, listed_in, listed_judged, listed_replayed, side_of, why_refused}
 use Rattle.tcap_check.proofs.replay_laws.ListedEventLaws.{gap_is_listed, gap_parts, judged_all, listed_so}
 
 -- ---- listed events

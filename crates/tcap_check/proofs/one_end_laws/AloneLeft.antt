@@ -19,10 +19,10 @@ use Rattle.tcap_model.specs.World.{Item, OnItsWay, World, channel_from, empty, i
 use Rattle.tcap_model.specs.Run.{Event, Sends, Receives, Replies, Loses, Expires, Closes, Quiet, Tells, Runs, numbers_of, numbers_taken, played}
 use Rattle.tcap_certificate.specs.Certificate.{Certificate}
 use Rattle.tcap_model.specs.Entries.{item_of}
-use Rattle.tcap_certificate.specs.Follows.{FatesFit, losses_from}
-use Rattle.tcap_certificate.specs.Replayed.{Replay, certificate_fits, entries_by, entry_by, fault_at, gap_by, lost_from_front, next_entry, nothing_replayed, replayed_by}
-use Rattle.tcap_model.specs.Since.{WasSent}
-use Rattle.tcap_certificate.specs.Unheard.{is_lost_from, unheard_of}
+use Rattle.tcap_certificate.specs.DescribedRun.{FatesFit, losses_from}
+use Rattle.tcap_certificate.specs.Replay.{Replay, certificate_fits, entries_by, entry_by, fault_at, gap_by, lost_from_front, next_entry, nothing_replayed, replayed_by}
+use Rattle.tcap_model.specs.SinceMark.{WasSent}
+use Rattle.tcap_certificate.specs.LossCounts.{is_lost_from, unheard_of}
 use Rattle.tcap_model.proofs.ChannelLaws.{in_order, were_sent}
 use Rattle.tcap_check.proofs.given_run_laws.GivenLosses.{all_numbered, fits_gap, fits_reply, is_lost, says_lost}
 use Rattle.tcap_check.proofs.given_run_laws.GivenRuns.{are_fit, both_ok, front_empty}

@@ -21,17 +21,17 @@ use Rattle.tcap_end.specs.declared.half.InvocationState.TheVariants as states
 use Rattle.tcap_end.specs.declared.half.Phase.{Phase}
 use Rattle.tcap_end.specs.declared.half.Phase.TheVariants as phases
 use Rattle.tcap_end.specs.declared.half.Slot.TheVariants.{Begun, Accepted}
-use Rattle.tcap_end.specs.declared.outs.OwnInvocation.{OwnInvocation}
+use Rattle.tcap_end.specs.declared.own_invocations.OwnInvocation.{OwnInvocation}
 use Rattle.tcap_end.specs.Class.{reports}
 use Rattle.tcap_end.specs.Table.{Table, operation_of}
 use Rattle.tcap_end.specs.Half.{Half, closed_half, fresh, is_closed, one_fits, without_oldest_of}
 use Rattle.tcap_end.specs.Component.{allows, allows_for, answer_problems, answered_operation, may_answer, may_link, own_invocation, receive_answer, receive_component, send_answer, send_component, send_invoke, send_reject, wait_for_reject, with_grant}
 use Rattle.tcap_end.specs.Dialogue.{answers_request, first_standing, may_abort, may_begin, may_go_on}
 use Rattle.tcap_end.specs.End.{End, KeptHalf, is_id, named, put, with_own, with_peer}
-use Rattle.tcap_end.specs.Hidden.{close, expire, may_close, may_expire, without_invocation}
+use Rattle.tcap_end.specs.HiddenSteps.{close, expire, may_close, may_expire, without_invocation}
 use Rattle.tcap_end.specs.Message.{active_half, is_active, is_received, receive, receive_components, receive_end, receive_over, send, send_abort, send_begin, send_components, send_continue, send_end, send_first_continue, send_next_continue, send_uni, send_uni_components}
 use Rattle.tcap_end.specs.Step.{◌>>◌}
-use Rattle.tcap_end.specs.Sound.{Has, IsEnd, Rises}
+use Rattle.tcap_end.specs.ReachableEnd.{Has, IsEnd, Rises}
 use Rattle.tcap_end.proofs.AnsweringLaws.{needs_ok, ok_same, some_ok, then_ok}
 use Rattle.tcap_end.proofs.ComponentLaws.{all_receives, all_sends}
 use Rattle.tcap_end.proofs.FoundLaws.{named_has, own_has, peer_has}

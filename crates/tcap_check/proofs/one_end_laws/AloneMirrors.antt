@@ -10,8 +10,8 @@ use Rattle.tcap_record.specs.Ends.{other}
 use Rattle.tcap_model.specs.World.{OnItsWay, World, channel_from, with_channel}
 use Rattle.tcap_model.specs.Run.{Event, Loses, after, numbers_of}
 use Rattle.tcap_certificate.specs.Certificate.{Certificate}
-use Rattle.tcap_certificate.specs.Follows.{losses_from}
-use Rattle.tcap_certificate.specs.Replayed.{Replay, all_lost_from, lost_from_both, lost_from_front, lost_front, stepped, with_step}
+use Rattle.tcap_certificate.specs.DescribedRun.{losses_from}
+use Rattle.tcap_certificate.specs.Replay.{Replay, all_lost_from, lost_from_both, lost_from_front, lost_front, stepped, with_step}
 use Rattle.tcap_check.proofs.described_run_laws.DescribedGaps.{ok_then}
 use Rattle.tcap_check.proofs.given_run_laws.NumberLaws.{loss_of, losses_first}
 use Rattle.tcap_model.proofs.RunLaws.{map_some}

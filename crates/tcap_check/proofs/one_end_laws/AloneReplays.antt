@@ -6,7 +6,7 @@ use Rattle.tcap_msg.specs.declared.message.Message.{Message}
 use Rattle.tcap_record.specs.declared.entry.End.{End as Side}
 use Rattle.tcap_record.specs.declared.entry.End.TheVariants.{A, B}
 use Rattle.tcap_end.specs.declared.half.HalfName.{HalfName}
-use Rattle.tcap_end.specs.Hidden.{open_halves}
+use Rattle.tcap_end.specs.HiddenSteps.{open_halves}
 use Rattle.tcap_end.specs.Table.{Table}
 use Rattle.tcap_end.specs.Step.{needs, ◌>>◌, ◌>>=◌}
 use Rattle.tcap_end.proofs.AnsweringLaws.{needs_ok, ok_same, some_ok, then_ok}
@@ -19,16 +19,16 @@ use Rattle.tcap_record.specs.Ends.{other}
 use Rattle.tcap_model.specs.World.{World, Item, Sent, end_at, is_side}
 use Rattle.tcap_model.specs.Run.{Event, Sends, Receives, Replies, Loses, Expires, Closes, Quiet, Tells, joined}
 use Rattle.tcap_certificate.specs.Certificate.{Certificate}
-use Rattle.tcap_certificate.specs.Follows.{IsImplied, invoking_half, sending_by, taken_by}
-use Rattle.tcap_certificate.specs.Replayed.{Replay, all_lost_from, closed_at_mark, deliveries_by, delivery_by, discarded, entries_by, entry_by, fault_at, gap_by, heard, implied_over, is_gap, is_nothing, is_overtaking, is_sent_by, item_by, lost_from_front, mark_judged, message_by, next_entry, or_else, own_judged, stepped, tied, told_replayed, with_step}
+use Rattle.tcap_certificate.specs.DescribedRun.{IsImplied, invoking_half, sending_by, taken_by}
+use Rattle.tcap_certificate.specs.Replay.{Replay, all_lost_from, closed_at_mark, deliveries_by, delivery_by, discarded, entries_by, entry_by, fault_at, gap_by, heard, implied_over, is_gap, is_nothing, is_overtaking, is_sent_by, item_by, lost_from_front, mark_judged, message_by, next_entry, or_else, own_judged, stepped, tied, told_replayed, with_step}
 use Rattle.tcap_check.proofs.replay_laws.ReplaySteps.{discard_is}
 use Rattle.tcap_model.proofs.RunLaws.{same_side}
 use Rattle.tcap_check.proofs.replay_laws.ReplayEntries.{ok_item}
 use Rattle.tcap_check.proofs.replay_laws.ReplayLaws.{implied_by, reply_replays, send_replays, listed_replay}
 use Rattle.tcap_check.proofs.one_end_laws.AloneCounts.{IsOwn}
 use Rattle.tcap_check.proofs.one_end_laws.AloneSteps.{Leads, all_lost_leads, front_leads, leads_nothing, leads_then, replays_lead, step_leads, told_leads}
-use Rattle.tcap_check.specs.declared.listed.Listed.{Listed}
-use Rattle.tcap_check.specs.Listed.{all_replayed, event_listed, listed_in, listed_judged, side_of}
+use Rattle.tcap_check.specs.declared.listed_steps.Listed.{Listed}
+use Rattle.tcap_check.specs.ListedSteps.{all_replayed, event_listed, listed_in, listed_judged, side_of}
 use Rattle.tcap_check.proofs.replay_laws.ListedEventLaws.{gap_parts, listed_so, implied_so}
 use Rattle.tcap_model.proofs.ListLaws.{all_weaker}
 

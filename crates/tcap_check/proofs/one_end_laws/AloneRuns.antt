@@ -10,8 +10,8 @@ use Rattle.tcap_model.specs.World.{Item, channel_from}
 use Rattle.tcap_model.specs.Run.{Event, Runs}
 use Rattle.tcap_certificate.specs.Certificate.{Certificate}
 use Rattle.tcap_model.specs.Entries.{AreItems, count_components, item_of}
-use Rattle.tcap_certificate.specs.Replayed.{Replay, certificate_fits, entries_by, lost_from_front, nothing_replayed, replayed_by}
-use Rattle.tcap_check.specs.AloneGiven.{IsGivenFor}
+use Rattle.tcap_certificate.specs.Replay.{Replay, certificate_fits, entries_by, lost_from_front, nothing_replayed, replayed_by}
+use Rattle.tcap_check.specs.OneEndRun.{IsGivenFor}
 use Rattle.tcap_check.proofs.given_run_laws.GivenRuns.{are_items, both_ok}
 use Rattle.tcap_check.proofs.one_end_laws.AloneLeft.{none_waits}
 use Rattle.tcap_check.proofs.one_end_laws.AloneCounts.{own_keeps, own_most, unheard_most}

@@ -10,8 +10,8 @@ use Rattle.tcap_record.specs.Ends.{other}
 use Rattle.tcap_model.specs.World.{Item, OnItsWay, Sent, World, channel_from, with_channel}
 use Rattle.tcap_model.specs.Run.{Adds, Event, Sends, Receives, Replies, Loses, Expires, Closes, Quiet, Tells, after, joined, numbers_of, played}
 use Rattle.tcap_certificate.specs.Certificate.{Certificate}
-use Rattle.tcap_certificate.specs.Follows.{without_losses}
-use Rattle.tcap_certificate.specs.Replayed.{Replay, all_lost_from, lost_from_front, stepped, with_step}
+use Rattle.tcap_certificate.specs.DescribedRun.{without_losses}
+use Rattle.tcap_certificate.specs.Replay.{Replay, all_lost_from, lost_from_front, stepped, with_step}
 use Rattle.tcap_model.proofs.ListLaws.{all_both}
 use Rattle.tcap_model.proofs.RunLaws.{grows, map_some}
 use Rattle.tcap_check.proofs.replay_laws.ReplaySteps.{Extends, Replays, channel_with, extends_nothing, extends_then, losing_replays, stepped_extends}

@@ -17,8 +17,8 @@ use Rattle.tcap_record.specs.Ends.{other}
 use Rattle.tcap_model.specs.World.{Item, Sent, is_side}
 use Rattle.tcap_model.specs.Run.{Event, Receives, Replies, Loses, after, numbers_taken, takes_from}
 use Rattle.tcap_certificate.specs.Certificate.{Certificate}
-use Rattle.tcap_certificate.specs.Follows.{sending_by, taken_by}
-use Rattle.tcap_certificate.specs.Replayed.{Replay, all_lost_from, deliveries_by, delivery_by, discarded, entries_by, entry_by, fault_at, gap_by, heard, is_gap, is_nothing, is_overtaking, item_by, lost_from_front, mark_judged, message_by, next_entry, or_else, own_judged, reply_replayed, stepped, tied, told_replayed}
+use Rattle.tcap_certificate.specs.DescribedRun.{sending_by, taken_by}
+use Rattle.tcap_certificate.specs.Replay.{Replay, all_lost_from, deliveries_by, delivery_by, discarded, entries_by, entry_by, fault_at, gap_by, heard, is_gap, is_nothing, is_overtaking, item_by, lost_from_front, mark_judged, message_by, next_entry, or_else, own_judged, reply_replayed, stepped, tied, told_replayed}
 use Rattle.tcap_check.proofs.replay_laws.ReplaySteps.{discard_is}
 use Rattle.tcap_check.proofs.given_run_laws.GivenEvents.{IsSender, by_mark, by_reply, by_send, sender_is}
 use Rattle.tcap_check.proofs.given_run_laws.GivenRuns.{replied_at}

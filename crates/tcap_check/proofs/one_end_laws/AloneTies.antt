@@ -20,9 +20,9 @@ use Rattle.tcap_record.specs.Ends.{other}
 use Rattle.tcap_model.specs.World.{Item, OnItsWay, Sent, World, channel_from, empty, end_at, is_side, with_channel, with_end}
 use Rattle.tcap_model.specs.Run.{Event, Sends, Receives, Replies, Loses, Expires, Closes, Quiet, Tells, Runs, after, joined, played}
 use Rattle.tcap_certificate.specs.Certificate.{Certificate}
-use Rattle.tcap_certificate.specs.Follows.{invoke_id, invoking_half, losses_from, sending_by}
-use Rattle.tcap_certificate.specs.Replayed.{Replay, fault_at, happens, implied, implied_over, is_abort, is_sent_by, lost_from_front, message_by, next_entry, or_same, reply_replayed, send_replayed, sent_or_refused, stepped, with_step}
-use Rattle.tcap_model.specs.Since.{WasSent}
+use Rattle.tcap_certificate.specs.DescribedRun.{invoke_id, invoking_half, losses_from, sending_by}
+use Rattle.tcap_certificate.specs.Replay.{Replay, fault_at, happens, implied, implied_over, is_abort, is_sent_by, lost_from_front, message_by, next_entry, or_same, reply_replayed, send_replayed, sent_or_refused, stepped, with_step}
+use Rattle.tcap_model.specs.SinceMark.{WasSent}
 use Rattle.tcap_model.proofs.ChannelLaws.{were_sent}
 use Rattle.tcap_check.proofs.described_run_laws.DescribedGaps.{ok_needs, ok_some, ok_then}
 use Rattle.tcap_check.proofs.given_run_laws.GivenEvents.{IsSender, by_mark, by_reply, by_send, sender_is}

@@ -12,7 +12,7 @@ use Rattle.tcap_end.specs.declared.half.Slot.{Slot}
 use Rattle.tcap_end.specs.declared.half.Slot.TheVariants.{Begun, Accepted}
 use Rattle.tcap_end.specs.Half.{Half}
 use Rattle.tcap_end.specs.End.{End, KeptHalf, put}
-use Rattle.tcap_end.specs.Sound.{Has, IsEnd, Rises, halves_of}
+use Rattle.tcap_end.specs.ReachableEnd.{Has, IsEnd, Rises, halves_of}
 use Rattle.tcap_end.proofs.MapLaws.{below_first, kept_at}
 use Rattle.tcap_end.proofs.FoundLaws.{half_at, octets_total}
 use Rattle.tcap_check.proofs.given_run_laws.StepCounts.{total}

@@ -6,12 +6,12 @@ use Rattle.tcap_certificate.specs.declared.fault.CheckFault.{CheckFault}
 use Rattle.tcap_check.specs.declared.progress.Progress.{Progress}
 use Rattle.tcap_end.specs.Table.{Table}
 use Rattle.tcap_check.specs.declared.outline.Outline.{Outline}
-use Rattle.tcap_certificate.specs.Replayed.{is_judged}
+use Rattle.tcap_certificate.specs.Replay.{is_judged}
 use Rattle.tcap_check.specs.Progress.{HasNoMore}
-use Rattle.tcap_check.specs.Hearing.{deliveries_kept}
-use Rattle.tcap_check.specs.SoFar.{behind_or}
-use Rattle.tcap_check.specs.declared.listed.Listed.{Listed}
-use Rattle.tcap_check.specs.Listed.{listed_judged, side_of}
+use Rattle.tcap_check.specs.ReplaySteps.{deliveries_kept}
+use Rattle.tcap_check.specs.PartialReplay.{behind_or}
+use Rattle.tcap_check.specs.declared.listed_steps.Listed.{Listed}
+use Rattle.tcap_check.specs.ListedSteps.{listed_judged, side_of}
 
 -- The items from this index on have the same result from here as all items from the start, and there is room to count
 -- them.

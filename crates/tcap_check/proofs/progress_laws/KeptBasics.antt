@@ -15,12 +15,12 @@ use Rattle.tcap_record.specs.Ends.{other}
 use Rattle.tcap_model.specs.World.{OnItsWay, World, channel_from, end_at, with_channel, with_end}
 use Rattle.tcap_model.specs.Run.{Event, Loses, numbers_of}
 use Rattle.tcap_certificate.specs.Certificate.{Certificate}
-use Rattle.tcap_certificate.specs.Replayed.{Replay, all_lost_from, if_lost, is_heard, losing, lost_front, lost_from_front, lost_last, with_step}
-use Rattle.tcap_certificate.specs.Unheard.{is_lost_from}
+use Rattle.tcap_certificate.specs.Replay.{Replay, all_lost_from, if_lost, is_heard, losing, lost_front, lost_from_front, lost_last, with_step}
+use Rattle.tcap_certificate.specs.LossCounts.{is_lost_from}
 use Rattle.tcap_check.specs.Progress.{discard_told, front_lost, last_lost, losing_kept, lost_counted, lost_told, moved, seat_at, with_seat_end, with_waiting}
-use Rattle.tcap_check.specs.Hearing.{sent_lost}
-use Rattle.tcap_check.specs.Checking.{fate_of, is_alone, kept_by, map_ok, progress_of, reported, waiting_at}
-use Rattle.tcap_check.specs.Told.{Told, discard_more, more_told, told_if}
+use Rattle.tcap_check.specs.ReplaySteps.{sent_lost}
+use Rattle.tcap_check.specs.CheckerMeaning.{fate_of, is_alone, kept_by, map_ok, progress_of, reported, waiting_at}
+use Rattle.tcap_check.specs.ReportedSteps.{Told, discard_more, more_told, told_if}
 use Rattle.tcap_check.proofs.checker_laws.ToldStepLaws.{discard_if, more_if}
 use Rattle.tcap_model.proofs.WorldLaws.{itself, with_same}
 

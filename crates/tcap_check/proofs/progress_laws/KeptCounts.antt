@@ -12,10 +12,10 @@ use Rattle.tcap_record.specs.Ends.{other}
 use Rattle.tcap_model.specs.World.{Item, OnItsWay, Sent, World, channel_from, with_channel}
 use Rattle.tcap_model.specs.Run.{joined}
 use Rattle.tcap_certificate.specs.Certificate.{Certificate}
-use Rattle.tcap_certificate.specs.Follows.{FatesFit, taken_by}
-use Rattle.tcap_certificate.specs.Replayed.{Replay, if_lost, is_sent_by, lost_from_front, lost_front}
-use Rattle.tcap_check.specs.Checking.{count_ahead}
-use Rattle.tcap_check.specs.Hearing.{is_heard}
+use Rattle.tcap_certificate.specs.DescribedRun.{FatesFit, taken_by}
+use Rattle.tcap_certificate.specs.Replay.{Replay, if_lost, is_sent_by, lost_from_front, lost_front}
+use Rattle.tcap_check.specs.CheckerMeaning.{count_ahead}
+use Rattle.tcap_check.specs.ReplaySteps.{is_heard}
 use Rattle.tcap_check.proofs.refusal_laws.PendingLaws.{IsAhead}
 use Rattle.tcap_check.proofs.replay_laws.WaitingLaws.{behind_lost, waiting, waiting_by}
 

@@ -15,12 +15,12 @@ use Rattle.tcap_record.specs.Ends.{other}
 use Rattle.tcap_model.specs.World.{Item, Sent}
 use Rattle.tcap_model.specs.Run.{Tells, joined}
 use Rattle.tcap_certificate.specs.Certificate.{Certificate}
-use Rattle.tcap_certificate.specs.Follows.{taken_by}
-use Rattle.tcap_certificate.specs.Replayed.{Replay, behind_sending, fault_at, gap_by, is_gap, is_nothing, is_overtaking, is_sent_by, item_by, mark_judged, next_entry, own_message, tied, told_replayed, with_step}
-use Rattle.tcap_check.specs.Outlines.{is_named, outline_of, outlines_from, since_from}
+use Rattle.tcap_certificate.specs.DescribedRun.{taken_by}
+use Rattle.tcap_certificate.specs.Replay.{Replay, behind_sending, fault_at, gap_by, is_gap, is_nothing, is_overtaking, is_sent_by, item_by, mark_judged, next_entry, own_message, tied, told_replayed, with_step}
+use Rattle.tcap_check.specs.EntryOutlines.{is_named, outline_of, outlines_from, since_from}
 use Rattle.tcap_check.specs.Progress.{overtakes, seat_at}
-use Rattle.tcap_check.specs.Hearing.{is_heard, is_told, mark_taken, own_taken, told_among, told_taken}
-use Rattle.tcap_check.specs.Checking.{gap_before, item_kept, kept_of, map_ok, progress_of, tied_now}
+use Rattle.tcap_check.specs.ReplaySteps.{is_heard, is_told, mark_taken, own_taken, told_among, told_taken}
+use Rattle.tcap_check.specs.CheckerMeaning.{gap_before, item_kept, kept_of, map_ok, progress_of, tied_now}
 use Rattle.tcap_check.proofs.one_end_laws.AloneReplays.{gap_leads, item_leads}
 use Rattle.tcap_check.proofs.replay_laws.ReplayLaws.{gap_replays}
 use Rattle.tcap_check.proofs.replay_laws.ReplayEntries.{item_replays}

@@ -8,16 +8,16 @@ use Rattle.tcap_check.specs.declared.outline.Outline.{Outline}
 use Rattle.tcap_check.specs.declared.progress.Progress.{Progress}
 use Rattle.tcap_model.specs.World.{Item}
 use Rattle.tcap_certificate.specs.Certificate.{Certificate}
-use Rattle.tcap_certificate.specs.Replayed.{Replay, deliveries_by, gap_by, next_entry}
-use Rattle.tcap_check.specs.Outlines.{outlines_from, since_from}
+use Rattle.tcap_certificate.specs.Replay.{Replay, deliveries_by, gap_by, next_entry}
+use Rattle.tcap_check.specs.EntryOutlines.{outlines_from, since_from}
 use Rattle.tcap_check.specs.Progress.{due_in, map_ok, all_kept}
-use Rattle.tcap_check.specs.Hearing.{deliveries_kept, gap_kept}
-use Rattle.tcap_check.specs.Checking.{progress_of}
+use Rattle.tcap_check.specs.ReplaySteps.{deliveries_kept, gap_kept}
+use Rattle.tcap_check.specs.CheckerMeaning.{progress_of}
 use Rattle.tcap_check.proofs.progress_laws.KeptBasics.{then_is}
 use Rattle.tcap_check.proofs.progress_laws.KeptDeliveries.{deliveries_are}
 use Rattle.tcap_check.proofs.progress_laws.KeptHidden.{outlines_count, listed_are, listed_named}
-use Rattle.tcap_check.specs.declared.listed.Listed.{Listed}
-use Rattle.tcap_check.specs.Listed.{all_replayed, listed_for}
+use Rattle.tcap_check.specs.declared.listed_steps.Listed.{Listed}
+use Rattle.tcap_check.specs.ListedSteps.{all_replayed, listed_for}
 use Rattle.tcap_check.proofs.replay_laws.ListedEventLaws.{gap_is_listed}
 use Rattle.tcap_check.proofs.replay_laws.ReplayLaws.{listed_replay}
 

@@ -8,7 +8,7 @@ use Rattle.tcap_record.specs.declared.entry.End.TheVariants as sides
 use Rattle.tcap_end.specs.declared.fault.EndFault.{EndFault}
 use Rattle.tcap_end.specs.declared.half.HalfName.{HalfName}
 use Rattle.tcap_end.specs.End.{End}
-use Rattle.tcap_end.specs.Hidden.{close, expire}
+use Rattle.tcap_end.specs.HiddenSteps.{close, expire}
 use Rattle.tcap_end.specs.Step.{◌>>=◌}
 use Rattle.tcap_end.specs.Table.{Table}
 use Rattle.tcap_end.proofs.AnsweringLaws.{needs_ok, ok_same, then_ok}
@@ -19,14 +19,14 @@ use Rattle.tcap_record.specs.Ends.{other}
 use Rattle.tcap_check.specs.declared.outline.Outline.{Outline}
 use Rattle.tcap_check.specs.declared.progress.Progress.{Progress}
 use Rattle.tcap_check.specs.declared.progress.Waiting.{Waiting}
-use Rattle.tcap_check.specs.Outlines.{half_closed, invocation_ended}
+use Rattle.tcap_check.specs.EntryOutlines.{half_closed, invocation_ended}
 use Rattle.tcap_check.specs.Progress.{GrewBy, HasNoMore, YieldsInMemory, discard_told, end_moved, first_answered, front_lost, is_none_kept, losing_kept, lost_counted, lost_told, may_be_answered, moved, on_way, reply_kept, seat_at, sent_by, unless_lost, with_seat_end, with_told, with_waiting, all_kept, listed_kept}
 use Rattle.tcap_model.specs.Run.{Event, Closes, Expires, Loses, Receives, Replies}
-use Rattle.tcap_check.specs.Hearing.{first_heard, first_received, halves_shut, message_received, received_or_not}
-use Rattle.tcap_certificate.specs.Replayed.{fault_at, is_judged}
-use Rattle.tcap_check.specs.declared.listed.Listed.{Listed}
-use Rattle.tcap_check.specs.declared.listed.Listed.TheVariants as listings
-use Rattle.tcap_check.specs.Listed.{listed_judged, side_of}
+use Rattle.tcap_check.specs.ReplaySteps.{first_heard, first_received, halves_shut, message_received, received_or_not}
+use Rattle.tcap_certificate.specs.Replay.{fault_at, is_judged}
+use Rattle.tcap_check.specs.declared.listed_steps.Listed.{Listed}
+use Rattle.tcap_check.specs.declared.listed_steps.Listed.TheVariants as listings
+use Rattle.tcap_check.specs.ListedSteps.{listed_judged, side_of}
 
 -- ---- one step
 

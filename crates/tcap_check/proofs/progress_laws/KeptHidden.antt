@@ -16,12 +16,12 @@ use Rattle.tcap_end.specs.declared.fault.EndFault.TheVariants as faults
 use Rattle.tcap_end.specs.declared.half.HalfName.{HalfName}
 use Rattle.tcap_end.specs.declared.half.HalfName.TheVariants as names
 use Rattle.tcap_end.specs.End.{End}
-use Rattle.tcap_end.specs.Hidden.{close, expire}
+use Rattle.tcap_end.specs.HiddenSteps.{close, expire}
 use Rattle.tcap_end.specs.Step.{◌>>=◌}
 use Rattle.tcap_end.specs.Table.{Table}
 use Rattle.tcap_model.specs.World.{Item, Sent, end_at, is_side, with_end}
 use Rattle.tcap_model.specs.Run.{Event, Closes, Expires, then_so, where_so}
-use Rattle.tcap_check.specs.Noted.{Noted}
+use Rattle.tcap_check.specs.NamedMessage.{Noted}
 use Rattle.tcap_certificate.specs.declared.certificate.Closing.{Closing}
 use Rattle.tcap_certificate.specs.declared.certificate.Expiry.{Expiry}
 use Rattle.tcap_certificate.specs.Certificate.{Certificate}
@@ -29,18 +29,18 @@ use Rattle.tcap_certificate.specs.declared.fault.CheckFault.{CheckFault}
 use Rattle.tcap_model.specs.declared.reason.Reason.TheVariants.{FateRange, HiddenRefused}
 use Rattle.tcap_check.specs.declared.outline.Outline.TheVariants as outlines
 use Rattle.tcap_model.specs.World.{has_quiet}
-use Rattle.tcap_model.specs.Since.{originating}
-use Rattle.tcap_certificate.specs.Follows.{closing_by, closing_event, expiry_by, expiry_event, invoke_id, named_entry}
-use Rattle.tcap_certificate.specs.Replayed.{Replay, fault_at, happens, with_step, is_judged}
-use Rattle.tcap_check.specs.Outlines.{begins, half_closed, half_closed_by, invocation_ended, invocation_ended_by, is_named, outline_named, outline_of, outlines_from, since_from}
+use Rattle.tcap_model.specs.SinceMark.{originating}
+use Rattle.tcap_certificate.specs.DescribedRun.{closing_by, closing_event, expiry_by, expiry_event, invoke_id, named_entry}
+use Rattle.tcap_certificate.specs.Replay.{Replay, fault_at, happens, with_step, is_judged}
+use Rattle.tcap_check.specs.EntryOutlines.{begins, half_closed, half_closed_by, invocation_ended, invocation_ended_by, is_named, outline_named, outline_of, outlines_from, since_from}
 use Rattle.tcap_check.specs.Progress.{end_moved, half_closes, invocation_ends, all_kept, listed_kept}
-use Rattle.tcap_check.specs.Checking.{map_ok, progress_of}
-use Rattle.tcap_certificate.specs.Unheard.{is_lost_from}
+use Rattle.tcap_check.specs.CheckerMeaning.{map_ok, progress_of}
+use Rattle.tcap_certificate.specs.LossCounts.{is_lost_from}
 use Rattle.tcap_check.proofs.progress_laws.KeptBasics.{end_kept, end_step_is, then_is}
 use Rattle.tcap_model.proofs.ListLaws.{all_weaker, all_both}
-use Rattle.tcap_check.specs.declared.listed.Listed.{Listed}
-use Rattle.tcap_check.specs.declared.listed.Listed.TheVariants as listings
-use Rattle.tcap_check.specs.Listed.{all_replayed, entry_of, event_listed, gap_of, listed_for, listed_in, listed_replayed, side_of, why_refused}
+use Rattle.tcap_check.specs.declared.listed_steps.Listed.{Listed}
+use Rattle.tcap_check.specs.declared.listed_steps.Listed.TheVariants as listings
+use Rattle.tcap_check.specs.ListedSteps.{all_replayed, entry_of, event_listed, gap_of, listed_for, listed_in, listed_replayed, side_of, why_refused}
 use Rattle.tcap_check.proofs.replay_laws.ReplayLaws.{one_replays}
 use Rattle.tcap_check.specs.declared.outline.Outline.{Outline}
 use Rattle.tcap_check.specs.declared.progress.Progress.{Progress}

@@ -10,7 +10,7 @@ use Rattle.tcap_record.specs.declared.entry.End.TheVariants as sides
 use Rattle.tcap_record.specs.Ends.{other}
 use Rattle.tcap_end.specs.declared.half.HalfName.{HalfName}
 use Rattle.tcap_end.specs.End.{End}
-use Rattle.tcap_end.specs.Hidden.{close, open_halves}
+use Rattle.tcap_end.specs.HiddenSteps.{close, open_halves}
 use Rattle.tcap_end.specs.Step.{◌>>=◌}
 use Rattle.tcap_end.specs.Table.{Table}
 use Rattle.tcap_model.specs.declared.reason.Reason.{Reason}
@@ -21,16 +21,16 @@ use Rattle.tcap_certificate.specs.declared.certificate.Fate.{Fate}
 use Rattle.tcap_certificate.specs.declared.certificate.Fate.TheVariants.{Gap, Lost, By}
 use Rattle.tcap_certificate.specs.declared.fault.CheckFault.{CheckFault}
 use Rattle.tcap_certificate.specs.Certificate.{Certificate}
-use Rattle.tcap_certificate.specs.Follows.{invoking_half, sending_by}
-use Rattle.tcap_certificate.specs.Replayed.{Replay, closed_at_mark, fault_at, gap_by, is_gap, is_heard, is_judged, is_nothing, is_overtaking, lost_from_front, lost_last, next_entry, received, stepped, tied}
+use Rattle.tcap_certificate.specs.DescribedRun.{invoking_half, sending_by}
+use Rattle.tcap_certificate.specs.Replay.{Replay, closed_at_mark, fault_at, gap_by, is_gap, is_heard, is_judged, is_nothing, is_overtaking, lost_from_front, lost_last, next_entry, received, stepped, tied}
 use Rattle.tcap_check.specs.declared.outline.Outline.{Outline}
 use Rattle.tcap_check.specs.declared.progress.Progress.{Progress}
-use Rattle.tcap_check.specs.Checking.{gap_before, is_alone, kept_of, map_ok, progress_of, tied_now}
-use Rattle.tcap_check.specs.Hearing.{delivery_kept, halves_shut}
-use Rattle.tcap_check.specs.Left.{deliveries_left, end_left, entry_left, fated_left, gap_left, halves_left, item_left, mark_left, message_left, quiet_left, listed_left, taken_left}
-use Rattle.tcap_check.specs.Outlines.{outlines_from, since_from}
+use Rattle.tcap_check.specs.CheckerMeaning.{gap_before, is_alone, kept_of, map_ok, progress_of, tied_now}
+use Rattle.tcap_check.specs.ReplaySteps.{delivery_kept, halves_shut}
+use Rattle.tcap_check.specs.RefusedReplay.{deliveries_left, end_left, entry_left, fated_left, gap_left, halves_left, item_left, mark_left, message_left, quiet_left, listed_left, taken_left}
+use Rattle.tcap_check.specs.EntryOutlines.{outlines_from, since_from}
 use Rattle.tcap_check.specs.Progress.{due_in, end_moved, front_lost, last_lost, overtakes, seat_at, all_kept, listed_kept}
-use Rattle.tcap_check.specs.SoFar.{behind_or, deliveries_so_far, fated_so_far, gap_so_far, halves_so_far, item_so_far, mark_so_far, message_so_far, next_so_far, quiet_so_far, sending_so_far, listed_so_far}
+use Rattle.tcap_check.specs.PartialReplay.{behind_or, deliveries_so_far, fated_so_far, gap_so_far, halves_so_far, item_so_far, mark_so_far, message_so_far, next_so_far, quiet_so_far, sending_so_far, listed_so_far}
 use Rattle.tcap_check.proofs.progress_laws.KeptBasics.{end_kept, front_is, last_is, ok_behind, then_is}
 use Rattle.tcap_check.proofs.progress_laws.KeptDeliveries.{StandsFrom, delivered_is, due_is, first_stands, none_next, stands_next}
 use Rattle.tcap_check.proofs.progress_laws.KeptEntries.{gap_sends, tied_is, tied_still}
@@ -38,8 +38,8 @@ use Rattle.tcap_check.proofs.progress_laws.KeptGaps.{gap_is}
 use Rattle.tcap_check.proofs.progress_laws.KeptHidden.{end_is, outlines_count, IsNamed, listed_are, listed_named, one_is, one_sends}
 use Rattle.tcap_check.proofs.progress_laws.KeptMessages.{over_is}
 use Rattle.tcap_check.proofs.progress_laws.KeptSends.{overtakes_is}
-use Rattle.tcap_check.specs.declared.listed.Listed.{Listed}
-use Rattle.tcap_check.specs.Listed.{all_replayed, listed_for, listed_replayed}
+use Rattle.tcap_check.specs.declared.listed_steps.Listed.{Listed}
+use Rattle.tcap_check.specs.ListedSteps.{all_replayed, listed_for, listed_replayed}
 
 -- A step and what follows it, over what is kept, for `behind_or`.
 behind_is : {A B F : Type 0} (f : A → B) (o : Result A F) (kept : Result B F) (left : A) (left_kept : B) (on : A → A) (on_kept : B → B)

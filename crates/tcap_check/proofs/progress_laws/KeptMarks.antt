@@ -8,7 +8,7 @@ use Rattle.tcap_end.specs.declared.fault.EndFault.{EndFault}
 use Rattle.tcap_end.specs.declared.fault.EndFault.TheVariants as faults
 use Rattle.tcap_end.specs.declared.half.HalfName.{HalfName}
 use Rattle.tcap_end.specs.End.{End, all_closed, nothing, quiet}
-use Rattle.tcap_end.specs.Hidden.{close, close_each, open_halves, quiet_unseen}
+use Rattle.tcap_end.specs.HiddenSteps.{close, close_each, open_halves, quiet_unseen}
 use Rattle.tcap_end.specs.Table.{Table}
 use Rattle.tcap_end.specs.Step.{needs, ◌>>◌, ◌>>=◌}
 use Rattle.tcap_end.proofs.AnsweringLaws.{needs_ok, ok_same}
@@ -21,15 +21,15 @@ use Rattle.tcap_record.specs.Ends.{other}
 use Rattle.tcap_model.specs.World.{Item, OnItsWay, Sent, World, channel_from, end_at, with_end}
 use Rattle.tcap_model.specs.Run.{Event, Closes, Quiet, after}
 use Rattle.tcap_certificate.specs.Certificate.{Certificate}
-use Rattle.tcap_certificate.specs.Replayed.{Replay, closed_at_mark, closed_before, fault_at, is_nothing, lost_from_front, lost_last, stepped, with_step}
+use Rattle.tcap_certificate.specs.Replay.{Replay, closed_at_mark, closed_before, fault_at, is_nothing, lost_from_front, lost_last, stepped, with_step}
 use Rattle.tcap_check.specs.Progress.{YieldsInMemory, both_quiet, end_moved, front_lost, is_empty, is_none_kept, last_lost, losing_kept, lost_told, moved, quiet_kept, seat_at, with_seat_end, with_told, with_waiting}
-use Rattle.tcap_check.specs.Hearing.{alone_marked, closed_or_not, halves_closed, halves_shut, mark_taken, quieted}
-use Rattle.tcap_check.specs.Checking.{is_alone, latest_at, latest_of, map_ok, progress_of, waiting_at}
+use Rattle.tcap_check.specs.ReplaySteps.{alone_marked, closed_or_not, halves_closed, halves_shut, mark_taken, quieted}
+use Rattle.tcap_check.specs.CheckerMeaning.{is_alone, latest_at, latest_of, map_ok, progress_of, waiting_at}
 use Rattle.tcap_model.proofs.RunLaws.{map_some, quiet as quiet_step}
 use Rattle.tcap_check.proofs.replay_laws.WaitingLaws.{same_end}
 use Rattle.tcap_check.proofs.progress_laws.KeptBasics.{end_kept, end_step_is, last_is, moved_counts}
 use Rattle.tcap_check.proofs.progress_laws.KeptStays.{Stays, closes_stays, stays_same, stays_then}
-use Rattle.tcap_check.specs.Told.{Told, more_told}
+use Rattle.tcap_check.specs.ReportedSteps.{Told, more_told}
 use Rattle.tcap_check.proofs.checker_laws.ToldStepLaws.{told_both, told_still}
 use Rattle.tcap_model.proofs.WorldLaws.{end_with}
 

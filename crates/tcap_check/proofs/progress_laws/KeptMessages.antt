@@ -14,7 +14,7 @@ use Rattle.tcap_end.specs.declared.fault.EndFault.TheVariants as faults
 use Rattle.tcap_end.specs.declared.half.HalfName.{HalfName}
 use Rattle.tcap_end.specs.Table.{Table}
 use Rattle.tcap_end.specs.End.{End, with_own, with_peer}
-use Rattle.tcap_end.specs.Hidden.{expire}
+use Rattle.tcap_end.specs.HiddenSteps.{expire}
 use Rattle.tcap_end.specs.Message.{send}
 use Rattle.tcap_end.specs.Reply.{aborts, is_open}
 use Rattle.tcap_end.specs.Step.{needs, ◌>>◌}
@@ -27,12 +27,12 @@ use Rattle.tcap_record.specs.Ends.{other}
 use Rattle.tcap_model.specs.World.{OnItsWay, Sent, World, channel_from, end_at, with_end}
 use Rattle.tcap_model.specs.Run.{Event, Sends, Replies, Expires, Tells, joined, may_refuse, provider_abort, reply_to, where_so}
 use Rattle.tcap_certificate.specs.Certificate.{Certificate}
-use Rattle.tcap_certificate.specs.Follows.{invoke_id, invoking_half, sending_by}
-use Rattle.tcap_certificate.specs.Replayed.{Replay, behind_sending, fault_at, implied, implied_over, is_nothing, lost_from_front, message_by, next_entry, or_same, refused, reply_replayed, send_replayed, sent_or_refused, stepped, with_step}
-use Rattle.tcap_certificate.specs.Unheard.{is_lost_from}
+use Rattle.tcap_certificate.specs.DescribedRun.{invoke_id, invoking_half, sending_by}
+use Rattle.tcap_certificate.specs.Replay.{Replay, behind_sending, fault_at, implied, implied_over, is_nothing, lost_from_front, message_by, next_entry, or_same, refused, reply_replayed, send_replayed, sent_or_refused, stepped, with_step}
+use Rattle.tcap_certificate.specs.LossCounts.{is_lost_from}
 use Rattle.tcap_check.specs.Progress.{end_tried, first_answered, ids_ended, ids_ended_over, message_kept, or_still, reply_kept, seat_at, send_kept, sent_by, sent_or_not, with_waiting}
-use Rattle.tcap_check.specs.Hearing.{is_heard, own_fate, own_taken, sent_lost, told_taken}
-use Rattle.tcap_check.specs.Checking.{map_ok, progress_of, waiting_at}
+use Rattle.tcap_check.specs.ReplaySteps.{is_heard, own_fate, own_taken, sent_lost, told_taken}
+use Rattle.tcap_check.specs.CheckerMeaning.{map_ok, progress_of, waiting_at}
 use Rattle.tcap_model.proofs.ChannelLaws.{get_new}
 use Rattle.tcap_check.proofs.replay_laws.WaitingLaws.{same_end}
 use Rattle.tcap_check.proofs.replay_laws.ReplayLaws.{abort_of}

@@ -5,7 +5,7 @@ use Rattle.std.specs.Prelude.{◌&&◌, not, ok_or, slice_get}
 use Rattle.tcap_msg.specs.declared.message.Message.{Message}
 use Rattle.tcap_record.specs.declared.entry.End.{End as Side}
 use Rattle.tcap_record.specs.declared.entry.End.TheVariants as sides
-use Rattle.tcap_end.specs.Hidden.{open_halves}
+use Rattle.tcap_end.specs.HiddenSteps.{open_halves}
 use Rattle.tcap_end.specs.Table.{Table}
 use Rattle.tcap_end.specs.Step.{◌>>◌}
 use Rattle.tcap_end.proofs.AnsweringLaws.{needs_ok, ok_same, some_ok, then_ok}
@@ -18,14 +18,14 @@ use Rattle.tcap_record.specs.Ends.{other}
 use Rattle.tcap_model.specs.World.{Item, OnItsWay, Sent, World, channel_from, end_at, is_side, with_channel}
 use Rattle.tcap_model.specs.Run.{Loses, Quiet, Receives, Tells, after, joined, numbers_of}
 use Rattle.tcap_certificate.specs.Certificate.{Certificate}
-use Rattle.tcap_certificate.specs.Follows.{sending_by}
-use Rattle.tcap_certificate.specs.Replayed.{Replay, all_lost_from, certificate_fits, closed_at_mark, deliveries_by, delivery_by, discarded, entry_by, fault_at, gap_by, heard, is_gap, is_nothing, is_overtaking, item_by, lost_from_front, mark_judged, message_by, next_entry, nothing_replayed, or_else, own_judged, stepped, tied, told_replayed, with_step}
-use Rattle.tcap_check.specs.Checking.{taken, taken_from, taken_next}
+use Rattle.tcap_certificate.specs.DescribedRun.{sending_by}
+use Rattle.tcap_certificate.specs.Replay.{Replay, all_lost_from, certificate_fits, closed_at_mark, deliveries_by, delivery_by, discarded, entry_by, fault_at, gap_by, heard, is_gap, is_nothing, is_overtaking, item_by, lost_from_front, mark_judged, message_by, next_entry, nothing_replayed, or_else, own_judged, stepped, tied, told_replayed, with_step}
+use Rattle.tcap_check.specs.CheckerMeaning.{taken, taken_from, taken_next}
 use Rattle.tcap_model.proofs.RunLaws.{delivery, loss, map_some}
 use Rattle.tcap_check.proofs.progress_laws.KeptMarks.{quiet_empty}
 use Rattle.tcap_check.proofs.replay_laws.ReplaySteps.{channel_with, discard_is}
 use Rattle.tcap_model.proofs.WorldLaws.{own_with_channel, own_with_end}
-use Rattle.tcap_check.specs.Listed.{listed_for}
+use Rattle.tcap_check.specs.ListedSteps.{listed_for}
 use Rattle.tcap_check.proofs.replay_laws.ListedEventLaws.{gap_parts}
 use Rattle.tcap_check.proofs.progress_laws.KeptStays.{listed_stay}
 

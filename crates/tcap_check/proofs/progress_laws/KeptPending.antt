@@ -17,11 +17,11 @@ use Rattle.tcap_record.specs.Ends.{other}
 use Rattle.tcap_model.specs.World.{Item, OnItsWay, Sent}
 use Rattle.tcap_model.specs.Run.{Tells, joined}
 use Rattle.tcap_certificate.specs.Certificate.{Certificate}
-use Rattle.tcap_certificate.specs.Follows.{FatesFit, taken_by}
-use Rattle.tcap_certificate.specs.Replayed.{Replay, certificate_fits, comes_in_order, entry_by, fates_fit, fault_at, gap_by, is_gap, is_nothing, is_overtaking, item_by, mark_judged, next_entry, nothing_replayed, own_judged, own_message, tied, told_replayed, with_step}
+use Rattle.tcap_certificate.specs.DescribedRun.{FatesFit, taken_by}
+use Rattle.tcap_certificate.specs.Replay.{Replay, certificate_fits, comes_in_order, entry_by, fates_fit, fault_at, gap_by, is_gap, is_nothing, is_overtaking, item_by, mark_judged, next_entry, nothing_replayed, own_judged, own_message, tied, told_replayed, with_step}
 use Rattle.tcap_check.specs.Progress.{count_kept}
-use Rattle.tcap_check.specs.Checking.{count_ahead, count_waiting, is_alone, kept_by, progress_of, taken, taken_from, taken_next, waiting_at}
-use Rattle.tcap_check.specs.Hearing.{is_heard}
+use Rattle.tcap_check.specs.CheckerMeaning.{count_ahead, count_waiting, is_alone, kept_by, progress_of, taken, taken_from, taken_next, waiting_at}
+use Rattle.tcap_check.specs.ReplaySteps.{is_heard}
 use Rattle.tcap_check.proofs.refusal_laws.PendingLaws.{IsAhead, ahead}
 use Rattle.tcap_check.proofs.replay_laws.ReplayEntries.{nothing_is}
 use Rattle.tcap_check.proofs.replay_laws.ReplayGaps.{fates_ok}

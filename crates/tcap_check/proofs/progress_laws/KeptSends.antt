@@ -11,11 +11,11 @@ use Rattle.tcap_check.specs.declared.progress.Waiting.{Waiting}
 use Rattle.tcap_model.specs.World.{Item, OnItsWay, Sent, is_side}
 use Rattle.tcap_model.specs.Run.{Event, joined}
 use Rattle.tcap_certificate.specs.Certificate.{Certificate}
-use Rattle.tcap_certificate.specs.Replayed.{Replay, is_later, is_overtaking, next_entry, time_of, with_step}
+use Rattle.tcap_certificate.specs.Replay.{Replay, is_later, is_overtaking, next_entry, time_of, with_step}
 use Rattle.tcap_record.specs.Ends.{other}
-use Rattle.tcap_certificate.specs.Unheard.{is_lost_from}
+use Rattle.tcap_certificate.specs.LossCounts.{is_lost_from}
 use Rattle.tcap_check.specs.Progress.{greater, overtakes, seat_at, sent_by, time_or_zero, unless_lost}
-use Rattle.tcap_check.specs.Checking.{fate_of, is_alone, kept_by, latest_at, latest_of, progress_of, waiting_at}
+use Rattle.tcap_check.specs.CheckerMeaning.{fate_of, is_alone, kept_by, latest_at, latest_of, progress_of, waiting_at}
 use Rattle.tcap_check.proofs.progress_laws.KeptBasics.{moved_counts}
 use Rattle.tcap_model.proofs.WorldLaws.{itself}
 

@@ -15,12 +15,12 @@ use Rattle.tcap_model.specs.declared.reason.Reason.TheVariants.{FateRange}
 use Rattle.tcap_model.specs.World.{World, channel_from, with_end}
 use Rattle.tcap_model.specs.Run.{Event, Closes, Expires, after}
 use Rattle.tcap_certificate.specs.Certificate.{Certificate}
-use Rattle.tcap_certificate.specs.Follows.{invoke_id}
-use Rattle.tcap_certificate.specs.Unheard.{is_lost_from}
-use Rattle.tcap_certificate.specs.Replayed.{Replay, fault_at, happens, implied, implied_over, or_same, stepped, with_step}
+use Rattle.tcap_certificate.specs.DescribedRun.{invoke_id}
+use Rattle.tcap_certificate.specs.LossCounts.{is_lost_from}
+use Rattle.tcap_certificate.specs.Replay.{Replay, fault_at, happens, implied, implied_over, or_same, stepped, with_step}
 use Rattle.tcap_model.proofs.RunLaws.{closing, expiry, map_some}
-use Rattle.tcap_check.specs.declared.listed.Listed.{Listed}
-use Rattle.tcap_check.specs.Listed.{all_replayed, entry_of, event_listed, listed_replayed, side_of, why_refused}
+use Rattle.tcap_check.specs.declared.listed_steps.Listed.{Listed}
+use Rattle.tcap_check.specs.ListedSteps.{all_replayed, entry_of, event_listed, listed_replayed, side_of, why_refused}
 use Rattle.tcap_check.proofs.replay_laws.ListedEventLaws.{listed_so}
 
 -- ---- losses

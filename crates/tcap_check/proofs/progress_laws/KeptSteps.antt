@@ -11,7 +11,7 @@ use Rattle.tcap_end.specs.declared.fault.EndFault.{EndFault}
 use Rattle.tcap_end.specs.declared.half.HalfName.{HalfName}
 use Rattle.tcap_end.specs.Table.{Table}
 use Rattle.tcap_end.specs.End.{End}
-use Rattle.tcap_end.specs.Hidden.{open_halves}
+use Rattle.tcap_end.specs.HiddenSteps.{open_halves}
 use Rattle.tcap_end.specs.Message.{send}
 use Rattle.tcap_end.specs.Step.{◌>>=◌}
 use Rattle.tcap_end.proofs.AnsweringLaws.{needs_ok, ok_same, some_ok, then_ok}
@@ -23,10 +23,10 @@ use Rattle.tcap_record.specs.Ends.{other}
 use Rattle.tcap_model.specs.World.{Item, OnItsWay, Sent, World, channel_from, end_at, with_channel, with_end}
 use Rattle.tcap_model.specs.Run.{Sends, Receives, Replies, Loses, Closes, Quiet, after, joined}
 use Rattle.tcap_certificate.specs.Certificate.{Certificate}
-use Rattle.tcap_certificate.specs.Follows.{invoking_half, sending_by}
-use Rattle.tcap_certificate.specs.Replayed.{Replay, all_lost_from, behind_sending, closed_at_mark, closed_before, deliveries_by, discarded, fault_at, gap_by, happens, heard, implied_over, is_abort, lost_from_front, lost_last, message_by, next_entry, or_else, received, send_replayed, sent_or_refused, stepped, with_step}
+use Rattle.tcap_certificate.specs.DescribedRun.{invoking_half, sending_by}
+use Rattle.tcap_certificate.specs.Replay.{Replay, all_lost_from, behind_sending, closed_at_mark, closed_before, deliveries_by, discarded, fault_at, gap_by, happens, heard, implied_over, is_abort, lost_from_front, lost_last, message_by, next_entry, or_else, received, send_replayed, sent_or_refused, stepped, with_step}
 use Rattle.tcap_check.proofs.replay_laws.ReplaySteps.{discard_is}
-use Rattle.tcap_check.specs.Hearing.{is_heard}
+use Rattle.tcap_check.specs.ReplaySteps.{is_heard}
 use Rattle.tcap_model.proofs.RunLaws.{delivery, loss, map_some, quiet as quiet_step, reply}
 use Rattle.tcap_check.proofs.progress_laws.KeptCounts.{count_behind, count_for, counts_same, is_next, joined_waits, losses_wait, new_by, not_next, taken_waits}
 use Rattle.tcap_check.proofs.replay_laws.WaitingLaws.{waiting}
@@ -34,7 +34,7 @@ use Rattle.tcap_check.proofs.progress_laws.KeptDeliveries.{due_is}
 use Rattle.tcap_model.proofs.WorldLaws.{peer_stays}
 use Rattle.tcap_check.proofs.progress_laws.KeptStays.{Stays, closes_stays, implied_over_stays, stays_same, stays_then, listed_stay}
 use Rattle.tcap_model.proofs.WorldLaws.{itself, sent_with_channel, sent_with_end}
-use Rattle.tcap_check.specs.Listed.{listed_for}
+use Rattle.tcap_check.specs.ListedSteps.{listed_for}
 use Rattle.tcap_check.proofs.replay_laws.ListedEventLaws.{gap_parts}
 
 -- ---- steps

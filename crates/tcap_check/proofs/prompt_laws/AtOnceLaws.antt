@@ -14,8 +14,8 @@ use Rattle.tcap_record.specs.Ends.{other}
 use Rattle.tcap_model.specs.World.{Item, OnItsWay, Sent, World, channel_from, empty, with_end}
 use Rattle.tcap_model.specs.Run.{Event, Sends, Receives, Replies, Loses, Expires, Closes, Quiet, Tells, IsRunOf, Runs, after, joined, numbers_of, numbers_sent, numbers_taken, played, then_so}
 use Rattle.tcap_certificate.specs.Certificate.{Certificate, IsPrompt, prompt}
-use Rattle.tcap_certificate.specs.Follows.{Follows, IsPlain, deliveries, is_loss, losses_from, without_losses}
-use Rattle.tcap_check.specs.Given.{DeliversAtOnce, IsSeen, is_over_or_sends}
+use Rattle.tcap_certificate.specs.DescribedRun.{Follows, IsPlain, deliveries, is_loss, losses_from, without_losses}
+use Rattle.tcap_check.specs.GivenRun.{DeliversAtOnce, IsSeen, is_over_or_sends}
 use Rattle.tcap_model.proofs.ListLaws.{all_weaker}
 use Rattle.tcap_model.proofs.RunLaws.{IsDelivery, delivery, grows, quiet, reply, sending}
 use Rattle.tcap_model.proofs.RunLaws.{played_on}

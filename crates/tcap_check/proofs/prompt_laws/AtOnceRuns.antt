@@ -14,8 +14,8 @@ use Rattle.tcap_model.specs.Run.{Event, Sends, Receives, Replies, Loses, Expires
 use Rattle.tcap_certificate.specs.declared.certificate.Fate.{Fate}
 use Rattle.tcap_certificate.specs.declared.certificate.Fate.TheVariants.{Gap, Lost, By}
 use Rattle.tcap_certificate.specs.Certificate.{Certificate, IsPrompt, prompt_fates, prompt_from}
-use Rattle.tcap_certificate.specs.Follows.{FatesFit, FollowsFrom, IsImplied, deliveries, gap_events, quiet_by, sending, taken_by}
-use Rattle.tcap_check.specs.Given.{is_over_or_sends}
+use Rattle.tcap_certificate.specs.DescribedRun.{FatesFit, FollowsFrom, IsImplied, deliveries, gap_events, quiet_by, sending, taken_by}
+use Rattle.tcap_check.specs.GivenRun.{is_over_or_sends}
 use Rattle.tcap_model.proofs.ListLaws.{all_both}
 use Rattle.tcap_model.proofs.RunLaws.{same_events}
 use Rattle.tcap_check.proofs.prompt_laws.PromptLaws.{none_taken}

@@ -12,7 +12,7 @@ use Rattle.tcap_model.specs.Run.{Event, Sends, Receives, Replies, Loses, Expires
 use Rattle.tcap_certificate.specs.declared.certificate.Fate.{Fate}
 use Rattle.tcap_certificate.specs.declared.certificate.Fate.TheVariants.{Gap, Lost, By}
 use Rattle.tcap_certificate.specs.Certificate.{Certificate, IsPrompt, prompt_from}
-use Rattle.tcap_certificate.specs.Follows.{Follows, FollowsFrom, IsPlain, deliveries, gap_events, losses_from, lost_from, sending, taken_by, without_losses}
+use Rattle.tcap_certificate.specs.DescribedRun.{Follows, FollowsFrom, IsPlain, deliveries, gap_events, losses_from, lost_from, sending, taken_by, without_losses}
 use Rattle.tcap_model.proofs.ListLaws.{all_both}
 use Rattle.tcap_model.proofs.RunLaws.{same_events}
 use Rattle.tcap_check.proofs.replay_laws.FateLaws.{from_start, all_delivered}

@@ -6,8 +6,8 @@ use Rattle.tcap_end.specs.Table.{Table}
 use Rattle.tcap_model.specs.World.{Item}
 use Rattle.tcap_model.specs.Run.{Event}
 use Rattle.tcap_certificate.specs.Certificate.{Certificate}
-use Rattle.tcap_certificate.specs.Follows.{FatesFit, FollowsFrom, IsImplied, gap_events, sending, without_losses}
-use Rattle.tcap_certificate.specs.Replayed.{Replay}
+use Rattle.tcap_certificate.specs.DescribedRun.{FatesFit, FollowsFrom, IsImplied, gap_events, sending, without_losses}
+use Rattle.tcap_certificate.specs.Replay.{Replay}
 use Rattle.tcap_check.proofs.replay_laws.ReplayGaps.{gap_events_before}
 use Rattle.tcap_check.proofs.replay_laws.ReplaySteps.{Replays, without_both}
 

@@ -7,7 +7,7 @@ use Rattle.tcap_record.specs.Ends.{other}
 use Rattle.tcap_end.specs.declared.fault.EndFault.{EndFault}
 use Rattle.tcap_end.specs.declared.half.HalfName.{HalfName}
 use Rattle.tcap_end.specs.End.{End, quiet}
-use Rattle.tcap_end.specs.Hidden.{close, expire, open_halves, quiet_unseen}
+use Rattle.tcap_end.specs.HiddenSteps.{close, expire, open_halves, quiet_unseen}
 use Rattle.tcap_end.specs.Table.{Table}
 use Rattle.tcap_end.specs.Step.{needs, ◌>>◌, ◌>>=◌}
 use Rattle.tcap_model.specs.declared.reason.Reason.TheVariants.{BadReply, NotQuiet}
@@ -18,16 +18,16 @@ use Rattle.tcap_check.specs.declared.outline.Outline.{Outline}
 use Rattle.tcap_check.specs.declared.progress.Progress.{Progress}
 use Rattle.tcap_check.specs.declared.progress.Waiting.{Waiting}
 use Rattle.tcap_certificate.specs.Certificate.{Certificate}
-use Rattle.tcap_check.specs.Checking.{taken}
-use Rattle.tcap_check.specs.Hearing.{closed_or_not, deliveries_kept, delivery_kept, first_heard, gap_kept, halves_closed, halves_quieted, heard_from, mark_taken, message_heard, message_received, received_or_not}
-use Rattle.tcap_check.specs.Outlines.{half_closed, invocation_ended}
+use Rattle.tcap_check.specs.CheckerMeaning.{taken}
+use Rattle.tcap_check.specs.ReplaySteps.{closed_or_not, deliveries_kept, delivery_kept, first_heard, gap_kept, halves_closed, halves_quieted, heard_from, mark_taken, message_heard, message_received, received_or_not}
+use Rattle.tcap_check.specs.EntryOutlines.{half_closed, invocation_ended}
 use Rattle.tcap_check.specs.Progress.{both_quiet, due_in, end_moved, first_answered, front_lost, is_empty, last_lost, map_ok, may_be_answered, quiet_kept, seat_at, sent_by, with_told, with_waiting, all_kept, listed_kept}
-use Rattle.tcap_certificate.specs.Replayed.{fault_at, is_nothing}
-use Rattle.tcap_check.specs.Stands.{refusal_to_send}
+use Rattle.tcap_certificate.specs.Replay.{fault_at, is_nothing}
+use Rattle.tcap_check.specs.RunSoFar.{refusal_to_send}
 use Rattle.tcap_check.proofs.refusal_laws.ReasonGaps.{needs_err, then_err}
-use Rattle.tcap_check.specs.declared.listed.Listed.{Listed}
-use Rattle.tcap_check.specs.declared.listed.Listed.TheVariants as listings
-use Rattle.tcap_check.specs.Listed.{listed_for}
+use Rattle.tcap_check.specs.declared.listed_steps.Listed.{Listed}
+use Rattle.tcap_check.specs.declared.listed_steps.Listed.TheVariants as listings
+use Rattle.tcap_check.specs.ListedSteps.{listed_for}
 
 -- The fault is not that an end may not send a message.
 abbrev pub NoSend : CheckFault → Type 0

@@ -17,8 +17,8 @@ use Rattle.tcap_model.specs.World.{Item, Sent, World, empty, end_at, is_side, wi
 use Rattle.tcap_model.specs.Run.{Event, Sends, Receives, Replies, Loses, Expires, Closes, Quiet, Tells, Runs, after, numbers_taken, played}
 use Rattle.tcap_certificate.specs.Certificate.{Certificate}
 use Rattle.tcap_model.specs.Entries.{IsItem}
-use Rattle.tcap_certificate.specs.Follows.{FatesFit}
-use Rattle.tcap_certificate.specs.Replayed.{Replay, gap_by, item_by, next_entry}
+use Rattle.tcap_certificate.specs.DescribedRun.{FatesFit}
+use Rattle.tcap_certificate.specs.Replay.{Replay, gap_by, item_by, next_entry}
 use Rattle.tcap_model.proofs.ListLaws.{all_both}
 use Rattle.tcap_model.proofs.RunLaws.{closing, delivery, expiry, loss, quiet as quiet_step, reply, same_side, sending, some_is, telling, then_some}
 use Rattle.tcap_check.proofs.one_end_laws.AloneCounts.{IsOwn}

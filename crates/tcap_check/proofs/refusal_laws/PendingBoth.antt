@@ -17,8 +17,8 @@ use Rattle.tcap_certificate.specs.declared.certificate.Fate.{Fate}
 use Rattle.tcap_certificate.specs.declared.certificate.Fate.TheVariants.{Gap, Lost, By}
 use Rattle.tcap_certificate.specs.Certificate.{Certificate}
 use Rattle.tcap_model.specs.Entries.{IsItem}
-use Rattle.tcap_certificate.specs.Follows.{FatesFit, deliveries, gap_events, sending_by, taken_by, without_losses}
-use Rattle.tcap_certificate.specs.Replayed.{Replay, next_entry}
+use Rattle.tcap_certificate.specs.DescribedRun.{FatesFit, deliveries, gap_events, sending_by, taken_by, without_losses}
+use Rattle.tcap_certificate.specs.Replay.{Replay, next_entry}
 use Rattle.tcap_check.proofs.replay_laws.ReplayGaps.{get_before}
 use Rattle.tcap_check.proofs.replay_laws.ReplaySteps.{Replays}
 use Rattle.tcap_check.proofs.replay_laws.ReplayLaws.{IsSentBy}

@@ -15,8 +15,8 @@ use Rattle.tcap_certificate.specs.declared.certificate.Fate.{Fate}
 use Rattle.tcap_certificate.specs.declared.certificate.Fate.TheVariants.{Gap, Lost, By}
 use Rattle.tcap_certificate.specs.Certificate.{Certificate}
 use Rattle.tcap_model.specs.Entries.{AreItems, IsItem}
-use Rattle.tcap_certificate.specs.Follows.{FatesFit, without_losses}
-use Rattle.tcap_certificate.specs.Replayed.{Replay, is_heard, next_entry}
+use Rattle.tcap_certificate.specs.DescribedRun.{FatesFit, without_losses}
+use Rattle.tcap_certificate.specs.Replay.{Replay, is_heard, next_entry}
 use Rattle.tcap_model.proofs.RunLaws.{played_on}
 use Rattle.tcap_check.proofs.one_end_laws.AloneCounts.{IsOwn}
 use Rattle.tcap_check.proofs.replay_laws.ReplaySteps.{Extends}

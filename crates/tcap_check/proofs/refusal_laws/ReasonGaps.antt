@@ -20,11 +20,11 @@ use Rattle.tcap_model.specs.World.{Item, Sent}
 use Rattle.tcap_model.specs.Run.{Event, Receives}
 use Rattle.tcap_certificate.specs.Certificate.{Certificate}
 use Rattle.tcap_model.specs.Entries.{AreItems, IsItem}
-use Rattle.tcap_check.specs.Given.{IsAt, IsOutside, IsReason}
-use Rattle.tcap_certificate.specs.Replayed.{Replay, all_fit, certificate_fits, deliveries_by, delivery_by, discarded, fate_fits, fates_fit, fault_at, gap_by, happens, is_due, is_judged, lost_before, lost_from_front, next_entry, or_else, received, stepped}
-use Rattle.tcap_check.specs.declared.listed.Listed.{Listed}
-use Rattle.tcap_check.specs.declared.listed.Listed.TheVariants as listings
-use Rattle.tcap_check.specs.Listed.{all_replayed, entry_of, event_listed, listed_for, listed_in, listed_replayed, side_of, why_refused}
+use Rattle.tcap_check.specs.GivenRun.{IsAt, IsOutside, IsReason}
+use Rattle.tcap_certificate.specs.Replay.{Replay, all_fit, certificate_fits, deliveries_by, delivery_by, discarded, fate_fits, fates_fit, fault_at, gap_by, happens, is_due, is_judged, lost_before, lost_from_front, next_entry, or_else, received, stepped}
+use Rattle.tcap_check.specs.declared.listed_steps.Listed.{Listed}
+use Rattle.tcap_check.specs.declared.listed_steps.Listed.TheVariants as listings
+use Rattle.tcap_check.specs.ListedSteps.{all_replayed, entry_of, event_listed, listed_for, listed_in, listed_replayed, side_of, why_refused}
 use Rattle.tcap_check.proofs.replay_laws.ListedEventLaws.{gap_is_listed}
 use Rattle.tcap_check.proofs.replay_laws.ReplayLaws.{one_replays}
 use Rattle.tcap_check.proofs.replay_laws.MemberLaws.{IsIn, contained, in_either}

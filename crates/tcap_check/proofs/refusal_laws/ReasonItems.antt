@@ -20,9 +20,9 @@ use Rattle.tcap_model.specs.World.{Item, Sent, end_at, is_side}
 use Rattle.tcap_model.specs.Run.{Event, Sends, Receives, Replies, Loses, Expires, Closes, Quiet, Tells, joined}
 use Rattle.tcap_certificate.specs.Certificate.{Certificate}
 use Rattle.tcap_model.specs.Entries.{IsItem}
-use Rattle.tcap_certificate.specs.Follows.{invoking_half, sending_by}
-use Rattle.tcap_check.specs.Given.{IsAt}
-use Rattle.tcap_certificate.specs.Replayed.{Replay, behind_sending, comes_in_order, fault_at, gap_by, happens, implied_over, is_abort, is_heard, is_later, is_nothing, is_overtaking, lost_before, message_by, message_judged, next_entry, own_judged, own_message, refused, sent_or_refused, stepped, tied, time_of, told_replayed, with_step}
+use Rattle.tcap_certificate.specs.DescribedRun.{invoking_half, sending_by}
+use Rattle.tcap_check.specs.GivenRun.{IsAt}
+use Rattle.tcap_certificate.specs.Replay.{Replay, behind_sending, comes_in_order, fault_at, gap_by, happens, implied_over, is_abort, is_heard, is_later, is_nothing, is_overtaking, lost_before, message_by, message_judged, next_entry, own_judged, own_message, refused, sent_or_refused, stepped, tied, time_of, told_replayed, with_step}
 use Rattle.tcap_check.proofs.refusal_laws.PendingLaws.{SendsSoFar}
 use Rattle.tcap_model.proofs.RunLaws.{same_side}
 use Rattle.tcap_model.proofs.WorldLaws.{itself}

@@ -22,10 +22,10 @@ use Rattle.tcap_model.specs.World.{Item, Sent}
 use Rattle.tcap_model.specs.Run.{Event, Quiet}
 use Rattle.tcap_certificate.specs.Certificate.{Certificate}
 use Rattle.tcap_model.specs.Entries.{IsItem, item_by, item_of}
-use Rattle.tcap_certificate.specs.Follows.{FatesFit, quiet_by, sending, sending_by, taken_by}
-use Rattle.tcap_check.specs.Given.{IsNoItem, IsReason}
-use Rattle.tcap_check.specs.Checking.{taken, taken_from, taken_next}
-use Rattle.tcap_certificate.specs.Replayed.{Replay, certificate_fits, entries_by, entry_by, fates_fit, fault_at, gap_by, is_gap, is_nothing, is_overtaking, lost_last, mark_judged, next_entry, nothing_replayed, own_judged, replayed_by}
+use Rattle.tcap_certificate.specs.DescribedRun.{FatesFit, quiet_by, sending, sending_by, taken_by}
+use Rattle.tcap_check.specs.GivenRun.{IsNoItem, IsReason}
+use Rattle.tcap_check.specs.CheckerMeaning.{taken, taken_from, taken_next}
+use Rattle.tcap_certificate.specs.Replay.{Replay, certificate_fits, entries_by, entry_by, fates_fit, fault_at, gap_by, is_gap, is_nothing, is_overtaking, lost_last, mark_judged, next_entry, nothing_replayed, own_judged, replayed_by}
 use Rattle.tcap_check.proofs.replay_laws.ReplayGaps.{fates_ok}
 use Rattle.tcap_check.proofs.replay_laws.ReplayLaws.{IsSentBy, message_replays}
 use Rattle.tcap_check.proofs.refusal_laws.FollowingLaws.{follows_nothing}

@@ -19,17 +19,17 @@ use Rattle.tcap_model.specs.World.{Item, OnItsWay, channel_from, end_at}
 use Rattle.tcap_model.specs.Run.{Quiet, after, after_quiet}
 use Rattle.tcap_certificate.specs.Certificate.{Certificate}
 use Rattle.tcap_model.specs.Entries.{AreItems, IsItem, item_of}
-use Rattle.tcap_certificate.specs.Follows.{FatesFit, without_losses}
-use Rattle.tcap_check.specs.Given.{IsAt, IsPending, IsStillOpen}
-use Rattle.tcap_certificate.specs.Replayed.{Replay, closed_before, fault_at, gap_by, is_gap, is_nothing, lost_from_both, lost_last, mark_judged, next_entry, stepped, tied, with_step}
+use Rattle.tcap_certificate.specs.DescribedRun.{FatesFit, without_losses}
+use Rattle.tcap_check.specs.GivenRun.{IsAt, IsPending, IsStillOpen}
+use Rattle.tcap_certificate.specs.Replay.{Replay, closed_before, fault_at, gap_by, is_gap, is_nothing, lost_from_both, lost_last, mark_judged, next_entry, stepped, tied, with_step}
 use Rattle.tcap_check.proofs.replay_laws.ReplayLaws.{gap_replays}
 use Rattle.tcap_check.proofs.refusal_laws.FollowingLaws.{follows_all}
 use Rattle.tcap_check.proofs.refusal_laws.PendingLaws.{SendsSoFar}
 use Rattle.tcap_check.proofs.refusal_laws.ReasonGaps.{Says, as_many, gap_says, needs_err, next_at, none_err, says, taken_front, then_err}
 use Rattle.tcap_end.specs.declared.half.HalfName.{HalfName}
-use Rattle.tcap_end.specs.Hidden.{close_each, open_halves, quiet_unseen}
+use Rattle.tcap_end.specs.HiddenSteps.{close_each, open_halves, quiet_unseen}
 use Rattle.tcap_end.proofs.AnsweringLaws.{ok_same}
-use Rattle.tcap_check.specs.Checking.{taken}
+use Rattle.tcap_check.specs.CheckerMeaning.{taken}
 use Rattle.tcap_check.proofs.refusal_laws.PendingAlone.{alone_behind, peer_is_nothing}
 use Rattle.tcap_check.proofs.one_end_laws.AloneReplays.{gap_leads}
 use Rattle.tcap_check.proofs.checker_laws.EntryLaws.{gap_is_heard, taken_is_heard}

@@ -21,10 +21,10 @@ use Rattle.tcap_record.specs.Ends.{other}
 use Rattle.tcap_model.specs.World.{Item, OnItsWay, Sent, World, channel_from, end_at}
 use Rattle.tcap_model.specs.Run.{after_quiet, then_so}
 use Rattle.tcap_certificate.specs.Certificate.{Certificate}
-use Rattle.tcap_certificate.specs.Follows.{FatesFit, taken_by}
-use Rattle.tcap_check.specs.Given.{IsAt, IsPending}
-use Rattle.tcap_certificate.specs.Replayed.{Replay, closed_before, is_heard, is_nothing, is_sent_by, lost_from_both, lost_from_front, lost_front, lost_last, next_entry, tied}
-use Rattle.tcap_model.specs.Since.{WasSent}
+use Rattle.tcap_certificate.specs.DescribedRun.{FatesFit, taken_by}
+use Rattle.tcap_check.specs.GivenRun.{IsAt, IsPending}
+use Rattle.tcap_certificate.specs.Replay.{Replay, closed_before, is_heard, is_nothing, is_sent_by, lost_from_both, lost_from_front, lost_front, lost_last, next_entry, tied}
+use Rattle.tcap_model.specs.SinceMark.{WasSent}
 use Rattle.tcap_model.proofs.ChannelLaws.{were_sent}
 use Rattle.tcap_check.proofs.replay_laws.WaitingLaws.{head_stays}
 use Rattle.tcap_check.proofs.replay_laws.ReplaySteps.{both_replay}
@@ -32,7 +32,7 @@ use Rattle.tcap_check.proofs.refusal_laws.PendingLaws.{IsOver, SendsSoFar, ahead
 use Rattle.tcap_model.proofs.RunLaws.{same_side}
 use Rattle.tcap_check.proofs.refusal_laws.TakenNumberLaws.{taken_is_gone}
 use Rattle.tcap_check.proofs.refusal_laws.ReasonGaps.{at_front, in_filter}
-use Rattle.tcap_end.specs.Hidden.{open_halves}
+use Rattle.tcap_end.specs.HiddenSteps.{open_halves}
 use Rattle.tcap_end.proofs.AnsweringLaws.{ok_same}
 use Rattle.tcap_check.proofs.refusal_laws.PendingAlone.{leads_still}
 use Rattle.tcap_check.proofs.one_end_laws.AloneReplays.{closed_leads}

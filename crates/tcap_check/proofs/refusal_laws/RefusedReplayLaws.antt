@@ -6,7 +6,7 @@ use Rattle.tcap_record.specs.declared.entry.End.{End as Side}
 use Rattle.tcap_record.specs.declared.entry.End.TheVariants as sides
 use Rattle.tcap_record.specs.Ends.{other}
 use Rattle.tcap_end.specs.declared.half.HalfName.{HalfName}
-use Rattle.tcap_end.specs.Hidden.{open_halves}
+use Rattle.tcap_end.specs.HiddenSteps.{open_halves}
 use Rattle.tcap_end.specs.Table.{Table}
 use Rattle.tcap_end.proofs.AnsweringLaws.{ok_same, some_ok, then_ok}
 use Rattle.tcap_model.specs.declared.reason.Reason.{Reason}
@@ -17,19 +17,19 @@ use Rattle.tcap_certificate.specs.declared.certificate.Fate.{Fate}
 use Rattle.tcap_certificate.specs.declared.certificate.Fate.TheVariants.{Gap, Lost, By}
 use Rattle.tcap_certificate.specs.declared.fault.CheckFault.{CheckFault}
 use Rattle.tcap_certificate.specs.Certificate.{Certificate}
-use Rattle.tcap_certificate.specs.Follows.{invoking_half, is_loss, sending_by}
-use Rattle.tcap_certificate.specs.Replayed.{Replay, closed_at_mark, delivery_by, fault_at, gap_by, implied_over, is_due, is_gap, is_judged, is_nothing, is_overtaking, lost_from_front, lost_last, next_entry, received, stepped, tied}
-use Rattle.tcap_check.specs.Checking.{is_alone}
-use Rattle.tcap_check.specs.SoFar.{as_far, behind_or, deliveries_so_far, fated_so_far, gap_so_far, halves_so_far, losses_before, mark_so_far, message_so_far, next_so_far, quiet_so_far, sending_so_far, listed_so_far}
-use Rattle.tcap_check.specs.Stands.{TellsSo}
+use Rattle.tcap_certificate.specs.DescribedRun.{invoking_half, is_loss, sending_by}
+use Rattle.tcap_certificate.specs.Replay.{Replay, closed_at_mark, delivery_by, fault_at, gap_by, implied_over, is_due, is_gap, is_judged, is_nothing, is_overtaking, lost_from_front, lost_last, next_entry, received, stepped, tied}
+use Rattle.tcap_check.specs.CheckerMeaning.{is_alone}
+use Rattle.tcap_check.specs.PartialReplay.{as_far, behind_or, deliveries_so_far, fated_so_far, gap_so_far, halves_so_far, losses_before, mark_so_far, message_so_far, next_so_far, quiet_so_far, sending_so_far, listed_so_far}
+use Rattle.tcap_check.specs.RunSoFar.{TellsSo}
 use Rattle.tcap_check.proofs.one_end_laws.AloneReplays.{closed_leads, gap_leads, heard_leads}
 use Rattle.tcap_check.proofs.one_end_laws.AloneSteps.{stepped_adds}
 use Rattle.tcap_check.proofs.replay_laws.DiscardReasons.{tells_front, tells_heard, tells_kept, tells_step}
 use Rattle.tcap_check.proofs.replay_laws.ReplayInvariants.{closed_keeps, gap_keeps, over_keeps, one_keeps}
 use Rattle.tcap_check.proofs.replay_laws.ReplayLaws.{gap_replays, implied_by, one_replays}
 use Rattle.tcap_check.proofs.replay_laws.ReplaySteps.{Extends, extends_nothing, extends_then, losing_replays, stepped_extends}
-use Rattle.tcap_check.specs.declared.listed.Listed.{Listed}
-use Rattle.tcap_check.specs.Listed.{all_replayed, listed_for, listed_replayed}
+use Rattle.tcap_check.specs.declared.listed_steps.Listed.{Listed}
+use Rattle.tcap_check.specs.ListedSteps.{all_replayed, listed_for, listed_replayed}
 
 -- ---- extended replays
 

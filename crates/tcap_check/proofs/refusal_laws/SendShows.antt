@@ -25,13 +25,13 @@ use Rattle.tcap_check.specs.declared.outline.Outline.{Outline}
 use Rattle.tcap_check.specs.declared.progress.Progress.{Progress}
 use Rattle.tcap_check.specs.declared.replaying.Replaying.{Replaying}
 use Rattle.tcap_certificate.specs.Certificate.{Certificate}
-use Rattle.tcap_check.specs.Checking.{Kept, TookListed, entry_kept, gap_before, item_kept, kept_ended, kept_next, kept_of, kept_with, taken, tied_now}
-use Rattle.tcap_check.specs.Given.{IsAt}
-use Rattle.tcap_check.specs.Ready.{checking_of, kept_in}
-use Rattle.tcap_check.specs.Hearing.{gap_kept, mark_taken, told_taken}
+use Rattle.tcap_check.specs.CheckerMeaning.{Kept, TookListed, entry_kept, gap_before, item_kept, kept_ended, kept_next, kept_of, kept_with, taken, tied_now}
+use Rattle.tcap_check.specs.GivenRun.{IsAt}
+use Rattle.tcap_check.specs.ReplayInvariants.{checking_of, kept_in}
+use Rattle.tcap_check.specs.ReplaySteps.{gap_kept, mark_taken, told_taken}
 use Rattle.tcap_check.specs.Progress.{IsMemory, YieldsInMemory, front_lost, last_lost, map_ok, reply_kept, seat_at, sent_by}
-use Rattle.tcap_certificate.specs.Replayed.{Replay, all_fit, certificate_fits, fate_fits, fates_fit, fault_at, is_gap, is_nothing}
-use Rattle.tcap_check.specs.Stands.{IsRefusedThere, ShowsAmong, ShowsItem, ShowsSend, of_side, refusal_to_send}
+use Rattle.tcap_certificate.specs.Replay.{Replay, all_fit, certificate_fits, fate_fits, fates_fit, fault_at, is_gap, is_nothing}
+use Rattle.tcap_check.specs.RunSoFar.{IsRefusedThere, ShowsAmong, ShowsItem, ShowsSend, of_side, refusal_to_send}
 use Rattle.tcap_check.proofs.progress_laws.KeptHidden.{outlines_count}
 use Rattle.tcap_check.proofs.refusal_laws.ReasonGaps.{as_many, both_err, needs_err, none_err, then_err}
 use Rattle.tcap_check.proofs.replay_laws.ReplayEntries.{item_is}

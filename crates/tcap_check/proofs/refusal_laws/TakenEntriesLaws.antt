@@ -19,15 +19,15 @@ use Rattle.tcap_check.specs.declared.progress.Progress.{Progress}
 use Rattle.tcap_check.specs.declared.replaying.Replaying.{Replaying}
 use Rattle.tcap_check.specs.declared.step.Step.{Step}
 use Rattle.tcap_certificate.specs.Certificate.{Certificate}
-use Rattle.tcap_check.specs.Checking.{Kept, TookListed, gap_before, kept_next, kept_of, map_ok, progress_of, taken, taken_from, taken_next, tied_now}
-use Rattle.tcap_certificate.specs.Follows.{FatesFit, taken_by}
-use Rattle.tcap_check.specs.Hearing.{told_among}
-use Rattle.tcap_check.specs.Left.{IsListing, end_left, entry_left, gap_left, mark_left}
-use Rattle.tcap_check.specs.Ready.{IsSameBesideProgress, checking_of, kept_in}
-use Rattle.tcap_certificate.specs.Replayed.{Replay, certificate_fits, entry_by, fates_fit, fault_at, gap_by, is_gap, next_entry, nothing_replayed}
-use Rattle.tcap_check.specs.SoFar.{next_so_far}
-use Rattle.tcap_check.specs.Stands.{IsListed, IsSoFar, StandsAmong, UnlessMemory, stopped_at}
-use Rattle.tcap_check.specs.Told.{Told, told_of}
+use Rattle.tcap_check.specs.CheckerMeaning.{Kept, TookListed, gap_before, kept_next, kept_of, map_ok, progress_of, taken, taken_from, taken_next, tied_now}
+use Rattle.tcap_certificate.specs.DescribedRun.{FatesFit, taken_by}
+use Rattle.tcap_check.specs.ReplaySteps.{told_among}
+use Rattle.tcap_check.specs.RefusedReplay.{IsListing, end_left, entry_left, gap_left, mark_left}
+use Rattle.tcap_check.specs.ReplayInvariants.{IsSameBesideProgress, checking_of, kept_in}
+use Rattle.tcap_certificate.specs.Replay.{Replay, certificate_fits, entry_by, fates_fit, fault_at, gap_by, is_gap, next_entry, nothing_replayed}
+use Rattle.tcap_check.specs.PartialReplay.{next_so_far}
+use Rattle.tcap_check.specs.RunSoFar.{IsListed, IsSoFar, StandsAmong, UnlessMemory, stopped_at}
+use Rattle.tcap_check.specs.ReportedSteps.{Told, told_of}
 use Rattle.tcap_check.proofs.checker_laws.CheckerLaws.{checking, took_err}
 use Rattle.tcap_check.proofs.replay_laws.DiscardReasons.{taken_tells}
 use Rattle.tcap_check.proofs.progress_laws.HearingLaws.{left_behind}

@@ -10,7 +10,7 @@ use Rattle.tcap_end.specs.Table.{Table}
 use Rattle.tcap_record.specs.Ends.{other}
 use Rattle.tcap_model.specs.World.{Item, OnItsWay, Sent, World, channel_from, is_side}
 use Rattle.tcap_model.specs.Run.{Event, Receives, Replies, Runs, numbers_of, numbers_sent, numbers_taken, takes_from}
-use Rattle.tcap_certificate.specs.Follows.{is_loss, without_losses}
+use Rattle.tcap_certificate.specs.DescribedRun.{is_loss, without_losses}
 use Rattle.tcap_model.proofs.ChannelLaws.{are_whole, in_order}
 use Rattle.tcap_model.proofs.RunLaws.{same_side}
 use Rattle.tcap_check.proofs.replay_laws.MemberLaws.{IsIn, in_left, in_right}

@@ -16,10 +16,10 @@ use Rattle.tcap_model.proofs.ListLaws.{all_both}
 use Rattle.tcap_certificate.specs.declared.certificate.Fate.{Fate}
 use Rattle.tcap_certificate.specs.declared.fault.CheckFault.{CheckFault}
 use Rattle.tcap_certificate.specs.Certificate.{Certificate}
-use Rattle.tcap_certificate.specs.Follows.{taken_by, without_losses}
-use Rattle.tcap_certificate.specs.Replayed.{Replay, certificate_fits, entry_by, fault_at, item_by, next_entry, nothing_replayed}
-use Rattle.tcap_check.specs.Checking.{Checking, Kept, Took, kept_of, map_ok, taken, taken_from, taken_next}
-use Rattle.tcap_check.specs.Given.{MayBeSent}
+use Rattle.tcap_certificate.specs.DescribedRun.{taken_by, without_losses}
+use Rattle.tcap_certificate.specs.Replay.{Replay, certificate_fits, entry_by, fault_at, item_by, next_entry, nothing_replayed}
+use Rattle.tcap_check.specs.CheckerMeaning.{Checking, Kept, Took, kept_of, map_ok, taken, taken_from, taken_next}
+use Rattle.tcap_check.specs.GivenRun.{MayBeSent}
 use Rattle.tcap_check.proofs.one_end_laws.AloneCounts.{own_keeps}
 use Rattle.tcap_check.proofs.refusal_laws.FollowingLaws.{plain_on}
 use Rattle.tcap_check.proofs.given_run_laws.GivenEvents.{gap_fated, implied_fated, sender_fated, sender_is}

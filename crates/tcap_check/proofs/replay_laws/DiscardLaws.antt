@@ -14,8 +14,8 @@ use Rattle.tcap_model.proofs.ListLaws.{all_both}
 use Rattle.tcap_model.proofs.RunLaws.{map_some}
 use Rattle.tcap_certificate.specs.declared.fault.CheckFault.{CheckFault}
 use Rattle.tcap_certificate.specs.Certificate.{Certificate}
-use Rattle.tcap_certificate.specs.Replayed.{Replay, certificate_fits, discarded, discards_by, entries_by, fault_at, heard, lost_from_front, lost_last, nothing_replayed, or_else, stepped, why_not_first}
-use Rattle.tcap_check.specs.Told.{MayAllBeDiscarded, MayBeDiscarded}
+use Rattle.tcap_certificate.specs.Replay.{Replay, certificate_fits, discarded, discards_by, entries_by, fault_at, heard, lost_from_front, lost_last, nothing_replayed, or_else, stepped, why_not_first}
+use Rattle.tcap_check.specs.ReportedSteps.{MayAllBeDiscarded, MayBeDiscarded}
 use Rattle.tcap_check.proofs.given_run_laws.GivenRuns.{both_ok}
 use Rattle.tcap_check.proofs.replay_laws.ReplayInvariants.{IsKept, entries_keep, last_keeps}
 

@@ -23,11 +23,11 @@ use Rattle.tcap_certificate.specs.declared.certificate.Fate.{Fate}
 use Rattle.tcap_certificate.specs.declared.certificate.Fate.TheVariants.{Gap, Lost, By}
 use Rattle.tcap_certificate.specs.declared.fault.CheckFault.{CheckFault}
 use Rattle.tcap_certificate.specs.Certificate.{Certificate}
-use Rattle.tcap_certificate.specs.Follows.{is_loss, losses_from, lost_from}
-use Rattle.tcap_certificate.specs.Replayed.{Replay, all_lost_from, certificate_fits, discarded, discards_by, entries_by, fault_at, heard, if_lost, is_heard, lost_front, lost_from_front, lost_last, nothing_replayed, or_else, run_by, stepped, why_not_first, with_discards, with_step}
-use Rattle.tcap_check.specs.Checking.{taken, taken_from}
-use Rattle.tcap_check.specs.Stands.{DiscardsSo, IsDiscardOf, TellsSo}
-use Rattle.tcap_check.specs.Told.{IsDiscarded, IsTold, MayAllBeDiscarded}
+use Rattle.tcap_certificate.specs.DescribedRun.{is_loss, losses_from, lost_from}
+use Rattle.tcap_certificate.specs.Replay.{Replay, all_lost_from, certificate_fits, discarded, discards_by, entries_by, fault_at, heard, if_lost, is_heard, lost_front, lost_from_front, lost_last, nothing_replayed, or_else, run_by, stepped, why_not_first, with_discards, with_step}
+use Rattle.tcap_check.specs.CheckerMeaning.{taken, taken_from}
+use Rattle.tcap_check.specs.RunSoFar.{DiscardsSo, IsDiscardOf, TellsSo}
+use Rattle.tcap_check.specs.ReportedSteps.{IsDiscarded, IsTold, MayAllBeDiscarded}
 use Rattle.tcap_check.proofs.given_run_laws.GivenRuns.{both_ok}
 use Rattle.tcap_check.proofs.replay_laws.ReplaySteps.{Extends, losing_replays, stepped_extends}
 use Rattle.tcap_check.proofs.one_end_laws.AloneSteps.{all_lost_leads}

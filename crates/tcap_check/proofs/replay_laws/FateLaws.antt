@@ -9,7 +9,7 @@ use Rattle.tcap_model.specs.Run.{Event, Receives}
 use Rattle.tcap_model.specs.World.{Item, Sent}
 use Rattle.tcap_certificate.specs.declared.certificate.Fate.{Fate}
 use Rattle.tcap_certificate.specs.declared.certificate.Fate.TheVariants.{Gap, Lost, By}
-use Rattle.tcap_certificate.specs.Follows.{deliveries, taken_by}
+use Rattle.tcap_certificate.specs.DescribedRun.{deliveries, taken_by}
 
 -- these are the fates of the certificate from number n on
 abbrev pub AreFrom : List Fate → ℕ → List Fate → Type 0

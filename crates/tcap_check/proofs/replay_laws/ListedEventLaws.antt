@@ -13,18 +13,18 @@ use Rattle.tcap_end.specs.Table.{Table}
 use Rattle.tcap_end.proofs.AnsweringLaws.{then_ok}
 use Rattle.tcap_model.specs.declared.reason.Reason.TheVariants.{FateRange, HiddenRefused}
 use Rattle.tcap_model.specs.Run.{Event, Closes, Expires, then_so, Sends, Receives, Replies, Loses, Quiet, Tells}
-use Rattle.tcap_model.specs.Since.{originating}
+use Rattle.tcap_model.specs.SinceMark.{originating}
 use Rattle.tcap_model.specs.World.{Item, Sent, is_side}
 use Rattle.tcap_model.proofs.RunLaws.{some_is, then_some, where_some, same_events}
 use Rattle.tcap_certificate.specs.declared.certificate.Closing.{Closing}
 use Rattle.tcap_certificate.specs.declared.certificate.Expiry.{Expiry}
 use Rattle.tcap_certificate.specs.declared.fault.CheckFault.{CheckFault}
 use Rattle.tcap_certificate.specs.Certificate.{Certificate}
-use Rattle.tcap_certificate.specs.Follows.{closing_by, closing_event, deliveries, expiry_by, expiry_event, gap_events, half_begun, invoke_id, named_entry, IsImplied, invoking_half}
-use Rattle.tcap_certificate.specs.Replayed.{Replay, closings_judged, closings_replayed, deliveries_by, expiries_judged, expiries_replayed, fault_at, gap_by, happens, next_entry}
-use Rattle.tcap_check.specs.declared.listed.Listed.{Listed}
-use Rattle.tcap_check.specs.declared.listed.Listed.TheVariants as listings
-use Rattle.tcap_check.specs.Listed.{all_replayed, event_listed, listed_for, listed_in, listed_judged, listed_replayed, side_of}
+use Rattle.tcap_certificate.specs.DescribedRun.{closing_by, closing_event, deliveries, expiry_by, expiry_event, gap_events, half_begun, invoke_id, named_entry, IsImplied, invoking_half}
+use Rattle.tcap_certificate.specs.Replay.{Replay, closings_judged, closings_replayed, deliveries_by, expiries_judged, expiries_replayed, fault_at, gap_by, happens, next_entry}
+use Rattle.tcap_check.specs.declared.listed_steps.Listed.{Listed}
+use Rattle.tcap_check.specs.declared.listed_steps.Listed.TheVariants as listings
+use Rattle.tcap_check.specs.ListedSteps.{all_replayed, event_listed, listed_for, listed_in, listed_judged, listed_replayed, side_of}
 use Rattle.tcap_check.proofs.progress_laws.KeptBasics.{then_same, then_then}
 use Rattle.tcap_msg.specs.declared.message.Message.{Message}
 use Rattle.tcap_model.proofs.ListLaws.{all_weaker}

@@ -16,10 +16,10 @@ use Rattle.tcap_model.specs.Run.{Event, Quiet, after}
 use Rattle.tcap_certificate.specs.declared.certificate.Fate.{Fate}
 use Rattle.tcap_certificate.specs.declared.certificate.Fate.TheVariants.{Gap, Lost, By}
 use Rattle.tcap_certificate.specs.Certificate.{Certificate}
-use Rattle.tcap_certificate.specs.Follows.{FatesFit, FollowsFrom, gap_events, quiet_by, sending, sending_by, taken_by, without_losses}
+use Rattle.tcap_certificate.specs.DescribedRun.{FatesFit, FollowsFrom, gap_events, quiet_by, sending, sending_by, taken_by, without_losses}
 use Rattle.tcap_model.specs.declared.reason.Reason.{Reason}
 use Rattle.tcap_model.specs.declared.reason.Reason.TheVariants.{FateCount, FateRange, NotQuiet, OutOfOrder}
-use Rattle.tcap_certificate.specs.Replayed.{Replay, entries_by, entry_by, fault_at, gap_by, happens, is_gap, is_nothing, is_overtaking, item_by, lost_from_both, mark_judged, next_entry, own_judged, stepped}
+use Rattle.tcap_certificate.specs.Replay.{Replay, entries_by, entry_by, fault_at, gap_by, happens, is_gap, is_nothing, is_overtaking, item_by, lost_from_both, mark_judged, next_entry, own_judged, stepped}
 use Rattle.tcap_model.proofs.RunLaws.{grows, map_some}
 use Rattle.tcap_check.proofs.replay_laws.ReplaySteps.{Extends, Replays, both_replay, extends_then, replays_then, stepped_replays, without_both}
 use Rattle.tcap_check.proofs.replay_laws.ReplayLaws.{IsSentBy, gap_replays, message_replays}

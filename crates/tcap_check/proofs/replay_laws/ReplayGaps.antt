@@ -14,9 +14,9 @@ use Rattle.tcap_certificate.specs.declared.certificate.Fate.{Fate}
 use Rattle.tcap_certificate.specs.declared.certificate.Fate.TheVariants.{Gap, Lost, By}
 use Rattle.tcap_certificate.specs.Certificate.{Certificate}
 use Rattle.tcap_model.specs.World.{has_quiet}
-use Rattle.tcap_certificate.specs.Follows.{FatesFit, closing_by, closing_event, deliveries, expiry_by, expiry_event, gap_events, named_entry}
+use Rattle.tcap_certificate.specs.DescribedRun.{FatesFit, closing_by, closing_event, deliveries, expiry_by, expiry_event, gap_events, named_entry}
 use Rattle.tcap_model.specs.declared.reason.Reason.TheVariants.{FateRange}
-use Rattle.tcap_certificate.specs.Replayed.{all_fit, fate_fits, fates_fit, fault_at}
+use Rattle.tcap_certificate.specs.Replay.{all_fit, fate_fits, fates_fit, fault_at}
 
 -- ---- listed events
 

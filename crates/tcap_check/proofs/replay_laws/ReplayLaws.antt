@@ -25,16 +25,16 @@ use Rattle.tcap_model.specs.Run.{Event, Sends, Receives, Replies, Loses, Expires
 use Rattle.tcap_certificate.specs.declared.certificate.Fate.{Fate}
 use Rattle.tcap_certificate.specs.declared.certificate.Fate.TheVariants.{Gap, Lost, By}
 use Rattle.tcap_certificate.specs.Certificate.{Certificate}
-use Rattle.tcap_certificate.specs.Follows.{IsImplied, invoking_half, deliveries, gap_events, invoke_id, is_loss, sending, sending_by}
+use Rattle.tcap_certificate.specs.DescribedRun.{IsImplied, invoking_half, deliveries, gap_events, invoke_id, is_loss, sending, sending_by}
 use Rattle.tcap_model.proofs.RunLaws.{grows, map_some, some_is}
 use Rattle.tcap_certificate.specs.declared.fault.CheckFault.{CheckFault}
 use Rattle.tcap_model.specs.declared.reason.Reason.{Reason}
 use Rattle.tcap_model.specs.declared.reason.Reason.TheVariants.{BadReply, FateRange}
 use Rattle.tcap_model.proofs.ChannelLaws.{get_new}
-use Rattle.tcap_certificate.specs.Replayed.{Replay, deliveries_by, fault_at, gap_by, happens, implied, implied_over, is_abort, lost_before, lost_from_front, message_by, next_entry, or_same, own_message, reply_replayed, send_replayed, sent_or_refused, stepped, with_step}
+use Rattle.tcap_certificate.specs.Replay.{Replay, deliveries_by, fault_at, gap_by, happens, implied, implied_over, is_abort, lost_before, lost_from_front, message_by, next_entry, or_same, own_message, reply_replayed, send_replayed, sent_or_refused, stepped, with_step}
 use Rattle.tcap_check.proofs.replay_laws.ReplaySteps.{Replays, before_replays, losing_replays, replays_nothing, replays_then, stepped_replays}
-use Rattle.tcap_check.specs.declared.listed.Listed.{Listed}
-use Rattle.tcap_check.specs.Listed.{all_replayed, entry_of, event_listed, listed_for, listed_replayed, side_of, why_refused}
+use Rattle.tcap_check.specs.declared.listed_steps.Listed.{Listed}
+use Rattle.tcap_check.specs.ListedSteps.{all_replayed, entry_of, event_listed, listed_for, listed_replayed, side_of, why_refused}
 use Rattle.tcap_check.proofs.replay_laws.ListedEventLaws.{gap_events_are, gap_parts, judged_all, listed_so, map_both}
 
 -- ---- a gap

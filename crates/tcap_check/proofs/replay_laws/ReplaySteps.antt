@@ -11,9 +11,9 @@ use Rattle.tcap_model.specs.Run.{Event, Sends, Receives, Replies, Loses, Expires
 use Rattle.tcap_certificate.specs.declared.certificate.Fate.{Fate}
 use Rattle.tcap_certificate.specs.declared.certificate.Fate.TheVariants.{Gap, Lost, By}
 use Rattle.tcap_certificate.specs.Certificate.{Certificate}
-use Rattle.tcap_certificate.specs.Follows.{is_loss, without_losses}
+use Rattle.tcap_certificate.specs.DescribedRun.{is_loss, without_losses}
 use Rattle.tcap_model.proofs.RunLaws.{map_some, played_on}
-use Rattle.tcap_certificate.specs.Replayed.{Replay, discarded, lost_before, lost_from_both, lost_from_front, if_lost, lost_front, stepped}
+use Rattle.tcap_certificate.specs.Replay.{Replay, discarded, lost_before, lost_from_both, lost_from_front, if_lost, lost_front, stepped}
 use Rattle.tcap_model.proofs.WorldLaws.{sent_with_channel, with_same}
 
 -- ---- extended runs

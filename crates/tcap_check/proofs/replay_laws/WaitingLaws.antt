@@ -7,7 +7,7 @@ use Rattle.tcap_model.specs.World.{OnItsWay, end_at}
 use Rattle.tcap_certificate.specs.declared.certificate.Fate.{Fate}
 use Rattle.tcap_certificate.specs.declared.certificate.Fate.TheVariants.{Gap, Lost, By}
 use Rattle.tcap_certificate.specs.Certificate.{Certificate}
-use Rattle.tcap_certificate.specs.Replayed.{Replay, if_lost, lost_front, lost_from_front}
+use Rattle.tcap_certificate.specs.Replay.{Replay, if_lost, lost_front, lost_from_front}
 
 -- the messages with this one, unless it is lost
 abbrev pub waiting_by : Option Fate → OnItsWay → List OnItsWay → List OnItsWay

@@ -8,12 +8,12 @@ use Rattle.tcap_parts.specs.declared.component.Component.TheVariants.{ReturnResu
 use Rattle.tcap_end.specs.Table.{Table}
 use Rattle.tcap_faults.specs.Counts.{any_problem, count, is_error, is_last_result, rejects_invoke}
 use Rattle.tcap_faults.specs.ComponentKinds.{answers_again, is_operation_overspent, is_overspent, more_answered}
-use Rattle.tcap_faults.specs.HalfOf.{HalfOf}
+use Rattle.tcap_faults.specs.HalfByPeerId.{HalfOf}
 use Rattle.tcap_faults.specs.declared.component.component_sort.Class.{Class}
 use Rattle.tcap_faults.specs.declared.component.component_sort.Class.TheVariants as classes
 use Rattle.tcap_faults.specs.declared.component.component_sort.Sort.TheVariants as sorts
-use Rattle.tcap_faults.specs.Tallied.{AreFew, is_sort, sum, tallied}
-use Rattle.tcap_faults.specs.ByTallies.{answers_again_by, is_operation_overspent_by, is_overspent_by, more_answered_by}
+use Rattle.tcap_faults.specs.InvokeCounts.{AreFew, is_sort, sum, tallied}
+use Rattle.tcap_faults.specs.KindsByCounts.{answers_again_by, is_operation_overspent_by, is_overspent_by, more_answered_by}
 use Rattle.tcap_faults.proofs.list_laws.CountLaws.{count_last, one}
 use Rattle.tcap_faults.proofs.story_laws.InvokeListLaws.{id_itself}
 use Rattle.tcap_faults.proofs.component_laws.FewSums.{count_invokes, count_within}

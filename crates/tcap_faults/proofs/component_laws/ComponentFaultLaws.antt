@@ -10,7 +10,7 @@ use Rattle.tcap_parts.specs.declared.component.Component.TheVariants.{Invoke, Re
 use Rattle.tcap_end.specs.Table.{Table}
 use Rattle.tcap_refute.specs.declared.kind.Kind.{Kind}
 use Rattle.tcap_refute.specs.declared.kind.Kind.TheVariants as kinds
-use Rattle.tcap_refute.specs.Before.{invokes, is_reject}
+use Rattle.tcap_refute.specs.EarlierMessages.{invokes, is_reject}
 use Rattle.tcap_faults.specs.Components.{has_component, invokes_again, is_linked}
 use Rattle.tcap_faults.specs.Counts.{count}
 use Rattle.tcap_refute.specs.FirstComponent.{first_so}
@@ -18,16 +18,16 @@ use Rattle.tcap_refute.specs.Kind.{or_else}
 use Rattle.tcap_faults.proofs.list_laws.CountLaws.{count_both}
 use Rattle.tcap_refute.proofs.TestLaws.{or_none}
 use Rattle.tcap_faults.specs.ComponentKinds.{answers_again, invokes_busy, links_badly, may_reject_answer, rejects_wrongly}
-use Rattle.tcap_faults.specs.HalfOf.{HalfOf}
+use Rattle.tcap_faults.specs.HalfByPeerId.{HalfOf}
 use Rattle.tcap_faults.specs.declared.component.component_faults.ComponentFaults.{ComponentFaults}
 use Rattle.tcap_faults.specs.declared.dialogue.half.Half.{Half}
 use Rattle.tcap_faults.specs.declared.component.tally.Tally.{Tally}
-use Rattle.tcap_faults.specs.Tallied.{AreFew, both_tallied, tallied}
-use Rattle.tcap_faults.specs.Tallies.{IsTally, tallies_of, tally_of}
-use Rattle.tcap_faults.specs.HalfKept.{IsHalf}
-use Rattle.tcap_faults.specs.ByTallies.{answers_again_by, counted_by, invokes_busy_by, links_badly_by, rejects_wrongly_by}
+use Rattle.tcap_faults.specs.InvokeCounts.{AreFew, both_tallied, tallied}
+use Rattle.tcap_faults.specs.TallyMeaning.{IsTally, tallies_of, tally_of}
+use Rattle.tcap_faults.specs.KeptHalf.{IsHalf}
+use Rattle.tcap_faults.specs.KindsByCounts.{answers_again_by, counted_by, invokes_busy_by, links_badly_by, rejects_wrongly_by}
 use Rattle.tcap_faults.specs.Faults.{IsFaultless, IsFirstNoted, IsWith, component_at, first_or, invokes_one_of}
-use Rattle.tcap_faults.specs.Subject.{alone_component, component_so, half_component}
+use Rattle.tcap_faults.specs.FaultSubject.{alone_component, component_so, half_component}
 use Rattle.tcap_faults.proofs.component_laws.FewSums.{count_within, few_behind, few_front, tallied_both}
 use Rattle.tcap_faults.proofs.component_laws.InvokeSums.{counted_of, invokes_busy_same, links_badly_same}
 use Rattle.tcap_faults.proofs.component_laws.AnswerSums.{answers_again_same}

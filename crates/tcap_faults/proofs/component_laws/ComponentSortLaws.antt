@@ -7,13 +7,13 @@ use Rattle.tcap_parts.specs.declared.component.ResultBody.{ResultBody}
 use Rattle.tcap_parts.specs.declared.component.Component.{Component}
 use Rattle.tcap_parts.specs.declared.component.Component.TheVariants.{Invoke, ReturnResult, ReturnError, Reject}
 use Rattle.tcap_end.specs.Table.{Table}
-use Rattle.tcap_refute.specs.Before.{is_invoke_id}
+use Rattle.tcap_refute.specs.EarlierMessages.{is_invoke_id}
 use Rattle.tcap_refute.proofs.TestLaws.{and_false, and_true}
 use Rattle.tcap_faults.specs.Counts.{invokes_so, is_result_of}
 use Rattle.tcap_faults.specs.declared.component.component_sort.Sort.{Sort}
 use Rattle.tcap_faults.specs.declared.component.component_sort.Sort.TheVariants as sorts
-use Rattle.tcap_faults.specs.Tallied.{invokes_link, is_sort, results_so}
-use Rattle.tcap_faults.specs.Noted.{answers_by, error_has, has_sort, invoke_has, invoke_id, invokes_by, is_its_id, links_so, names_code, reject_has, result_has}
+use Rattle.tcap_faults.specs.InvokeCounts.{invokes_link, is_sort, results_so}
+use Rattle.tcap_faults.specs.CountUpdate.{answers_by, error_has, has_sort, invoke_has, invoke_id, invokes_by, is_its_id, links_so, names_code, reject_has, result_has}
 use Rattle.tcap_faults.proofs.list_laws.TwoTests.{and_turned}
 
 module _ (table : Table) (id : ℤ) where

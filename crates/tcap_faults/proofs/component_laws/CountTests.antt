@@ -3,7 +3,7 @@ use Rattle.std.proofs.Common.{◌≡◌, ℕ, ◌≤◌, ◌<◌, arith, Bool, t
 use Rattle.std.specs.Prelude.{◌||◌, ◌&&◌, ◌==◌, nat_lt}
 use Rattle.std.proofs.lemmas.Bool.{le-leb, le-ltb, lt-ltb, ne_eqb}
 use Rattle.tcap_faults.specs.Components.{is_of_link}
-use Rattle.tcap_faults.specs.ByTallies.{more_last_by}
+use Rattle.tcap_faults.specs.KindsByCounts.{more_last_by}
 
 -- If an invocation lasts.
 pub some_last : (r : Bool) (all of_1 of_3 ends results generals not_lasts : ℕ)

@@ -13,11 +13,11 @@ use Rattle.tcap_record.specs.declared.entry.End.TheVariants as sides
 use Rattle.tcap_end.specs.End.{is_id}
 use Rattle.tcap_record.specs.Ends.{other}
 use Rattle.tcap_model.specs.World.{Item, Sent, has_quiet}
-use Rattle.tcap_refute.specs.Before.{asked, components_of, has_a, is_a, sent_by, since_quiet}
-use Rattle.tcap_faults.specs.Told.{begin_from, goes_on_to, is_request_of, tells_to, told}
-use Rattle.tcap_faults.specs.HalfOf.{answered_from, begun_from, continued_to, from_first, half_by, half_of, heard_of, responds}
-use Rattle.tcap_faults.specs.Searching.{AreCounted, AreRoomy, components_in_all}
-use Rattle.tcap_faults.specs.Tallied.{AreFew}
+use Rattle.tcap_refute.specs.EarlierMessages.{asked, components_of, has_a, is_a, sent_by, since_quiet}
+use Rattle.tcap_faults.specs.SentToId.{begin_from, goes_on_to, is_request_of, tells_to, told}
+use Rattle.tcap_faults.specs.HalfByPeerId.{answered_from, begun_from, continued_to, from_first, half_by, half_of, heard_of, responds}
+use Rattle.tcap_faults.specs.SearchState.{AreCounted, AreRoomy, components_in_all}
+use Rattle.tcap_faults.specs.InvokeCounts.{AreFew}
 
 -- The number of components of messages.
 abbrev weight : List Message → ℕ

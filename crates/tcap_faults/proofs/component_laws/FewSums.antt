@@ -9,11 +9,11 @@ use Rattle.tcap_parts.specs.declared.component.Component.{Component}
 use Rattle.tcap_parts.specs.declared.component.Component.TheVariants.{Invoke}
 use Rattle.tcap_end.specs.Component.{is_code}
 use Rattle.tcap_end.specs.Table.{Table}
-use Rattle.tcap_refute.specs.Before.{invokes, is_invoke_id}
+use Rattle.tcap_refute.specs.EarlierMessages.{invokes, is_invoke_id}
 use Rattle.tcap_faults.specs.Counts.{count, invokes_so, is_result_of}
 use Rattle.tcap_faults.specs.declared.component.component_sort.Class.TheVariants as classes
 use Rattle.tcap_faults.specs.declared.component.component_sort.Sort.TheVariants as sorts
-use Rattle.tcap_faults.specs.Tallied.{AreFew, both_tallied, invokes_link, is_sort, results_so, sum, tallied}
+use Rattle.tcap_faults.specs.InvokeCounts.{AreFew, both_tallied, invokes_link, is_sort, results_so, sum, tallied}
 use Rattle.tcap_faults.proofs.list_laws.CountLaws.{any_counts, count_both, count_more, counts_any, one}
 use Rattle.tcap_faults.proofs.component_laws.SumLaws.{sum_few}
 

@@ -9,7 +9,7 @@ use Rattle.tcap_parts.specs.declared.code.Code.TheVariants.{Local}
 use Rattle.tcap_refute.proofs.TestLaws.{and_false, and_true}
 use Rattle.tcap_faults.specs.declared.component.code_counts.CodeCounts.{CodeCounts}
 use Rattle.tcap_faults.specs.declared.component.code_count_maps.ManyCodes.{ManyCodes}
-use Rattle.tcap_faults.specs.Tallies.{codes_any, first_passes, others_any}
+use Rattle.tcap_faults.specs.TallyMeaning.{codes_any, first_passes, others_any}
 
 -- If the first code passes, a code passes.
 pub first_is_so : (passes : Code → Bool) (kept : CodeCounts) (n : ℤ) → kept.first ≡ Some n → passes (Local n) ≡ true

@@ -15,9 +15,9 @@ use Rattle.tcap_parts.specs.declared.code.Code.{Code}
 use Rattle.tcap_parts.specs.declared.code.Code.TheVariants.{Local, Global}
 use Rattle.tcap_end.specs.Component.{is_code}
 use Rattle.tcap_end.proofs.FoundLaws.{octets_total}
-use Rattle.tcap_faults.specs.Listed.{AreListed, counted}
-use Rattle.tcap_faults.specs.Tallied.{more_if, sum}
-use Rattle.tcap_faults.specs.Tallies.{or_zero}
+use Rattle.tcap_faults.specs.CountedCodes.{AreListed, counted}
+use Rattle.tcap_faults.specs.InvokeCounts.{more_if, sum}
+use Rattle.tcap_faults.specs.TallyMeaning.{or_zero}
 
 -- Whether both lists of octets are equal.
 abbrev same : List ℕ → List ℕ → Bool

@@ -8,15 +8,15 @@ use Rattle.tcap_parts.specs.declared.component.Component.{Component}
 use Rattle.tcap_parts.specs.declared.component.Component.TheVariants.{Invoke, Reject}
 use Rattle.tcap_end.specs.Component.{links}
 use Rattle.tcap_end.specs.Table.{Table, expires_of}
-use Rattle.tcap_refute.specs.Before.{invokes, is_invoke_id}
+use Rattle.tcap_refute.specs.EarlierMessages.{invokes, is_invoke_id}
 use Rattle.tcap_faults.specs.Counts.{any_problem, count, invokes_so, is_error, is_last_result, is_not_last, rejects_invoke, rejects_result, takes}
 use Rattle.tcap_faults.specs.ComponentKinds.{invokes_busy, is_busy, links_badly, may_reject_answer, may_reject_invoke, rejects_generally}
-use Rattle.tcap_faults.specs.HalfOf.{HalfOf}
+use Rattle.tcap_faults.specs.HalfByPeerId.{HalfOf}
 use Rattle.tcap_faults.specs.declared.component.component_sort.Class.{Class}
 use Rattle.tcap_faults.specs.declared.component.component_sort.Class.TheVariants as classes
 use Rattle.tcap_faults.specs.declared.component.component_sort.Sort.TheVariants as sorts
-use Rattle.tcap_faults.specs.Tallied.{AreFew, is_of_class, is_sort, sum, tallied}
-use Rattle.tcap_faults.specs.ByTallies.{Counted, invokes_busy_by, is_busy_by, links_badly_by, more_last_by, taken_by}
+use Rattle.tcap_faults.specs.InvokeCounts.{AreFew, is_of_class, is_sort, sum, tallied}
+use Rattle.tcap_faults.specs.KindsByCounts.{Counted, invokes_busy_by, is_busy_by, links_badly_by, more_last_by, taken_by}
 use Rattle.tcap_faults.proofs.story_laws.AnsweredLaws.{count_takes, count_takes_all}
 use Rattle.tcap_faults.proofs.list_laws.CountLaws.{count_apart, count_covered, count_weaker}
 use Rattle.tcap_faults.proofs.component_laws.FewSums.{any_counted, count_invokes, count_within, sum_three}

@@ -15,9 +15,9 @@ use Rattle.tcap_refute.proofs.TestLaws.{or_none}
 use Rattle.tcap_faults.specs.declared.component.code_counts.CodeCounts.{CodeCounts}
 use Rattle.tcap_faults.specs.declared.component.link_problem.LinkProblem.{LinkProblem}
 use Rattle.tcap_faults.specs.declared.component.link_problem.LinkProblem.TheVariants as problems
-use Rattle.tcap_faults.specs.Linking.{linkable_by, links_as, names_so}
-use Rattle.tcap_faults.specs.Tallied.{Tallied}
-use Rattle.tcap_faults.specs.Tallies.{codes_any, links_at}
+use Rattle.tcap_faults.specs.LinkProblems.{linkable_by, links_as, names_so}
+use Rattle.tcap_faults.specs.InvokeCounts.{Tallied}
+use Rattle.tcap_faults.specs.TallyMeaning.{codes_any, links_at}
 
 first : (a b p : Bool) → ((a || p) || b) ≡ ((a || b) || p)
 first true b p = refl

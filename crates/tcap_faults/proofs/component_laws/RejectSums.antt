@@ -9,15 +9,15 @@ use Rattle.tcap_parts.specs.declared.component.Component.{Component}
 use Rattle.tcap_parts.specs.declared.component.Component.TheVariants.{Invoke, ReturnResult, ReturnError, Reject}
 use Rattle.tcap_end.specs.Component.{is_code, links}
 use Rattle.tcap_end.specs.Table.{Table}
-use Rattle.tcap_refute.specs.Before.{invokes, is_invoke_id}
+use Rattle.tcap_refute.specs.EarlierMessages.{invokes, is_invoke_id}
 use Rattle.tcap_faults.specs.Counts.{any_problem, count, count_class, count_suited, has_class, invokes_linked, invokes_so, is_error, is_result, rejects_error, rejects_invoke, rejects_result}
 use Rattle.tcap_faults.specs.Components.{is_linked_to, is_of_link, is_problem, lists_nothing}
 use Rattle.tcap_faults.specs.ComponentKinds.{is_expected, is_invoke_reject_wrong, is_link_fine, is_of_no_operation, is_reject_wrong, rejects_wrongly}
-use Rattle.tcap_faults.specs.HalfOf.{HalfOf}
+use Rattle.tcap_faults.specs.HalfByPeerId.{HalfOf}
 use Rattle.tcap_faults.specs.declared.component.component_sort.Class.TheVariants as classes
 use Rattle.tcap_faults.specs.declared.component.component_sort.Sort.TheVariants as sorts
-use Rattle.tcap_faults.specs.Tallied.{AreFew, invokes_link, is_sort, results_so, sum, tallied}
-use Rattle.tcap_faults.specs.ByTallies.{is_answer_reject_wrong_by, is_expected_by, is_invoke_reject_wrong_by, is_link_fine_by, rejects_wrongly_by, suited_by}
+use Rattle.tcap_faults.specs.InvokeCounts.{AreFew, invokes_link, is_sort, results_so, sum, tallied}
+use Rattle.tcap_faults.specs.KindsByCounts.{is_answer_reject_wrong_by, is_expected_by, is_invoke_reject_wrong_by, is_link_fine_by, rejects_wrongly_by, suited_by}
 use Rattle.tcap_faults.proofs.list_laws.CountLaws.{count_last, one}
 use Rattle.tcap_faults.proofs.story_laws.InvokeListLaws.{id_itself}
 use Rattle.tcap_faults.proofs.component_laws.FewSums.{any_counted, count_invokes, count_within}

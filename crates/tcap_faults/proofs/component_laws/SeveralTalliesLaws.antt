@@ -5,8 +5,8 @@ use Rattle.std.proofs.lemmas.List.{at_drop_all, at_drop_more}
 use Rattle.tcap_parts.specs.declared.code.Code.{Code}
 use Rattle.tcap_faults.specs.declared.component.component_sort.Sort.{Sort}
 use Rattle.tcap_faults.specs.declared.component.tally.Tally.{Tally}
-use Rattle.tcap_faults.specs.Tallied.{sum}
-use Rattle.tcap_faults.specs.Tallies.{tallies_of}
+use Rattle.tcap_faults.specs.InvokeCounts.{sum}
+use Rattle.tcap_faults.specs.TallyMeaning.{tallies_of}
 use Rattle.tcap_faults.proofs.component_laws.SumLaws.{last, sum_below}
 
 pub count_below : (id : ℤ) (sort : Sort) (tallies : List Tally) → (tallies_of tallies).count id sort < 2 ^ 128

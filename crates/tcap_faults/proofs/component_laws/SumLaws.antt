@@ -5,7 +5,7 @@ use Rattle.std.proofs.lemmas.Bool.Decides.{nat_tests}
 use Rattle.std.proofs.lemmas.List.{length-append}
 use Rattle.std.proofs.lemmas.List.Sums.{count_by-le-length, length-filter}
 use Rattle.tcap_faults.specs.Counts.{count}
-use Rattle.tcap_faults.specs.Tallied.{more_if, sum}
+use Rattle.tcap_faults.specs.InvokeCounts.{more_if, sum}
 use Rattle.tcap_faults.proofs.list_laws.CountLaws.{count_last}
 
 -- A sum of a sum is the sum of all.

@@ -13,9 +13,9 @@ use Rattle.tcap_faults.specs.Counts.{invokes_so, is_result_of}
 use Rattle.tcap_faults.specs.declared.component.component_sort.Sort.{Sort}
 use Rattle.tcap_faults.specs.declared.component.invoke_history.OfId.{OfId}
 use Rattle.tcap_faults.specs.declared.component.tally.Tally.{Tally}
-use Rattle.tcap_faults.specs.Tallied.{AreFew, Tallied, invokes_link, is_sort, more_if, results_so, tallied}
-use Rattle.tcap_faults.specs.Tallies.{IsTally, answers_in, count_in, count_of, invokes_in, kept_of, links_in, of_kept, tally_of}
-use Rattle.tcap_faults.specs.Noted.{IsNoted, IsNothing, answers_by, has_sort, invoke_id, invokes_by, is_its_id, links_so, names_code, one_tallied}
+use Rattle.tcap_faults.specs.InvokeCounts.{AreFew, Tallied, invokes_link, is_sort, more_if, results_so, tallied}
+use Rattle.tcap_faults.specs.TallyMeaning.{IsTally, answers_in, count_in, count_of, invokes_in, kept_of, links_in, of_kept, tally_of}
+use Rattle.tcap_faults.specs.CountUpdate.{IsNoted, IsNothing, answers_by, has_sort, invoke_id, invokes_by, is_its_id, links_so, names_code, one_tallied}
 use Rattle.tcap_faults.proofs.component_laws.InvokeMapLaws.{Puts, read_put}
 use Rattle.tcap_faults.proofs.component_laws.ComponentSortLaws.{its_answer, its_link, its_name, its_operation, its_sort}
 use Rattle.tcap_faults.proofs.component_laws.SumLaws.{count_one_more}

@@ -4,9 +4,9 @@ use Rattle.std.proofs.lemmas.List.{append-nil}
 use Rattle.tcap_parts.specs.declared.component.Component.{Component}
 use Rattle.tcap_end.specs.Table.{Table}
 use Rattle.tcap_faults.specs.declared.component.tally.Tally.{Tally}
-use Rattle.tcap_faults.specs.HalfKept.{AreTallies}
-use Rattle.tcap_faults.specs.Tallied.{both_tallied}
-use Rattle.tcap_faults.specs.Tallies.{IsTally}
+use Rattle.tcap_faults.specs.KeptHalf.{AreTallies}
+use Rattle.tcap_faults.specs.InvokeCounts.{both_tallied}
+use Rattle.tcap_faults.specs.TallyMeaning.{IsTally}
 use Rattle.tcap_faults.proofs.component_laws.FewSums.{few_behind, few_front, tallied_both}
 
 module _ (table : Table) where

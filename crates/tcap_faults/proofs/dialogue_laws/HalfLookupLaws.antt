@@ -17,9 +17,9 @@ use Rattle.tcap_end.specs.End.{is_id}
 use Rattle.tcap_end.specs.Table.{Table, octets_cmp}
 use Rattle.tcap_model.specs.World.{Item}
 use Rattle.tcap_model.specs.Run.{then_so}
-use Rattle.tcap_refute.specs.Before.{asked, components_of, has_a, is_a, sent_by}
+use Rattle.tcap_refute.specs.EarlierMessages.{asked, components_of, has_a, is_a, sent_by}
 use Rattle.tcap_faults.specs.Counts.{is_nothing}
-use Rattle.tcap_faults.specs.Told.{begin_from, is_cause, is_request_of, told, was_refused}
+use Rattle.tcap_faults.specs.SentToId.{begin_from, is_cause, is_request_of, told, was_refused}
 use Rattle.tcap_faults.specs.declared.dialogue.half.Half.{Half}
 use Rattle.tcap_faults.specs.declared.dialogue.half_origin.How.TheVariants.{Accepted, Begun, Refused, Unanswered}
 use Rattle.tcap_faults.specs.declared.transaction.sent_from_id.Came.{Came}
@@ -27,11 +27,11 @@ use Rattle.tcap_faults.specs.declared.transaction.sent_from_id.FirstBegin.{First
 use Rattle.tcap_faults.specs.declared.transaction.sent_from_id.SentFrom.{SentFrom}
 use Rattle.tcap_faults.specs.declared.transaction.sent_to_id.SentTo.{SentTo}
 use Rattle.tcap_faults.specs.declared.component.tally.Tally.{Tally}
-use Rattle.tcap_faults.specs.HalfKept.{AreTallies, IsHalf}
-use Rattle.tcap_faults.specs.HalfOf.{HalfOf, accepted_half, answered_from, begun_half, continued_to, from_first, heard_of, responds}
-use Rattle.tcap_faults.specs.Ids.{ids_first}
-use Rattle.tcap_faults.specs.Kept.{IsCame, IsCameAt, IsFirstBegin, IsFrom, IsTo, IsToAt, before_response, of_user, otids_of, sent_from, sent_to}
-use Rattle.tcap_faults.specs.Speaking.{IsBegunBy, IsCameBack, came_counted, heard_counted, told_counted}
+use Rattle.tcap_faults.specs.KeptHalf.{AreTallies, IsHalf}
+use Rattle.tcap_faults.specs.HalfByPeerId.{HalfOf, accepted_half, answered_from, begun_half, continued_to, from_first, heard_of, responds}
+use Rattle.tcap_faults.specs.IdList.{ids_first}
+use Rattle.tcap_faults.specs.History.{IsCame, IsCameAt, IsFirstBegin, IsFrom, IsTo, IsToAt, before_response, of_user, otids_of, sent_from, sent_to}
+use Rattle.tcap_faults.specs.HalfTallies.{IsBegunBy, IsCameBack, came_counted, heard_counted, told_counted}
 use Rattle.tcap_faults.specs.HalfKinds.{is_first_answer, is_wrong_aborting, is_wrong_dialogue, is_wrong_going_on}
 use Rattle.tcap_faults.proofs.component_laws.TallySumLaws.{are_more, are_none, are_one}
 use Rattle.tcap_faults.proofs.list_laws.TwoTests.{any_both}

@@ -22,23 +22,23 @@ use Rattle.tcap_end.specs.End.{is_id}
 use Rattle.tcap_end.specs.Table.{Table, octets_cmp}
 use Rattle.tcap_model.specs.World.{Item}
 use Rattle.tcap_model.specs.Run.{then_so}
-use Rattle.tcap_refute.specs.Before.{asked, ends_to, has_a, is_a, message_of, sent_by}
-use Rattle.tcap_refute.specs.Kept.{holds}
+use Rattle.tcap_refute.specs.EarlierMessages.{asked, ends_to, has_a, is_a, message_of, sent_by}
+use Rattle.tcap_refute.specs.KeptFacts.{holds}
 use Rattle.tcap_refute.proofs.BeforeLaws.{is_that_id}
 use Rattle.tcap_refute.proofs.Members.{any_has, filter_has, has_first, has_not}
 use Rattle.tcap_refute.proofs.TestLaws.{and_false}
-use Rattle.tcap_faults.specs.Closed.{all_go_to_open, is_surely_open}
-use Rattle.tcap_faults.specs.Told.{goes_on_from, goes_on_to, has_ended, has_used, is_abort_with, is_cause, told}
+use Rattle.tcap_faults.specs.ClosedHalves.{all_go_to_open, is_surely_open}
+use Rattle.tcap_faults.specs.SentToId.{goes_on_from, goes_on_to, has_ended, has_used, is_abort_with, is_cause, told}
 use Rattle.tcap_faults.specs.Counts.{count, is_nothing}
 use Rattle.tcap_faults.specs.declared.transaction.history.SideFacts.{SideFacts}
 use Rattle.tcap_faults.specs.declared.transaction.id_list.Ids.{Ids}
 use Rattle.tcap_faults.specs.declared.transaction.sent_from_id.SentFrom.{SentFrom}
 use Rattle.tcap_faults.specs.Fault.{count_received, is_left_open, is_open_at_mark}
 use Rattle.tcap_faults.specs.HalfKinds.{is_accepted}
-use Rattle.tcap_faults.specs.HalfOf.{half_of}
-use Rattle.tcap_faults.specs.Ids.{AreAmong, AreIds, ids_first, ids_kept}
-use Rattle.tcap_faults.specs.Kept.{IsFrom, IsFromAt, IsSide, dtids_of, sent_from, sent_to}
-use Rattle.tcap_faults.specs.Tangled.{are_tangled, is_own_tangled, near, owns_of, two_differ}
+use Rattle.tcap_faults.specs.HalfByPeerId.{half_of}
+use Rattle.tcap_faults.specs.IdList.{AreAmong, AreIds, ids_first, ids_kept}
+use Rattle.tcap_faults.specs.History.{IsFrom, IsFromAt, IsSide, dtids_of, sent_from, sent_to}
+use Rattle.tcap_faults.specs.TangledIds.{are_tangled, is_own_tangled, near, owns_of, two_differ}
 use Rattle.tcap_faults.proofs.list_laws.FindLaws.{any_is, filter_is}
 use Rattle.tcap_faults.proofs.transaction_laws.JoinTestLaws.{dtids_are}
 use Rattle.tcap_faults.proofs.kind_laws.ReplyLaws.{accepted_stands}

@@ -14,8 +14,8 @@ use Rattle.tcap_end.specs.Table.{Table}
 use Rattle.tcap_model.specs.World.{Item}
 use Rattle.tcap_model.specs.Run.{then_so}
 use Rattle.tcap_model.proofs.TurnLaws.{id_is}
-use Rattle.tcap_refute.specs.Before.{asked, has_a, is_a, sent_by}
-use Rattle.tcap_faults.specs.Told.{began, begin_from, goes_on_to}
+use Rattle.tcap_refute.specs.EarlierMessages.{asked, has_a, is_a, sent_by}
+use Rattle.tcap_faults.specs.SentToId.{began, begin_from, goes_on_to}
 use Rattle.tcap_faults.specs.Counts.{is_nothing}
 use Rattle.tcap_refute.proofs.BeforeLaws.{is_that_id}
 use Rattle.tcap_faults.proofs.list_laws.FindLaws.{filter_is, find_has, find_none}
@@ -23,11 +23,11 @@ use Rattle.tcap_refute.proofs.Members.{filter_has, has_first, has_not}
 use Rattle.tcap_faults.specs.declared.transaction.sent_from_id.Came.{Came}
 use Rattle.tcap_faults.specs.declared.transaction.sent_from_id.FirstBegin.{FirstBegin}
 use Rattle.tcap_faults.specs.declared.transaction.sent_from_id.SentFrom.{SentFrom}
-use Rattle.tcap_faults.specs.HalfOf.{accepted_half, begun_from, begun_half, half_of, no_half}
-use Rattle.tcap_faults.specs.Ids.{IsOneOf}
-use Rattle.tcap_faults.specs.Kept.{IsCameAt, IsFirstBegin, IsFrom, IsFromAt, dtids_of, sent_from}
-use Rattle.tcap_faults.specs.Speaking.{IsBegunBy, IsBegunOwn, IsCameBack}
-use Rattle.tcap_faults.specs.Tangled.{goes_to_begun, owns_of, two_differ}
+use Rattle.tcap_faults.specs.HalfByPeerId.{accepted_half, begun_from, begun_half, half_of, no_half}
+use Rattle.tcap_faults.specs.IdList.{IsOneOf}
+use Rattle.tcap_faults.specs.History.{IsCameAt, IsFirstBegin, IsFrom, IsFromAt, dtids_of, sent_from}
+use Rattle.tcap_faults.specs.HalfTallies.{IsBegunBy, IsBegunOwn, IsCameBack}
+use Rattle.tcap_faults.specs.TangledIds.{goes_to_begun, owns_of, two_differ}
 use Rattle.tcap_faults.proofs.kind_laws.OwnHalfLaws.{begun_there, to_begun}
 use Rattle.tcap_faults.proofs.dialogue_laws.HalfLookupLaws.{none_so, there_so}
 use Rattle.tcap_faults.proofs.list_laws.TwoTests.{any_found, found_both}

@@ -12,7 +12,7 @@ use Rattle.tcap_record.specs.declared.entry.Body.{Body}
 use Rattle.tcap_record.specs.declared.entry.Body.TheVariants.{Bad}
 use Rattle.tcap_record.specs.declared.entry.End.{End as Side}
 use Rattle.tcap_record.specs.declared.entry.Entry.{Entry}
-use Rattle.tcap_record.specs.Framed.{Framed, FramedFrom, IsEntry, octet_of, quiet_octet}
+use Rattle.tcap_record.specs.RecordOctets.{Framed, FramedFrom, IsEntry, octet_of, quiet_octet}
 use Rattle.tcap_end.specs.Table.{Table}
 use Rattle.tcap_model.specs.declared.reason.Reason.{Reason}
 use Rattle.tcap_model.specs.declared.reason.Reason.TheVariants as reasons
@@ -22,11 +22,11 @@ use Rattle.tcap_model.proofs.RunLaws.{same_side}
 use Rattle.tcap_refute.specs.declared.kind.Kind.{Kind}
 use Rattle.tcap_refute.specs.declared.kind.Kind.TheVariants as kinds
 use Rattle.tcap_refute.specs.declared.kind.Refutation.{Refutation}
-use Rattle.tcap_refute.specs.Before.{since_quiet}
+use Rattle.tcap_refute.specs.EarlierMessages.{since_quiet}
 use Rattle.tcap_refute.specs.Kind.{kind_of_reason, or_else, refutation_at}
 use Rattle.tcap_refute.specs.FirstKinds.{first_kinds}
 use Rattle.tcap_refute.proofs.RefutedLaws.{bad_reason, found_so, oks}
-use Rattle.tcap_faults.specs.AtFault.{HasNoMessage, IsAtFaultOf, IsBadEntryOf}
+use Rattle.tcap_faults.specs.BlameMeaning.{HasNoMessage, IsAtFaultOf, IsBadEntryOf}
 use Rattle.tcap_faults.specs.Fault.{bad_entry_of, blamed, blamed_behind, fault_since, further_kinds, is_entry_of, is_fault, is_open_at_mark}
 use Rattle.tcap_faults.specs.UsedAgain.{has_used_again}
 use Rattle.tcap_faults.proofs.kind_laws.QuietMarkLaws.{no_open_mark}

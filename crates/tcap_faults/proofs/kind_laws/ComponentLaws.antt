@@ -9,15 +9,15 @@ use Rattle.tcap_parts.specs.declared.problem.Problem.TheVariants as problems
 use Rattle.tcap_parts.specs.declared.component.ResultBody.{ResultBody}
 use Rattle.tcap_parts.specs.declared.component.Component.{Component}
 use Rattle.tcap_parts.specs.declared.component.Component.TheVariants.{Invoke, ReturnResult, ReturnError, Reject}
-use Rattle.tcap_end.specs.declared.outs.OwnInvocation.{OwnInvocation}
+use Rattle.tcap_end.specs.declared.own_invocations.OwnInvocation.{OwnInvocation}
 use Rattle.tcap_end.specs.Table.{Table, expires_of}
 use Rattle.tcap_end.specs.Half.{Half, Invocation, listed, one_fits}
 use Rattle.tcap_end.specs.Component.{class_reports, is_code, links, may_answer, operation_sent_by, own_invocation, send_component}
 use Rattle.tcap_end.specs.Message.{send_components}
-use Rattle.tcap_refute.specs.Before.{invokes}
+use Rattle.tcap_refute.specs.EarlierMessages.{invokes}
 use Rattle.tcap_faults.specs.ComponentKinds.{answers_again, invokes_busy, is_busy, is_operation_overspent, is_overspent, links_badly, may_reject_answer, may_reject_invoke, rejects_wrongly}
 use Rattle.tcap_faults.specs.Counts.{any_problem, count, count_class, count_lasting, has_class, invokes_so, is_error, is_last_result, is_not_last, is_result_of, rejects_invoke, takes}
-use Rattle.tcap_faults.specs.HalfOf.{HalfOf}
+use Rattle.tcap_faults.specs.HalfByPeerId.{HalfOf}
 use Rattle.tcap_faults.specs.Components.{has_component}
 use Rattle.tcap_faults.proofs.story_laws.Stories.{Bounds, Happening, IsLed, got_in, sent_in}
 use Rattle.tcap_faults.proofs.story_laws.AnsweredLaws.{answer_takes, any_brought, any_takes, code_brought, count_answers, count_takes, error_takes, named_takes, none_takes, result_takes}

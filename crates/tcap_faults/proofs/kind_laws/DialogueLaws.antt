@@ -20,16 +20,16 @@ use Rattle.tcap_end.specs.Table.{Table}
 use Rattle.tcap_end.specs.Dialogue.{accepts_dialogue, first_standing, is_request, is_response, is_user_abort, may_abort, may_go_on, refuses_dialogue}
 use Rattle.tcap_end.specs.End.{End, KeptHalf}
 use Rattle.tcap_end.specs.Half.{is_closed}
-use Rattle.tcap_end.specs.Sound.{FitsPhase, IsEnd}
+use Rattle.tcap_end.specs.ReachableEnd.{FitsPhase, IsEnd}
 use Rattle.tcap_model.specs.World.{Item}
 use Rattle.tcap_model.proofs.ListLaws.{contains_first}
-use Rattle.tcap_refute.specs.Before.{asked, has_a, is_a, sent_by}
+use Rattle.tcap_refute.specs.EarlierMessages.{asked, has_a, is_a, sent_by}
 use Rattle.tcap_refute.proofs.Members.{any_has, filter_has, has_not}
 use Rattle.tcap_refute.proofs.DialogueKinds.{IsAsked, aborts, goes_on}
 use Rattle.tcap_refute.proofs.OverLaws.{IsOver, may_carry}
-use Rattle.tcap_faults.specs.Told.{begins_from, is_request_of, told}
+use Rattle.tcap_faults.specs.SentToId.{begins_from, is_request_of, told}
 use Rattle.tcap_faults.specs.HalfKinds.{is_accepted, is_first_answer, is_wrong_aborting, is_wrong_dialogue, is_wrong_going_on}
-use Rattle.tcap_faults.specs.HalfOf.{HalfOf, half_of}
+use Rattle.tcap_faults.specs.HalfByPeerId.{HalfOf, half_of}
 use Rattle.tcap_faults.proofs.list_laws.FindLaws.{any_is, find_has, request_is}
 use Rattle.tcap_faults.proofs.view_laws.AcceptedHalfLaws.{all_asked, all_told}
 use Rattle.tcap_faults.proofs.view_laws.BegunHalfLaws.{all_begun, standing_of}

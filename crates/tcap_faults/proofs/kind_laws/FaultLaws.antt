@@ -17,7 +17,7 @@ use Rattle.tcap_model.specs.World.{Item, Sent, World, end_at}
 use Rattle.tcap_model.specs.Run.{Event, KeepsRules, Runs, provider_abort}
 use Rattle.tcap_refute.specs.declared.kind.Kind.{Kind}
 use Rattle.tcap_refute.specs.declared.kind.Kind.TheVariants as kinds
-use Rattle.tcap_refute.specs.Before.{asked, components_of, sent_by, since_quiet}
+use Rattle.tcap_refute.specs.EarlierMessages.{asked, components_of, sent_by, since_quiet}
 use Rattle.tcap_refute.specs.Kind.{answers_none_of, answers_nothing, is_of_kind}
 use Rattle.tcap_refute.specs.FirstKinds.{answers_none, answers_nothing_there, is_of_first_kind}
 use Rattle.tcap_refute.proofs.KindLaws.{none_of_kind}
@@ -26,8 +26,8 @@ use Rattle.tcap_refute.proofs.OverLaws.{IsOver}
 use Rattle.tcap_refute.proofs.SentLaws.{IsSent, half_over}
 use Rattle.tcap_faults.specs.Fault.{is_fault, is_of_alone_kind, is_of_further_kind, is_of_half_kind, is_of_kind_to, is_of_reply_kind}
 use Rattle.tcap_faults.specs.HalfKinds.{is_wrong_half}
-use Rattle.tcap_faults.specs.HalfOf.{HalfOf, half_of}
-use Rattle.tcap_faults.specs.Tangled.{goes_over_tangled}
+use Rattle.tcap_faults.specs.HalfByPeerId.{HalfOf, half_of}
+use Rattle.tcap_faults.specs.TangledIds.{goes_over_tangled}
 use Rattle.tcap_faults.proofs.story_laws.Stories.{Bounds, IsLed, got_in, sent_in}
 use Rattle.tcap_faults.proofs.view_laws.AdvanceLaws.{Refuses, refuses}
 use Rattle.tcap_faults.proofs.view_laws.ViewLaws.{View, coming_to, messages_of, view_of}

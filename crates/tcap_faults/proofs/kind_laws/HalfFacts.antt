@@ -15,15 +15,15 @@ use Rattle.tcap_end.specs.declared.half.Slot.TheVariants.{Begun, Accepted}
 use Rattle.tcap_end.specs.Table.{Table}
 use Rattle.tcap_end.specs.Half.{Half}
 use Rattle.tcap_end.specs.End.{End, KeptHalf, is_id}
-use Rattle.tcap_end.specs.Sound.{FitsPhase, Has, IsEnd}
+use Rattle.tcap_end.specs.ReachableEnd.{FitsPhase, Has, IsEnd}
 use Rattle.tcap_model.specs.World.{Item}
 use Rattle.tcap_model.proofs.TurnLaws.{id_is}
-use Rattle.tcap_refute.specs.Before.{asked, has_a, is_a, sent_by}
+use Rattle.tcap_refute.specs.EarlierMessages.{asked, has_a, is_a, sent_by}
 use Rattle.tcap_refute.proofs.Members.{any_has, has_not}
 use Rattle.tcap_refute.proofs.TransactionKinds.{one_half}
 use Rattle.tcap_faults.specs.Counts.{count, is_nothing}
-use Rattle.tcap_faults.specs.HalfOf.{continued_to, heard_of}
-use Rattle.tcap_faults.specs.Told.{began, begin_from, is_abort_with, told, was_refused}
+use Rattle.tcap_faults.specs.HalfByPeerId.{continued_to, heard_of}
+use Rattle.tcap_faults.specs.SentToId.{began, begin_from, is_abort_with, told, was_refused}
 use Rattle.tcap_faults.proofs.story_laws.Stories.{continues_to, heard_behind, may_have_heard, told_to}
 use Rattle.tcap_faults.proofs.list_laws.CountLaws.{any_counts}
 use Rattle.tcap_faults.proofs.run_laws.HalfGoesOnLaws.{ToldOver}

@@ -10,19 +10,19 @@ use Rattle.tcap_end.specs.declared.half.Slot.TheVariants as slots
 use Rattle.tcap_end.specs.Table.{Table}
 use Rattle.tcap_end.specs.Half.{is_closed}
 use Rattle.tcap_end.specs.End.{End, KeptHalf, is_id, with_own}
-use Rattle.tcap_end.specs.Sound.{IsEnd}
+use Rattle.tcap_end.specs.ReachableEnd.{IsEnd}
 use Rattle.tcap_model.specs.World.{Item}
 use Rattle.tcap_model.proofs.TurnLaws.{id_is}
-use Rattle.tcap_refute.specs.Before.{sent_by}
+use Rattle.tcap_refute.specs.EarlierMessages.{sent_by}
 use Rattle.tcap_refute.proofs.BeforeLaws.{is_that_id}
 use Rattle.tcap_refute.proofs.TransactionKinds.{one_half}
 use Rattle.tcap_refute.proofs.OverLaws.{IsOver, Speaks}
-use Rattle.tcap_faults.specs.Closed.{was_closed}
-use Rattle.tcap_faults.specs.Told.{began, begin_from, begins_from}
+use Rattle.tcap_faults.specs.ClosedHalves.{was_closed}
+use Rattle.tcap_faults.specs.SentToId.{began, begin_from, begins_from}
 use Rattle.tcap_faults.specs.HalfKinds.{goes_from_other, is_another, is_wrong_half, may_not_speak}
 use Rattle.tcap_faults.specs.declared.dialogue.half_origin.How.{How}
 use Rattle.tcap_faults.specs.declared.dialogue.half_origin.How.TheVariants.{Accepted, Begun}
-use Rattle.tcap_faults.specs.HalfOf.{HalfOf, half_of}
+use Rattle.tcap_faults.specs.HalfByPeerId.{HalfOf, half_of}
 use Rattle.tcap_faults.proofs.view_laws.ClosedHalfLaws.{all_closed_at}
 use Rattle.tcap_faults.proofs.view_laws.ViewLaws.{View, view_sound}
 use Rattle.tcap_faults.proofs.kind_laws.HalfFacts.{either_slot, waits_so}

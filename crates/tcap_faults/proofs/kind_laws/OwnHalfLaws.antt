@@ -17,17 +17,17 @@ use Rattle.tcap_end.specs.declared.half.Slot.TheVariants as slots
 use Rattle.tcap_end.specs.Table.{Table}
 use Rattle.tcap_end.specs.Half.{is_closed}
 use Rattle.tcap_end.specs.End.{End, KeptHalf}
-use Rattle.tcap_end.specs.Sound.{FitsPhase, IsEnd}
+use Rattle.tcap_end.specs.ReachableEnd.{FitsPhase, IsEnd}
 use Rattle.tcap_model.specs.World.{Item}
 use Rattle.tcap_model.specs.Run.{then_so}
 use Rattle.tcap_model.proofs.TurnLaws.{id_is}
-use Rattle.tcap_refute.specs.Before.{asked, has_a, is_a, sent_by}
+use Rattle.tcap_refute.specs.EarlierMessages.{asked, has_a, is_a, sent_by}
 use Rattle.tcap_refute.proofs.OverLaws.{IsOver}
 use Rattle.tcap_faults.specs.Counts.{count, is_nothing}
 use Rattle.tcap_faults.specs.declared.dialogue.half_origin.How.TheVariants.{Accepted, Begun, Refused, Unanswered}
-use Rattle.tcap_faults.specs.HalfOf.{HalfOf, accepted_half, answered_from, begun_from, begun_half, continued_to, half_of, heard_of}
-use Rattle.tcap_faults.specs.Tangled.{goes_to_begun}
-use Rattle.tcap_faults.specs.Told.{began, begin_from, goes_on_to, told, was_refused}
+use Rattle.tcap_faults.specs.HalfByPeerId.{HalfOf, accepted_half, answered_from, begun_from, begun_half, continued_to, half_of, heard_of}
+use Rattle.tcap_faults.specs.TangledIds.{goes_to_begun}
+use Rattle.tcap_faults.specs.SentToId.{began, begin_from, goes_on_to, told, was_refused}
 use Rattle.tcap_faults.proofs.story_laws.Stories.{Bounds, got_in, may_have_heard, sent_in, told_to}
 use Rattle.tcap_faults.proofs.list_laws.CountLaws.{count_more, one}
 use Rattle.tcap_faults.proofs.run_laws.HalfGoesOnLaws.{Story}

@@ -18,14 +18,14 @@ use Rattle.tcap_end.specs.Step.{needs, ◌>>◌}
 use Rattle.tcap_end.specs.Table.{Table, octets_cmp}
 use Rattle.tcap_end.specs.Half.{Half, is_closed}
 use Rattle.tcap_end.specs.End.{End, KeptHalf, all_closed, nothing}
-use Rattle.tcap_end.specs.Sound.{Has}
+use Rattle.tcap_end.specs.ReachableEnd.{Has}
 use Rattle.tcap_model.specs.World.{Item, OnItsWay, Sent, World, end_at}
 use Rattle.tcap_model.specs.Run.{Adds, Event, Sends, Replies, Quiet, Tells, KeepsRules, Runs, after, after_quiet, then_so}
 use Rattle.tcap_model.proofs.RunLaws.{grows, runs_keep}
-use Rattle.tcap_refute.specs.Before.{is_a, sent_by, since_quiet}
+use Rattle.tcap_refute.specs.EarlierMessages.{is_a, sent_by, since_quiet}
 use Rattle.tcap_refute.proofs.MomentLaws.{kept_before, last_or_before}
 use Rattle.tcap_faults.specs.Fault.{is_left_open, is_open_at_mark}
-use Rattle.tcap_faults.specs.Closed.{is_surely_open}
+use Rattle.tcap_faults.specs.ClosedHalves.{is_surely_open}
 use Rattle.tcap_faults.proofs.list_laws.FindLaws.{any_is}
 use Rattle.tcap_faults.proofs.view_laws.ActiveHalfLaws.{surely_open}
 use Rattle.tcap_faults.proofs.view_laws.ViewLaws.{View, view_of}

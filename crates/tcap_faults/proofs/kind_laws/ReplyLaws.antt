@@ -12,22 +12,22 @@ use Rattle.tcap_end.specs.Table.{Table}
 use Rattle.tcap_end.specs.Half.{is_closed}
 use Rattle.tcap_end.specs.End.{End, KeptHalf, is_id, with_own, with_peer}
 use Rattle.tcap_end.specs.Reply.{is_open}
-use Rattle.tcap_end.specs.Sound.{Has, IsEnd}
+use Rattle.tcap_end.specs.ReachableEnd.{Has, IsEnd}
 use Rattle.tcap_end.proofs.FoundLaws.{none_own, none_peer, own_has}
 use Rattle.tcap_record.specs.Ends.{other}
 use Rattle.tcap_model.specs.World.{Item}
-use Rattle.tcap_refute.specs.Before.{asked, has_a, is_a, sent_by}
+use Rattle.tcap_refute.specs.EarlierMessages.{asked, has_a, is_a, sent_by}
 use Rattle.tcap_refute.proofs.BeforeLaws.{is_that_id}
 use Rattle.tcap_refute.proofs.TransactionKinds.{one_half}
 use Rattle.tcap_refute.proofs.Members.{any_has, filter_has, has_first}
 use Rattle.tcap_refute.proofs.OverLaws.{own_is}
-use Rattle.tcap_faults.specs.Closed.{all_go_to_open, is_surely_open}
+use Rattle.tcap_faults.specs.ClosedHalves.{all_go_to_open, is_surely_open}
 use Rattle.tcap_faults.specs.Counts.{count, is_nothing}
-use Rattle.tcap_faults.specs.Told.{is_abort_with, told, was_refused}
+use Rattle.tcap_faults.specs.SentToId.{is_abort_with, told, was_refused}
 use Rattle.tcap_faults.specs.declared.dialogue.half_origin.How.TheVariants.{Accepted, Begun, Refused, Unanswered}
 use Rattle.tcap_faults.specs.Fault.{count_received, is_wrong_reply}
 use Rattle.tcap_faults.specs.HalfKinds.{is_accepted}
-use Rattle.tcap_faults.specs.HalfOf.{begun_from, half_by, half_of}
+use Rattle.tcap_faults.specs.HalfByPeerId.{begun_from, half_by, half_of}
 use Rattle.tcap_faults.proofs.list_laws.CountLaws.{any_counts, one}
 use Rattle.tcap_faults.proofs.view_laws.AskedLaws.{OfBegins, OfContinues, all_paid, comes_from, taken_head}
 use Rattle.tcap_faults.proofs.view_laws.BegunHalfLaws.{told_half}

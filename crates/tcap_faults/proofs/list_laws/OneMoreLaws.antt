@@ -8,10 +8,10 @@ use Rattle.std.proofs.lemmas.List.Folds.{list_any-append}
 use Rattle.std.proofs.lemmas.Grind.{flat_map-append}
 use Rattle.tcap_msg.specs.declared.message.Message.{Message}
 use Rattle.tcap_msg.specs.Parts.{components_in}
-use Rattle.tcap_refute.specs.Before.{components_of}
+use Rattle.tcap_refute.specs.EarlierMessages.{components_of}
 use Rattle.tcap_refute.proofs.TestLaws.{or_none}
 use Rattle.tcap_faults.specs.Counts.{count, is_nothing}
-use Rattle.tcap_faults.specs.Tallied.{more_if}
+use Rattle.tcap_faults.specs.InvokeCounts.{more_if}
 use Rattle.tcap_faults.proofs.component_laws.SumLaws.{count_one_more}
 
 module _ {A : Type 0} where

@@ -19,9 +19,9 @@ use Rattle.tcap_end.specs.Half.{Half, closed_half, fresh, is_closed}
 use Rattle.tcap_end.specs.Component.{own_invocation}
 use Rattle.tcap_end.specs.Dialogue.{answers_request, first_standing}
 use Rattle.tcap_end.specs.End.{End, KeptHalf, is_id, named, put, with_own, with_peer}
-use Rattle.tcap_end.specs.Hidden.{close, expire, may_close, may_expire, without_invocation}
+use Rattle.tcap_end.specs.HiddenSteps.{close, expire, may_close, may_expire, without_invocation}
 use Rattle.tcap_end.specs.Message.{active_half, receive, receive_begin, receive_components, receive_continue, receive_end, receive_over}
-use Rattle.tcap_end.specs.Sound.{FitsPhase, Has, IsEnd, IsKept}
+use Rattle.tcap_end.specs.ReachableEnd.{FitsPhase, Has, IsEnd, IsKept}
 use Rattle.tcap_end.proofs.AnsweringLaws.{needs_ok, ok_same, some_ok, then_ok}
 use Rattle.tcap_end.proofs.EndLaws.{IsThere, put_has}
 use Rattle.tcap_end.proofs.FoundLaws.{named_has, own_has}
@@ -29,7 +29,7 @@ use Rattle.tcap_end.proofs.StepLaws.{none_is}
 use Rattle.tcap_model.specs.World.{Item}
 use Rattle.tcap_model.proofs.TurnLaws.{id_is}
 use Rattle.tcap_refute.proofs.OverLaws.{own_is}
-use Rattle.tcap_faults.specs.Told.{told}
+use Rattle.tcap_faults.specs.SentToId.{told}
 use Rattle.tcap_faults.proofs.run_laws.HalfReceivesLaws.{story_answered, story_goes_on, story_received}
 use Rattle.tcap_faults.proofs.run_laws.HalfGoesOnLaws.{Story, story_ends, story_still}
 use Rattle.tcap_faults.proofs.run_laws.EndSendsLaws.{HaveStories}

@@ -17,7 +17,7 @@ use Rattle.tcap_end.specs.Half.{Half, fresh, is_closed}
 use Rattle.tcap_end.specs.Dialogue.{first_standing, may_be_uni, may_begin}
 use Rattle.tcap_end.specs.End.{End, KeptHalf, is_id, put, with_own}
 use Rattle.tcap_end.specs.Message.{send, send_begin, send_components, send_uni_components}
-use Rattle.tcap_end.specs.Sound.{Has, IsEnd, IsKept}
+use Rattle.tcap_end.specs.ReachableEnd.{Has, IsEnd, IsKept}
 use Rattle.tcap_end.proofs.AnsweringLaws.{needs_ok, ok_same, then_ok}
 use Rattle.tcap_end.proofs.EndLaws.{IsThere, put_has}
 use Rattle.tcap_end.proofs.StepLaws.{none_is}
@@ -27,7 +27,7 @@ use Rattle.tcap_refute.proofs.BeforeLaws.{is_that_id}
 use Rattle.tcap_refute.proofs.OverLaws.{IsOver, over}
 use Rattle.tcap_refute.proofs.TransactionKinds.{one_half}
 use Rattle.tcap_refute.proofs.HalfLawsTurns.{Answers, Said, Turned, answers, closes, learns, stays}
-use Rattle.tcap_faults.specs.Told.{begin_from}
+use Rattle.tcap_faults.specs.SentToId.{begin_from}
 use Rattle.tcap_faults.proofs.run_laws.MayHearLaws.{KeepsBegins}
 use Rattle.tcap_faults.proofs.run_laws.HalfReceivesLaws.{story_begins}
 use Rattle.tcap_faults.proofs.run_laws.HalfGoesOnLaws.{HasBegun, KeepsOwn, Story, begun_kept, story_later, story_sends}

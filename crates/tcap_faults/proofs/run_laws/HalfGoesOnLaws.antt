@@ -17,14 +17,14 @@ use Rattle.tcap_end.specs.Table.{Table}
 use Rattle.tcap_end.specs.Half.{Half}
 use Rattle.tcap_end.specs.Component.{own_invocation, receive_component, send_component}
 use Rattle.tcap_end.specs.End.{is_id}
-use Rattle.tcap_end.specs.Hidden.{may_expire, without_invocation}
+use Rattle.tcap_end.specs.HiddenSteps.{may_expire, without_invocation}
 use Rattle.tcap_end.specs.Message.{receive_components, send_components}
 use Rattle.tcap_end.proofs.AnsweringLaws.{then_ok}
 use Rattle.tcap_model.specs.World.{Item}
 use Rattle.tcap_refute.specs.Kind.{is_begin_with_request}
 use Rattle.tcap_faults.specs.Counts.{count}
-use Rattle.tcap_faults.specs.HalfOf.{responds}
-use Rattle.tcap_faults.specs.Told.{begin_from, goes_on_to, told}
+use Rattle.tcap_faults.specs.HalfByPeerId.{responds}
+use Rattle.tcap_faults.specs.SentToId.{begin_from, goes_on_to, told}
 use Rattle.tcap_faults.proofs.run_laws.MayHearLaws.{HaveNoMore, KeepsBegins, count_in, count_in_append, count_in_one, filters_append, heard_chosen, heard_grows, heard_later, no_more_self}
 use Rattle.tcap_faults.proofs.story_laws.Stories.{Happening, Sends, Gets, Ends, IsLed, SameLists, continues_to, got_in, may_have_heard, sent_in, told_to}
 use Rattle.tcap_faults.proofs.list_laws.CountLaws.{count_both}

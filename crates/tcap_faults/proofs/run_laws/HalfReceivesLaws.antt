@@ -18,14 +18,14 @@ use Rattle.tcap_end.specs.Table.{Table}
 use Rattle.tcap_end.specs.Half.{Half, fresh}
 use Rattle.tcap_end.specs.Dialogue.{answers_request, first_standing, is_request, is_response}
 use Rattle.tcap_end.specs.Message.{active_half, receive_components, send_components}
-use Rattle.tcap_end.specs.Sound.{IsKept}
+use Rattle.tcap_end.specs.ReachableEnd.{IsKept}
 use Rattle.tcap_end.proofs.ComponentLaws.{Receives, all_receives, all_sends}
 use Rattle.tcap_end.proofs.HalfLaws.{Follows}
 use Rattle.tcap_model.specs.World.{Item, Sent}
 use Rattle.tcap_refute.specs.Kind.{is_begin_with_request}
 use Rattle.tcap_faults.specs.Counts.{count}
-use Rattle.tcap_faults.specs.HalfOf.{responds}
-use Rattle.tcap_faults.specs.Told.{begin_from, told}
+use Rattle.tcap_faults.specs.HalfByPeerId.{responds}
+use Rattle.tcap_faults.specs.SentToId.{begin_from, told}
 use Rattle.tcap_faults.proofs.run_laws.MayHearLaws.{count_in, count_in_one}
 use Rattle.tcap_faults.proofs.run_laws.HalfGoesOnLaws.{GotOn, HasBegun, IsAnswered, SentOn, Story, ToldOver, begun_kept, begun_still, gets_on, led_same, sends_on}
 use Rattle.tcap_faults.proofs.run_laws.TakenMessageLaws.{HaveThatToo, before, heard_back_too, heard_begin_too, heard_goes_too, itself, more_before}

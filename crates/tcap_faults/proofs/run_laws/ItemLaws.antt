@@ -11,9 +11,9 @@ use Rattle.tcap_msg.specs.Parts.{cause_in, dtid_in, otid_in}
 use Rattle.tcap_record.specs.declared.entry.End.{End as Side}
 use Rattle.tcap_end.specs.End.{is_id}
 use Rattle.tcap_model.specs.World.{Item, Sent, is_side}
-use Rattle.tcap_refute.specs.Before.{is_a, sent_by}
+use Rattle.tcap_refute.specs.EarlierMessages.{is_a, sent_by}
 use Rattle.tcap_model.proofs.WorldLaws.{itself}
-use Rattle.tcap_faults.specs.Told.{begin_from, begins_from, tells_to, told}
+use Rattle.tcap_faults.specs.SentToId.{begin_from, begins_from, tells_to, told}
 use Rattle.tcap_faults.proofs.run_laws.MayHearLaws.{KeepsBegins}
 use Rattle.tcap_faults.proofs.story_laws.Stories.{told_to}
 

@@ -9,15 +9,15 @@ use Rattle.tcap_record.specs.declared.entry.End.{End as Side}
 use Rattle.tcap_end.specs.Table.{Table}
 use Rattle.tcap_end.specs.Half.{is_closed}
 use Rattle.tcap_end.specs.End.{End, KeptHalf, is_id}
-use Rattle.tcap_end.specs.Sound.{Has, IsEnd}
+use Rattle.tcap_end.specs.ReachableEnd.{Has, IsEnd}
 use Rattle.tcap_end.proofs.EndLaws.{no_half}
 use Rattle.tcap_end.proofs.FoundLaws.{none_peer}
 use Rattle.tcap_end.proofs.StepLaws.{sends}
 use Rattle.tcap_record.specs.Ends.{other}
 use Rattle.tcap_model.specs.World.{Item, Sent}
-use Rattle.tcap_refute.specs.Before.{sent_by}
+use Rattle.tcap_refute.specs.EarlierMessages.{sent_by}
 use Rattle.tcap_refute.proofs.Members.{has_first}
-use Rattle.tcap_faults.specs.Told.{begin_from, begins_from, told}
+use Rattle.tcap_faults.specs.SentToId.{begin_from, begins_from, told}
 use Rattle.tcap_faults.proofs.view_laws.AdvanceLaws.{Refuses, refuses}
 use Rattle.tcap_faults.proofs.list_laws.FindLaws.{find_has}
 use Rattle.tcap_faults.proofs.view_laws.BegunHalfLaws.{all_use, begin_used, told_half}

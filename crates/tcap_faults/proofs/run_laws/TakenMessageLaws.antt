@@ -14,12 +14,12 @@ use Rattle.tcap_record.specs.declared.entry.End.{End as Side}
 use Rattle.tcap_end.specs.declared.half.Slot.TheVariants.{Begun, Accepted}
 use Rattle.tcap_end.specs.End.{is_id}
 use Rattle.tcap_model.specs.World.{Item}
-use Rattle.tcap_refute.specs.Before.{is_a}
+use Rattle.tcap_refute.specs.EarlierMessages.{is_a}
 use Rattle.tcap_refute.specs.Kind.{is_begin_with_request}
 use Rattle.tcap_refute.proofs.BeforeLaws.{is_that_id}
 use Rattle.tcap_faults.specs.Counts.{count}
-use Rattle.tcap_faults.specs.HalfOf.{from_first, responds}
-use Rattle.tcap_faults.specs.Told.{begin_from, goes_on_to}
+use Rattle.tcap_faults.specs.HalfByPeerId.{from_first, responds}
+use Rattle.tcap_faults.specs.SentToId.{begin_from, goes_on_to}
 use Rattle.tcap_faults.proofs.story_laws.Stories.{continues_to, from, heard_behind, may_have_heard}
 use Rattle.tcap_faults.proofs.run_laws.MayHearLaws.{count_in, count_in_append, count_in_one}
 

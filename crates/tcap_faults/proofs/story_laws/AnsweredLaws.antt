@@ -10,7 +10,7 @@ use Rattle.tcap_parts.specs.declared.component.Component.TheVariants.{Invoke, Re
 use Rattle.tcap_end.specs.Table.{Table}
 use Rattle.tcap_end.specs.Half.{Invocation}
 use Rattle.tcap_end.specs.Component.{class_reports, is_code, may_answer}
-use Rattle.tcap_refute.specs.Before.{invokes, is_invoke_id}
+use Rattle.tcap_refute.specs.EarlierMessages.{invokes, is_invoke_id}
 use Rattle.tcap_faults.specs.Counts.{any_problem, count, invokes_so, is_error, is_last_result, is_result_of, rejects_invoke, takes}
 use Rattle.tcap_faults.proofs.list_laws.CountLaws.{count_apart, count_covered}
 use Rattle.tcap_faults.proofs.story_laws.ReceivedComponentLaws.{item_of}

@@ -8,7 +8,7 @@ use Rattle.tcap_parts.specs.declared.component.Component.TheVariants.{Invoke}
 use Rattle.tcap_end.specs.Class.{of_class, reports}
 use Rattle.tcap_end.specs.Component.{class_reports}
 use Rattle.tcap_end.specs.Table.{Table, class_of}
-use Rattle.tcap_refute.specs.Before.{invokes, is_invoke_id}
+use Rattle.tcap_refute.specs.EarlierMessages.{invokes, is_invoke_id}
 use Rattle.tcap_faults.specs.Counts.{count, count_class, count_suited, has_class, invokes_so, is_class}
 use Rattle.tcap_faults.proofs.list_laws.CountLaws.{count_apart, count_covered}
 

@@ -11,14 +11,14 @@ use Rattle.tcap_parts.specs.declared.component.Component.TheVariants.{Invoke, Re
 use Rattle.tcap_end.specs.declared.fault.EndFault.{EndFault}
 use Rattle.tcap_end.specs.declared.fault.EndFault.TheVariants as faults
 use Rattle.tcap_end.specs.declared.half.InvocationState.TheVariants as states
-use Rattle.tcap_end.specs.declared.outs.OwnInvocation.{OwnInvocation}
+use Rattle.tcap_end.specs.declared.own_invocations.OwnInvocation.{OwnInvocation}
 use Rattle.tcap_end.specs.Table.{Table, operation_of}
 use Rattle.tcap_end.specs.Half.{Answer, Half, Invocation, listed, one_fits, without_oldest_of}
 use Rattle.tcap_end.specs.Component.{allows, allows_for, may_answer, may_link, own_invocation, send_answer, send_component, send_invoke, send_reject}
-use Rattle.tcap_end.specs.Sound.{Rises}
+use Rattle.tcap_end.specs.ReachableEnd.{Rises}
 use Rattle.tcap_end.proofs.AnsweringLaws.{needs_ok, ok_same}
 use Rattle.tcap_end.proofs.StepLaws.{none_is}
-use Rattle.tcap_refute.specs.Before.{is_invoke_id}
+use Rattle.tcap_refute.specs.EarlierMessages.{is_invoke_id}
 use Rattle.tcap_faults.proofs.story_laws.InvokeListLaws.{Took, id_same, kept_inserted, took_of}
 
 -- ---- the steps of sending

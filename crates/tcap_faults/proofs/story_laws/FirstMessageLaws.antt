@@ -23,7 +23,7 @@ use Rattle.tcap_end.specs.Step.{◌>>◌}
 use Rattle.tcap_end.proofs.AnsweringLaws.{needs_ok, then_ok}
 use Rattle.tcap_end.proofs.ComponentLaws.{all_sends}
 use Rattle.tcap_end.proofs.StepLaws.{none_is}
-use Rattle.tcap_refute.specs.Before.{invokes}
+use Rattle.tcap_refute.specs.EarlierMessages.{invokes}
 use Rattle.tcap_faults.specs.Components.{has_component, invokes_again, is_linked}
 use Rattle.tcap_faults.proofs.list_laws.CountLaws.{any_counts, one}
 use Rattle.tcap_faults.proofs.story_laws.MessageComponentLaws.{neither, none_has}

@@ -12,9 +12,9 @@ use Rattle.std.proofs.lemmas.Map.Keys.{IsDistinct-from_sorted}
 use Rattle.std.proofs.lemmas.Map.Lookups.{exact_signed}
 use Rattle.std.proofs.lemmas.Map.Views.{tells_apart}
 use Rattle.tcap_end.specs.Half.{listed, listed_by, one_fits, with_listed, with_newest, without_oldest, without_oldest_of}
-use Rattle.tcap_end.specs.Sound.{Rises}
+use Rattle.tcap_end.specs.ReachableEnd.{Rises}
 use Rattle.tcap_end.proofs.MapLaws.{found_inserted, found_new, found_other, kept_at}
-use Rattle.tcap_refute.specs.Before.{is_invoke_id}
+use Rattle.tcap_refute.specs.EarlierMessages.{is_invoke_id}
 use Rattle.tcap_faults.specs.Counts.{count}
 use Rattle.tcap_faults.proofs.list_laws.CountLaws.{count_last, count_more, one}
 

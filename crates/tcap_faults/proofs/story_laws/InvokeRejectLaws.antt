@@ -12,10 +12,10 @@ use Rattle.tcap_end.specs.Table.{Table, linked_of}
 use Rattle.tcap_end.specs.Half.{Half, Invocation, is_one_of, listed, one_fits}
 use Rattle.tcap_end.specs.Component.{allows, id_problems, link_problems, link_problems_of, links, operation_sent}
 use Rattle.tcap_end.specs.Message.{send_components}
-use Rattle.tcap_refute.specs.Before.{invokes, is_invoke_id}
+use Rattle.tcap_refute.specs.EarlierMessages.{invokes, is_invoke_id}
 use Rattle.tcap_faults.specs.Components.{is_of_link, is_problem}
 use Rattle.tcap_faults.specs.Counts.{count, invokes_linked, rejects_invoke}
-use Rattle.tcap_faults.specs.HalfOf.{HalfOf}
+use Rattle.tcap_faults.specs.HalfByPeerId.{HalfOf}
 use Rattle.tcap_faults.proofs.story_laws.Stories.{Bounds, Happening, IsLed, got_in, sent_in}
 use Rattle.tcap_faults.proofs.story_laws.StoryLaws.{risen}
 use Rattle.tcap_faults.proofs.story_laws.AnsweredLaws.{any_brought, none_takes}

@@ -10,9 +10,9 @@ use Rattle.tcap_parts.specs.declared.component.Component.TheVariants.{ReturnResu
 use Rattle.tcap_end.specs.Table.{Table, expires_of}
 use Rattle.tcap_end.specs.Half.{Half}
 use Rattle.tcap_end.specs.Component.{operation_sent}
-use Rattle.tcap_refute.specs.Before.{is_invoke_id}
+use Rattle.tcap_refute.specs.EarlierMessages.{is_invoke_id}
 use Rattle.tcap_faults.specs.Counts.{any_problem, count, count_lasting, invokes_so, is_error, is_last_result, rejects_invoke, takes}
-use Rattle.tcap_faults.specs.HalfOf.{HalfOf}
+use Rattle.tcap_faults.specs.HalfByPeerId.{HalfOf}
 use Rattle.tcap_faults.proofs.story_laws.Stories.{Bounds, Happening, IsLed, got_in, sent_in}
 use Rattle.tcap_faults.proofs.story_laws.AnsweredLaws.{count_takes_all}
 use Rattle.tcap_faults.proofs.list_laws.CountLaws.{one}

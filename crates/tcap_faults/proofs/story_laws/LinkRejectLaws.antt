@@ -11,10 +11,10 @@ use Rattle.tcap_end.specs.Table.{Table, linked_of}
 use Rattle.tcap_end.specs.Half.{Half, listed, one_fits}
 use Rattle.tcap_end.specs.Component.{allows, link_problems, link_problems_of, links, operation_sent}
 use Rattle.tcap_end.specs.Message.{send_components}
-use Rattle.tcap_refute.specs.Before.{is_invoke_id}
+use Rattle.tcap_refute.specs.EarlierMessages.{is_invoke_id}
 use Rattle.tcap_faults.specs.ComponentKinds.{is_link_fine}
 use Rattle.tcap_faults.specs.Counts.{count, invokes_so}
-use Rattle.tcap_faults.specs.HalfOf.{HalfOf}
+use Rattle.tcap_faults.specs.HalfByPeerId.{HalfOf}
 use Rattle.tcap_faults.specs.Components.{is_linked_to, is_problem, lists_nothing}
 use Rattle.tcap_faults.proofs.story_laws.Stories.{Bounds, Happening, IsLed, got_in, sent_in}
 use Rattle.tcap_faults.proofs.story_laws.StoryLaws.{risen}

@@ -7,14 +7,14 @@ use Rattle.tcap_parts.specs.declared.component.Component.TheVariants.{Invoke}
 use Rattle.tcap_end.specs.declared.fault.EndFault.{EndFault}
 use Rattle.tcap_end.specs.declared.half.InvocationState.{InvocationState}
 use Rattle.tcap_end.specs.declared.half.InvocationState.TheVariants as states
-use Rattle.tcap_end.specs.declared.outs.OwnInvocation.{OwnInvocation}
+use Rattle.tcap_end.specs.declared.own_invocations.OwnInvocation.{OwnInvocation}
 use Rattle.tcap_end.specs.Table.{Table, expires_of}
 use Rattle.tcap_end.specs.Half.{Half}
 use Rattle.tcap_end.specs.Component.{operation_sent, operation_sent_by, own_invocation, send_component}
-use Rattle.tcap_end.specs.Hidden.{may_expire}
+use Rattle.tcap_end.specs.HiddenSteps.{may_expire}
 use Rattle.tcap_end.specs.Message.{send_components}
 use Rattle.tcap_end.proofs.AnsweringLaws.{ok_same, then_ok}
-use Rattle.tcap_refute.specs.Before.{invokes, is_invoke_id}
+use Rattle.tcap_refute.specs.EarlierMessages.{invokes, is_invoke_id}
 use Rattle.tcap_faults.specs.Counts.{count, invokes_so}
 use Rattle.tcap_faults.proofs.story_laws.Stories.{Happening, IsLed, SameLists, got_in, sent_in}
 use Rattle.tcap_faults.proofs.story_laws.StoryLaws.{IsKept, holds}

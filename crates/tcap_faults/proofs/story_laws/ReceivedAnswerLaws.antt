@@ -12,7 +12,7 @@ use Rattle.tcap_end.specs.Class.{of_class, reports}
 use Rattle.tcap_end.specs.Table.{Table, class_of}
 use Rattle.tcap_end.specs.Half.{Answer, Half, listed}
 use Rattle.tcap_end.specs.Component.{allows_for, answer_problems, class_reports, operation_sent}
-use Rattle.tcap_refute.specs.Before.{is_invoke_id}
+use Rattle.tcap_refute.specs.EarlierMessages.{is_invoke_id}
 use Rattle.tcap_faults.specs.Components.{is_problem}
 use Rattle.tcap_faults.specs.Counts.{count, invokes_so, is_error, is_result, rejects_error, rejects_result}
 use Rattle.tcap_faults.proofs.story_laws.Stories.{Happening, IsLed, got_in, sent_in}

@@ -9,14 +9,14 @@ use Rattle.tcap_parts.specs.declared.problem.Problem.TheVariants as problems
 use Rattle.tcap_parts.specs.declared.component.Component.{Component}
 use Rattle.tcap_parts.specs.declared.component.Component.TheVariants.{Invoke, ReturnResult, ReturnError, Reject}
 use Rattle.tcap_end.specs.declared.half.InvocationState.TheVariants as states
-use Rattle.tcap_end.specs.declared.outs.OwnInvocation.{OwnInvocation}
+use Rattle.tcap_end.specs.declared.own_invocations.OwnInvocation.{OwnInvocation}
 use Rattle.tcap_end.specs.Class.{of_class, reports}
 use Rattle.tcap_end.specs.Table.{Table, class_of}
 use Rattle.tcap_end.specs.Half.{Answer, Half, Invocation, listed, with_newest}
 use Rattle.tcap_end.specs.Component.{answer_problems, answered_operation, class_reports, id_problems, link_problems, operation_sent, operation_sent_by, own_invocation, receive_answer, receive_component}
-use Rattle.tcap_end.specs.Hidden.{without_invocation}
-use Rattle.tcap_end.specs.Sound.{Rises}
-use Rattle.tcap_refute.specs.Before.{is_invoke_id}
+use Rattle.tcap_end.specs.HiddenSteps.{without_invocation}
+use Rattle.tcap_end.specs.ReachableEnd.{Rises}
+use Rattle.tcap_refute.specs.EarlierMessages.{is_invoke_id}
 use Rattle.tcap_faults.proofs.story_laws.InvokeListLaws.{Gained, gained_of, id_same, kept_inserted, kept_removed}
 
 -- ---- received answers of one sort

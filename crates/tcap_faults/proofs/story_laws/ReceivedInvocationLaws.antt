@@ -5,12 +5,12 @@ use Rattle.tcap_parts.specs.declared.component.Component.{Component}
 use Rattle.tcap_end.specs.declared.fault.EndFault.{EndFault}
 use Rattle.tcap_end.specs.Table.{Table}
 use Rattle.tcap_end.specs.Half.{Answer, Half, Invocation, listed}
-use Rattle.tcap_end.specs.Hidden.{without_invocation}
+use Rattle.tcap_end.specs.HiddenSteps.{without_invocation}
 use Rattle.tcap_end.specs.Component.{receive_component, send_component}
 use Rattle.tcap_end.specs.Message.{send_components}
 use Rattle.tcap_end.proofs.AnsweringLaws.{ok_same, then_ok}
 use Rattle.tcap_faults.specs.Counts.{count}
-use Rattle.tcap_faults.specs.HalfOf.{HalfOf}
+use Rattle.tcap_faults.specs.HalfByPeerId.{HalfOf}
 use Rattle.tcap_faults.proofs.story_laws.Stories.{Bounds, Happening, IsLed, got_in, sent_in, Ends, Gets, SameLists, Sends}
 use Rattle.tcap_faults.proofs.story_laws.StoryLaws.{IsKept, IsRisen, holds, risen, risen_sends}
 use Rattle.tcap_faults.proofs.list_laws.CountLaws.{count_more, one, one_weaker}

@@ -11,10 +11,10 @@ use Rattle.tcap_end.specs.Table.{Table}
 use Rattle.tcap_end.specs.Half.{Half, listed, one_fits}
 use Rattle.tcap_end.specs.Component.{allows_for, answer_problems, class_reports, send_component, send_reject}
 use Rattle.tcap_end.specs.Message.{send_components}
-use Rattle.tcap_refute.specs.Before.{invokes, is_invoke_id}
+use Rattle.tcap_refute.specs.EarlierMessages.{invokes, is_invoke_id}
 use Rattle.tcap_faults.specs.ComponentKinds.{is_answer_reject_wrong, is_expected, is_invoke_reject_wrong}
 use Rattle.tcap_faults.specs.Counts.{any_problem, count, count_suited, invokes_linked, invokes_so, is_error, is_result, rejects_invoke}
-use Rattle.tcap_faults.specs.HalfOf.{HalfOf}
+use Rattle.tcap_faults.specs.HalfByPeerId.{HalfOf}
 use Rattle.tcap_faults.specs.Components.{is_of_link, is_problem}
 use Rattle.tcap_faults.proofs.story_laws.Stories.{Bounds, Happening, IsLed, got_in, sent_in}
 use Rattle.tcap_faults.proofs.story_laws.StoryLaws.{risen}

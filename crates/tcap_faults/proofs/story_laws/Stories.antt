@@ -11,12 +11,12 @@ use Rattle.tcap_end.specs.Table.{Table}
 use Rattle.tcap_end.specs.Half.{Half}
 use Rattle.tcap_end.specs.Component.{own_invocation, receive_component, send_component}
 use Rattle.tcap_end.specs.End.{is_id}
-use Rattle.tcap_end.specs.Hidden.{may_expire, without_invocation}
+use Rattle.tcap_end.specs.HiddenSteps.{may_expire, without_invocation}
 use Rattle.tcap_model.specs.World.{Item}
-use Rattle.tcap_refute.specs.Before.{is_a}
+use Rattle.tcap_refute.specs.EarlierMessages.{is_a}
 use Rattle.tcap_faults.specs.Counts.{count}
-use Rattle.tcap_faults.specs.HalfOf.{HalfOf, heard_of}
-use Rattle.tcap_faults.specs.Told.{begin_from, goes_on_to, told}
+use Rattle.tcap_faults.specs.HalfByPeerId.{HalfOf, heard_of}
+use Rattle.tcap_faults.specs.SentToId.{begin_from, goes_on_to, told}
 
 -- ---- a half's own story
 

@@ -7,8 +7,8 @@ use Rattle.tcap_parts.specs.declared.component.Component.{Component}
 use Rattle.tcap_end.specs.Table.{Table}
 use Rattle.tcap_end.specs.Half.{Half}
 use Rattle.tcap_end.specs.Component.{own_invocation, receive_component, send_component}
-use Rattle.tcap_end.specs.Hidden.{may_expire, without_invocation}
-use Rattle.tcap_end.specs.Sound.{Rises}
+use Rattle.tcap_end.specs.HiddenSteps.{may_expire, without_invocation}
+use Rattle.tcap_end.specs.ReachableEnd.{Rises}
 use Rattle.tcap_end.proofs.ComponentLaws.{all_receives, all_sends}
 use Rattle.tcap_end.proofs.HalfLaws.{Follows, IsListed}
 use Rattle.tcap_end.proofs.MapLaws.{rises_removed}

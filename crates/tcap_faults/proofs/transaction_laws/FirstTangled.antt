@@ -11,16 +11,16 @@ use Rattle.tcap_msg.specs.Parts.{dtid_in}
 use Rattle.tcap_record.specs.declared.entry.End.{End as Side}
 use Rattle.tcap_record.specs.Ends.{other}
 use Rattle.tcap_model.specs.World.{Item}
-use Rattle.tcap_refute.specs.Before.{asked, has_a, is_a}
+use Rattle.tcap_refute.specs.EarlierMessages.{asked, has_a, is_a}
 use Rattle.tcap_refute.specs.Kind.{or_else}
 use Rattle.tcap_refute.proofs.Members.{has_first, has_later, has_not}
 use Rattle.tcap_faults.specs.declared.verdict.unblamed_reason.Tangle.{Tangle}
 use Rattle.tcap_faults.specs.declared.verdict.unblamed_reason.Tangle.TheVariants.{TwoIds, BegunTwice, BothBegan, Guessed}
 use Rattle.tcap_faults.specs.declared.verdict.unblamed_reason.TangledId.{TangledId}
 use Rattle.tcap_faults.specs.Counts.{count}
-use Rattle.tcap_faults.specs.Ids.{IsOneOf}
-use Rattle.tcap_faults.specs.Tangled.{IsOver, are_tangled, first_tangled, goes_over_tangled, goes_to_begun, guesses, is_own_tangled, is_peer_tangled, near, own_of_continue, owns_of, peers_of, tangle_of_own, tangle_of_peer, tangled_for, tangled_id, tangled_in, two_differ}
-use Rattle.tcap_faults.specs.Told.{one_passes}
+use Rattle.tcap_faults.specs.IdList.{IsOneOf}
+use Rattle.tcap_faults.specs.TangledIds.{IsOver, are_tangled, first_tangled, goes_over_tangled, goes_to_begun, guesses, is_own_tangled, is_peer_tangled, near, own_of_continue, owns_of, peers_of, tangle_of_own, tangle_of_peer, tangled_for, tangled_id, tangled_in, two_differ}
+use Rattle.tcap_faults.specs.SentToId.{one_passes}
 use Rattle.tcap_faults.proofs.transaction_laws.JoinTestLaws.{plain_joined, plain_same, plain_itself}
 use Rattle.tcap_faults.proofs.transaction_laws.TangledLaws.{all_same}
 

@@ -14,19 +14,19 @@ use Rattle.tcap_record.specs.Ends.{other}
 use Rattle.tcap_end.specs.End.{is_id}
 use Rattle.tcap_end.specs.Table.{Table, octets_cmp}
 use Rattle.tcap_model.specs.World.{Item}
-use Rattle.tcap_model.specs.Since.{ended_by}
-use Rattle.tcap_refute.specs.Before.{asked, ends_to, has_a, is_a, sent_by}
+use Rattle.tcap_model.specs.SinceMark.{ended_by}
+use Rattle.tcap_refute.specs.EarlierMessages.{asked, ends_to, has_a, is_a, sent_by}
 use Rattle.tcap_refute.specs.Facts.{FromFact, From, shows_from, told_since}
-use Rattle.tcap_refute.specs.Kept.{tells_from}
+use Rattle.tcap_refute.specs.KeptFacts.{tells_from}
 use Rattle.tcap_refute.proofs.TestLaws.{and_false, and_true}
 use Rattle.tcap_faults.specs.Counts.{is_nothing}
-use Rattle.tcap_faults.specs.Told.{began, begin_from, goes_on_to, has_ended, has_used, told}
+use Rattle.tcap_faults.specs.SentToId.{began, begin_from, goes_on_to, has_ended, has_used, told}
 use Rattle.tcap_faults.specs.declared.transaction.history.SideFacts.{SideFacts}
 use Rattle.tcap_faults.specs.declared.transaction.sent_from_id.Came.{Came}
 use Rattle.tcap_faults.specs.declared.transaction.sent_from_id.FirstBegin.{FirstBegin}
 use Rattle.tcap_faults.specs.declared.transaction.sent_from_id.SentFrom.{SentFrom}
 use Rattle.tcap_faults.specs.declared.transaction.sent_to_id.SentTo.{SentTo}
-use Rattle.tcap_faults.specs.Kept.{IsCameAt, IsFirstBegin, IsFrom, IsFromAt, IsFromWhole, IsSide, IsTo, ends, of_user, sent_from, sent_to, silences}
+use Rattle.tcap_faults.specs.History.{IsCameAt, IsFirstBegin, IsFrom, IsFromAt, IsFromWhole, IsSide, IsTo, ends, of_user, sent_from, sent_to, silences}
 use Rattle.tcap_faults.proofs.list_laws.TwoTests.{any_agree, any_both, any_found, any_kept, any_turned, filter_both, found_both}
 
 -- The peer's peer is the end.

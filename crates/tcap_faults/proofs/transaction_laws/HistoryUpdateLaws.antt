@@ -17,22 +17,22 @@ use Rattle.tcap_record.specs.Ends.{other}
 use Rattle.tcap_end.specs.End.{is_id}
 use Rattle.tcap_end.specs.Table.{Table, octets_cmp}
 use Rattle.tcap_model.specs.World.{Item, Sent, is_side}
-use Rattle.tcap_model.specs.Since.{ended_by}
-use Rattle.tcap_refute.specs.Before.{is_a}
+use Rattle.tcap_model.specs.SinceMark.{ended_by}
+use Rattle.tcap_refute.specs.EarlierMessages.{is_a}
 use Rattle.tcap_model.proofs.WorldLaws.{itself}
 use Rattle.tcap_refute.proofs.TestLaws.{and_false, or_none}
 use Rattle.tcap_faults.specs.declared.transaction.id_list.Ids.{Ids}
 use Rattle.tcap_faults.specs.declared.transaction.history.SideFacts.{SideFacts}
 use Rattle.tcap_faults.specs.declared.transaction.sent_from_id.SentFrom.{SentFrom}
 use Rattle.tcap_faults.specs.declared.transaction.sent_to_id.SentTo.{SentTo}
-use Rattle.tcap_faults.specs.Ids.{AreAmong}
-use Rattle.tcap_faults.specs.Joining.{GetsMore, HasMore, IsJoined}
-use Rattle.tcap_faults.specs.Kept.{IsSide, dtids_of, ends, otids_of, sent_from, sent_to}
-use Rattle.tcap_faults.specs.Noting.{AreFrom, AreTo, with_more}
-use Rattle.tcap_faults.specs.Tangled.{guesses, owns_of}
+use Rattle.tcap_faults.specs.IdList.{AreAmong}
+use Rattle.tcap_faults.specs.JoinedIds.{GetsMore, HasMore, IsJoined}
+use Rattle.tcap_faults.specs.History.{IsSide, dtids_of, ends, otids_of, sent_from, sent_to}
+use Rattle.tcap_faults.specs.HistoryUpdate.{AreFrom, AreTo, with_more}
+use Rattle.tcap_faults.specs.TangledIds.{guesses, owns_of}
 use Rattle.tcap_faults.specs.UsedAgain.{has_used_again, is_used_again, uses_again}
-use Rattle.tcap_faults.specs.Closed.{shows_closed}
-use Rattle.tcap_faults.specs.Told.{has_ended, has_used, one_passes}
+use Rattle.tcap_faults.specs.ClosedHalves.{shows_closed}
+use Rattle.tcap_faults.specs.SentToId.{has_ended, has_used, one_passes}
 use Rattle.tcap_faults.proofs.transaction_laws.JoinTestLaws.{otids_are, is_it}
 use Rattle.tcap_faults.proofs.transaction_laws.JoinedIdsLaws.{has_none}
 use Rattle.tcap_faults.proofs.list_laws.FindLaws.{one_more}

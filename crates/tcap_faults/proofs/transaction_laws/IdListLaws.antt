@@ -11,8 +11,8 @@ use Rattle.std.proofs.lemmas.Slice.Eq.{bytes_eq-Decides}
 use Rattle.tcap_faults.specs.Counts.{is_nothing}
 use Rattle.tcap_faults.proofs.list_laws.FindLaws.{find_none}
 use Rattle.tcap_faults.specs.declared.transaction.id_list.Ids.{Ids}
-use Rattle.tcap_faults.specs.Ids.{AreIds, ids_first, ids_kept}
-use Rattle.tcap_faults.specs.Tangled.{two_differ}
+use Rattle.tcap_faults.specs.IdList.{AreIds, ids_first, ids_kept}
+use Rattle.tcap_faults.specs.TangledIds.{two_differ}
 use Rattle.tcap_faults.proofs.list_laws.OneMoreLaws.{any_more, something}
 
 -- ---- the last kept ID

@@ -7,8 +7,8 @@ use Rattle.std.proofs.lemmas.Map.Lookups.{exact_bytes}
 use Rattle.std.proofs.lemmas.Map.Views.{tells_apart}
 use Rattle.tcap_msg.specs.declared.message.Message.{Message}
 use Rattle.tcap_end.specs.Table.{octets_cmp}
-use Rattle.tcap_faults.specs.Kept.{IsAt}
-use Rattle.tcap_faults.specs.Noting.{with_more, AreAt}
+use Rattle.tcap_faults.specs.History.{IsAt}
+use Rattle.tcap_faults.specs.HistoryUpdate.{with_more, AreAt}
 use Rattle.tcap_faults.proofs.transaction_laws.KeyLaws.{at_other}
 use Rattle.tcap_faults.proofs.list_laws.OneMoreLaws.{something}
 

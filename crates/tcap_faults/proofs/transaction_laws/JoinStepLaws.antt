@@ -16,15 +16,15 @@ use Rattle.tcap_record.specs.declared.entry.End.{End as Side}
 use Rattle.tcap_record.specs.Ends.{other}
 use Rattle.tcap_end.specs.Table.{Table, octets_cmp}
 use Rattle.tcap_model.specs.World.{Item}
-use Rattle.tcap_refute.specs.Before.{sent_by}
-use Rattle.tcap_faults.specs.Told.{goes_on_from, goes_on_to, has_ended, has_used}
+use Rattle.tcap_refute.specs.EarlierMessages.{sent_by}
+use Rattle.tcap_faults.specs.SentToId.{goes_on_from, goes_on_to, has_ended, has_used}
 use Rattle.tcap_faults.specs.declared.transaction.id_list.Ids.{Ids}
 use Rattle.tcap_faults.specs.declared.transaction.history.SideFacts.{SideFacts}
 use Rattle.tcap_faults.specs.declared.transaction.sent_to_id.SentTo.{SentTo}
-use Rattle.tcap_faults.specs.Ids.{AreAmong}
-use Rattle.tcap_faults.specs.Joining.{GetsMore, HasMore}
-use Rattle.tcap_faults.specs.Kept.{IsSide, IsToAt, dtids_of, otids_of, sent_from, sent_to}
-use Rattle.tcap_faults.specs.Tangled.{owns_of}
+use Rattle.tcap_faults.specs.IdList.{AreAmong}
+use Rattle.tcap_faults.specs.JoinedIds.{GetsMore, HasMore}
+use Rattle.tcap_faults.specs.History.{IsSide, IsToAt, dtids_of, otids_of, sent_from, sent_to}
+use Rattle.tcap_faults.specs.TangledIds.{owns_of}
 use Rattle.tcap_faults.proofs.transaction_laws.JoinTestLaws.{dtids_are, otids_are}
 use Rattle.tcap_faults.proofs.transaction_laws.JoinedIdsLaws.{bytes_turned, gets_none, gets_same, has_none, same_itself}
 use Rattle.tcap_faults.proofs.transaction_laws.HistoryLookupLaws.{other_twice}

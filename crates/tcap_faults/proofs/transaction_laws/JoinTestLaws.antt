@@ -16,15 +16,15 @@ use Rattle.tcap_record.specs.declared.entry.End.{End as Side}
 use Rattle.tcap_record.specs.Ends.{other}
 use Rattle.tcap_end.specs.End.{is_id}
 use Rattle.tcap_model.specs.World.{Item}
-use Rattle.tcap_refute.specs.Before.{asked, has_a, is_a, sent_by}
+use Rattle.tcap_refute.specs.EarlierMessages.{asked, has_a, is_a, sent_by}
 use Rattle.tcap_refute.proofs.TestLaws.{and_false, or_none}
 use Rattle.tcap_refute.proofs.Members.{filter_has, filter_map_has}
 use Rattle.tcap_faults.specs.Counts.{count}
-use Rattle.tcap_faults.specs.Told.{began, goes_on_from, goes_on_to, has_used}
+use Rattle.tcap_faults.specs.SentToId.{began, goes_on_from, goes_on_to, has_used}
 use Rattle.tcap_faults.specs.declared.transaction.id_list.Ids.{Ids}
-use Rattle.tcap_faults.specs.Ids.{AreAmong}
-use Rattle.tcap_faults.specs.Kept.{dtids_of, otids_of, sent_from, sent_to}
-use Rattle.tcap_faults.specs.Tangled.{are_tangled, goes_to_begun, is_own_tangled, is_peer_tangled, owns_of, peers_of, two_differ}
+use Rattle.tcap_faults.specs.IdList.{AreAmong}
+use Rattle.tcap_faults.specs.History.{dtids_of, otids_of, sent_from, sent_to}
+use Rattle.tcap_faults.specs.TangledIds.{are_tangled, goes_to_begun, is_own_tangled, is_peer_tangled, owns_of, peers_of, two_differ}
 use Rattle.tcap_faults.proofs.list_laws.FindLaws.{filter_is}
 use Rattle.tcap_faults.proofs.transaction_laws.SameIdsLaws.{differ_so}
 use Rattle.tcap_faults.proofs.transaction_laws.HistoryLookupLaws.{other_twice}

@@ -18,17 +18,17 @@ use Rattle.tcap_record.specs.Ends.{other}
 use Rattle.tcap_end.specs.End.{is_id}
 use Rattle.tcap_end.specs.Table.{octets_cmp}
 use Rattle.tcap_model.specs.World.{Item, Sent}
-use Rattle.tcap_model.specs.Since.{ended_by}
+use Rattle.tcap_model.specs.SinceMark.{ended_by}
 use Rattle.tcap_model.proofs.ListLaws.{contains_first}
-use Rattle.tcap_refute.specs.Before.{is_a, sent_by}
+use Rattle.tcap_refute.specs.EarlierMessages.{is_a, sent_by}
 use Rattle.tcap_refute.proofs.Members.{any_has, filter_has, has_first, has_not}
 use Rattle.tcap_refute.proofs.TestLaws.{or_none}
-use Rattle.tcap_faults.specs.Told.{goes_on_from, goes_on_to, has_ended, has_used}
+use Rattle.tcap_faults.specs.SentToId.{goes_on_from, goes_on_to, has_ended, has_used}
 use Rattle.tcap_faults.specs.declared.transaction.id_list.Ids.{Ids}
-use Rattle.tcap_faults.specs.Ids.{AreAmong, AreSame}
-use Rattle.tcap_faults.specs.Joining.{GetsMore, HasMore, id_if}
-use Rattle.tcap_faults.specs.Kept.{dtids_of, otids_of, sent_from, sent_to}
-use Rattle.tcap_faults.specs.Tangled.{owns_of, peers_of}
+use Rattle.tcap_faults.specs.IdList.{AreAmong, AreSame}
+use Rattle.tcap_faults.specs.JoinedIds.{GetsMore, HasMore, id_if}
+use Rattle.tcap_faults.specs.History.{dtids_of, otids_of, sent_from, sent_to}
+use Rattle.tcap_faults.specs.TangledIds.{owns_of, peers_of}
 use Rattle.tcap_faults.proofs.list_laws.FindLaws.{any_is, filter_is}
 use Rattle.tcap_faults.proofs.transaction_laws.JoinTestLaws.{dtids_are, otids_are, from_goes, goes_from, goes_to, is_it, to_goes}
 use Rattle.tcap_faults.proofs.transaction_laws.JoinedIdsLaws.{among_same, any_either, joined_both}

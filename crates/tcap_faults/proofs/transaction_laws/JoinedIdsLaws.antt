@@ -16,14 +16,14 @@ use Rattle.tcap_record.specs.Ends.{other}
 use Rattle.tcap_end.specs.End.{is_id}
 use Rattle.tcap_end.specs.Table.{octets_cmp}
 use Rattle.tcap_model.specs.World.{Item}
-use Rattle.tcap_refute.specs.Before.{sent_by}
+use Rattle.tcap_refute.specs.EarlierMessages.{sent_by}
 use Rattle.tcap_refute.proofs.TestLaws.{or_none, and_true}
 use Rattle.tcap_refute.proofs.Members.{any_has, filter_has, has_not}
-use Rattle.tcap_faults.specs.Told.{goes_on_from, goes_on_to, has_used}
+use Rattle.tcap_faults.specs.SentToId.{goes_on_from, goes_on_to, has_used}
 use Rattle.tcap_faults.specs.declared.transaction.id_list.Ids.{Ids}
-use Rattle.tcap_faults.specs.Ids.{AreAmong, AreIds, AreSame, ids_kept}
-use Rattle.tcap_faults.specs.Joining.{GetsMore, HasMore, id_if}
-use Rattle.tcap_faults.specs.Tangled.{owns_of, peers_of}
+use Rattle.tcap_faults.specs.IdList.{AreAmong, AreIds, AreSame, ids_kept}
+use Rattle.tcap_faults.specs.JoinedIds.{GetsMore, HasMore, id_if}
+use Rattle.tcap_faults.specs.TangledIds.{owns_of, peers_of}
 use Rattle.tcap_faults.proofs.list_laws.FindLaws.{any_is}
 use Rattle.tcap_faults.proofs.transaction_laws.JoinTestLaws.{joined_back, from_goes, goes_from, goes_to, is_it, to_goes}
 use Rattle.tcap_faults.proofs.transaction_laws.KeyLaws.{at_id, set_more}

@@ -10,14 +10,14 @@ use Rattle.tcap_msg.specs.Parts.{dtid_in, otid_in}
 use Rattle.tcap_record.specs.declared.entry.End.{End as Side}
 use Rattle.tcap_end.specs.Table.{Table}
 use Rattle.tcap_model.specs.World.{Item}
-use Rattle.tcap_refute.specs.Before.{asked, has_a}
+use Rattle.tcap_refute.specs.EarlierMessages.{asked, has_a}
 use Rattle.tcap_faults.specs.Counts.{is_nothing}
-use Rattle.tcap_faults.specs.Told.{has_used, told}
-use Rattle.tcap_faults.specs.Tangled.{owns_of, tangled_id, tangled_in}
+use Rattle.tcap_faults.specs.SentToId.{has_used, told}
+use Rattle.tcap_faults.specs.TangledIds.{owns_of, tangled_id, tangled_in}
 use Rattle.tcap_faults.specs.UsedAgain.{may_be_over, uses_again}
 use Rattle.tcap_faults.specs.declared.transaction.lookup.Own.{Own}
 use Rattle.tcap_faults.specs.declared.transaction.lookup.There.{There}
-use Rattle.tcap_faults.specs.Found.{IsOwn, IsOwnAt, IsThere, IsThereAt}
+use Rattle.tcap_faults.specs.KeptForMessage.{IsOwn, IsOwnAt, IsThere, IsThereAt}
 
 -- A reference is there exactly if its value is.
 pub some_lent : {X : Type 0} (o : Option (Bor X)) → is_some o ≡ is_some (option_copied o)

@@ -13,13 +13,13 @@ use Rattle.tcap_record.specs.declared.entry.End.TheVariants as sides
 use Rattle.tcap_record.specs.Ends.{other}
 use Rattle.tcap_end.specs.End.{is_id}
 use Rattle.tcap_model.specs.World.{Item, Sent}
-use Rattle.tcap_model.specs.Since.{ended_by}
-use Rattle.tcap_refute.specs.Before.{is_a, sent_by}
+use Rattle.tcap_model.specs.SinceMark.{ended_by}
+use Rattle.tcap_refute.specs.EarlierMessages.{is_a, sent_by}
 use Rattle.tcap_refute.proofs.TestLaws.{or_none}
-use Rattle.tcap_faults.specs.Told.{goes_on_from, goes_on_to, has_ended, has_used}
-use Rattle.tcap_faults.specs.Kept.{dtids_of, sent_from, sent_to}
-use Rattle.tcap_faults.specs.Noting.{with_more}
-use Rattle.tcap_faults.specs.Tangled.{peers_of}
+use Rattle.tcap_faults.specs.SentToId.{goes_on_from, goes_on_to, has_ended, has_used}
+use Rattle.tcap_faults.specs.History.{dtids_of, sent_from, sent_to}
+use Rattle.tcap_faults.specs.HistoryUpdate.{with_more}
+use Rattle.tcap_faults.specs.TangledIds.{peers_of}
 use Rattle.tcap_faults.proofs.view_laws.GrowthLaws.{their_same}
 use Rattle.tcap_faults.proofs.run_laws.ItemLaws.{sent_own}
 use Rattle.tcap_faults.proofs.list_laws.OneMoreLaws.{any_more, filter_more}

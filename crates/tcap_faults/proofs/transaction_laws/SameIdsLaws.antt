@@ -8,8 +8,8 @@ use Rattle.std.proofs.lemmas.List.Elements.{Contains-append_cases, Contains-appe
 use Rattle.std.proofs.lemmas.Slice.Eq.{bytes_eq-Decides}
 use Rattle.tcap_refute.proofs.Members.{any_has, has_first, has_later, has_not}
 use Rattle.tcap_faults.specs.declared.transaction.id_list.Ids.{Ids}
-use Rattle.tcap_faults.specs.Ids.{AreAmong, AreIds, AreSame, IsOneOf, ids_first}
-use Rattle.tcap_faults.specs.Tangled.{two_differ}
+use Rattle.tcap_faults.specs.IdList.{AreAmong, AreIds, AreSame, IsOneOf, ids_first}
+use Rattle.tcap_faults.specs.TangledIds.{two_differ}
 use Rattle.tcap_faults.proofs.transaction_laws.TangledLaws.{all_same}
 use Rattle.tcap_faults.proofs.list_laws.TwoTests.{none_passes}
 

@@ -15,24 +15,24 @@ use Rattle.tcap_msg.specs.declared.message.Message.TheVariants.{Begin, Continue}
 use Rattle.tcap_msg.specs.Parts.{components_in, dialogue_in, dtid_in, kind_in}
 use Rattle.tcap_end.specs.Dialogue.{is_request}
 use Rattle.tcap_end.specs.Table.{Table, octets_cmp}
-use Rattle.tcap_refute.specs.Before.{components_of, is_a}
+use Rattle.tcap_refute.specs.EarlierMessages.{components_of, is_a}
 use Rattle.tcap_refute.specs.Facts.{FromFact, shows_from}
-use Rattle.tcap_refute.specs.Kept.{tells_from}
+use Rattle.tcap_refute.specs.KeptFacts.{tells_from}
 use Rattle.tcap_refute.specs.Kind.{is_begin_with_request, or_else}
-use Rattle.tcap_refute.specs.declared.from_id.FromId.{FromId}
+use Rattle.tcap_refute.specs.declared.sent_from_id.FromId.{FromId}
 use Rattle.tcap_refute.proofs.TestLaws.{or_none}
 use Rattle.tcap_faults.specs.Counts.{count}
-use Rattle.tcap_faults.specs.Told.{goes_on_to}
+use Rattle.tcap_faults.specs.SentToId.{goes_on_to}
 use Rattle.tcap_faults.specs.declared.transaction.id_list.Ids.{Ids}
 use Rattle.tcap_faults.specs.declared.transaction.sent_from_id.Came.{Came}
 use Rattle.tcap_faults.specs.declared.transaction.sent_from_id.FirstBegin.{FirstBegin}
 use Rattle.tcap_faults.specs.declared.transaction.sent_from_id.SentFrom.{SentFrom}
-use Rattle.tcap_faults.specs.HalfOf.{from_first, responds}
-use Rattle.tcap_faults.specs.Ids.{AreIds}
-use Rattle.tcap_faults.specs.Kept.{IsCame, IsCameAt, IsFirstBegin, IsFrom, before_response, dtids_of}
-use Rattle.tcap_faults.specs.Noting.{AreCame, with_more}
-use Rattle.tcap_faults.specs.Tallied.{more_if, sum}
-use Rattle.tcap_faults.specs.Tallies.{IsTally}
+use Rattle.tcap_faults.specs.HalfByPeerId.{from_first, responds}
+use Rattle.tcap_faults.specs.IdList.{AreIds}
+use Rattle.tcap_faults.specs.History.{IsCame, IsCameAt, IsFirstBegin, IsFrom, before_response, dtids_of}
+use Rattle.tcap_faults.specs.HistoryUpdate.{AreCame, with_more}
+use Rattle.tcap_faults.specs.InvokeCounts.{more_if, sum}
+use Rattle.tcap_faults.specs.TallyMeaning.{IsTally}
 use Rattle.tcap_faults.proofs.list_laws.OneMoreLaws.{any_more, components_more, count_kept, filter_more, ids_more, ids_same}
 use Rattle.tcap_faults.proofs.transaction_laws.HistoryLookupLaws.{begin_there}
 use Rattle.tcap_faults.proofs.list_laws.CountLaws.{count_last}

@@ -7,16 +7,16 @@ use Rattle.tcap_msg.specs.declared.message.Message.{Message}
 use Rattle.tcap_msg.specs.declared.message.Message.TheVariants.{Continue}
 use Rattle.tcap_msg.specs.Parts.{cause_in, components_in, otid_in}
 use Rattle.tcap_end.specs.Table.{Table}
-use Rattle.tcap_refute.specs.Before.{components_of, is_a}
+use Rattle.tcap_refute.specs.EarlierMessages.{components_of, is_a}
 use Rattle.tcap_refute.proofs.TestLaws.{or_none}
-use Rattle.tcap_faults.specs.Told.{is_cause}
+use Rattle.tcap_faults.specs.SentToId.{is_cause}
 use Rattle.tcap_faults.specs.declared.transaction.id_list.Ids.{Ids}
 use Rattle.tcap_faults.specs.declared.transaction.sent_to_id.SentTo.{SentTo}
 use Rattle.tcap_faults.specs.declared.component.tally.Tally.{Tally}
-use Rattle.tcap_faults.specs.Ids.{AreIds}
-use Rattle.tcap_faults.specs.Kept.{IsTo, ends, of_user, otids_of, silences}
-use Rattle.tcap_faults.specs.Noting.{IsCaused, IsTold}
-use Rattle.tcap_faults.specs.Tallies.{IsTally}
+use Rattle.tcap_faults.specs.IdList.{AreIds}
+use Rattle.tcap_faults.specs.History.{IsTo, ends, of_user, otids_of, silences}
+use Rattle.tcap_faults.specs.HistoryUpdate.{IsCaused, IsTold}
+use Rattle.tcap_faults.specs.TallyMeaning.{IsTally}
 use Rattle.tcap_faults.proofs.list_laws.OneMoreLaws.{any_more, components_more, count_kept, filter_more, ids_more, ids_same, something}
 
 -- ---- kinds of messages

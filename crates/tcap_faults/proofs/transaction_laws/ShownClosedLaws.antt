@@ -10,15 +10,15 @@ use Rattle.tcap_msg.specs.Parts.{dtid_in, otid_in}
 use Rattle.tcap_record.specs.declared.entry.End.{End as Side}
 use Rattle.tcap_record.specs.Ends.{other}
 use Rattle.tcap_model.specs.World.{Item, Sent}
-use Rattle.tcap_refute.specs.Before.{asked, has_a, is_a}
+use Rattle.tcap_refute.specs.EarlierMessages.{asked, has_a, is_a}
 use Rattle.tcap_model.proofs.WorldLaws.{itself}
-use Rattle.tcap_faults.specs.Closed.{all_go_on_to}
+use Rattle.tcap_faults.specs.ClosedHalves.{all_go_on_to}
 use Rattle.tcap_faults.specs.Counts.{is_nothing}
-use Rattle.tcap_faults.specs.Told.{began, goes_on_to, has_used}
+use Rattle.tcap_faults.specs.SentToId.{began, goes_on_to, has_used}
 use Rattle.tcap_faults.specs.declared.transaction.id_list.Ids.{Ids}
-use Rattle.tcap_faults.specs.Ids.{AreAmong, AreIds, AreSame, ids_first}
-use Rattle.tcap_faults.specs.Kept.{dtids_of}
-use Rattle.tcap_faults.specs.Tangled.{guesses, two_differ}
+use Rattle.tcap_faults.specs.IdList.{AreAmong, AreIds, AreSame, ids_first}
+use Rattle.tcap_faults.specs.History.{dtids_of}
+use Rattle.tcap_faults.specs.TangledIds.{guesses, two_differ}
 use Rattle.tcap_faults.proofs.transaction_laws.JoinedIdsLaws.{any_same}
 use Rattle.tcap_faults.proofs.transaction_laws.MessageMoreLaws.{goes_both}
 use Rattle.tcap_faults.proofs.transaction_laws.HistoryLookupLaws.{began_asked, other_twice}

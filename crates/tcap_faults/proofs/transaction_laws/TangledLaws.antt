@@ -14,11 +14,11 @@ use Rattle.tcap_record.specs.Ends.{other}
 use Rattle.tcap_end.specs.End.{is_id}
 use Rattle.tcap_model.specs.World.{Item}
 use Rattle.tcap_model.proofs.ListLaws.{contains_first}
-use Rattle.tcap_refute.specs.Before.{asked, has_a, is_a, sent_by}
+use Rattle.tcap_refute.specs.EarlierMessages.{asked, has_a, is_a, sent_by}
 use Rattle.tcap_refute.proofs.Members.{any_has, filter_has, filter_map_has, has_not}
 use Rattle.tcap_faults.specs.Counts.{count}
-use Rattle.tcap_faults.specs.Told.{began, begin_from, begins_from, goes_on_from, goes_on_to, has_used}
-use Rattle.tcap_faults.specs.Tangled.{are_tangled, goes_over_tangled, goes_to_begun, is_own_tangled, is_peer_tangled, near, own_of_continue, owns_of, two_differ}
+use Rattle.tcap_faults.specs.SentToId.{began, begin_from, begins_from, goes_on_from, goes_on_to, has_used}
+use Rattle.tcap_faults.specs.TangledIds.{are_tangled, goes_over_tangled, goes_to_begun, is_own_tangled, is_peer_tangled, near, own_of_continue, owns_of, two_differ}
 use Rattle.tcap_faults.proofs.list_laws.FindLaws.{filter_is, find_has}
 
 -- If no two IDs differ, any two are equal.

@@ -10,14 +10,14 @@ use Rattle.tcap_end.specs.Table.{Table}
 use Rattle.tcap_model.specs.declared.reason.Reason.{Reason}
 use Rattle.tcap_model.specs.World.{Item, Sent}
 use Rattle.tcap_model.specs.Entries.{item_of}
-use Rattle.tcap_refute.specs.Before.{since_quiet}
+use Rattle.tcap_refute.specs.EarlierMessages.{since_quiet}
 use Rattle.tcap_refute.specs.Kind.{or_else}
 use Rattle.tcap_refute.proofs.ItemLaws.{since_mark, since_more}
 use Rattle.tcap_faults.specs.declared.transaction.history.Facts.{Facts}
 use Rattle.tcap_faults.specs.declared.verdict.earlier_entries.Replay.{Replay}
 use Rattle.tcap_faults.specs.Replay.{IsReplayed, items_up_to}
-use Rattle.tcap_faults.specs.Searching.{AreCounted, AreRoomy, IsKept, components_in_all}
-use Rattle.tcap_faults.specs.Subject.{items_among}
+use Rattle.tcap_faults.specs.SearchState.{AreCounted, AreRoomy, IsKept, components_in_all}
+use Rattle.tcap_faults.specs.FaultSubject.{items_among}
 use Rattle.tcap_faults.specs.Unblamed.{again_behind}
 use Rattle.tcap_faults.specs.UsedAgain.{has_used_again, is_used_again}
 use Rattle.tcap_faults.proofs.component_laws.FewComponentsLaws.{counted_roomy, more_counted, none_counted, still_counted}

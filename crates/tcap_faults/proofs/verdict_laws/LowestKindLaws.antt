@@ -21,10 +21,10 @@ use Rattle.tcap_faults.specs.ComponentKinds.{answers_again, invokes_busy, links_
 use Rattle.tcap_faults.specs.Faults.{component_at}
 use Rattle.tcap_faults.specs.Fault.{further_kinds, is_fault, is_of_further_kind, is_of_half_kind, is_of_kind_to}
 use Rattle.tcap_faults.specs.HalfKinds.{is_wrong_dialogue, is_wrong_half}
-use Rattle.tcap_faults.specs.HalfOf.{HalfOf, half_of}
-use Rattle.tcap_faults.specs.Searching.{kind_of_components}
-use Rattle.tcap_faults.specs.Subject.{alone_component, half_component}
-use Rattle.tcap_faults.specs.Tangled.{are_tangled, goes_over_tangled, is_own_tangled, is_peer_tangled, near, own_of_continue}
+use Rattle.tcap_faults.specs.HalfByPeerId.{HalfOf, half_of}
+use Rattle.tcap_faults.specs.SearchState.{kind_of_components}
+use Rattle.tcap_faults.specs.FaultSubject.{alone_component, half_component}
+use Rattle.tcap_faults.specs.TangledIds.{are_tangled, goes_over_tangled, is_own_tangled, is_peer_tangled, near, own_of_continue}
 use Rattle.tcap_faults.proofs.component_laws.ComponentFaultLaws.{some_component}
 
 -- ---- the further kinds

@@ -8,16 +8,16 @@ use Rattle.tcap_record.specs.declared.entry.End.{End as Side}
 use Rattle.tcap_end.specs.Table.{Table}
 use Rattle.tcap_model.specs.World.{Item, Sent, is_side}
 use Rattle.tcap_refute.specs.declared.kind.Kind.{Kind}
-use Rattle.tcap_refute.specs.Before.{since_quiet}
+use Rattle.tcap_refute.specs.EarlierMessages.{since_quiet}
 use Rattle.tcap_refute.specs.FirstKinds.{first_kinds, is_of_first_kind}
 use Rattle.tcap_refute.specs.Kind.{or_else}
 use Rattle.tcap_model.proofs.WorldLaws.{itself}
 use Rattle.tcap_refute.proofs.ItemLaws.{since_mark, since_more}
 use Rattle.tcap_faults.specs.declared.transaction.history.Facts.{Facts}
 use Rattle.tcap_faults.specs.Fault.{fault_since, further_kinds, is_fault, is_of_further_kind}
-use Rattle.tcap_faults.specs.Kept.{AreFacts}
-use Rattle.tcap_faults.specs.Searching.{IsKept}
-use Rattle.tcap_faults.specs.Tangled.{goes_over_tangled, tangled_in}
+use Rattle.tcap_faults.specs.History.{AreFacts}
+use Rattle.tcap_faults.specs.SearchState.{IsKept}
+use Rattle.tcap_faults.specs.TangledIds.{goes_over_tangled, tangled_in}
 use Rattle.tcap_faults.specs.UsedAgain.{has_used_again, is_used_again, uses_again}
 use Rattle.tcap_faults.proofs.list_laws.FindLaws.{one_more}
 use Rattle.tcap_faults.proofs.verdict_laws.LowestKindLaws.{fault_found, none_found}

@@ -14,9 +14,9 @@ use Rattle.tcap_model.specs.Entries.{item_by, item_of}
 use Rattle.tcap_model.specs.World.{Item}
 use Rattle.tcap_faults.specs.declared.transaction.history.Facts.{Facts}
 use Rattle.tcap_faults.specs.Replay.{items_up_to}
-use Rattle.tcap_faults.specs.Searching.{AreCounted, AreRoomy, IsKept, components_in_all}
-use Rattle.tcap_faults.specs.Subject.{items_among}
-use Rattle.tcap_faults.specs.Matters.{IsNoted, IsNotedFor, matters, those_for_entry}
+use Rattle.tcap_faults.specs.SearchState.{AreCounted, AreRoomy, IsKept, components_in_all}
+use Rattle.tcap_faults.specs.FaultSubject.{items_among}
+use Rattle.tcap_faults.specs.RelevantItems.{IsNoted, IsNotedFor, matters, those_for_entry}
 use Rattle.tcap_faults.proofs.component_laws.FewComponentsLaws.{counted_roomy, more_counted, none_counted, still_counted}
 use Rattle.tcap_faults.proofs.verdict_laws.EarlierEntriesLaws.{one_item}
 

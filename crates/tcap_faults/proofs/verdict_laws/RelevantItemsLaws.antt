@@ -19,17 +19,17 @@ use Rattle.tcap_model.specs.Run.{then_so, where_so}
 use Rattle.tcap_model.specs.World.{Item, Sent, has_quiet, is_side}
 use Rattle.tcap_refute.specs.declared.kind.Kind.{Kind}
 use Rattle.tcap_refute.specs.declared.kind.Kind.TheVariants as kinds
-use Rattle.tcap_refute.specs.Before.{asked, components_of, has_a, is_a, sent_by, since_quiet}
+use Rattle.tcap_refute.specs.EarlierMessages.{asked, components_of, has_a, is_a, sent_by, since_quiet}
 use Rattle.tcap_refute.specs.FirstComponent.{answers_nothing_in, first_component, first_so, is_wrong_in}
 use Rattle.tcap_refute.specs.FirstKinds.{answers_none}
 use Rattle.tcap_refute.specs.Kind.{answers_none_of, is_unknown_operation, no_class_allows, or_else}
 use Rattle.tcap_faults.specs.declared.dialogue.half_origin.How.TheVariants.{Accepted, Refused, Begun, Unanswered, Nowhere}
 use Rattle.tcap_faults.specs.Counts.{is_nothing}
-use Rattle.tcap_faults.specs.Told.{begin_from, begins_from, goes_on_to, is_abort_with, tells_to, told, was_refused}
-use Rattle.tcap_faults.specs.Tangled.{goes_to_begun}
-use Rattle.tcap_faults.specs.HalfOf.{accepted_half, answered_from, begun_from, begun_half, continued_to, half_by, half_of, heard_of}
-use Rattle.tcap_faults.specs.Subject.{alone_component, half_component, subject, subject_by}
-use Rattle.tcap_faults.specs.Matters.{matters, those_for, those_for_entry}
+use Rattle.tcap_faults.specs.SentToId.{begin_from, begins_from, goes_on_to, is_abort_with, tells_to, told, was_refused}
+use Rattle.tcap_faults.specs.TangledIds.{goes_to_begun}
+use Rattle.tcap_faults.specs.HalfByPeerId.{accepted_half, answered_from, begun_from, begun_half, continued_to, half_by, half_of, heard_of}
+use Rattle.tcap_faults.specs.FaultSubject.{alone_component, half_component, subject, subject_by}
+use Rattle.tcap_faults.specs.RelevantItems.{matters, those_for, those_for_entry}
 use Rattle.tcap_faults.proofs.verdict_laws.SubjectLaws.{alone_is, half_is}
 use Rattle.tcap_faults.proofs.list_laws.TwoTests.{any_kept}
 use Rattle.std.proofs.lemmas.Bool.{and_parts, or_right}

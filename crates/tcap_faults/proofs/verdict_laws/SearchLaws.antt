@@ -14,13 +14,13 @@ use Rattle.tcap_model.specs.Entries.{item_of}
 use Rattle.tcap_model.specs.declared.reason.Reason.{Reason}
 use Rattle.tcap_refute.specs.declared.kind.Kind.{Kind}
 use Rattle.tcap_refute.specs.declared.kind.Refutation.{Refutation}
-use Rattle.tcap_refute.specs.Before.{since_quiet}
+use Rattle.tcap_refute.specs.EarlierMessages.{since_quiet}
 use Rattle.tcap_refute.specs.Kind.{or_else, refutation_at}
 use Rattle.tcap_faults.specs.declared.verdict.first_fault.Looking.{Looking}
 use Rattle.tcap_faults.specs.declared.verdict.first_fault.SearchState.{SearchState}
 use Rattle.tcap_faults.specs.declared.transaction.history.Facts.{Facts}
 use Rattle.tcap_faults.specs.Fault.{bad_entry_of, blamed, blamed_behind, fault_since}
-use Rattle.tcap_faults.specs.Searching.{AreCounted, AreRoomy, IsFound, IsKept, IsTaken, Takes, components_in_all, looking_at, looking_bad, looking_behind, looking_first, looking_on, looking_put, looking_with}
+use Rattle.tcap_faults.specs.SearchState.{AreCounted, AreRoomy, IsFound, IsKept, IsTaken, Takes, components_in_all, looking_at, looking_bad, looking_behind, looking_first, looking_on, looking_put, looking_with}
 use Rattle.tcap_faults.proofs.component_laws.FewComponentsLaws.{counted_roomy, more_counted, none_counted}
 use Rattle.tcap_faults.proofs.verdict_laws.NextEntryLaws.{peer_alone}
 

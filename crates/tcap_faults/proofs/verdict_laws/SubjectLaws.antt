@@ -16,17 +16,17 @@ use Rattle.tcap_model.specs.World.{Item, Sent}
 use Rattle.tcap_model.specs.Entries.{item_of}
 use Rattle.tcap_refute.specs.declared.kind.Kind.{Kind}
 use Rattle.tcap_refute.specs.declared.kind.Refutation.{Refutation}
-use Rattle.tcap_refute.specs.Before.{since_quiet}
+use Rattle.tcap_refute.specs.EarlierMessages.{since_quiet}
 use Rattle.tcap_refute.specs.FirstComponent.{first_component}
 use Rattle.tcap_refute.specs.Kind.{or_else}
 use Rattle.tcap_faults.specs.declared.dialogue.half_origin.How.{How}
 use Rattle.tcap_faults.specs.declared.dialogue.half_origin.How.TheVariants.{Nowhere}
 use Rattle.tcap_faults.specs.declared.transaction.history.Facts.{Facts}
 use Rattle.tcap_faults.specs.declared.verdict.fault_subject.Subject.{Subject}
-use Rattle.tcap_faults.specs.HalfOf.{half_of}
+use Rattle.tcap_faults.specs.HalfByPeerId.{half_of}
 use Rattle.tcap_faults.specs.Replay.{items_up_to}
-use Rattle.tcap_faults.specs.Searching.{AreRoomy, IsKept}
-use Rattle.tcap_faults.specs.Subject.{alone_component, half_component, items_among, no_subject, subject, subject_by, subject_of}
+use Rattle.tcap_faults.specs.SearchState.{AreRoomy, IsKept}
+use Rattle.tcap_faults.specs.FaultSubject.{alone_component, half_component, items_among, no_subject, subject, subject_by, subject_of}
 use Rattle.tcap_faults.proofs.component_laws.FewComponentsLaws.{all_more}
 
 -- ---- a message

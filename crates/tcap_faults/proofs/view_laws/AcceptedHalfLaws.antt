@@ -14,15 +14,15 @@ use Rattle.tcap_end.specs.declared.half.Slot.TheVariants.{Accepted}
 use Rattle.tcap_end.specs.Table.{Table}
 use Rattle.tcap_end.specs.Half.{Half}
 use Rattle.tcap_end.specs.End.{End, KeptHalf, is_id}
-use Rattle.tcap_end.specs.Sound.{Has}
+use Rattle.tcap_end.specs.ReachableEnd.{Has}
 use Rattle.tcap_end.proofs.EndLaws.{no_half}
 use Rattle.tcap_record.specs.Ends.{other}
 use Rattle.tcap_model.specs.World.{Item}
-use Rattle.tcap_refute.specs.Before.{asked, is_a, sent_by}
+use Rattle.tcap_refute.specs.EarlierMessages.{asked, is_a, sent_by}
 use Rattle.tcap_refute.proofs.BeforeLaws.{is_that_id}
 use Rattle.tcap_refute.proofs.Members.{filter_has, has_first}
 use Rattle.tcap_refute.proofs.HalfLawsTurns.{Accepts, Answers, Starts, Turned, answers, closes, learns, stays}
-use Rattle.tcap_faults.specs.Told.{told}
+use Rattle.tcap_faults.specs.SentToId.{told}
 use Rattle.tcap_faults.proofs.view_laws.AdvanceLaws.{Advance, advances_keep}
 use Rattle.tcap_faults.proofs.view_laws.BegunHalfLaws.{stands_on, standing_of}
 use Rattle.tcap_faults.proofs.view_laws.GrowthLaws.{asked_still, told_still}

@@ -18,15 +18,15 @@ use Rattle.tcap_end.specs.Half.{Half, closed_half, fresh, is_closed}
 use Rattle.tcap_end.specs.Component.{own_invocation}
 use Rattle.tcap_end.specs.Dialogue.{answers_request, first_standing, may_be_uni, may_begin}
 use Rattle.tcap_end.specs.End.{End, KeptHalf, is_id, named, put, with_own, with_peer}
-use Rattle.tcap_end.specs.Hidden.{close, expire, may_close, may_expire}
+use Rattle.tcap_end.specs.HiddenSteps.{close, expire, may_close, may_expire}
 use Rattle.tcap_end.specs.Message.{active_half, receive, receive_components, receive_end, receive_over, send, send_components, send_uni_components}
-use Rattle.tcap_end.specs.Sound.{Has, IsEnd}
+use Rattle.tcap_end.specs.ReachableEnd.{Has, IsEnd}
 use Rattle.tcap_end.proofs.AnsweringLaws.{needs_ok, ok_same, some_ok, then_ok}
 use Rattle.tcap_end.proofs.ComponentLaws.{all_receives, all_sends}
 use Rattle.tcap_end.proofs.FoundLaws.{named_has, none_own, none_peer, own_has}
 use Rattle.tcap_end.proofs.StepLaws.{none_is}
 use Rattle.tcap_model.proofs.TurnLaws.{put_there}
-use Rattle.tcap_refute.specs.Before.{ends_to}
+use Rattle.tcap_refute.specs.EarlierMessages.{ends_to}
 use Rattle.tcap_refute.proofs.BeforeLaws.{is_that_id}
 use Rattle.tcap_refute.proofs.HalfLawsTurns.{Accepts, Acts, Deed, Heard, Said, Starts, Turned, Unseen, acts_nowhere, answers, closes, learns, stays, new_acts, put_acts}
 use Rattle.tcap_refute.proofs.OverLaws.{IsOver, follows_stays, over, own_is}

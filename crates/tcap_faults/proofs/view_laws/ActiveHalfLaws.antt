@@ -13,18 +13,18 @@ use Rattle.tcap_end.specs.declared.half.Phase.TheVariants as phases
 use Rattle.tcap_end.specs.Table.{Table}
 use Rattle.tcap_end.specs.Half.{Half}
 use Rattle.tcap_end.specs.End.{End, KeptHalf, is_id}
-use Rattle.tcap_end.specs.Hidden.{may_close}
-use Rattle.tcap_end.specs.Sound.{Has}
+use Rattle.tcap_end.specs.HiddenSteps.{may_close}
+use Rattle.tcap_end.specs.ReachableEnd.{Has}
 use Rattle.tcap_record.specs.Ends.{other}
 use Rattle.tcap_model.specs.World.{Item}
-use Rattle.tcap_model.specs.Since.{ended_by}
+use Rattle.tcap_model.specs.SinceMark.{ended_by}
 use Rattle.tcap_model.proofs.TurnLaws.{id_is}
-use Rattle.tcap_refute.specs.Before.{ends_to, is_a, sent_by}
+use Rattle.tcap_refute.specs.EarlierMessages.{ends_to, is_a, sent_by}
 use Rattle.tcap_refute.proofs.BeforeLaws.{is_that_id}
 use Rattle.tcap_refute.proofs.Members.{any_has, has_first, has_not}
 use Rattle.tcap_refute.proofs.HalfLawsTurns.{Deed, Heard, IsEnded, Said, Turned, Unseen, answers, closes, learns, stays}
-use Rattle.tcap_faults.specs.Closed.{is_surely_open}
-use Rattle.tcap_faults.specs.Told.{has_ended}
+use Rattle.tcap_faults.specs.ClosedHalves.{is_surely_open}
+use Rattle.tcap_faults.specs.SentToId.{has_ended}
 use Rattle.tcap_faults.proofs.view_laws.ActLaws.{IsActiveFor, keeps_own, keeps_peer}
 use Rattle.tcap_faults.proofs.view_laws.AdvanceLaws.{Advance, advances_keep}
 use Rattle.tcap_faults.proofs.list_laws.FindLaws.{any_is, find_has}

@@ -13,13 +13,13 @@ use Rattle.tcap_end.specs.Table.{Table}
 use Rattle.tcap_end.specs.End.{End, nothing, with_own, with_peer}
 use Rattle.tcap_end.specs.Message.{receive, send}
 use Rattle.tcap_end.specs.Reply.{aborts, is_open}
-use Rattle.tcap_end.specs.Sound.{IsEnd}
+use Rattle.tcap_end.specs.ReachableEnd.{IsEnd}
 use Rattle.tcap_end.proofs.StepLaws.{none_is, receives, sends}
 use Rattle.tcap_record.specs.Ends.{other}
 use Rattle.tcap_model.specs.World.{Item, Sent}
 use Rattle.tcap_model.specs.Run.{provider_abort, reply_to}
 use Rattle.tcap_model.proofs.ListLaws.{contains_first}
-use Rattle.tcap_refute.specs.Before.{sent_by}
+use Rattle.tcap_refute.specs.EarlierMessages.{sent_by}
 use Rattle.tcap_refute.proofs.Members.{has_not}
 use Rattle.tcap_refute.proofs.HalfLawsTurns.{Acts, Deed, Heard, Said, Unseen, acts_nowhere}
 use Rattle.tcap_faults.proofs.view_laws.ActLaws.{IsActiveFor, Uses, heard_acts, said_acts, said_uses}

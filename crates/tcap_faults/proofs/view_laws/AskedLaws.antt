@@ -14,15 +14,15 @@ use Rattle.tcap_end.specs.declared.half.Slot.TheVariants.{Begun, Accepted}
 use Rattle.tcap_end.specs.Table.{Table}
 use Rattle.tcap_end.specs.Half.{Half}
 use Rattle.tcap_end.specs.End.{End, KeptHalf, is_id}
-use Rattle.tcap_end.specs.Sound.{Has, IsEnd}
+use Rattle.tcap_end.specs.ReachableEnd.{Has, IsEnd}
 use Rattle.tcap_end.proofs.EndLaws.{no_half}
 use Rattle.tcap_record.specs.Ends.{other}
 use Rattle.tcap_model.specs.World.{Item, Sent}
-use Rattle.tcap_refute.specs.Before.{asked, is_a, sent_by}
+use Rattle.tcap_refute.specs.EarlierMessages.{asked, is_a, sent_by}
 use Rattle.tcap_refute.proofs.BeforeLaws.{is_that_id}
 use Rattle.tcap_refute.proofs.TestLaws.{and_false, and_true}
 use Rattle.tcap_refute.proofs.HalfLawsTurns.{Accepts, Acts, Deed, Heard, Said, Starts, Turned, Unseen, answers, closes, learns, stays}
-use Rattle.tcap_faults.specs.Told.{is_abort_with}
+use Rattle.tcap_faults.specs.SentToId.{is_abort_with}
 use Rattle.tcap_faults.specs.Counts.{count}
 use Rattle.tcap_faults.proofs.list_laws.CountLaws.{count_last, count_more, one}
 use Rattle.tcap_faults.proofs.view_laws.ActLaws.{heard_acts, said_acts, said_causeless}

@@ -12,11 +12,11 @@ use Rattle.tcap_end.specs.End.{is_id}
 use Rattle.tcap_record.specs.Ends.{other}
 use Rattle.tcap_model.specs.World.{Item, Sent, is_side}
 use Rattle.tcap_model.proofs.ListLaws.{contains_first}
-use Rattle.tcap_refute.specs.Before.{asked, sent_by}
+use Rattle.tcap_refute.specs.EarlierMessages.{asked, sent_by}
 use Rattle.tcap_refute.specs.Kind.{is_begin_with_request}
 use Rattle.tcap_refute.proofs.Members.{filter_has, has_later, has_not}
-use Rattle.tcap_faults.specs.HalfOf.{from_first, responds}
-use Rattle.tcap_faults.specs.Told.{begin_from, goes_on_to, told}
+use Rattle.tcap_faults.specs.HalfByPeerId.{from_first, responds}
+use Rattle.tcap_faults.specs.SentToId.{begin_from, goes_on_to, told}
 use Rattle.tcap_faults.proofs.run_laws.ItemLaws.{sent_other, sent_own}
 use Rattle.tcap_faults.proofs.story_laws.Stories.{heard_behind}
 use Rattle.tcap_model.proofs.WorldLaws.{apart}

@@ -6,13 +6,13 @@ use Rattle.tcap_record.specs.declared.entry.End.TheVariants as sides
 use Rattle.tcap_end.specs.declared.fault.EndFault.{EndFault}
 use Rattle.tcap_end.specs.Table.{Table}
 use Rattle.tcap_end.specs.End.{End, nothing}
-use Rattle.tcap_end.specs.Sound.{IsEnd}
+use Rattle.tcap_end.specs.ReachableEnd.{IsEnd}
 use Rattle.tcap_end.proofs.StepLaws.{closes, expires}
 use Rattle.tcap_record.specs.Ends.{other}
 use Rattle.tcap_model.specs.World.{Item, OnItsWay, World, channel_from, empty, end_at, with_channel, with_end}
 use Rattle.tcap_model.specs.Run.{Event, Sends, Receives, Replies, Loses, Expires, Closes, Quiet, Tells, KeepsRules, Runs, after, is_told_by, joined}
 use Rattle.tcap_model.proofs.RunLaws.{IsDelivery, IsHidden, IsLoss, IsReply, IsSending, closing, delivery, expiry, loss, quiet, reply, runs_keep, sending, telling}
-use Rattle.tcap_refute.specs.Before.{since_quiet}
+use Rattle.tcap_refute.specs.EarlierMessages.{since_quiet}
 use Rattle.tcap_model.proofs.WorldLaws.{itself}
 use Rattle.tcap_refute.proofs.HalfLawsTurns.{Acts, Unseen}
 use Rattle.tcap_refute.proofs.MomentLaws.{kept_before}

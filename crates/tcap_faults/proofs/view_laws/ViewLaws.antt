@@ -10,17 +10,17 @@ use Rattle.tcap_record.specs.declared.entry.End.TheVariants as sides
 use Rattle.tcap_end.specs.declared.half.HalfName.{HalfName}
 use Rattle.tcap_end.specs.Table.{Table}
 use Rattle.tcap_end.specs.End.{End, nothing}
-use Rattle.tcap_end.specs.Hidden.{close, expire}
+use Rattle.tcap_end.specs.HiddenSteps.{close, expire}
 use Rattle.tcap_end.specs.Message.{receive, send}
-use Rattle.tcap_end.specs.Sound.{IsEnd}
+use Rattle.tcap_end.specs.ReachableEnd.{IsEnd}
 use Rattle.tcap_record.specs.Ends.{other}
 use Rattle.tcap_model.specs.World.{Item, OnItsWay, Sent, World, channel_from, end_at, with_channel, with_end}
 use Rattle.tcap_model.specs.Run.{Event, KeepsRules, Runs, joined, reply_to}
-use Rattle.tcap_model.specs.Since.{WasSent}
+use Rattle.tcap_model.specs.SinceMark.{WasSent}
 use Rattle.tcap_model.proofs.ChannelLaws.{were_sent}
 use Rattle.tcap_model.proofs.RunLaws.{sound}
 use Rattle.tcap_model.proofs.SinceLaws.{since_at}
-use Rattle.tcap_refute.specs.Before.{sent_by, since_quiet}
+use Rattle.tcap_refute.specs.EarlierMessages.{sent_by, since_quiet}
 use Rattle.tcap_refute.proofs.BeforeLaws.{sent_has}
 use Rattle.tcap_refute.proofs.ItemLaws.{since_mark, since_more}
 use Rattle.tcap_refute.proofs.HalfLawsTurns.{Acts, Unseen}

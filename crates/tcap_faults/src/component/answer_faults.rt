@@ -3,7 +3,7 @@
 ghost use Rattle.std.specs.Prelude.{◌≡◌, Some, option_map};
 ghost use Rattle.tcap_parts.specs.Meaning.{body_of, component_of, problem_of};
 ghost use Rattle.tcap_parts.specs.declared.component.Component.TheVariants.{Reject};
-ghost use Rattle.tcap_faults.specs.ByTallies.{answers_again_by, counted, is_operation_overspent_by, is_overspent_by, more_answered_by};
+ghost use Rattle.tcap_faults.specs.KindsByCounts.{answers_again_by, counted, is_operation_overspent_by, is_overspent_by, more_answered_by};
 
 use crate::component::component_sort::{Class, Sort};
 use crate::component::preceding_components::Before;

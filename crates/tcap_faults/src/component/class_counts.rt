@@ -2,9 +2,9 @@
 
 ghost use Rattle.std.specs.Prelude.{◌≡◌};
 ghost use Rattle.tcap_faults.specs.declared.component.component_sort.Class.{Class as Classes};
-ghost use Rattle.tcap_faults.specs.Tallied.{more_if};
-ghost use Rattle.tcap_faults.specs.Tallies.{count_of_class};
-ghost use Rattle.tcap_faults.specs.Noted.{is_of};
+ghost use Rattle.tcap_faults.specs.InvokeCounts.{more_if};
+ghost use Rattle.tcap_faults.specs.TallyMeaning.{count_of_class};
+ghost use Rattle.tcap_faults.specs.CountUpdate.{is_of};
 
 use crate::component::component_sort::Class;
 use crate::component::saturating_sum::more;

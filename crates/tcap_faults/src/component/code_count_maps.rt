@@ -1,6 +1,6 @@
 //! The counts of many operation codes.
 
-ghost use Rattle.tcap_faults.specs.Listed.{AreListed};
+ghost use Rattle.tcap_faults.specs.CountedCodes.{AreListed};
 
 use crate::component::linkable_operation::Linkable;
 use crate::component::saturating_sum::more;
@@ -29,9 +29,9 @@ impl ManyCodes {
     ghost use Rattle.tcap_parts.specs.declared.code.Code.TheVariants.{Local, Global as GlobalCode};
     ghost use Rattle.tcap_parts.specs.Meaning.{code_of};
     ghost use Rattle.tcap_end.specs.Component.{is_code};
-    ghost use Rattle.tcap_faults.specs.Linking.{links_as};
-    ghost use Rattle.tcap_faults.specs.Tallied.{more_if};
-    ghost use Rattle.tcap_faults.specs.Tallies.{count_among};
+    ghost use Rattle.tcap_faults.specs.LinkProblems.{links_as};
+    ghost use Rattle.tcap_faults.specs.InvokeCounts.{more_if};
+    ghost use Rattle.tcap_faults.specs.TallyMeaning.{count_among};
 
     /// Creates counts of no codes.
     pub(crate) fn new(alloc: Global) -> ManyCodes

@@ -4,10 +4,10 @@ ghost use Rattle.std.specs.Prelude.{◌≡◌, ◌||◌, true, false, Bool, OnOk
 ghost use Rattle.tcap_parts.specs.declared.code.Code.{Code};
 ghost use Rattle.tcap_parts.specs.Meaning.{code_of};
 ghost use Rattle.tcap_end.specs.Component.{is_code};
-ghost use Rattle.tcap_refute.specs.Kept.{holds, is_first};
-ghost use Rattle.tcap_faults.specs.Linking.{links_as};
-ghost use Rattle.tcap_faults.specs.Tallied.{more_if};
-ghost use Rattle.tcap_faults.specs.Tallies.{codes_any, count_of};
+ghost use Rattle.tcap_refute.specs.KeptFacts.{holds, is_first};
+ghost use Rattle.tcap_faults.specs.LinkProblems.{links_as};
+ghost use Rattle.tcap_faults.specs.InvokeCounts.{more_if};
+ghost use Rattle.tcap_faults.specs.TallyMeaning.{codes_any, count_of};
 
 use crate::component::code_count_maps::ManyCodes;
 use crate::component::linkable_operation::Linkable;

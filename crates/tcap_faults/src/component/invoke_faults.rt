@@ -2,7 +2,7 @@
 
 ghost use Rattle.std.specs.Prelude.{◌≡◌};
 ghost use Rattle.tcap_parts.specs.Meaning.{code_of, component_of};
-ghost use Rattle.tcap_faults.specs.ByTallies.{counted, ends_by, invokes_busy_by, is_badly_linked_by, is_busy_by, links_badly_by, more_last_by, taken_by};
+ghost use Rattle.tcap_faults.specs.KindsByCounts.{counted, ends_by, invokes_busy_by, is_badly_linked_by, is_busy_by, links_badly_by, more_last_by, taken_by};
 
 use crate::component::component_sort::{Class, Sort};
 use crate::component::preceding_components::Before;

@@ -4,8 +4,8 @@ ghost use Rattle.std.specs.Prelude.{◌≡◌, ◌||◌, ℤ, Bool, OnOk, option
 ghost use Rattle.std.specs.List.{list_any};
 ghost use Rattle.tcap_parts.specs.declared.code.Code.{Code as Coded};
 ghost use Rattle.tcap_parts.specs.Meaning.{body_of, code_of, component_of, problem_of};
-ghost use Rattle.tcap_faults.specs.Tallies.{count_in, links_at};
-ghost use Rattle.tcap_faults.specs.Noted.{IsAnswered, IsInvoked, IsNoted, IsNothing, invoke_rejected, rejected};
+ghost use Rattle.tcap_faults.specs.TallyMeaning.{count_in, links_at};
+ghost use Rattle.tcap_faults.specs.CountUpdate.{IsAnswered, IsInvoked, IsNoted, IsNothing, invoke_rejected, rejected};
 
 use crate::component::class_counts::ByClass;
 use crate::component::code_counts::CodeCounts;

@@ -1,7 +1,7 @@
 //! The problems of a link that depend on the operation to which an Invoke is linked (Q.773 4.2.2).
 
 ghost use Rattle.std.specs.Prelude.{◌≡◌};
-ghost use Rattle.tcap_faults.specs.Linking.{linkable_by};
+ghost use Rattle.tcap_faults.specs.LinkProblems.{linkable_by};
 
 use crate::component::linkable_operation::Linkable;
 use tcap_parts::CodeView;

@@ -2,7 +2,7 @@
 
 ghost use Rattle.std.specs.Prelude.{◌≡◌};
 ghost use Rattle.tcap_parts.specs.Meaning.{code_of};
-ghost use Rattle.tcap_faults.specs.Linking.{links_as};
+ghost use Rattle.tcap_faults.specs.LinkProblems.{links_as};
 
 use tcap_end::Table;
 use tcap_parts::CodeView;

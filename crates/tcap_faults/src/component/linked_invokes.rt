@@ -3,8 +3,8 @@
 
 ghost use Rattle.std.specs.Prelude.{◌≡◌, true, map};
 ghost use Rattle.std.specs.List.{list_any};
-ghost use Rattle.tcap_faults.specs.Linking.{links_as, names_none, names_other, names_so};
-ghost use Rattle.tcap_faults.specs.Tallies.{codes_any, links_at, tallies_of, tally_of};
+ghost use Rattle.tcap_faults.specs.LinkProblems.{links_as, names_none, names_other, names_so};
+ghost use Rattle.tcap_faults.specs.TallyMeaning.{codes_any, links_at, tallies_of, tally_of};
 
 use crate::component::code_counts::CodeCounts;
 use crate::component::link_hint::FoundLink;

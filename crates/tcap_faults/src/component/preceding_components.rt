@@ -1,7 +1,7 @@
 //! The counts before a component of a message.
 
 ghost use Rattle.std.specs.Prelude.{◌≡◌};
-ghost use Rattle.tcap_faults.specs.ByTallies.{counted};
+ghost use Rattle.tcap_faults.specs.KindsByCounts.{counted};
 
 use crate::component::component_sort::Sort;
 use crate::component::saturating_sum::more;

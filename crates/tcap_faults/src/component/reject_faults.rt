@@ -2,8 +2,8 @@
 
 ghost use Rattle.std.specs.Prelude.{◌≡◌};
 ghost use Rattle.tcap_parts.specs.Meaning.{component_of};
-ghost use Rattle.tcap_faults.specs.ByTallies.{answers_of, counted, is_answer_reject_wrong_by, is_expected_by, is_invoke_reject_wrong_by, is_known_wrong_by, is_link_fine_by, rejects_of, rejects_wrongly_by, suited_by};
-ghost use Rattle.tcap_faults.specs.Linking.{names_so};
+ghost use Rattle.tcap_faults.specs.KindsByCounts.{answers_of, counted, is_answer_reject_wrong_by, is_expected_by, is_invoke_reject_wrong_by, is_known_wrong_by, is_link_fine_by, rejects_of, rejects_wrongly_by, suited_by};
+ghost use Rattle.tcap_faults.specs.LinkProblems.{names_so};
 
 use crate::component::component_sort::{Class, Sort};
 use crate::component::link_problem::LinkProblem;

@@ -4,8 +4,8 @@ ghost use Rattle.std.specs.Prelude.{◌≡◌, ◌==◌, true, map};
 ghost use Rattle.std.specs.List.{list_any};
 ghost use Rattle.tcap_parts.specs.Meaning.{code_of};
 ghost use Rattle.tcap_end.specs.Component.{links};
-ghost use Rattle.tcap_faults.specs.Linking.{is_of_none};
-ghost use Rattle.tcap_faults.specs.Tallies.{codes_any, tallies_of, tally_of};
+ghost use Rattle.tcap_faults.specs.LinkProblems.{is_of_none};
+ghost use Rattle.tcap_faults.specs.TallyMeaning.{codes_any, tallies_of, tally_of};
 
 use crate::component::code_counts::CodeCounts;
 use crate::component::component_sort::Sort;

@@ -5,9 +5,9 @@ ghost use Rattle.tcap_parts.specs.declared.component.Component.{Component};
 ghost use Rattle.tcap_parts.specs.Meaning.{code_of, component_of, components_left};
 ghost use Rattle.tcap_end.specs.Component.{links};
 ghost use Rattle.tcap_end.specs.Table.{Table};
-ghost use Rattle.tcap_faults.specs.Linking.{links_as};
-ghost use Rattle.tcap_faults.specs.Noted.{invoke_id, one_tallied};
-ghost use Rattle.tcap_faults.specs.Tallies.{IsTally, kept_of, tally_of};
+ghost use Rattle.tcap_faults.specs.LinkProblems.{links_as};
+ghost use Rattle.tcap_faults.specs.CountUpdate.{invoke_id, one_tallied};
+ghost use Rattle.tcap_faults.specs.TallyMeaning.{IsTally, kept_of, tally_of};
 
 use crate::component::component_sort::Sort;
 use crate::component::invoke_history::OfId;

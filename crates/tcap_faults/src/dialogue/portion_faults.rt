@@ -6,10 +6,10 @@ ghost use Rattle.tcap_record.specs.declared.entry.End.{End as Side};
 ghost use Rattle.tcap_end.specs.Dialogue.{is_user_abort};
 ghost use Rattle.tcap_end.specs.Table.{Table};
 ghost use Rattle.tcap_model.specs.World.{Item};
-ghost use Rattle.tcap_faults.specs.Found.{IsThere};
-ghost use Rattle.tcap_faults.specs.HalfKept.{IsHalf};
+ghost use Rattle.tcap_faults.specs.KeptForMessage.{IsThere};
+ghost use Rattle.tcap_faults.specs.KeptHalf.{IsHalf};
 ghost use Rattle.tcap_faults.specs.HalfKinds.{is_first_answer, is_wrong_aborting, is_wrong_dialogue, is_wrong_going_on};
-ghost use Rattle.tcap_faults.specs.HalfOf.{HalfOf};
+ghost use Rattle.tcap_faults.specs.HalfByPeerId.{HalfOf};
 
 use crate::dialogue::half::Half;
 use crate::dialogue::half_origin::How;

@@ -2,8 +2,8 @@
 
 ghost use Rattle.std.specs.Prelude.{◌≡◌, ℕ, List, [], ◌∷◌, ◌++◌, Option, Some, OnOk};
 ghost use Rattle.tcap_msg.specs.Meaning.{id_of};
-ghost use Rattle.tcap_faults.specs.Ids.{AreAmong, AreIds, ids_first};
-ghost use Rattle.tcap_faults.specs.Tangled.{two_differ};
+ghost use Rattle.tcap_faults.specs.IdList.{AreAmong, AreIds, ids_first};
+ghost use Rattle.tcap_faults.specs.TangledIds.{two_differ};
 
 use std::alloc::{AllocError, Global};
 use tcap_msg::{TransactionId, TransactionIdView};

@@ -5,8 +5,8 @@ ghost use Rattle.tcap_msg.specs.declared.message.Message.{Message};
 ghost use Rattle.tcap_record.specs.declared.entry.End.{End as Side};
 ghost use Rattle.tcap_end.specs.Table.{Table};
 ghost use Rattle.tcap_model.specs.World.{Item};
-ghost use Rattle.tcap_faults.specs.Effects.{AreEffects};
-ghost use Rattle.tcap_faults.specs.Found.{AreFound};
+ghost use Rattle.tcap_faults.specs.MessageEffects.{AreEffects};
+ghost use Rattle.tcap_faults.specs.KeptForMessage.{AreFound};
 ghost use Rattle.tcap_faults.specs.UsedAgain.{uses_again};
 
 use crate::transaction::lookup::Found;

@@ -4,7 +4,7 @@ ghost use Rattle.std.specs.Prelude.{◌≡◌, ℕ, List, [], ◌∷◌, ◌++�
 ghost use Rattle.tcap_msg.specs.declared.message.Message.{Message};
 ghost use Rattle.tcap_msg.specs.Meaning.{id_of};
 ghost use Rattle.tcap_end.specs.Table.{Table};
-ghost use Rattle.tcap_faults.specs.Noting.{AreAt, with_more};
+ghost use Rattle.tcap_faults.specs.HistoryUpdate.{AreAt, with_more};
 
 use std::alloc::{AllocError, Global};
 use std::collections::BTreeMap;

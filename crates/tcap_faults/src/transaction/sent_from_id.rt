@@ -9,13 +9,13 @@ ghost use Rattle.tcap_record.specs.declared.entry.End.{End as Side};
 ghost use Rattle.tcap_end.specs.Dialogue.{is_request, is_response};
 ghost use Rattle.tcap_end.specs.Table.{Table};
 ghost use Rattle.tcap_model.specs.World.{Item};
-ghost use Rattle.tcap_refute.specs.Before.{is_a};
+ghost use Rattle.tcap_refute.specs.EarlierMessages.{is_a};
 ghost use Rattle.tcap_refute.specs.Facts.{From, FromFact, told_since};
-ghost use Rattle.tcap_refute.specs.Kept.{told_by_from};
+ghost use Rattle.tcap_refute.specs.KeptFacts.{told_by_from};
 ghost use Rattle.tcap_faults.specs.Counts.{count};
-ghost use Rattle.tcap_faults.specs.Told.{began, goes_on_to};
-ghost use Rattle.tcap_faults.specs.Ids.{AreAmong};
-ghost use Rattle.tcap_faults.specs.Kept.{IsCame, IsFirstBegin, IsFrom, IsFromAt, IsFromWhole, dtids_of, sent_from};
+ghost use Rattle.tcap_faults.specs.SentToId.{began, goes_on_to};
+ghost use Rattle.tcap_faults.specs.IdList.{AreAmong};
+ghost use Rattle.tcap_faults.specs.History.{IsCame, IsFirstBegin, IsFrom, IsFromAt, IsFromWhole, dtids_of, sent_from};
 
 use crate::component::tally::Tally;
 use crate::transaction::id_list::Ids;

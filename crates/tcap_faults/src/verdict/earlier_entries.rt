@@ -5,8 +5,8 @@ ghost use Rattle.tcap_record.specs.declared.entry.Entry.{Entry};
 ghost use Rattle.tcap_model.specs.Entries.{item_of};
 ghost use Rattle.tcap_model.specs.World.{Item};
 ghost use Rattle.tcap_faults.specs.Replay.{IsReplayed};
-ghost use Rattle.tcap_faults.specs.Searching.{IsKept};
-ghost use Rattle.tcap_faults.specs.Subject.{items_among};
+ghost use Rattle.tcap_faults.specs.SearchState.{IsKept};
+ghost use Rattle.tcap_faults.specs.FaultSubject.{items_among};
 
 use crate::transaction::history::Facts;
 use crate::transaction::lookup::key_of;

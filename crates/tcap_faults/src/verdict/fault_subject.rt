@@ -3,9 +3,9 @@
 ghost use Rattle.std.specs.Prelude.{◌≡◌, List, [], ◌∷◌, ◌++◌, Some, Ok, IfOk};
 ghost use Rattle.tcap_model.specs.Entries.{item_of};
 ghost use Rattle.tcap_model.specs.World.{Item, Sent};
-ghost use Rattle.tcap_refute.specs.Before.{since_quiet};
-ghost use Rattle.tcap_faults.specs.Searching.{AreRoomy, IsKept};
-ghost use Rattle.tcap_faults.specs.Subject.{no_subject, subject, subject_by, subject_of};
+ghost use Rattle.tcap_refute.specs.EarlierMessages.{since_quiet};
+ghost use Rattle.tcap_faults.specs.SearchState.{AreRoomy, IsKept};
+ghost use Rattle.tcap_faults.specs.FaultSubject.{no_subject, subject, subject_by, subject_of};
 
 use crate::component::component_faults::{faults_of, first_faults};
 use crate::dialogue::half_origin::How;

@@ -9,7 +9,7 @@ ghost use Rattle.tcap_model.specs.declared.reason.Reason.TheVariants.{BadMessage
 ghost use Rattle.tcap_model.specs.Entries.{item_of};
 ghost use Rattle.tcap_model.specs.World.{Item, Sent};
 ghost use Rattle.tcap_faults.specs.Fault.{blamed};
-ghost use Rattle.tcap_faults.specs.Searching.{AreRoomy, IsKept, IsTaken, Takes, components_in_all, looking_at, looking_bad, looking_behind, looking_first, looking_put, looking_with};
+ghost use Rattle.tcap_faults.specs.SearchState.{AreRoomy, IsKept, IsTaken, Takes, components_in_all, looking_at, looking_bad, looking_behind, looking_first, looking_put, looking_with};
 
 use crate::transaction::history::Facts;
 use crate::transaction::lookup::key_of;

@@ -5,13 +5,13 @@ ghost use Rattle.tcap_msg.specs.declared.message.Message.{Message};
 ghost use Rattle.tcap_msg.specs.Parts.{dtid_in, otid_in};
 ghost use Rattle.tcap_end.specs.Table.{Table};
 ghost use Rattle.tcap_model.specs.World.{Item, Sent};
-ghost use Rattle.tcap_refute.specs.Before.{since_quiet};
+ghost use Rattle.tcap_refute.specs.EarlierMessages.{since_quiet};
 ghost use Rattle.tcap_faults.specs.Fault.{fault_since};
 ghost use Rattle.tcap_record.specs.Ends.{other};
-ghost use Rattle.tcap_faults.specs.Effects.{AreEffects};
-ghost use Rattle.tcap_faults.specs.Found.{AreFound};
-ghost use Rattle.tcap_faults.specs.Kept.{IsSide};
-ghost use Rattle.tcap_faults.specs.Searching.{AreRoomy, IsKept};
+ghost use Rattle.tcap_faults.specs.MessageEffects.{AreEffects};
+ghost use Rattle.tcap_faults.specs.KeptForMessage.{AreFound};
+ghost use Rattle.tcap_faults.specs.History.{IsSide};
+ghost use Rattle.tcap_faults.specs.SearchState.{AreRoomy, IsKept};
 
 use crate::transaction::history::Facts;
 use crate::transaction::lookup::Found;

@@ -7,7 +7,7 @@ ghost use Rattle.tcap_end.specs.End.{is_id};
 ghost use Rattle.tcap_model.specs.Entries.{item_of};
 ghost use Rattle.tcap_model.specs.World.{Item, Sent};
 ghost use Rattle.tcap_faults.specs.Replay.{items_up_to};
-ghost use Rattle.tcap_faults.specs.Matters.{IsNoted, IsNotedFor, matters, those_for_entry};
+ghost use Rattle.tcap_faults.specs.RelevantItems.{IsNoted, IsNotedFor, matters, those_for_entry};
 
 use crate::transaction::history::Facts;
 use crate::verdict::first_fault::entry_count;

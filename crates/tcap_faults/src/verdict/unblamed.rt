@@ -5,7 +5,7 @@ ghost use Rattle.tcap_record.specs.declared.entry.Entry.{Entry};
 ghost use Rattle.tcap_end.specs.Table.{Table};
 ghost use Rattle.tcap_model.specs.Entries.{item_of};
 ghost use Rattle.tcap_faults.specs.Replay.{items_up_to};
-ghost use Rattle.tcap_faults.specs.Searching.{IsKept};
+ghost use Rattle.tcap_faults.specs.SearchState.{IsKept};
 ghost use Rattle.tcap_faults.specs.Unblamed.{is_mark, tangled_at, unblamed_at, unblamed_by};
 
 use crate::transaction::history::Facts;

@@ -1,5 +1,5 @@
 use Rattle.std.proofs.Common.{ℕ, length, sym, ap, ◌∙◌, arith}
-use Rattle.tcap_ber.specs.Walking.{last_opened}
+use Rattle.tcap_ber.specs.WalkResult.{last_opened}
 use Rattle.tcap_ber.proofs.WalkLaws.{goes_sound, left, left_shorter, notes, notes_goes, notes_there}
 use Rattle.tcap_ber.proofs.innermost.last_opened.Goals as goal
 

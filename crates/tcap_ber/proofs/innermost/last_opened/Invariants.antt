@@ -1,5 +1,5 @@
 use Rattle.std.proofs.Common.{◌≡◌, ◌+◌, length}
-use Rattle.tcap_ber.specs.Walking.{at_first}
+use Rattle.tcap_ber.specs.WalkResult.{at_first}
 use Rattle.tcap_ber.specs.Progress.{IsPlaced}
 use Rattle.tcap_ber.proofs.WalkLaws.{notes}
 use Rattle.tcap_ber.proofs.innermost.last_opened.Given as goal

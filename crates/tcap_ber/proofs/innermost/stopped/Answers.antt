@@ -1,5 +1,5 @@
 use Rattle.std.proofs.Common.{length, sym, ap, ◌∙◌, arith}
-use Rattle.tcap_ber.specs.Walking.{stopped}
+use Rattle.tcap_ber.specs.WalkResult.{stopped}
 use Rattle.tcap_ber.proofs.WalkLaws.{goes_sound, left_shorter, stops, stops_goes, stops_there}
 use Rattle.tcap_ber.proofs.innermost.stopped.Goals as goal
 

@@ -1,5 +1,5 @@
 use Rattle.tcap_ber.specs.Reading.{element, null_at}
-use Rattle.tcap_ber.specs.Small.{null}
+use Rattle.tcap_ber.specs.SmallInteger.{null}
 use Rattle.tcap_ber.proofs.ChoiceLaws.{reads_null, null_iff}
 use Rattle.tcap_ber.proofs.ResultLaws.{body_faulty}
 use Rattle.tcap_ber.proofs.nulls.null.Goals as goal

@@ -1,4 +1,4 @@
-use Rattle.tcap_ber.specs.Small.{small}
+use Rattle.tcap_ber.specs.SmallInteger.{small}
 use Rattle.tcap_ber.specs.Reading.{element, small_at}
 use Rattle.tcap_ber.proofs.SmallLaws.{reads_small}
 use Rattle.tcap_ber.proofs.ResultLaws.{body_found, body_only, body_faulty}

@@ -1,7 +1,7 @@
 -- The IDs so far, and those of the components that are left, are all IDs.
 use Rattle.std.proofs.Common.{◌≡◌, ◌++◌, map}
 use Rattle.tcap_parts.specs.Meaning.{components_left}
-use Rattle.tcap_certificate.specs.Follows.{invoke_id}
+use Rattle.tcap_certificate.specs.DescribedRun.{invoke_id}
 use Rattle.tcap_check.proofs.outline.invoke_ids.Given as goal
 
 abbrev pub invariant-loop-component : goal.invariant-loop-component

@@ -1,6 +1,6 @@
 -- The closings that are left decide.
 use Rattle.std.proofs.Common.{◌≡◌, map, drop}
-use Rattle.tcap_certificate.specs.Replayed.{all_fit}
+use Rattle.tcap_certificate.specs.Replay.{all_fit}
 use Rattle.tcap_check.proofs.plan.check_closings.Given as goal
 
 abbrev pub invariant-loop-x : goal.invariant-loop-x

@@ -1,6 +1,6 @@
 -- The fates that are left decide.
 use Rattle.std.proofs.Common.{◌≡◌, length, drop}
-use Rattle.tcap_certificate.specs.Replayed.{fates_fit}
+use Rattle.tcap_certificate.specs.Replay.{fates_fit}
 use Rattle.tcap_check.proofs.plan.check_fates.Given as goal
 
 abbrev pub invariant-loop-entry : goal.invariant-loop-entry

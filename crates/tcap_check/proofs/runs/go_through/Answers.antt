@@ -2,8 +2,8 @@ use Rattle.std.proofs.Common.{Err, sym, ap, subst, true}
 use Rattle.std.proofs.lemmas.Result.{err_from_is_err_and}
 use Rattle.tcap_end.specs.Table.{Table}
 use Rattle.tcap_certificate.specs.declared.fault.CheckFault.{CheckFault}
-use Rattle.tcap_check.specs.Ready.{kept_in}
-use Rattle.tcap_check.specs.Stands.{ShowsAmong}
+use Rattle.tcap_check.specs.ReplayInvariants.{kept_in}
+use Rattle.tcap_check.specs.RunSoFar.{ShowsAmong}
 use Rattle.tcap_check.proofs.checker_laws.ListedStepsLaws.{ends_listed, refused_listed}
 use Rattle.tcap_check.proofs.refusal_laws.SendShows.{end_shows}
 use Rattle.tcap_check.proofs.refusal_laws.TakenEntriesLaws.{GoesAlike, among_ends}

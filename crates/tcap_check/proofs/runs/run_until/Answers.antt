@@ -1,6 +1,6 @@
 use Rattle.std.proofs.Common.{Some, sym, ap, ◌∙◌}
-use Rattle.tcap_check.specs.Stands.{EndsListed, stopped_at}
-use Rattle.tcap_check.specs.Told.{Told}
+use Rattle.tcap_check.specs.RunSoFar.{EndsListed, stopped_at}
+use Rattle.tcap_check.specs.ReportedSteps.{Told}
 use Rattle.tcap_check.proofs.checker_laws.ListedStepsLaws.{nothing_answered, nothing_stopped, run_answered, run_stopped}
 use Rattle.tcap_check.proofs.refusal_laws.TakenEntriesLaws.{Among, in_memory, listed_kept, replay_so_far}
 use Rattle.tcap_check.proofs.runs.run_until.Goals.{in-Some, in-None}

@@ -3,7 +3,7 @@ use Rattle.std.specs.Prelude.{option_map}
 use Rattle.tcap_parts.specs.Meaning.{code_of}
 use Rattle.tcap_lists.specs.Lists.{row_kinds, row_places}
 use Rattle.tcap_end.specs.Component.{may_answer}
-use Rattle.tcap_end.specs.Places.{place_of}
+use Rattle.tcap_end.specs.OldestPlace.{place_of}
 use Rattle.tcap_lists.proofs.PlaceLaws.{fits_below}
 use Rattle.tcap_end.proofs.places.answerable_of_all.Given as goal
 

@@ -2,7 +2,7 @@ use Rattle.std.proofs.Common.{◌≡◌}
 use Rattle.tcap_parts.specs.Meaning.{code_of}
 use Rattle.tcap_lists.specs.Lists.{row_kinds, row_places}
 use Rattle.tcap_end.specs.Component.{links}
-use Rattle.tcap_end.specs.Places.{place_of}
+use Rattle.tcap_end.specs.OldestPlace.{place_of}
 use Rattle.tcap_lists.proofs.PlaceLaws.{fits_below}
 use Rattle.tcap_end.proofs.places.first_linking.Given as goal
 

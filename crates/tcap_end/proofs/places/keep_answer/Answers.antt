@@ -4,7 +4,7 @@ use Rattle.std.proofs.lemmas.Int.{to_z-of_z}
 use Rattle.std.proofs.lemmas.Result.{on_err_weaker, on_ok_weaker}
 use Rattle.std.specs.Box.{with_value}
 use Rattle.tcap_end.specs.Half.{Answer as Item}
-use Rattle.tcap_end.specs.Received.{target_problems}
+use Rattle.tcap_end.specs.RejectProblems.{target_problems}
 use Rattle.tcap_lists.proofs.ListLaws.{changed_as, changed_has, changed_same, has_none, on_ok}
 use Rattle.tcap_end.proofs.places.keep_answer.Goals as goal
 

@@ -5,7 +5,7 @@ use Rattle.std.proofs.lemmas.Result.{on_err_weaker, on_ok_weaker}
 use Rattle.std.specs.Box.{with_value}
 use Rattle.tcap_parts.specs.Meaning.{code_of}
 use Rattle.tcap_end.specs.Half.{Invocation as Item}
-use Rattle.tcap_end.specs.Received.{invoke_problems}
+use Rattle.tcap_end.specs.RejectProblems.{invoke_problems}
 use Rattle.tcap_lists.proofs.ListLaws.{changed_as, changed_has, changed_same, has_none, on_ok}
 use Rattle.tcap_end.proofs.places.keep_invocation.Goals as goal
 

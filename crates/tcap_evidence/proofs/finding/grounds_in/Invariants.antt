@@ -2,8 +2,8 @@
 use Rattle.std.proofs.Common.{◌≡◌, false, map, take}
 use Rattle.std.specs.List.{list_any}
 use Rattle.tcap_evidence.specs.Evidence.{grounds_in}
-use Rattle.tcap_evidence.specs.Kept.{IsScene}
-use Rattle.tcap_evidence.specs.Marked.{is_of_mark}
+use Rattle.tcap_evidence.specs.StoredScene.{IsScene}
+use Rattle.tcap_evidence.specs.OpenAtMark.{is_of_mark}
 use Rattle.tcap_evidence.specs.Scene.{Scene}
 use Rattle.tcap_evidence.proofs.finding.grounds_in.Given as goal
 

@@ -2,7 +2,7 @@
 use Rattle.std.proofs.Common.{◌≡◌, ◌++◌, filter, map}
 use Rattle.tcap_parts.specs.Meaning.{components_left}
 use Rattle.tcap_msg.specs.Parts.{components_in}
-use Rattle.tcap_faults.specs.Tallied.{is_sort}
+use Rattle.tcap_faults.specs.InvokeCounts.{is_sort}
 use Rattle.tcap_evidence.proofs.listing.push_components.Given as goal
 
 abbrev pub invariant-loop-component : goal.invariant-loop-component

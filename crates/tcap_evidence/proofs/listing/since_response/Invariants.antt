@@ -2,7 +2,7 @@
 use Rattle.std.proofs.Common.{◌≡◌, ◌++◌, drop}
 use Rattle.tcap_msg.specs.Parts.{dialogue_in}
 use Rattle.tcap_end.specs.Dialogue.{is_response}
-use Rattle.tcap_evidence.specs.Numbered.{numbered_of}
+use Rattle.tcap_evidence.specs.NumberedMessages.{numbered_of}
 use Rattle.tcap_evidence.specs.Scene.{since_first}
 use Rattle.tcap_evidence.proofs.ListingLaws.{come_of}
 use Rattle.tcap_evidence.proofs.listing.since_response.Given as goal

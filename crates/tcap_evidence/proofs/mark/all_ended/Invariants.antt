@@ -4,7 +4,7 @@ use Rattle.std.specs.BTreeSet as set
 use Rattle.std.specs.List.{list_any}
 use Rattle.tcap_end.specs.End.{is_id}
 use Rattle.tcap_end.specs.Table.{octets_cmp}
-use Rattle.tcap_evidence.specs.Marked.{ended_to, messages_of}
+use Rattle.tcap_evidence.specs.OpenAtMark.{ended_to, messages_of}
 use Rattle.tcap_evidence.proofs.mark.all_ended.Given as goal
 
 abbrev pub invariant-loop-one : goal.invariant-loop-one

@@ -4,7 +4,7 @@ use Rattle.std.specs.BTreeMap.{is_at}
 use Rattle.std.specs.Map.{lookup}
 use Rattle.tcap_end.specs.Table.{octets_cmp}
 use Rattle.tcap_refute.specs.Kind.{or_else}
-use Rattle.tcap_evidence.specs.Marked.{first_to, messages_of}
+use Rattle.tcap_evidence.specs.OpenAtMark.{first_to, messages_of}
 use Rattle.tcap_evidence.proofs.mark.all_first.Given as goal
 
 abbrev pub invariant-loop-one : goal.invariant-loop-one

@@ -5,7 +5,7 @@ use Rattle.std.specs.Prelude.{codes}
 use Rattle.std.specs.String.{string_bytes}
 use Rattle.tcap_record.specs.Lines.{code_text, line_end}
 use Rattle.tcap_end.specs.Table.{class_of}
-use Rattle.tcap_evidence.specs.Words.{class_text, link_text}
+use Rattle.tcap_evidence.specs.EvidenceWords.{class_text, link_text}
 use Rattle.tcap_evidence.proofs.TextLaws.{also, at_last}
 use Rattle.tcap_evidence.proofs.operation_lines.push_invocation.Goals as goal
 

@@ -3,9 +3,9 @@ use Rattle.std.proofs.Common.{◌++◌, ap, ◌∙◌}
 use Rattle.std.proofs.lemmas.Result.{on_ok_weaker}
 use Rattle.std.specs.String.{string_bytes}
 use Rattle.tcap_record.specs.Lines.{line_end}
-use Rattle.tcap_evidence.specs.Pairing.{paired_before}
+use Rattle.tcap_evidence.specs.Partners.{paired_before}
 use Rattle.tcap_evidence.specs.Unblamed.{id_lines, tangled_text}
-use Rattle.tcap_evidence.specs.Words.{entries_words}
+use Rattle.tcap_evidence.specs.EvidenceWords.{entries_words}
 use Rattle.tcap_evidence.proofs.TextLaws.{also}
 use Rattle.tcap_evidence.proofs.unblamed.push_tangled.Goals as goal
 

@@ -1,7 +1,7 @@
 -- The count so far, plus the count in the remaining steps, is the whole count.
 use Rattle.std.proofs.Common.{◌≡◌, ◌≤◌, ◌+◌, drop}
-use Rattle.tcap_certificate.specs.Unheard.{unheard_of}
-use Rattle.tcap_check.specs.Told.{events_of}
+use Rattle.tcap_certificate.specs.LossCounts.{unheard_of}
+use Rattle.tcap_check.specs.ReportedSteps.{events_of}
 use Rattle.tcap_explain.proofs.explaining.count_unheard.Given as goal
 
 abbrev pub invariant-loop-step : goal.invariant-loop-step

@@ -1,7 +1,7 @@
 use Rattle.std.proofs.Common.{rules, ◌≡◌, ◌&&◌, true, Some}
 use Rattle.std.specs.String.{string_bytes}
-use Rattle.tcap_judge.specs.Blamed.{AreFound, is_lawful}
-use Rattle.tcap_explain.specs.Refuted.{ends_asked}
+use Rattle.tcap_judge.specs.BlameOutcome.{AreFound, is_lawful}
+use Rattle.tcap_explain.specs.RefutedLines.{ends_asked}
 use Rattle.tcap_explain.proofs.LawfulRuns.{ends_say}
 use Rattle.tcap_explain.proofs.explaining.explain_other.Goals as goal
 

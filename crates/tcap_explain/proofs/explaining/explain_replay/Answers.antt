@@ -2,8 +2,8 @@ use Rattle.std.proofs.Common.{◌≡◌, List, length, subst}
 use Rattle.std.specs.Prelude.{IfOk}
 use Rattle.std.specs.String.{string_bytes}
 use Rattle.tcap_check.specs.declared.step.Step.{Step}
-use Rattle.tcap_check.specs.Told.{events_of}
-use Rattle.tcap_judge.specs.Judged.{lawful_by}
+use Rattle.tcap_check.specs.ReportedSteps.{events_of}
+use Rattle.tcap_judge.specs.LawfulOutcome.{lawful_by}
 use Rattle.tcap_explain.specs.StepLines.{run_lines}
 use Rattle.tcap_explain.proofs.LawfulRuns.{replay_run_says}
 use Rattle.tcap_explain.proofs.explaining.explain_replay.Goals as goal

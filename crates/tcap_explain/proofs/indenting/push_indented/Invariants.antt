@@ -3,7 +3,7 @@ use Rattle.std.proofs.Common.{◌≡◌, ◌++◌, length}
 use denote.Text.{Utf8}
 use denote.Shadow.{shadow}
 use Rattle.std.specs.String.{string_bytes}
-use Rattle.tcap_explain.specs.Indented.{indented}
+use Rattle.tcap_explain.specs.IndentedText.{indented}
 use Rattle.tcap_explain.proofs.indenting.push_indented.Given as goal
 
 abbrev pub invariant-loop-line : goal.invariant-loop-line

@@ -1,7 +1,7 @@
 use Rattle.std.proofs.Common.{◌≡◌, ◌++◌, Some, List, ℕ, ap, ◌∙◌, append_assoc}
 use Rattle.std.specs.String.{string_bytes}
 use Rattle.tcap_check.specs.declared.step.Step.{Step}
-use Rattle.tcap_judge.specs.Blamed.{finding_line}
+use Rattle.tcap_judge.specs.BlameOutcome.{finding_line}
 use Rattle.tcap_explain.specs.StepLines.{run_lines}
 use Rattle.tcap_explain.proofs.LawfulRuns.{lines_of_end}
 use Rattle.tcap_explain.proofs.runs.push_lawful_end.Goals as goal

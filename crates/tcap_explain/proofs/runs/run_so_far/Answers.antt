@@ -1,4 +1,4 @@
-use Rattle.tcap_check.specs.Stands.{answered}
+use Rattle.tcap_check.specs.RunSoFar.{answered}
 use Rattle.tcap_explain.proofs.LawfulRuns.{discards_in, events_in, of_runs}
 use Rattle.tcap_explain.proofs.runs.run_so_far.Goals as goal
 

@@ -3,10 +3,10 @@ use Rattle.std.proofs.Common.{◌≡◌, ℕ, ◌+◌, ◌-◌, ◌^◌, Option,
 use Rattle.std.specs.Io.KnownBytes.{Consumes}
 use Rattle.tcap_record.specs.declared.entry.End.{End as Side}
 use Rattle.tcap_record.specs.declared.entry.Entry.{Entry}
-use Rattle.tcap_record.specs.Held.{IsHeld, IsPart}
+use Rattle.tcap_record.specs.PartialRecord.{IsHeld, IsPart}
 use Rattle.tcap_end.specs.Table.{Table}
 use Rattle.tcap_certificate.specs.Certificate.{Certificate}
-use Rattle.tcap_judge.specs.Judging.{IsCheckerOf, TakenSoFar}
+use Rattle.tcap_judge.specs.PiecewiseReplay.{IsCheckerOf, TakenSoFar}
 use Rattle.tcap_judge.proofs.checking.take_all.Given as goal
 
 abbrev pub invariant-loop-frames : goal.invariant-loop-frames

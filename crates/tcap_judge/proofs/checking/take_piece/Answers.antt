@@ -2,7 +2,7 @@ use Rattle.std.proofs.Common.{◌≡◌, ◌+◌, ◌≤◌, Bool, length, Resul
 use Rattle.std.proofs.lemmas.Result.{err_from_is_err_and}
 use Rattle.std.proofs.lemmas.List.{length-drop}
 use Rattle.tcap_record.specs.declared.fault.FeedFault.{FeedFault}
-use Rattle.tcap_record.specs.Held.{Held, IsHeld, dropped}
+use Rattle.tcap_record.specs.PartialRecord.{Held, IsHeld, dropped}
 use Rattle.tcap_record.proofs.FeederLaws.{rest_on, held_dropped, no_less}
 use Rattle.tcap_lines.proofs.ShowLaws.{fails_fed}
 use Rattle.tcap_judge.proofs.JudgeLaws.{dropped_place, fed_short, grown_place, leads_fed, leads_taken, leads_whole}

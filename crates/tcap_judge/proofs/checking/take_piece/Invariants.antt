@@ -1,7 +1,7 @@
 -- part of the piece is taken, with its entries
 use Rattle.std.proofs.Common.{◌≡◌, ℕ, ◌+◌, ◌≤◌, length, take, drop}
-use Rattle.tcap_record.specs.Held.{IsHeld}
-use Rattle.tcap_judge.specs.Judging.{Leads}
+use Rattle.tcap_record.specs.PartialRecord.{IsHeld}
+use Rattle.tcap_judge.specs.PiecewiseReplay.{Leads}
 use Rattle.tcap_judge.proofs.checking.take_piece.Given as goal
 
 abbrev pub invariant-loop-taken : goal.invariant-loop-taken

@@ -1,6 +1,6 @@
 -- The count so far, and that of the rest, make the whole.
 use Rattle.std.proofs.Common.{◌≡◌, ◌≤◌, ◌+◌, length}
-use Rattle.tcap_judge.specs.EachEnd.{lost_of}
+use Rattle.tcap_judge.specs.EndFindings.{lost_of}
 use Rattle.tcap_judge.proofs.each_end.count_lost.Given as goal
 
 abbrev pub invariant-loop-entries : goal.invariant-loop-entries

@@ -1,6 +1,6 @@
 use Rattle.std.proofs.Common.{rules, ◌≡◌, length}
 use Rattle.tcap_record.specs.Ends.{other}
-use Rattle.tcap_judge.specs.EachEnd.{lost_of}
+use Rattle.tcap_judge.specs.EndFindings.{lost_of}
 use Rattle.tcap_judge.proofs.EachEndLaws.{found_alike}
 use Rattle.tcap_judge.proofs.each_end.find_alike.Goals as goal
 

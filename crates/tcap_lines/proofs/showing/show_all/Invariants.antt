@@ -2,8 +2,8 @@
 use Rattle.std.proofs.Common.{◌≡◌, ℕ, ◌+◌, ◌-◌, ◌^◌, None, List, length}
 use Rattle.std.specs.Io.KnownBytes.{Consumes}
 use Rattle.tcap_record.specs.declared.entry.Entry.{Entry}
-use Rattle.tcap_record.specs.Held.{IsHeld, IsPart}
-use Rattle.tcap_lines.specs.Showing.{ShownSoFar}
+use Rattle.tcap_record.specs.PartialRecord.{IsHeld, IsPart}
+use Rattle.tcap_lines.specs.RecordLines.{ShownSoFar}
 use Rattle.tcap_lines.proofs.showing.show_all.Given as goal
 
 abbrev pub invariant-loop-showing : goal.invariant-loop-showing

@@ -2,7 +2,7 @@ use Rattle.std.proofs.Common.{◌≡◌, ℕ, ◌+◌, ◌-◌, ◌≤◌, List,
 use Rattle.std.proofs.lemmas.Result.{err_from_is_err_and}
 use Rattle.std.proofs.lemmas.List.{length-drop}
 use Rattle.tcap_record.specs.declared.entry.Entry.{Entry}
-use Rattle.tcap_record.specs.Held.{Held, Fed, IsHeld, dropped}
+use Rattle.tcap_record.specs.PartialRecord.{Held, Fed, IsHeld, dropped}
 use Rattle.tcap_record.proofs.FeederLaws.{held_dropped, no_less, taken_on, taken_all, rest_on, entry_waits}
 use Rattle.tcap_record.proofs.feeder.keep_all.Goals as goal
 

@@ -1,6 +1,6 @@
 use Rattle.std.proofs.Common.{◌≡◌, ℕ, ◌+◌, ◌≤◌, List, ◌++◌, length, take, drop}
 use Rattle.tcap_record.specs.declared.entry.Entry.{Entry}
-use Rattle.tcap_record.specs.Held.{Fed, IsHeld}
+use Rattle.tcap_record.specs.PartialRecord.{Fed, IsHeld}
 use Rattle.tcap_record.proofs.feeder.keep_all.Given as goal
 
 abbrev pub invariant-loop-taken : goal.invariant-loop-taken

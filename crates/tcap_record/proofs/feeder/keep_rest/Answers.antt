@@ -1,6 +1,6 @@
 use Rattle.std.proofs.Common.{List, [], ◌++◌, sym, subst, ◌∙◌, append-nil}
 use Rattle.tcap_record.specs.declared.entry.Entry.{Entry}
-use Rattle.tcap_record.specs.Held.{Held, Fed, dropped}
+use Rattle.tcap_record.specs.PartialRecord.{Held, Fed, dropped}
 use Rattle.tcap_record.proofs.FedLaws.{fed_dropped}
 use Rattle.tcap_record.proofs.FeederLaws.{entry_waits}
 use Rattle.tcap_record.proofs.feeder.keep_rest.Goals as goal

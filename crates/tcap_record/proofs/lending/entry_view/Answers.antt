@@ -1,6 +1,6 @@
 use Rattle.std.proofs.Common.{List, ℕ, ◌+◌, ap, ◌∙◌}
 use Rattle.std.proofs.lemmas.List.{take_rest}
-use Rattle.tcap_record.specs.Framing.{body_at}
+use Rattle.tcap_record.specs.FramingResult.{body_at}
 use Rattle.tcap_record.proofs.HeldLaws.{entry_whole}
 use Rattle.tcap_record.proofs.lending.entry_view.Goals as goal
 

@@ -6,7 +6,7 @@ use Rattle.std.proofs.lemmas.Result.{err_from_is_err_and}
 use Rattle.tcap_record.specs.declared.packing.PackFault.TheVariants.{Fault}
 use Rattle.tcap_record.specs.declared.fault.FeedFault.{FeedFault}
 use Rattle.tcap_record.specs.declared.fault.FeedReason.TheVariants as feed
-use Rattle.tcap_record.specs.Framing.{feed_fault}
+use Rattle.tcap_record.specs.FramingResult.{feed_fault}
 use Rattle.tcap_record.specs.HexLines.{IsPackedUpTo}
 use Rattle.tcap_record.proofs.PackLaws.{handed_on, packed_ok, packed_then, packed_unread, packs_then, stops_unread, told_no_more, told_nothing, told_within}
 use Rattle.tcap_record.proofs.packing.pack.Goals as goal

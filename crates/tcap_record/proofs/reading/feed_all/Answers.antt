@@ -3,7 +3,7 @@ use Rattle.std.proofs.lemmas.Result.{err_from_is_err_and}
 use Rattle.std.proofs.lemmas.List.{length-append, length-take-le}
 use Rattle.std.proofs.KnownBytes.{Consumes-trans}
 use Rattle.std.specs.Io.KnownBytes.{Consumes}
-use Rattle.tcap_record.specs.Held.{Fed}
+use Rattle.tcap_record.specs.PartialRecord.{Fed}
 use Rattle.tcap_record.proofs.ReadingLaws.{read_finished, read_refused}
 use Rattle.tcap_record.proofs.reading.feed_all.Goals as goal
 

@@ -3,8 +3,8 @@ use Rattle.std.proofs.Common.{◌≡◌, ◌+◌, length, option_copied}
 use Rattle.tcap_parts.specs.Meaning.{components_left}
 use Rattle.tcap_msg.specs.Parts.{components_in}
 use Rattle.tcap_refute.specs.FirstComponent.{first_so}
-use Rattle.tcap_refute.specs.Kept.{told_by_from}
-use Rattle.tcap_refute.specs.Asking.{first_passing, passes}
+use Rattle.tcap_refute.specs.KeptFacts.{told_by_from}
+use Rattle.tcap_refute.specs.KindsByFacts.{first_passing, passes}
 use Rattle.tcap_refute.proofs.components.first_passing.Given as goal
 
 abbrev pub invariant-loop-component : goal.invariant-loop-component

@@ -3,7 +3,7 @@ use Rattle.std.specs.Prelude.{Option}
 use Rattle.tcap_record.specs.declared.entry.Entry.{Entry}
 use Rattle.tcap_end.specs.Table.{Table}
 use Rattle.tcap_traces.specs.declared.judging.Ends.{Ends}
-use Rattle.tcap_traces.specs.declared.said.Circumstances.{Circumstances}
+use Rattle.tcap_traces.specs.declared.end_result.Circumstances.{Circumstances}
 use Rattle.tcap_report.specs.Dialogue.{ends_by}
 use Rattle.tcap_report.proofs.case.judge.Goals as goal
 

@@ -1,7 +1,7 @@
 use Rattle.std.proofs.Common.{length, get_or, not, refl, sym, ap, ◌∙◌}
 use Rattle.tcap_search.specs.declared.tie.Tie.{Tie}
-use Rattle.tcap_search.specs.Lines.{lines_of}
-use Rattle.tcap_search.specs.Proposed.{fated}
+use Rattle.tcap_search.specs.SegmentEntries.{lines_of}
+use Rattle.tcap_search.specs.ProposedCertificate.{fated}
 use Rattle.tcap_search.proofs.ClosingLaws.{listed_again, listed_more, listed_same, shown_below}
 use Rattle.tcap_search.proofs.closings.shown_closings.Goals.{then-is_none+in_ok-push, else-is_none}
 use Rattle.tcap_search.proofs.closings.shown_closings.Goals as goal

@@ -1,7 +1,7 @@
 -- the list so far, to which the rest of the ties add the rest
 use Rattle.std.proofs.Common.{length}
-use Rattle.tcap_search.specs.Lines.{lines_of}
-use Rattle.tcap_search.specs.Proposed.{fated}
+use Rattle.tcap_search.specs.SegmentEntries.{lines_of}
+use Rattle.tcap_search.specs.ProposedCertificate.{fated}
 use Rattle.tcap_search.proofs.ClosingLaws.{Listed}
 use Rattle.tcap_search.proofs.closings.shown_closings.Given as goal
 

@@ -1,6 +1,6 @@
 -- the numbers so far, and those of the rest
 use Rattle.std.proofs.Common.{◌≡◌, ◌<◌, ◌++◌, ℕ, drop, length}
-use Rattle.tcap_search.specs.Due.{due_at, due_in}
+use Rattle.tcap_search.specs.GapDeliveries.{due_at, due_in}
 use Rattle.tcap_search.proofs.expiries.due_by_gap.Given as goal
 
 abbrev pub invariant-loop-number : goal.invariant-loop-number

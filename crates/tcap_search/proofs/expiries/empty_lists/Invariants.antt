@@ -1,6 +1,6 @@
 -- the lists so far are empty
 use Rattle.std.proofs.Common.{◌≡◌, ℕ, [], length}
-use Rattle.tcap_search.specs.Due.{due_at}
+use Rattle.tcap_search.specs.GapDeliveries.{due_at}
 use Rattle.tcap_search.proofs.expiries.empty_lists.Given as goal
 
 abbrev pub invariant-loop : goal.invariant-loop

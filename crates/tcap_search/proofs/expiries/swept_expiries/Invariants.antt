@@ -1,10 +1,10 @@
 -- the sweep and the list after the entries so far
 use Rattle.std.proofs.Common.{◌≡◌, ℕ, ℤ, Bool, [], take}
 use Rattle.tcap_record.specs.declared.entry.End.{End as Side}
-use Rattle.tcap_search.specs.Lines.{lines_of}
-use Rattle.tcap_search.specs.Proposed.{expiries_from, fated}
-use Rattle.tcap_search.specs.ByInvocation.{kept_at}
-use Rattle.tcap_search.specs.Listed.{IsListed}
+use Rattle.tcap_search.specs.SegmentEntries.{lines_of}
+use Rattle.tcap_search.specs.ProposedCertificate.{expiries_from, fated}
+use Rattle.tcap_search.specs.InvocationMap.{kept_at}
+use Rattle.tcap_search.specs.ListedExpiries.{IsListed}
 use Rattle.tcap_search.specs.Sweep.{answer_kept, invoked_in}
 use Rattle.tcap_search.proofs.SweepLaws.{answered_in}
 use Rattle.tcap_search.proofs.expiries.swept_expiries.Given as goal

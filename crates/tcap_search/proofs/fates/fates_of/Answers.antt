@@ -2,8 +2,8 @@
 use Rattle.std.proofs.Common.{◌≡◌, List, drop, length, map, sym, ap, arith, ◌∙◌}
 use Rattle.std.proofs.lemmas.List.{length-map, take_at}
 use Rattle.tcap_certificate.specs.declared.certificate.Fate.{Fate}
-use Rattle.tcap_search.specs.Lines.{lines_of}
-use Rattle.tcap_search.specs.Proposed.{fate_of, fated, with_losses}
+use Rattle.tcap_search.specs.SegmentEntries.{lines_of}
+use Rattle.tcap_search.specs.ProposedCertificate.{fate_of, fated, with_losses}
 use Rattle.tcap_search.proofs.LineLaws.{count_lines}
 use Rattle.tcap_search.proofs.LossLaws.{count_left, count_lost, fates_are}
 use Rattle.tcap_search.proofs.fates.fates_of.Goals as goal

@@ -1,7 +1,7 @@
 -- One more entry.
 use Rattle.std.proofs.Common.{◌≡◌, map, ap, ◌∙◌, arith}
-use Rattle.tcap_search.specs.Lines.{lines_of}
-use Rattle.tcap_search.specs.Proposed.{fate_of, reply_of}
+use Rattle.tcap_search.specs.SegmentEntries.{lines_of}
+use Rattle.tcap_search.specs.ProposedCertificate.{fate_of, reply_of}
 use Rattle.tcap_search.proofs.FateSteps.{all_lines, fate_step, highest_step, reply_fits, reply_read}
 use Rattle.tcap_search.proofs.LineLaws.{count_transactions}
 use Rattle.tcap_search.proofs.fates.first_fates.Goals as goal

@@ -1,9 +1,9 @@
 -- the fates of the entries so far, and the gaps raised by their replies
 use Rattle.std.proofs.Common.{◌≡◌, map, take}
 use Rattle.tcap_record.specs.declared.entry.End.{End as Side}
-use Rattle.tcap_search.specs.Lines.{lines_of}
-use Rattle.tcap_search.specs.Proposed.{fate_of}
-use Rattle.tcap_search.specs.PerEnd.{at_end}
+use Rattle.tcap_search.specs.SegmentEntries.{lines_of}
+use Rattle.tcap_search.specs.ProposedCertificate.{fate_of}
+use Rattle.tcap_search.specs.EndValues.{at_end}
 use Rattle.tcap_search.specs.Fates.{highest}
 use Rattle.tcap_search.proofs.fates.first_fates.Given as goal
 

@@ -1,7 +1,7 @@
 -- the gaps after the last entries so far
 use Rattle.std.proofs.Common.{◌≡◌, ◌<◌, ℕ, length, take}
 use Rattle.tcap_record.specs.declared.entry.End.{End as Side}
-use Rattle.tcap_search.specs.Lines.{lines_of}
+use Rattle.tcap_search.specs.SegmentEntries.{lines_of}
 use Rattle.tcap_search.specs.Fates.{gap_behind_last, gap_kept}
 use Rattle.tcap_search.proofs.fates.last_gaps.Given as goal
 

@@ -1,9 +1,9 @@
 -- the fates after losses from here on, and their least times
 use Rattle.std.proofs.Common.{◌≡◌, ◌++◌, map, take, drop}
 use Rattle.tcap_record.specs.declared.entry.End.{End as Side}
-use Rattle.tcap_search.specs.Lines.{lines_of}
-use Rattle.tcap_search.specs.Proposed.{fated, with_losses}
-use Rattle.tcap_search.specs.PerEnd.{at_end}
+use Rattle.tcap_search.specs.SegmentEntries.{lines_of}
+use Rattle.tcap_search.specs.ProposedCertificate.{fated, with_losses}
+use Rattle.tcap_search.specs.EndValues.{at_end}
 use Rattle.tcap_search.specs.Fates.{least_time}
 use Rattle.tcap_search.proofs.fates.lose_overtaken.Given as goal
 

@@ -1,5 +1,5 @@
 use Rattle.std.proofs.Common.{◌≡◌, ◌≤◌, ◌-◌, length, take, drop, false}
-use Rattle.tcap_search.specs.Proposed.{of_stretches, proposed_by, stretches, then_certificate}
+use Rattle.tcap_search.specs.ProposedCertificate.{of_stretches, proposed_by, stretches, then_certificate}
 use Rattle.tcap_search.proofs.StretchLaws.{has_mark}
 use Rattle.tcap_search.proofs.searching.found_in.Given as goal
 

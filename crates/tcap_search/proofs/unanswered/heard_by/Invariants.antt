@@ -1,7 +1,7 @@
 -- the fates of the entries so far
 use Rattle.std.proofs.Common.{◌≡◌, map, take}
-use Rattle.tcap_search.specs.Lines.{lines_of}
-use Rattle.tcap_search.specs.Proposed.{fate_unanswered, fated}
+use Rattle.tcap_search.specs.SegmentEntries.{lines_of}
+use Rattle.tcap_search.specs.ProposedCertificate.{fate_unanswered, fated}
 use Rattle.tcap_search.proofs.unanswered.heard_by.Given as goal
 
 abbrev pub invariant-loop-number : goal.invariant-loop-number

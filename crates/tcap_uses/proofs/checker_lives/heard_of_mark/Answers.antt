@@ -4,8 +4,8 @@ use Rattle.tcap_end.specs.Table.{Table}
 use Rattle.tcap_model.specs.declared.reason.Reason.TheVariants.{Memory}
 use Rattle.tcap_model.specs.World.{Item}
 use Rattle.tcap_certificate.specs.Certificate.{Certificate}
-use Rattle.tcap_check.specs.Checking.{map_ok, reported}
-use Rattle.tcap_certificate.specs.Replayed.{fault_at, run_by}
+use Rattle.tcap_check.specs.CheckerMeaning.{map_ok, reported}
+use Rattle.tcap_certificate.specs.Replay.{fault_at, run_by}
 use Rattle.tcap_uses.proofs.MarkLaws.{not_before}
 use Rattle.tcap_uses.proofs.checker_lives.heard_of_mark.Goals as goal
 

@@ -1,6 +1,6 @@
 use Rattle.std.proofs.Common.{◌≡◌, ◌∙◌, ℕ, None, Ok, ap, length, rules, sym, vec_len}
 use Rattle.tcap_certificate.specs.Certificate.{Certificate, prompt}
-use Rattle.tcap_certificate.specs.Replayed.{replayed_by}
+use Rattle.tcap_certificate.specs.Replay.{replayed_by}
 use Rattle.tcap_check.proofs.refusal_laws.ReasonGaps.{as_many}
 use Rattle.tcap_uses.proofs.PromptLaws.{made_prompt, memory_is, read_whole, refused_run, reported_run}
 use Rattle.tcap_uses.proofs.prompt.is_prompt.Goals as goal

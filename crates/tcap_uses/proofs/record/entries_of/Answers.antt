@@ -1,5 +1,5 @@
 use Rattle.std.proofs.Common.{[], refl}
-use Rattle.tcap_record.specs.Kept.{FedTo}
+use Rattle.tcap_record.specs.FeederState.{FedTo}
 use Rattle.tcap_uses.proofs.record.entries_of.Goals as goal
 
 pub loop-entry-init : goal.loop-entry-init

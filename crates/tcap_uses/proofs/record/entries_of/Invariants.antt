@@ -1,6 +1,6 @@
 -- all octets are the entries taken and those that wait
 use Rattle.std.proofs.Common.{◌≡◌, ◌++◌, [], length}
-use Rattle.tcap_record.specs.Kept.{FedTo}
+use Rattle.tcap_record.specs.FeederState.{FedTo}
 use Rattle.tcap_uses.proofs.record.entries_of.Given as goal
 
 abbrev pub invariant-loop-entry : goal.invariant-loop-entry

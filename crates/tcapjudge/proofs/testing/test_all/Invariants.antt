@@ -1,5 +1,5 @@
 -- A verdict on each trace so far is counted.
-use Rattle.tcapjudge.specs.Tested.{AreCounted}
+use Rattle.tcapjudge.specs.TestStatus.{AreCounted}
 use Rattle.tcapjudge.proofs.testing.test_all.Given as goal
 
 abbrev pub invariant-loop-path : goal.invariant-loop-path

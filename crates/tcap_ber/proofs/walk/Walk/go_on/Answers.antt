@@ -5,7 +5,7 @@ use Rattle.std.specs.Prelude.{length}
 use Rattle.tcap_ber.specs.declared.fault.Fault.{Fault}
 use Rattle.tcap_ber.specs.declared.element.Outer.{Outer}
 use Rattle.tcap_ber.specs.HeaderReading.{Gives}
-use Rattle.tcap_ber.specs.Resuming.{resumes, IsStopped}
+use Rattle.tcap_ber.specs.ResumedWalk.{resumes, IsStopped}
 use Rattle.tcap_ber.proofs.ResumingLaws.{ends_with}
 use Rattle.tcap_ber.proofs.walk.Walk.go_on.Goals.{then-is_empty-via-then-is_empty, then-is_empty-via-else-is_empty+then-is_stopped}
 use Rattle.tcap_ber.proofs.walk.Walk.go_on.Goals as goal

@@ -1,5 +1,5 @@
 use Rattle.std.proofs.Common.{◌≡◌, ◌++◌, ℕ, List, length}
-use Rattle.tcap_ber.specs.Resuming.{resumes}
+use Rattle.tcap_ber.specs.ResumedWalk.{resumes}
 use Rattle.tcap_ber.proofs.walk.Walk.go_on.Given as goal
 
 abbrev pub invariant-loop-rest : goal.invariant-loop-rest

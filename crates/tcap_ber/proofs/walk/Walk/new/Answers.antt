@@ -1,7 +1,7 @@
 use Rattle.std.proofs.Common.{◌<◌, [], ap, sym, subst, ◌∙◌, refl, arith}
 use Rattle.tcap_ber.specs.declared.progress.Progress.{Progress}
 use Rattle.tcap_ber.specs.Progress.{IsPlaced}
-use Rattle.tcap_ber.specs.Walking.{at_first, resume}
+use Rattle.tcap_ber.specs.WalkResult.{at_first, resume}
 use Rattle.tcap_ber.proofs.OpeningLaws.{no_octets}
 use Rattle.tcap_ber.proofs.ResumingLaws.{first_gives}
 use Rattle.tcap_ber.proofs.walk.Walk.new.Goals as goal

@@ -2,7 +2,7 @@ use Rattle.std.proofs.Common.{◌≡◌, ◌+◌, ◌-◌, ◌≤◌, ◌++◌, 
 use Rattle.tcap_ber.specs.declared.header.Opening.{Opening}
 use Rattle.tcap_ber.specs.declared.progress.Progress.{Progress}
 use Rattle.tcap_ber.specs.HeaderReading.{opening_at}
-use Rattle.tcap_ber.specs.Walking.{behind_header, resume}
+use Rattle.tcap_ber.specs.WalkResult.{behind_header, resume}
 use Rattle.tcap_ber.proofs.WalkLaws.{behind_further}
 use Rattle.tcap_ber.proofs.OpeningLaws.{from}
 use Rattle.tcap_ber.proofs.OpeningPlaceLaws.{opening_exact}

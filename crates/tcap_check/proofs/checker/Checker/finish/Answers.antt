@@ -1,8 +1,8 @@
 use Rattle.std.proofs.Common.{Option, Result, Err, sym, ap, ◌∙◌, false}
 use Rattle.tcap_check.specs.declared.checker.Report.{Report}
 use Rattle.tcap_certificate.specs.declared.fault.CheckFault.{CheckFault}
-use Rattle.tcap_check.specs.Checking.{Checking, so_far_of}
-use Rattle.tcap_check.specs.Ready.{kept_in}
+use Rattle.tcap_check.specs.CheckerMeaning.{Checking, so_far_of}
+use Rattle.tcap_check.specs.ReplayInvariants.{kept_in}
 use Rattle.tcap_check.proofs.checker_laws.CheckerLaws.{finishes_so, finishes_still, kept_fault, no_fault}
 use Rattle.tcap_check.proofs.checker_laws.RefusalLaws.{ends_as_described, ends_bounded, ends_lawful, ends_with_reason}
 use Rattle.tcap_check.proofs.checker.Checker.finish.Goals as goal

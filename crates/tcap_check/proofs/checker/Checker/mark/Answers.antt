@@ -1,7 +1,7 @@
 use Rattle.std.proofs.Common.{Option, None, Result, Err, refl, sym, ap, ◌∙◌, false}
 use Rattle.tcap_certificate.specs.declared.fault.CheckFault.{CheckFault}
-use Rattle.tcap_check.specs.Checking.{Checking, answer_of, so_far_of}
-use Rattle.tcap_check.specs.Ready.{kept_in}
+use Rattle.tcap_check.specs.CheckerMeaning.{Checking, answer_of, so_far_of}
+use Rattle.tcap_check.specs.ReplayInvariants.{kept_in}
 use Rattle.tcap_check.proofs.checker_laws.CheckerLaws.{stays, took_ok, took_err, turned}
 use Rattle.tcap_check.proofs.checker_laws.RefusalLaws.{refusal, refuses_for_good}
 use Rattle.tcap_check.proofs.checker.Checker.mark.Goals as goal

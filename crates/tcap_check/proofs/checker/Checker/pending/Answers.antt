@@ -1,9 +1,9 @@
 use Rattle.std.proofs.Common.{Option, ap, sym, ◌∙◌, false}
 use Rattle.tcap_record.specs.declared.entry.End.{End as Side}
 use Rattle.tcap_check.specs.declared.progress.Seat.{Seat}
-use Rattle.tcap_check.specs.Checking.{Checking, count_waiting}
+use Rattle.tcap_check.specs.CheckerMeaning.{Checking, count_waiting}
 use Rattle.tcap_check.specs.Progress.{count_kept, seat_at}
-use Rattle.tcap_check.specs.Ready.{kept_in}
+use Rattle.tcap_check.specs.ReplayInvariants.{kept_in}
 use Rattle.tcap_check.proofs.checker_laws.CheckerLaws.{waits_so}
 use Rattle.tcap_check.proofs.checker.Checker.pending.Goals as goal
 

@@ -1,7 +1,7 @@
 use Rattle.std.proofs.Common.{◌∷◌, ap, sym, drop, ◌+◌, ◌∙◌, arith}
 use Rattle.tcap_end.specs.Step.{◌>>=◌}
-use Rattle.tcap_check.specs.Hearing.{halves_shut}
-use Rattle.tcap_check.specs.Left.{halves_left}
+use Rattle.tcap_check.specs.ReplaySteps.{halves_shut}
+use Rattle.tcap_check.specs.RefusedReplay.{halves_left}
 use Rattle.tcap_check.proofs.progress_laws.HearingLaws.{going_next, left_behind, same_next}
 use Rattle.tcap_check.proofs.progress.Progress.close_each.Goals as goal
 

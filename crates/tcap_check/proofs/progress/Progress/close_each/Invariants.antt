@@ -1,7 +1,7 @@
 -- The closings that are left have the same result from here as all closings from the start.
 use Rattle.std.proofs.Common.{◌≡◌, drop}
-use Rattle.tcap_check.specs.Hearing.{halves_shut}
-use Rattle.tcap_check.specs.Left.{halves_left}
+use Rattle.tcap_check.specs.ReplaySteps.{halves_shut}
+use Rattle.tcap_check.specs.RefusedReplay.{halves_left}
 use Rattle.tcap_check.proofs.progress_laws.HearingLaws.{Going}
 use Rattle.tcap_check.proofs.progress.Progress.close_each.Given as goal
 

@@ -1,6 +1,6 @@
 use Rattle.std.proofs.Common.{sym}
 use Rattle.tcap_check.specs.Progress.{HasNoMore}
-use Rattle.tcap_check.specs.Hearing.{message_received}
+use Rattle.tcap_check.specs.ReplaySteps.{message_received}
 use Rattle.tcap_check.proofs.progress_laws.KeptGrowth.{received_grows, yields_so}
 use Rattle.tcap_check.proofs.progress.Progress.deliver.Goals as goal
 

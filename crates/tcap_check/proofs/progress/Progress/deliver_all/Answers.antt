@@ -2,9 +2,9 @@ use Rattle.std.proofs.Common.{Option, Some, ap, drop, get_or, sym, ◌+◌, ◌�
 use Rattle.std.specs.Prelude.{slice_get}
 use Rattle.tcap_record.specs.declared.entry.End.{End as Side}
 use Rattle.tcap_end.specs.Step.{◌>>=◌}
-use Rattle.tcap_check.specs.Hearing.{delivery_kept, deliveries_kept, heard_from}
-use Rattle.tcap_check.specs.Left.{deliveries_left, delivery_left}
-use Rattle.tcap_check.specs.SoFar.{behind_or}
+use Rattle.tcap_check.specs.ReplaySteps.{delivery_kept, deliveries_kept, heard_from}
+use Rattle.tcap_check.specs.RefusedReplay.{deliveries_left, delivery_left}
+use Rattle.tcap_check.specs.PartialReplay.{behind_or}
 use Rattle.tcap_check.proofs.progress_laws.HearingLaws.{left_behind, same_next}
 use Rattle.tcap_check.proofs.progress_laws.KeptGrowth.{no_more}
 use Rattle.tcap_check.proofs.progress.Progress.deliver_all.Goals.{in-Some+in_ok-deliver, in_default}

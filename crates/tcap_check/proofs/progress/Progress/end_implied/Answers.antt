@@ -1,7 +1,7 @@
 use Rattle.std.proofs.Common.{arith, ap, length, ◌≡◌, suc, zero}
 use Rattle.tcap_parts.specs.Meaning.{components_left}
 use Rattle.tcap_msg.specs.Parts.{components_in}
-use Rattle.tcap_certificate.specs.Follows.{invoking_half}
+use Rattle.tcap_certificate.specs.DescribedRun.{invoking_half}
 use Rattle.tcap_check.proofs.checker_laws.SendingLaws.{ends_all, ends_more, ends_none}
 use Rattle.tcap_check.proofs.progress.Progress.end_implied.Goals as goal
 

@@ -1,7 +1,7 @@
 -- The components that are left have the same result from here as all components from the start.
 use Rattle.tcap_parts.specs.Meaning.{components_left}
 use Rattle.tcap_msg.specs.Parts.{components_in}
-use Rattle.tcap_certificate.specs.Follows.{invoking_half}
+use Rattle.tcap_certificate.specs.DescribedRun.{invoking_half}
 use Rattle.tcap_check.proofs.checker_laws.SendingLaws.{Ends}
 use Rattle.tcap_check.proofs.progress.Progress.end_implied.Given as goal
 

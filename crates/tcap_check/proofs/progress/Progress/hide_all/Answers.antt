@@ -1,12 +1,12 @@
 use Rattle.std.proofs.Common.{List, ap, drop, get_or, sym, ◌+◌, ◌∙◌, arith}
 use Rattle.tcap_record.specs.declared.entry.End.TheVariants.{A}
 use Rattle.tcap_end.specs.Step.{◌>>=◌}
-use Rattle.tcap_certificate.specs.Replayed.{is_judged}
-use Rattle.tcap_check.specs.declared.listed.Listed.{Listed}
-use Rattle.tcap_check.specs.declared.listed.Listed.TheVariants as listings
-use Rattle.tcap_check.specs.Listed.{listed_judged}
+use Rattle.tcap_certificate.specs.Replay.{is_judged}
+use Rattle.tcap_check.specs.declared.listed_steps.Listed.{Listed}
+use Rattle.tcap_check.specs.declared.listed_steps.Listed.TheVariants as listings
+use Rattle.tcap_check.specs.ListedSteps.{listed_judged}
 use Rattle.tcap_check.specs.Progress.{all_kept, listed_kept}
-use Rattle.tcap_check.specs.Left.{listed_left}
+use Rattle.tcap_check.specs.RefusedReplay.{listed_left}
 use Rattle.tcap_check.proofs.progress_laws.HearingLaws.{going_next, left_behind, listed_first, listed_none, same_next}
 use Rattle.tcap_check.proofs.progress.Progress.hide_all.Goals.{else-is_judged, then-is_judged+in_ok-hide}
 use Rattle.tcap_check.proofs.progress.Progress.hide_all.Goals as goal

@@ -1,8 +1,8 @@
 -- The listed events that are left have the same result from here as all of them from the start.
 use Rattle.std.proofs.Common.{◌≡◌, drop}
 use Rattle.tcap_check.specs.Progress.{all_kept}
-use Rattle.tcap_check.specs.Listed.{listed_judged}
-use Rattle.tcap_check.specs.Left.{listed_left}
+use Rattle.tcap_check.specs.ListedSteps.{listed_judged}
+use Rattle.tcap_check.specs.RefusedReplay.{listed_left}
 use Rattle.tcap_check.proofs.progress_laws.HearingLaws.{Going}
 use Rattle.tcap_check.proofs.progress.Progress.hide_all.Given as goal
 

@@ -1,5 +1,5 @@
 use Rattle.std.proofs.Common.{arith}
-use Rattle.tcap_check.specs.Listed.{listed_judged}
+use Rattle.tcap_check.specs.ListedSteps.{listed_judged}
 use Rattle.tcap_check.proofs.progress_laws.KeptGrowth.{listed_grows, on_ok, some_listed}
 use Rattle.tcap_check.proofs.progress.Progress.pass_gap.Goals as goal
 

@@ -1,7 +1,7 @@
 use Rattle.std.proofs.Common.{Result, Err, ap}
 use Rattle.tcap_check.specs.declared.checker.Report.{Report}
 use Rattle.tcap_certificate.specs.declared.fault.CheckFault.{CheckFault}
-use Rattle.tcap_check.specs.Ready.{kept_in}
+use Rattle.tcap_check.specs.ReplayInvariants.{kept_in}
 use Rattle.tcap_check.proofs.checker_laws.CheckerLaws.{finished_err, finished_ok}
 use Rattle.tcap_check.proofs.replaying.Replaying.finish.Goals as goal
 

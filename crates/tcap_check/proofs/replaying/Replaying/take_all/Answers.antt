@@ -5,12 +5,12 @@ use Rattle.tcap_model.specs.declared.reason.Reason.{Reason}
 use Rattle.tcap_model.specs.World.{Item}
 use Rattle.tcap_model.specs.Entries.{item_of}
 use Rattle.tcap_certificate.specs.declared.fault.CheckFault.{CheckFault}
-use Rattle.tcap_check.specs.Checking.{TookListed, taken}
-use Rattle.tcap_check.specs.Ready.{checking_of, kept_in}
-use Rattle.tcap_certificate.specs.Replayed.{replay_by}
+use Rattle.tcap_check.specs.CheckerMeaning.{TookListed, taken}
+use Rattle.tcap_check.specs.ReplayInvariants.{checking_of, kept_in}
+use Rattle.tcap_certificate.specs.Replay.{replay_by}
 use Rattle.tcap_check.proofs.checker_laws.RecordLaws.{refused_at, taken_at, took_more, whole_is}
 use Rattle.tcap_end.specs.Table.{Table}
-use Rattle.tcap_check.specs.Stands.{IsRefusedThere}
+use Rattle.tcap_check.specs.RunSoFar.{IsRefusedThere}
 use Rattle.tcap_check.proofs.refusal_laws.SendShows.{next_shows}
 use Rattle.tcap_check.proofs.refusal_laws.TakenEntriesLaws.{GoesAlike, among_refused, refused_next}
 use Rattle.tcap_check.proofs.progress_laws.HearingLaws.{next_left}

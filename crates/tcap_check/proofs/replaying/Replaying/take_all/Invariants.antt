@@ -1,8 +1,8 @@
 -- The replay took the entries so far.
 use Rattle.std.proofs.Common.{◌≡◌, Bool, [], map, take}
 use Rattle.tcap_model.specs.Entries.{item_of}
-use Rattle.tcap_check.specs.Checking.{TookListed}
-use Rattle.tcap_check.specs.Ready.{IsReady, checking_of}
+use Rattle.tcap_check.specs.CheckerMeaning.{TookListed}
+use Rattle.tcap_check.specs.ReplayInvariants.{IsReady, checking_of}
 use Rattle.tcap_check.proofs.replaying.Replaying.take_all.Given as goal
 
 abbrev pub invariant-loop-entry : goal.invariant-loop-entry

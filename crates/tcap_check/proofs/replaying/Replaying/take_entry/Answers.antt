@@ -1,5 +1,5 @@
 use Rattle.std.proofs.Common.{length}
-use Rattle.tcap_check.specs.Ready.{kept_in}
+use Rattle.tcap_check.specs.ReplayInvariants.{kept_in}
 use Rattle.tcap_check.proofs.refusal_laws.SendShows.{mark_shows}
 use Rattle.tcap_check.proofs.replaying.Replaying.take_entry.Goals as goal
 

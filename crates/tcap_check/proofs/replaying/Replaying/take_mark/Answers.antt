@@ -4,13 +4,13 @@ use Rattle.std.proofs.lemmas.Option.{slice_get_within}
 use Rattle.std.proofs.lemmas.Result.{err_from_is_err_and}
 use Rattle.tcap_end.proofs.AnsweringLaws.{some_ok}
 use Rattle.tcap_model.specs.declared.reason.Reason.TheVariants.{FateCount}
-use Rattle.tcap_certificate.specs.Replayed.{fault_at, is_gap}
+use Rattle.tcap_certificate.specs.Replay.{fault_at, is_gap}
 use Rattle.tcap_certificate.specs.declared.certificate.Fate.{Fate}
 use Rattle.tcap_check.specs.declared.outline.Outline.{Outline}
 use Rattle.tcap_check.specs.declared.outline.Outline.TheVariants.{Mark}
 use Rattle.tcap_check.specs.declared.replaying.Replaying.{Replaying}
 use Rattle.tcap_check.specs.Progress.{GrewBy, load, unheard_load}
-use Rattle.tcap_check.specs.Ready.{IsReady, IsSameBesideProgress}
+use Rattle.tcap_check.specs.ReplayInvariants.{IsReady, IsSameBesideProgress}
 use Rattle.tcap_check.proofs.progress_laws.KeptGrowth.{on_ok}
 use Rattle.tcap_check.proofs.refusal_laws.TakenEntriesLaws.{listed_behind, mark_after}
 use Rattle.tcap_check.proofs.replaying.Replaying.take_mark.Goals as goal

@@ -3,7 +3,7 @@ use Rattle.tcap_msg.specs.Meaning.{id_of}
 use Rattle.tcap_record.specs.Ends.{other}
 use Rattle.tcap_dialogues.specs.Course.{peer_ids}
 use Rattle.tcap_dialogues.specs.HeadingReading.{heading_read}
-use Rattle.tcap_dialogues.specs.Held.{known_of}
+use Rattle.tcap_dialogues.specs.CutState.{known_of}
 use Rattle.tcap_dialogues.proofs.GivenUpLaws.{accepts_is, accepts_nobody, as_known, continues_done, continues_live, named_done, named_live}
 use Rattle.tcap_dialogues.proofs.OwnerLaws.{IsOf, known_is, nobody_of, owner_of}
 use Rattle.tcap_dialogues.proofs.cut.Cut.continues_another.Goals as goal

@@ -1,6 +1,6 @@
 -- The dialogues so far are handed over.
 use Rattle.std.proofs.Common.{◌≡◌, ◌++◌, List}
-use Rattle.tcap_dialogues.specs.declared.gathered.Gathered.{Gathered}
+use Rattle.tcap_dialogues.specs.declared.complete_dialogue.Gathered.{Gathered}
 use Rattle.tcap_dialogues.proofs.FinishLaws.{Stand}
 use Rattle.tcap_dialogues.proofs.cut.Cut.finish.Given as goal
 

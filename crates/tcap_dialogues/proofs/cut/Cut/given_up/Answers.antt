@@ -2,7 +2,7 @@ use Rattle.std.proofs.Common.{◌≡◌, ◌==◌, ◌&&◌, true, false, is_som
 use Rattle.tcap_msg.specs.Meaning.{id_of}
 use Rattle.tcap_dialogues.specs.Course.{own_ids}
 use Rattle.tcap_dialogues.specs.HeadingReading.{heading_read}
-use Rattle.tcap_dialogues.specs.Held.{is_used_anew}
+use Rattle.tcap_dialogues.specs.CutState.{is_used_anew}
 use Rattle.tcap_dialogues.proofs.GivenUpLaws.{all_given, gives_up_is, gives_up_nobody, none_given}
 use Rattle.tcap_dialogues.proofs.OwnerLaws.{IsOf, known_is, nobody_of, owner_of}
 use Rattle.tcap_dialogues.proofs.cut.Cut.given_up.Goals as goal

@@ -2,9 +2,9 @@ use Rattle.std.proofs.Common.{◌+◌, ◌||◌, sym, ap, subst, ◌∙◌}
 use Rattle.tcap_msg.specs.Meaning.{id_of}
 use Rattle.tcap_dialogues.specs.Course.{joined_by, own_ids}
 use Rattle.tcap_dialogues.specs.HeadingReading.{heading_read}
-use Rattle.tcap_dialogues.specs.Held.{IsCutOf, known_of, others}
+use Rattle.tcap_dialogues.specs.CutState.{IsCutOf, known_of, others}
 use Rattle.tcap_dialogues.specs.Cut.{is_among}
-use Rattle.tcap_dialogues.specs.Joining.{HasEntry}
+use Rattle.tcap_dialogues.specs.CutUpdate.{HasEntry}
 use Rattle.tcap_dialogues.proofs.JoinLaws.{begins_is, entry_comes, more, one_first, one_more, ones, others_apart, owned, same_count}
 use Rattle.tcap_dialogues.proofs.cut.Cut.join.Goals as goal
 

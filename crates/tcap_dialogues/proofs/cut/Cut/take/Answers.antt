@@ -2,7 +2,7 @@ use Rattle.std.proofs.Common.{◌∙◌}
 use Rattle.std.proofs.lemmas.Result.{IfOk-weaker}
 use Rattle.tcap_dialogues.specs.Course.{courses_so_far}
 use Rattle.tcap_dialogues.specs.HeadingReading.{heading_read}
-use Rattle.tcap_dialogues.specs.Held.{freed}
+use Rattle.tcap_dialogues.specs.CutState.{freed}
 use Rattle.tcap_dialogues.proofs.CourseStretch.{apart_so_far}
 use Rattle.tcap_dialogues.proofs.TakeLaws.{begins_then, below_at, both_hand_over, cut_at, free_names, freed_now, later_at, lingers_old, others_of_apart, sent, then_apart, then_held}
 use Rattle.tcap_dialogues.proofs.cut.Cut.take.Goals as goal

@@ -3,8 +3,8 @@ use Rattle.std.proofs.lemmas.Result.{on_ok_weaker}
 use Rattle.tcap_msg.specs.Meaning.{id_of}
 use Rattle.tcap_dialogues.specs.Course.{lower}
 use Rattle.tcap_dialogues.specs.HeadingReading.{heading_read}
-use Rattle.tcap_dialogues.specs.Held.{earlier_of, higher, is_unsettled}
-use Rattle.tcap_dialogues.specs.Joining.{HasId, ids_at}
+use Rattle.tcap_dialogues.specs.CutState.{earlier_of, higher, is_unsettled}
+use Rattle.tcap_dialogues.specs.CutUpdate.{HasId, ids_at}
 use Rattle.tcap_dialogues.proofs.LiveLaws.{entry_added}
 use Rattle.tcap_dialogues.proofs.live.Live.add.Goals as goal
 

@@ -1,5 +1,5 @@
 use Rattle.tcap_end.specs.Halves.{end_of}
-use Rattle.tcap_end.specs.Hidden.{close}
+use Rattle.tcap_end.specs.HiddenSteps.{close}
 use Rattle.tcap_end.proofs.EndStateLaws.{in_memory, sound_after}
 use Rattle.tcap_end.proofs.StepLaws.{closes}
 use Rattle.tcap_end.proofs.end_state.EndState.close.Goals as goal

@@ -1,6 +1,6 @@
 use Rattle.std.proofs.Common.{w8, to_z, of_z}
 use Rattle.tcap_end.specs.Halves.{end_of}
-use Rattle.tcap_end.specs.Hidden.{expire}
+use Rattle.tcap_end.specs.HiddenSteps.{expire}
 use Rattle.tcap_end.proofs.EndStateLaws.{in_memory, sound_after}
 use Rattle.tcap_end.proofs.StepLaws.{expires}
 use Rattle.tcap_end.proofs.end_state.EndState.expire.Goals as goal

@@ -3,7 +3,7 @@ use Rattle.std.proofs.Common.{true, sym, ap, ◌∙◌}
 use Rattle.std.specs.Prelude.{is_some}
 use Rattle.std.proofs.lemmas.Int.{to_z-of_z}
 use Rattle.tcap_lists.specs.Lists.{rows_of}
-use Rattle.tcap_end.specs.Places.{place_of}
+use Rattle.tcap_end.specs.OldestPlace.{place_of}
 use Rattle.tcap_lists.specs.Row.{fits_in}
 use Rattle.tcap_lists.proofs.ListLaws.{oldest_there, whole_rows}
 use Rattle.tcap_end.proofs.SendLaws.{one_in}

@@ -2,7 +2,7 @@ use mir.Syntax.{w8}
 use Rattle.std.proofs.Common.{sym, ap, ◌∙◌}
 use Rattle.std.proofs.lemmas.Int.{to_z-of_z}
 use Rattle.std.specs.Option.{option_copied}
-use Rattle.tcap_end.specs.Hidden.{may_expire}
+use Rattle.tcap_end.specs.HiddenSteps.{may_expire}
 use Rattle.tcap_end.proofs.HiddenLaws.{sent_may, waits_may}
 use Rattle.tcap_end.proofs.half_state.HalfState.may_expire.Goals as goal
 

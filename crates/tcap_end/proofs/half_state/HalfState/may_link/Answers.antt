@@ -7,7 +7,7 @@ use Rattle.tcap_parts.specs.Meaning.{code_of}
 use Rattle.tcap_end.specs.Component.{links}
 use Rattle.tcap_end.specs.Half.{Invocation}
 use Rattle.tcap_lists.specs.Lists.{rows_of}
-use Rattle.tcap_end.specs.Places.{place_of}
+use Rattle.tcap_end.specs.OldestPlace.{place_of}
 use Rattle.tcap_lists.specs.Row.{fits_in}
 use Rattle.tcap_lists.proofs.ListLaws.{whole_rows}
 use Rattle.tcap_end.proofs.SendLaws.{one_in}

@@ -4,14 +4,14 @@ use Rattle.std.proofs.lemmas.Int.{to_z-of_z}
 use Rattle.tcap_end.specs.declared.half_state.HalfState.{HalfState}
 use Rattle.tcap_end.specs.declared.half_state.Change.TheVariants.{Out}
 use Rattle.tcap_end.specs.declared.half.InvocationState.TheVariants as states
-use Rattle.tcap_end.specs.declared.outs.OwnInvocation.{OwnInvocation}
+use Rattle.tcap_end.specs.declared.own_invocations.OwnInvocation.{OwnInvocation}
 use Rattle.std.specs.BTreeMap.{insert_entry}
 use Rattle.std.specs.Ordering.{int_cmp}
 use Rattle.tcap_parts.specs.declared.code.Code.{Code}
 use Rattle.tcap_end.specs.declared.fault.EndFault.{EndFault}
 use Rattle.tcap_end.specs.Half.{Half}
 use Rattle.tcap_end.specs.HalfState.{StillUndoes, half_of, kept_of}
-use Rattle.tcap_end.specs.Outs.{kept_outs}
+use Rattle.tcap_end.specs.OwnInvocations.{kept_outs}
 use Rattle.tcap_end.proofs.NoteLaws.{keeps_out, still_noted}
 use Rattle.tcap_end.proofs.SendLaws.{none_there, out_back}
 use Rattle.tcap_end.proofs.UndoLaws.{undoes_too}

@@ -4,7 +4,7 @@ use Rattle.std.proofs.lemmas.Int.{to_z-of_z}
 use Rattle.tcap_end.specs.declared.half.InvocationState.TheVariants as states
 use Rattle.tcap_end.specs.declared.half_state.Change.TheVariants.{Waits}
 use Rattle.tcap_end.specs.HalfState.{kept_of}
-use Rattle.tcap_end.specs.Outs.{with_state}
+use Rattle.tcap_end.specs.OwnInvocations.{with_state}
 use Rattle.tcap_end.proofs.NoteLaws.{out_noted}
 use Rattle.tcap_end.proofs.ReceivingLaws.{sent_place, waits_back}
 use Rattle.tcap_end.proofs.half_state.HalfState.wait.Goals as goal

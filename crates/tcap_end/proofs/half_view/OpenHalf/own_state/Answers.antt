@@ -2,7 +2,7 @@ use mir.Syntax.{w8}
 use Rattle.std.proofs.Common.{sym, ap, ◌∙◌}
 use Rattle.std.proofs.lemmas.Int.{to_z-of_z}
 use Rattle.std.specs.Option.{option_copied, option_map}
-use Rattle.tcap_end.specs.declared.outs.OwnInvocation.{OwnInvocation}
+use Rattle.tcap_end.specs.declared.own_invocations.OwnInvocation.{OwnInvocation}
 use Rattle.tcap_end.proofs.half_view.OpenHalf.own_state.Goals as goal
 
 pub returns-in-Some : goal.returns-in-Some

@@ -11,7 +11,7 @@ use Rattle.tcap_end.specs.Half.{Half}
 use Rattle.tcap_end.specs.Step.{AnswersInMemory}
 use Rattle.tcap_end.specs.HalfState.{half_of, other_id}
 use Rattle.tcap_end.specs.Message.{active_half}
-use Rattle.tcap_end.specs.Ways.{components_by, way_of}
+use Rattle.tcap_end.specs.ComponentSteps.{components_by, way_of}
 use Rattle.tcap_end.specs.Halves.{AllPlaced, AnswersOver, IsAt, end_of, index_of}
 use Rattle.tcap_end.proofs.HalfLaws.{Follows, follows_self}
 use Rattle.tcap_end.proofs.ChangeLaws.{answers_on, going_on, held_on, kept_on}

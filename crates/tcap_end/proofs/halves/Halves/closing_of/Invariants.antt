@@ -1,6 +1,6 @@
 use Rattle.std.proofs.Common.{◌≡◌, ◌<◌, ◌+◌, ◌^◌, length}
 use Rattle.tcap_end.specs.Halves.{closing, end_of, halves_at}
-use Rattle.tcap_end.specs.Sound.{halves_of}
+use Rattle.tcap_end.specs.ReachableEnd.{halves_of}
 use Rattle.tcap_lists.proofs.PlaceLaws.{shifted}
 use Rattle.tcap_end.proofs.halves.Halves.closing_of.Given as goal
 

@@ -7,7 +7,7 @@ use Rattle.tcap_end.specs.End.{End}
 use Rattle.tcap_end.specs.Half.{Half}
 use Rattle.tcap_end.specs.HalfState.{half_of}
 use Rattle.tcap_end.specs.Halves.{end_of}
-use Rattle.tcap_end.specs.Hidden.{may_expire}
+use Rattle.tcap_end.specs.HiddenSteps.{may_expire}
 use Rattle.tcap_end.proofs.HiddenLaws.{closed_stays, expires_some, invoked_ends, invoked_stays}
 use Rattle.tcap_end.proofs.OverLaws.{named_there, over_named}
 use Rattle.tcap_end.proofs.halves.Halves.expire.Goals as goal

@@ -2,7 +2,7 @@ use mir.Syntax.{w8}
 use Rattle.std.proofs.Common.{◌≡◌, refl, sym, ap}
 use Rattle.std.proofs.lemmas.Int.{to_z-of_z}
 use Rattle.tcap_end.specs.HalfState.{half_of}
-use Rattle.tcap_end.specs.Hidden.{without_invocation}
+use Rattle.tcap_end.specs.HiddenSteps.{without_invocation}
 use Rattle.tcap_end.proofs.PlacedLaws.{has_open}
 use Rattle.tcap_end.proofs.ChangeLaws.{becomes_on, held_on}
 use Rattle.tcap_end.proofs.HiddenLaws.{forgets, some_place}

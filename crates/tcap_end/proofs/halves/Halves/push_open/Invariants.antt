@@ -1,7 +1,7 @@
 use Rattle.std.proofs.Common.{◌≡◌, ◌++◌}
-use Rattle.tcap_end.specs.Hidden.{open_names}
+use Rattle.tcap_end.specs.HiddenSteps.{open_names}
 use Rattle.tcap_end.specs.Halves.{end_of, halves_at, name_in}
-use Rattle.tcap_end.specs.Sound.{halves_of}
+use Rattle.tcap_end.specs.ReachableEnd.{halves_of}
 use Rattle.tcap_end.proofs.halves.Halves.push_open.Given as goal
 
 -- The names so far and those of the remaining places are all names.

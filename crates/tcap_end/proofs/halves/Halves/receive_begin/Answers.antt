@@ -13,7 +13,7 @@ use Rattle.tcap_end.specs.End.{End, put, with_peer}
 use Rattle.tcap_end.specs.Halves.{end_of}
 use Rattle.tcap_end.specs.Message.{receive_components}
 use Rattle.tcap_end.specs.Step.{◌>>=◌}
-use Rattle.tcap_end.specs.Ways.{components_by}
+use Rattle.tcap_end.specs.ComponentSteps.{components_by}
 use Rattle.tcap_end.proofs.AnsweringLaws.{ok_same}
 use Rattle.tcap_end.proofs.HalfLaws.{Follows}
 use Rattle.tcap_end.proofs.ComponentLaws.{all_receives}

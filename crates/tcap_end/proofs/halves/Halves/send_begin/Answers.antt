@@ -12,7 +12,7 @@ use Rattle.tcap_end.specs.HalfState.{half_of}
 use Rattle.tcap_end.specs.End.{End, put, with_own}
 use Rattle.tcap_end.specs.Halves.{end_of}
 use Rattle.tcap_end.specs.Step.{◌>>=◌}
-use Rattle.tcap_end.specs.Ways.{components_by}
+use Rattle.tcap_end.specs.ComponentSteps.{components_by}
 use Rattle.tcap_end.proofs.ComponentLaws.{all_sends}
 use Rattle.tcap_end.proofs.OverLaws.{new_begun, told_none}
 use Rattle.tcap_end.proofs.SendStepLaws.{begins}

@@ -8,7 +8,7 @@ use Rattle.tcap_end.specs.End.{put}
 use Rattle.tcap_end.specs.Half.{Half, closed_half}
 use Rattle.tcap_end.specs.HalfState.{half_of}
 use Rattle.tcap_end.specs.Halves.{end_of}
-use Rattle.tcap_end.specs.Ways.{components_by}
+use Rattle.tcap_end.specs.ComponentSteps.{components_by}
 use Rattle.tcap_end.proofs.OverLaws.{over_peer, peer_there}
 use Rattle.tcap_end.proofs.SendStepLaws.{becomes_closed, ends_closed, ends_half, ends_wrong, stays_err}
 use Rattle.tcap_end.proofs.halves.Halves.send_end.Goals as goal

@@ -5,7 +5,7 @@ use Rattle.tcap_end.specs.declared.fault.EndFault.{EndFault}
 use Rattle.tcap_end.specs.Half.{Half}
 use Rattle.tcap_end.specs.Step.{AnswersInMemory}
 use Rattle.tcap_end.specs.HalfState.{half_of}
-use Rattle.tcap_end.specs.Ways.{components_by}
+use Rattle.tcap_end.specs.ComponentSteps.{components_by}
 use Rattle.tcap_end.proofs.FindLaws.{still_numbered}
 use Rattle.tcap_end.proofs.HalfLaws.{Follows, follows_self}
 use Rattle.tcap_end.proofs.AnswerLaws.{steps_follow}

@@ -1,6 +1,6 @@
 use Rattle.std.proofs.Common.{SFits, w8, map, to_z-of_z, sym, ◌∙◌, rules}
-use Rattle.tcap_faults.specs.Linking.{names_so}
-use Rattle.tcap_faults.specs.Tallies.{tallies_of}
+use Rattle.tcap_faults.specs.LinkProblems.{names_so}
+use Rattle.tcap_faults.specs.TallyMeaning.{tallies_of}
 use Rattle.tcap_faults.proofs.component_laws.LinkLaws.{link_found, link_passed}
 use Rattle.tcap_faults.proofs.component.linked_invokes.any_has.Goals as goal
 

@@ -1,8 +1,8 @@
 -- The linked IDs that are left decide.
 use Rattle.std.proofs.Common.{◌≡◌, map}
 use Rattle.std.specs.List.{list_any}
-use Rattle.tcap_faults.specs.Linking.{names_so}
-use Rattle.tcap_faults.specs.Tallies.{links_at, tallies_of}
+use Rattle.tcap_faults.specs.LinkProblems.{names_so}
+use Rattle.tcap_faults.specs.TallyMeaning.{links_at, tallies_of}
 use Rattle.tcap_faults.proofs.component.linked_invokes.any_has.Given as goal
 
 abbrev pub invariant-loop-linked : goal.invariant-loop-linked

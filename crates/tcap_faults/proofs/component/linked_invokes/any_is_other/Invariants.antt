@@ -1,8 +1,8 @@
 -- The codes that are left decide.
 use Rattle.std.proofs.Common.{◌≡◌, drop, map}
 use Rattle.std.specs.List.{list_any}
-use Rattle.tcap_faults.specs.Linking.{names_other}
-use Rattle.tcap_faults.specs.Tallies.{tallies_of}
+use Rattle.tcap_faults.specs.LinkProblems.{names_other}
+use Rattle.tcap_faults.specs.TallyMeaning.{tallies_of}
 use Rattle.tcap_faults.proofs.component.linked_invokes.any_is_other.Given as goal
 
 abbrev pub invariant-loop-place : goal.invariant-loop-place

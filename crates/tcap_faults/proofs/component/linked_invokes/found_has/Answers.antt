@@ -1,7 +1,7 @@
 use Rattle.std.proofs.Common.{◌≡◌, true, SFits, w8, map, to_z-of_z, rules}
 use Rattle.tcap_parts.specs.Meaning.{code_of}
-use Rattle.tcap_faults.specs.Linking.{names_so}
-use Rattle.tcap_faults.specs.Tallies.{tallies_of}
+use Rattle.tcap_faults.specs.LinkProblems.{names_so}
+use Rattle.tcap_faults.specs.TallyMeaning.{tallies_of}
 use Rattle.tcap_faults.proofs.component_laws.LinkLaws.{link_there, names_as}
 use Rattle.tcap_faults.proofs.component.linked_invokes.found_has.Goals as goal
 

@@ -1,7 +1,7 @@
 -- The tallies that are left decide.
 use Rattle.std.proofs.Common.{◌≡◌, drop, map}
-use Rattle.tcap_faults.specs.Linking.{links_as}
-use Rattle.tcap_faults.specs.Tallies.{tallies_of}
+use Rattle.tcap_faults.specs.LinkProblems.{links_as}
+use Rattle.tcap_faults.specs.TallyMeaning.{tallies_of}
 use Rattle.tcap_faults.proofs.component.linked_invokes.has_operation.Given as goal
 
 abbrev pub invariant-loop-tally : goal.invariant-loop-tally

@@ -1,6 +1,6 @@
 use Rattle.std.proofs.Common.{false, map, to_z-of_z, sym, ap, ◌∙◌}
-use Rattle.tcap_faults.specs.Linking.{names_so}
-use Rattle.tcap_faults.specs.Tallies.{links_in, of_kept, tallies_of}
+use Rattle.tcap_faults.specs.LinkProblems.{names_so}
+use Rattle.tcap_faults.specs.TallyMeaning.{links_in, of_kept, tallies_of}
 use Rattle.tcap_faults.proofs.component.linked_invokes.links_so_again.Goals as goal
 
 pub returns-in-Some : goal.returns-in-Some

@@ -1,7 +1,7 @@
 -- The tallies that are left decide.
 use Rattle.std.proofs.Common.{◌≡◌, drop, map}
-use Rattle.tcap_faults.specs.Linking.{names_so}
-use Rattle.tcap_faults.specs.Tallies.{tallies_of}
+use Rattle.tcap_faults.specs.LinkProblems.{names_so}
+use Rattle.tcap_faults.specs.TallyMeaning.{tallies_of}
 use Rattle.tcap_faults.proofs.component.linked_invokes.one_links_so.Given as goal
 
 abbrev pub invariant-loop-tally : goal.invariant-loop-tally

@@ -1,6 +1,6 @@
 use Rattle.std.proofs.Common.{map, to_z-of_z, refl}
-use Rattle.tcap_faults.specs.Linking.{names_so}
-use Rattle.tcap_faults.specs.Tallies.{tallies_of, tally_of}
+use Rattle.tcap_faults.specs.LinkProblems.{names_so}
+use Rattle.tcap_faults.specs.TallyMeaning.{tallies_of, tally_of}
 use Rattle.tcap_faults.proofs.component_laws.SeveralTalliesLaws.{found_one}
 use Rattle.tcap_faults.proofs.component.linked_invokes.one_links_so_again.Goals as goal
 

@@ -1,6 +1,6 @@
 use Rattle.std.proofs.Common.{false, map, to_z-of_z, ap, ◌∙◌}
-use Rattle.tcap_faults.specs.Linking.{is_of_none}
-use Rattle.tcap_faults.specs.Tallies.{answers_in, of_kept, tallies_of}
+use Rattle.tcap_faults.specs.LinkProblems.{is_of_none}
+use Rattle.tcap_faults.specs.TallyMeaning.{answers_in, of_kept, tallies_of}
 use Rattle.tcap_faults.proofs.component.several_tallies.answers_none.Goals as goal
 
 pub returns-in-Some : goal.returns-in-Some

@@ -1,8 +1,8 @@
 -- The codes that are left decide.
 use Rattle.std.proofs.Common.{◌≡◌, drop, map}
 use Rattle.std.specs.List.{list_any}
-use Rattle.tcap_faults.specs.Linking.{is_of_none}
-use Rattle.tcap_faults.specs.Tallies.{tallies_of}
+use Rattle.tcap_faults.specs.LinkProblems.{is_of_none}
+use Rattle.tcap_faults.specs.TallyMeaning.{tallies_of}
 use Rattle.tcap_faults.proofs.component.several_tallies.any_is_of_none.Given as goal
 
 abbrev pub invariant-loop-code : goal.invariant-loop-code

@@ -1,6 +1,6 @@
 use Rattle.std.proofs.Common.{map, to_z-of_z, refl, sym, ◌∙◌}
-use Rattle.tcap_faults.specs.Linking.{is_of_none}
-use Rattle.tcap_faults.specs.Tallies.{tallies_of, tally_of}
+use Rattle.tcap_faults.specs.LinkProblems.{is_of_none}
+use Rattle.tcap_faults.specs.TallyMeaning.{tallies_of, tally_of}
 use Rattle.tcap_faults.proofs.component_laws.SeveralTalliesLaws.{found_next}
 use Rattle.tcap_faults.proofs.component.several_tallies.is_of_no_operation.Goals as goal
 

@@ -1,7 +1,7 @@
 -- The tallies that are left decide.
 use Rattle.std.proofs.Common.{◌≡◌, drop, map}
-use Rattle.tcap_faults.specs.Linking.{is_of_none}
-use Rattle.tcap_faults.specs.Tallies.{tallies_of}
+use Rattle.tcap_faults.specs.LinkProblems.{is_of_none}
+use Rattle.tcap_faults.specs.TallyMeaning.{tallies_of}
 use Rattle.tcap_faults.proofs.component.several_tallies.is_of_no_operation.Given as goal
 
 abbrev pub invariant-loop-tally : goal.invariant-loop-tally

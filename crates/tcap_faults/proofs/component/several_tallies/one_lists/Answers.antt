@@ -1,7 +1,7 @@
 use Rattle.std.proofs.Common.{map, to_z-of_z, refl, sym, ◌∙◌}
 use Rattle.tcap_parts.specs.Meaning.{code_of}
 use Rattle.tcap_end.specs.Component.{links}
-use Rattle.tcap_faults.specs.Tallies.{tallies_of, tally_of}
+use Rattle.tcap_faults.specs.TallyMeaning.{tallies_of, tally_of}
 use Rattle.tcap_faults.proofs.component_laws.SeveralTalliesLaws.{found_next}
 use Rattle.tcap_faults.proofs.component.several_tallies.one_lists.Goals as goal
 

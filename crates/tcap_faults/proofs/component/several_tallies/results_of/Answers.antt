@@ -1,6 +1,6 @@
 use Rattle.std.proofs.Common.{map, to_z-of_z, refl, rules}
 use Rattle.tcap_parts.specs.Meaning.{code_of}
-use Rattle.tcap_faults.specs.Tallies.{tallies_of}
+use Rattle.tcap_faults.specs.TallyMeaning.{tallies_of}
 use Rattle.tcap_faults.proofs.component_laws.SumLaws.{first}
 use Rattle.tcap_faults.proofs.component_laws.SeveralTalliesLaws.{results_below, counted_all}
 use Rattle.tcap_faults.proofs.component.several_tallies.results_of.Goals as goal

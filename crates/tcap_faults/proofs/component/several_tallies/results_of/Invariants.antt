@@ -1,8 +1,8 @@
 -- The sum so far and that of the tallies that are left are the sum of all.
 use Rattle.std.proofs.Common.{◌≡◌, ◌^◌, ◌<◌, drop, map}
 use Rattle.tcap_parts.specs.Meaning.{code_of}
-use Rattle.tcap_faults.specs.Tallied.{sum}
-use Rattle.tcap_faults.specs.Tallies.{tallies_of}
+use Rattle.tcap_faults.specs.InvokeCounts.{sum}
+use Rattle.tcap_faults.specs.TallyMeaning.{tallies_of}
 use Rattle.tcap_faults.proofs.component.several_tallies.results_of.Given as goal
 
 abbrev pub invariant-loop-tally : goal.invariant-loop-tally

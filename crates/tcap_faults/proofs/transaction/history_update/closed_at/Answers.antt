@@ -1,7 +1,7 @@
 use Rattle.std.proofs.Common.{sym, ◌∙◌}
 use Rattle.tcap_record.specs.Ends.{other}
-use Rattle.tcap_refute.specs.Before.{asked}
-use Rattle.tcap_faults.specs.Told.{has_used}
+use Rattle.tcap_refute.specs.EarlierMessages.{asked}
+use Rattle.tcap_faults.specs.SentToId.{has_used}
 use Rattle.tcap_faults.proofs.transaction_laws.ShownClosedLaws.{closed_first_none, closed_none, closed_several, closed_unused, closed_used}
 use Rattle.tcap_faults.proofs.transaction.history_update.closed_at.Goals as goal
 

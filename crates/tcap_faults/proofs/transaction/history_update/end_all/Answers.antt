@@ -2,8 +2,8 @@ use Rattle.std.proofs.Common.{refl, sym, ◌∙◌}
 use Rattle.std.specs.Prelude.{filter}
 use Rattle.std.proofs.lemmas.Result.{on_ok_weaker}
 use Rattle.tcap_record.specs.Ends.{other}
-use Rattle.tcap_faults.specs.Kept.{dtids_of, sent_from, sent_to}
-use Rattle.tcap_faults.specs.Told.{has_used}
+use Rattle.tcap_faults.specs.History.{dtids_of, sent_from, sent_to}
+use Rattle.tcap_faults.specs.SentToId.{has_used}
 use Rattle.tcap_faults.proofs.transaction_laws.JoinStepLaws.{end_more}
 use Rattle.tcap_faults.proofs.transaction.history_update.end_all.Goals as goal
 

@@ -4,8 +4,8 @@ use Rattle.std.specs.BTreeSet as set
 use Rattle.std.specs.List.{list_any}
 use Rattle.tcap_end.specs.Table.{octets_cmp}
 use Rattle.tcap_model.specs.Run.{then_so}
-use Rattle.tcap_faults.specs.Ids.{AreAmong, ids_kept}
-use Rattle.tcap_faults.specs.Joining.{HasMore}
+use Rattle.tcap_faults.specs.IdList.{AreAmong, ids_kept}
+use Rattle.tcap_faults.specs.JoinedIds.{HasMore}
 use Rattle.tcap_faults.proofs.transaction_laws.JoinedIdsLaws.{any_all, has_at_first, has_next, has_none, none_at_all}
 use Rattle.tcap_faults.proofs.transaction_laws.KeyLaws.{set_more}
 use Rattle.tcap_faults.proofs.transaction.history_update.insert_all.Goals as goal

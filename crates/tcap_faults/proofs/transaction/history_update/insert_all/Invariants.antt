@@ -3,8 +3,8 @@ use Rattle.std.proofs.Common.{bytes_eq, take}
 use Rattle.std.specs.Prelude.{option_copied}
 use Rattle.std.specs.List.{list_any}
 use Rattle.tcap_model.specs.Run.{then_so}
-use Rattle.tcap_faults.specs.Ids.{ids_kept}
-use Rattle.tcap_faults.specs.Joining.{HasMore}
+use Rattle.tcap_faults.specs.IdList.{ids_kept}
+use Rattle.tcap_faults.specs.JoinedIds.{HasMore}
 use Rattle.tcap_faults.proofs.transaction.history_update.insert_all.Given as goal
 
 abbrev pub invariant-loop-id : goal.invariant-loop-id

@@ -1,4 +1,4 @@
-use Rattle.tcap_faults.specs.Kept.{otids_of}
+use Rattle.tcap_faults.specs.History.{otids_of}
 use Rattle.tcap_faults.proofs.transaction_laws.JoinStepLaws.{from_none, from_some}
 use Rattle.tcap_faults.proofs.transaction.history_update.insert_from.Goals as goal
 

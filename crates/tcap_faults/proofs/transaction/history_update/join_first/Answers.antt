@@ -1,7 +1,7 @@
 use Rattle.std.proofs.Common.{refl, sym, ◌∙◌}
 use Rattle.std.proofs.lemmas.Result.{on_ok_weaker}
 use Rattle.tcap_record.specs.Ends.{other}
-use Rattle.tcap_faults.specs.Kept.{otids_of, sent_to}
+use Rattle.tcap_faults.specs.History.{otids_of, sent_to}
 use Rattle.tcap_faults.proofs.transaction_laws.JoinStepLaws.{first_gets, first_gets_none, first_has, first_has_none, sent_among, sent_none}
 use Rattle.tcap_faults.proofs.transaction.history_update.join_first.Goals as goal
 

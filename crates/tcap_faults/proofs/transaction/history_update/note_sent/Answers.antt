@@ -1,6 +1,6 @@
 use Rattle.std.proofs.lemmas.Result.{on_ok_weaker}
 use Rattle.tcap_msg.specs.Parts.{dtid_in, otid_in}
-use Rattle.tcap_faults.specs.Kept.{sent_from, sent_to}
+use Rattle.tcap_faults.specs.History.{sent_from, sent_to}
 use Rattle.tcap_faults.proofs.transaction_laws.HistoryUpdateLaws.{from_was, own_sent, peer_sent, to_was}
 use Rattle.tcap_faults.proofs.transaction.history_update.note_sent.Goals as goal
 

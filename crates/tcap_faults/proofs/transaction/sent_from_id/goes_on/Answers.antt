@@ -1,6 +1,6 @@
 use Rattle.std.proofs.Common.{sym, ap, ◌∙◌}
 use Rattle.std.specs.List.{list_any}
-use Rattle.tcap_faults.specs.Told.{goes_on_to}
+use Rattle.tcap_faults.specs.SentToId.{goes_on_to}
 use Rattle.tcap_faults.proofs.transaction_laws.HistoryLookupLaws.{goes_there}
 use Rattle.tcap_faults.proofs.transaction.sent_from_id.goes_on.Goals as goal
 

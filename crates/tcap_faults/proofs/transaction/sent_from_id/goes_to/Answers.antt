@@ -1,5 +1,5 @@
 use Rattle.std.proofs.Common.{ap}
-use Rattle.tcap_faults.specs.Kept.{dtids_of}
+use Rattle.tcap_faults.specs.History.{dtids_of}
 use Rattle.tcap_faults.proofs.transaction_laws.SameIdsLaws.{among_these}
 use Rattle.tcap_faults.proofs.transaction.sent_from_id.goes_to.Goals as goal
 

@@ -1,5 +1,5 @@
 use Rattle.std.proofs.Common.{ap}
-use Rattle.tcap_faults.specs.Kept.{otids_of}
+use Rattle.tcap_faults.specs.History.{otids_of}
 use Rattle.tcap_faults.proofs.transaction_laws.SameIdsLaws.{among_these}
 use Rattle.tcap_faults.proofs.transaction.sent_to_id.comes_from.Goals as goal
 

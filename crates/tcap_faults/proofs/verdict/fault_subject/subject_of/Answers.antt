@@ -1,6 +1,6 @@
 use Rattle.std.proofs.Common.{refl, sym, ◌∙◌}
 use Rattle.tcap_model.specs.Entries.{item_of}
-use Rattle.tcap_faults.specs.Matters.{those_for_entry}
+use Rattle.tcap_faults.specs.RelevantItems.{those_for_entry}
 use Rattle.tcap_faults.specs.Replay.{items_up_to}
 use Rattle.tcap_faults.proofs.verdict_laws.RelevantItemsLaws.{matters_alone}
 use Rattle.tcap_faults.proofs.verdict_laws.RelevantEntriesLaws.{noted_roomy}

@@ -1,6 +1,6 @@
 use Rattle.std.proofs.Common.{◌≡◌, ℕ, ◌+◌, ◌≤◌, length, take, drop}
-use Rattle.tcap_record.specs.Held.{IsHeld}
-use Rattle.tcap_lines.specs.Showing.{Leads}
+use Rattle.tcap_record.specs.PartialRecord.{IsHeld}
+use Rattle.tcap_lines.specs.RecordLines.{Leads}
 use Rattle.tcap_lines.proofs.showing.Showing.show_piece.Given as goal
 
 abbrev pub invariant-loop-taken : goal.invariant-loop-taken

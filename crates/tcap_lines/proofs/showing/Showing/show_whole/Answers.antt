@@ -4,13 +4,13 @@ use Rattle.std.specs.Io.KnownBytes.{Appends}
 use Rattle.std.proofs.lemmas.List.{length-drop}
 use Rattle.tcap_record.specs.declared.entry.Entry.{Entry}
 use Rattle.tcap_record.specs.declared.entry.EntryView.{EntryView}
-use Rattle.tcap_record.specs.Held.{Held}
-use Rattle.tcap_record.specs.Lent.{IsLent}
+use Rattle.tcap_record.specs.PartialRecord.{Held}
+use Rattle.tcap_record.specs.LentEntry.{IsLent}
 use Rattle.tcap_record.specs.Lines.{entry_lines}
-use Rattle.tcap_record.specs.Viewed.{entry_read}
+use Rattle.tcap_record.specs.EntryView.{entry_read}
 use Rattle.tcap_record.proofs.FeederLaws.{rest_is}
-use Rattle.tcap_lines.specs.Shown.{is_bad}
-use Rattle.tcap_lines.specs.Showing.{Leads}
+use Rattle.tcap_lines.specs.ShowRun.{is_bad}
+use Rattle.tcap_lines.specs.RecordLines.{Leads}
 use Rattle.tcap_lines.proofs.ShowLaws.{leads_passed}
 use Rattle.tcap_lines.proofs.showing.Showing.show_whole.Goals.{then-self, else-self}
 use Rattle.tcap_lines.proofs.showing.Showing.show_whole.Goals as goal

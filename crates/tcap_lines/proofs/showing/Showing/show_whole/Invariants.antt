@@ -1,6 +1,6 @@
 use Rattle.std.proofs.Common.{◌≡◌, ◌≤◌, ◌-◌, length, take}
-use Rattle.tcap_record.specs.Held.{IsHeld}
-use Rattle.tcap_lines.specs.Showing.{Leads}
+use Rattle.tcap_record.specs.PartialRecord.{IsHeld}
+use Rattle.tcap_lines.specs.RecordLines.{Leads}
 use Rattle.tcap_lines.proofs.showing.Showing.show_whole.Given as goal
 
 abbrev pub invariant-loop-entry : goal.invariant-loop-entry

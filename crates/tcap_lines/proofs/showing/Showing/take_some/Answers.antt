@@ -3,7 +3,7 @@ use Rattle.std.proofs.lemmas.Result.{err_from_is_err_and}
 use Rattle.std.proofs.lemmas.List.{length-drop}
 use Rattle.tcap_record.specs.declared.fault.FeedFault.{FeedFault}
 use Rattle.tcap_record.specs.declared.fault.FeedReason.TheVariants as feed
-use Rattle.tcap_record.specs.Framing.{feed_fault}
+use Rattle.tcap_record.specs.FramingResult.{feed_fault}
 use Rattle.tcap_record.proofs.FeederLaws.{rest_is}
 use Rattle.tcap_lines.proofs.ShowLaws.{leads_fed, fails_fed, fails_why}
 use Rattle.tcap_lines.proofs.showing.Showing.take_some.Goals as goal

@@ -1,6 +1,6 @@
 use Rattle.std.proofs.Common.{◌≡◌, ℕ, ◌-◌, List, [], ◌++◌, length, take, drop, sym, ap, subst, ◌∙◌, arith, append-nil}
 use Rattle.std.proofs.lemmas.List.{take_at}
-use Rattle.tcap_record.specs.Held.{Fed}
+use Rattle.tcap_record.specs.PartialRecord.{Fed}
 use Rattle.tcap_record.proofs.FeederLaws.{rest_is, fed_behind, cut_back}
 use Rattle.tcap_record.proofs.feeder.Feeder.feed.Goals as goal
 

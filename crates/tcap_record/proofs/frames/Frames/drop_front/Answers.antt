@@ -1,5 +1,5 @@
 use Rattle.std.proofs.Common.{◌≡◌, length, arith}
-use Rattle.tcap_record.specs.Held.{Held}
+use Rattle.tcap_record.specs.PartialRecord.{Held}
 use Rattle.tcap_record.proofs.FrontLaws.{part_not_whole}
 use Rattle.tcap_record.proofs.FedLaws.{fed_emptied}
 use Rattle.tcap_record.proofs.frames.Frames.drop_front.Goals as goal

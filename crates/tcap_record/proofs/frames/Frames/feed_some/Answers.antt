@@ -1,7 +1,7 @@
 use Rattle.std.proofs.Common.{◌≡◌, List, ℕ, length, None, ap, ◌∙◌, inr, arith}
 use Rattle.std.proofs.lemmas.Result.{err_from_is_err_and}
 use Rattle.tcap_ber.proofs.EachLoopLaws.{not_empty}
-use Rattle.tcap_record.specs.Held.{Held}
+use Rattle.tcap_record.specs.PartialRecord.{Held}
 use Rattle.tcap_record.proofs.FrontLaws.{part_not_whole}
 use Rattle.tcap_record.proofs.FedLaws.{fed_taken}
 use Rattle.tcap_record.proofs.HeldLaws.{none_there}

@@ -1,7 +1,7 @@
 use Rattle.std.proofs.Common.{◌≡◌, ℕ, ◌+◌, length, None, ap, inr, arith}
 use Rattle.tcap_ber.proofs.EachLoopLaws.{not_empty}
 use Rattle.tcap_record.specs.declared.fault.FeedReason.TheVariants as feed
-use Rattle.tcap_record.specs.Framing.{feed_fault}
+use Rattle.tcap_record.specs.FramingResult.{feed_fault}
 use Rattle.tcap_record.proofs.FrontLaws.{part_not_whole}
 use Rattle.tcap_record.proofs.HeldLaws.{none_there}
 use Rattle.tcap_record.proofs.frames.Frames.finish.Goals as goal

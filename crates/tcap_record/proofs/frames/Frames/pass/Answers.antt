@@ -1,5 +1,5 @@
 use Rattle.std.proofs.Common.{◌≡◌, [], length, None, arith}
-use Rattle.tcap_record.specs.Held.{Held}
+use Rattle.tcap_record.specs.PartialRecord.{Held}
 use Rattle.tcap_record.proofs.LendLaws.{whole_within, held_passed, fed_passed}
 use Rattle.tcap_record.proofs.frames.Frames.pass.Goals as goal
 

@@ -1,7 +1,7 @@
 -- None of the IDs so far is open.
 use Rattle.std.proofs.Common.{◌≡◌, false, map}
 use Rattle.std.specs.List.{list_any}
-use Rattle.tcap_report.specs.BeforeMarks.{known_in}
+use Rattle.tcap_report.specs.IdsBeforeMarks.{known_in}
 use Rattle.tcap_report.proofs.before_marks.EndMarks.first_open.Given as goal
 
 abbrev pub invariant-loop-id : goal.invariant-loop-id

@@ -2,7 +2,7 @@ use Rattle.std.proofs.Common.{◌≡◌, map, sym, ap, ◌∙◌}
 use Rattle.std.proofs.lemmas.List.{map_push}
 use Rattle.tcap_report.specs.declared.before_marks.Before.{Before}
 use Rattle.tcap_report.specs.declared.before_marks.EndMarks.{EndMarks}
-use Rattle.tcap_report.specs.BeforeMarks.{known_in}
+use Rattle.tcap_report.specs.IdsBeforeMarks.{known_in}
 use Rattle.tcap_report.proofs.MarksLaws.{adds_none, adds_one}
 use Rattle.tcap_report.proofs.before_marks.EndMarks.note_closed.Goals as goal
 

@@ -1,6 +1,6 @@
 -- The open ones among the IDs so far were added.
 use Rattle.std.proofs.Common.{◌≡◌, map}
-use Rattle.tcap_report.specs.BeforeMarks.{known_in}
+use Rattle.tcap_report.specs.IdsBeforeMarks.{known_in}
 use Rattle.tcap_report.proofs.MarksLaws.{Adds}
 use Rattle.tcap_report.proofs.before_marks.EndMarks.note_closed.Given as goal
 

@@ -1,6 +1,6 @@
 use Rattle.std.proofs.Common.{◌≡◌, ◌++◌, false, sym, ap, subst, ◌∙◌}
 use Rattle.std.proofs.lemmas.Result.{on_ok_weaker}
-use Rattle.tcap_dialogues.specs.Held.{IsCut}
+use Rattle.tcap_dialogues.specs.CutState.{IsCut}
 use Rattle.tcap_dialogues.specs.HeadingReading.{heading_read}
 use Rattle.tcap_report.specs.Progress.{Judges}
 use Rattle.tcap_report.proofs.TraceLaws.{comes}

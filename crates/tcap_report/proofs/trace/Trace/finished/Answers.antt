@@ -1,7 +1,7 @@
 use Rattle.std.proofs.Common.{◌≡◌, ◌++◌, sym, ap, subst, ◌∙◌}
 use Rattle.tcap_dialogues.specs.Course.{courses_so_far}
-use Rattle.tcap_dialogues.specs.Gathered.{AreGathered}
-use Rattle.tcap_dialogues.specs.Held.{IsCut}
+use Rattle.tcap_dialogues.specs.CutDialogues.{AreGathered}
+use Rattle.tcap_dialogues.specs.CutState.{IsCut}
 use Rattle.tcap_report.proofs.trace.Trace.finished.Goals as goal
 
 pub returns-clause-live : goal.returns-clause-live

@@ -4,7 +4,7 @@ use Rattle.std.proofs.lemmas.Result.{on_ok_weaker}
 use Rattle.tcap_report.specs.Counts.{with_one}
 use Rattle.tcap_report.specs.Dialogue.{Dialogue, ends_by, verdict_by, verdict_on}
 use Rattle.tcap_report.specs.Progress.{is_fault}
-use Rattle.tcap_report.specs.Stretch.{is_fail}
+use Rattle.tcap_report.specs.SegmentVerdicts.{is_fail}
 use Rattle.tcap_report.proofs.TraceLaws.{noted_of, one_judged, told_as}
 use Rattle.tcap_report.proofs.trace.Trace.judge.Goals as goal
 

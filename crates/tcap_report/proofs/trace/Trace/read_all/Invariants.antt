@@ -2,7 +2,7 @@
 use Rattle.std.proofs.Common.{◌≡◌, [], Some}
 use Rattle.tcap_report.specs.declared.trace.Asked.{Asked}
 use Rattle.tcap_report.specs.Progress.{IsWithin}
-use Rattle.tcap_report.specs.Untold.{HasNothing}
+use Rattle.tcap_report.specs.FreshTrace.{HasNothing}
 use Rattle.tcap_report.proofs.trace.Trace.read_all.Given as goal
 
 abbrev pub invariant-loop : goal.invariant-loop

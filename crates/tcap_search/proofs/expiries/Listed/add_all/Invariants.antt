@@ -1,6 +1,6 @@
 -- The rest of the components add the rest.
 use Rattle.std.proofs.Common.{◌≡◌, drop}
-use Rattle.tcap_search.specs.Listed.{IsListed, all_rejected}
+use Rattle.tcap_search.specs.ListedExpiries.{IsListed, all_rejected}
 use Rattle.tcap_search.specs.Sweep.{answer_rejected}
 use Rattle.tcap_search.proofs.expiries.Listed.add_all.Given as goal
 

@@ -2,7 +2,7 @@
 use Rattle.std.proofs.Common.{◌≡◌, ℕ, ℤ, Bool, Some, cond, take}
 use Rattle.std.specs.List.{list_any}
 use Rattle.tcap_record.specs.declared.entry.End.{End as Side}
-use Rattle.tcap_search.specs.ByInvocation.{kept_at}
+use Rattle.tcap_search.specs.InvocationMap.{kept_at}
 use Rattle.tcap_search.specs.Sweep.{answer_at, answer_kept, answers_at}
 use Rattle.tcap_search.proofs.sweep.Sweep.deliver_all.Given as goal
 

@@ -3,8 +3,8 @@ use Rattle.std.proofs.Common.{◌≡◌, ◌==◌, ◌&&◌, ℕ, ℤ, Bool, Som
 use Rattle.std.specs.List.{list_any}
 use Rattle.tcap_record.specs.declared.entry.End.{End as Side}
 use Rattle.tcap_model.specs.World.{is_side}
-use Rattle.tcap_search.specs.Proposed.{is_answer_of}
-use Rattle.tcap_search.specs.ByInvocation.{kept_at}
+use Rattle.tcap_search.specs.ProposedCertificate.{is_answer_of}
+use Rattle.tcap_search.specs.InvocationMap.{kept_at}
 use Rattle.tcap_search.specs.Sweep.{answer_at, answer_kept}
 use Rattle.tcap_search.proofs.sweep.Sweep.note_answers.Given as goal
 

@@ -1,8 +1,8 @@
 -- One more component.
 use Rattle.std.proofs.Common.{◌==◌, ◌&&◌, ◌+◌, drop, ap, ◌∙◌}
 use Rattle.tcap_model.specs.World.{is_side}
-use Rattle.tcap_search.specs.Proposed.{last_invoke}
-use Rattle.tcap_search.specs.ByInvocation.{kept_at}
+use Rattle.tcap_search.specs.ProposedCertificate.{last_invoke}
+use Rattle.tcap_search.specs.InvocationMap.{kept_at}
 use Rattle.tcap_search.proofs.SweepSteps.{invoke_end, invoke_step, kept_behind}
 use Rattle.tcap_search.proofs.sweep.Sweep.note_invokes.Goals as goal
 

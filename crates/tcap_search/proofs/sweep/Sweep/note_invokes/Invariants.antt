@@ -4,9 +4,9 @@ use Rattle.std.specs.Prelude.{option_map}
 use Rattle.tcap_record.specs.declared.entry.End.{End as Side}
 use Rattle.tcap_model.specs.World.{is_side}
 use Rattle.tcap_model.specs.Run.{where_so}
-use Rattle.tcap_search.specs.Lines.{or_else}
-use Rattle.tcap_search.specs.Proposed.{last_invoke}
-use Rattle.tcap_search.specs.ByInvocation.{kept_at}
+use Rattle.tcap_search.specs.SegmentEntries.{or_else}
+use Rattle.tcap_search.specs.ProposedCertificate.{last_invoke}
+use Rattle.tcap_search.specs.InvocationMap.{kept_at}
 use Rattle.tcap_search.proofs.sweep.Sweep.note_invokes.Given as goal
 
 abbrev pub invariant-loop-place : goal.invariant-loop-place

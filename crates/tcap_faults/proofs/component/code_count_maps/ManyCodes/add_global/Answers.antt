@@ -1,7 +1,7 @@
 use Rattle.std.proofs.Common.{[], ◌∷◌, ◌++◌, is_some, sym, ap, ◌∙◌}
 use Rattle.tcap_parts.specs.declared.code.Code.TheVariants.{Global}
-use Rattle.tcap_faults.specs.Tallied.{sum}
-use Rattle.tcap_faults.specs.Tallies.{or_zero}
+use Rattle.tcap_faults.specs.InvokeCounts.{sum}
+use Rattle.tcap_faults.specs.TallyMeaning.{or_zero}
 use Rattle.tcap_faults.proofs.component_laws.CodeListLaws.{listed_stays}
 use Rattle.tcap_faults.proofs.component_laws.GlobalCodeLaws.{counts_one_more, inserted, is_set, listed_inserted, lists_one_more}
 use Rattle.tcap_faults.proofs.component.code_count_maps.ManyCodes.add_global.Goals as goal

@@ -1,7 +1,7 @@
 -- The codes that are left decide.
 use Rattle.std.proofs.Common.{◌≡◌, drop}
 use Rattle.std.specs.List.{list_any}
-use Rattle.tcap_faults.specs.Linking.{links_as}
+use Rattle.tcap_faults.specs.LinkProblems.{links_as}
 use Rattle.tcap_faults.proofs.component.code_count_maps.ManyCodes.links_as.Given as goal
 
 abbrev pub invariant-loop-place : goal.invariant-loop-place

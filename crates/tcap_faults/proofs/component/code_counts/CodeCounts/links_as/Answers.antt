@@ -1,5 +1,5 @@
 use Rattle.std.proofs.Common.{SFits, w32, to_z-of_z, sym, ◌∙◌, rules}
-use Rattle.tcap_faults.specs.Linking.{links_as}
+use Rattle.tcap_faults.specs.LinkProblems.{links_as}
 use Rattle.tcap_faults.proofs.component_laws.FirstCodeLaws.{first_is_so}
 use Rattle.tcap_faults.proofs.component.code_counts.CodeCounts.links_as.Goals as goal
 

@@ -1,5 +1,5 @@
 use Rattle.std.proofs.Common.{to_z-of_z, ◌∙◌, ap₂}
-use Rattle.tcap_faults.specs.Tallied.{sum}
+use Rattle.tcap_faults.specs.InvokeCounts.{sum}
 use Rattle.tcap_faults.proofs.component.preceding_components.Before.all_told.Goals as goal
 
 pub returns : goal.returns

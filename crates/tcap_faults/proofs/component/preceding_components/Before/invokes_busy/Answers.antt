@@ -1,5 +1,5 @@
 use Rattle.std.proofs.Common.{SFits, rules, to_z-of_z, w8}
-use Rattle.tcap_faults.specs.ByTallies.{counted, is_busy_by}
+use Rattle.tcap_faults.specs.KindsByCounts.{counted, is_busy_by}
 use Rattle.tcap_faults.proofs.component_laws.CountTests.{seen_before, seen_not}
 use Rattle.tcap_faults.proofs.component.preceding_components.Before.invokes_busy.Goals as goal
 

@@ -1,5 +1,5 @@
 use Rattle.std.proofs.Common.{arith, to_z-of_z, ap, ◌∙◌}
-use Rattle.tcap_faults.specs.Tallied.{sum}
+use Rattle.tcap_faults.specs.InvokeCounts.{sum}
 use Rattle.tcap_faults.proofs.component_laws.CountTests.{link_fine}
 use Rattle.tcap_faults.proofs.component.preceding_components.Before.is_invoke_reject_wrong.Goals as goal
 

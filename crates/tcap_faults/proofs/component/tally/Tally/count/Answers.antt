@@ -1,5 +1,5 @@
 use Rattle.std.proofs.Common.{to_z-of_z, ap, ◌∙◌}
-use Rattle.tcap_faults.specs.Tallies.{count_in, of_kept}
+use Rattle.tcap_faults.specs.TallyMeaning.{count_in, of_kept}
 use Rattle.tcap_faults.proofs.component.tally.Tally.count.Goals as goal
 
 pub returns-in-Some : goal.returns-in-Some

@@ -1,6 +1,6 @@
 use Rattle.std.proofs.Common.{false, to_z-of_z, sym, ap, ◌∙◌}
-use Rattle.tcap_faults.specs.Linking.{links_as}
-use Rattle.tcap_faults.specs.Tallies.{invokes_in, of_kept}
+use Rattle.tcap_faults.specs.LinkProblems.{links_as}
+use Rattle.tcap_faults.specs.TallyMeaning.{invokes_in, of_kept}
 use Rattle.tcap_faults.proofs.component.tally.Tally.has_operation_at.Goals as goal
 
 pub returns-in-Some : goal.returns-in-Some

@@ -1,7 +1,7 @@
 use Rattle.std.proofs.Common.{false, to_z-of_z, sym, ap, ◌∙◌}
 use Rattle.tcap_parts.specs.Meaning.{code_of}
 use Rattle.tcap_end.specs.Component.{links}
-use Rattle.tcap_faults.specs.Tallies.{invokes_in, of_kept}
+use Rattle.tcap_faults.specs.TallyMeaning.{invokes_in, of_kept}
 use Rattle.tcap_faults.proofs.component.tally.Tally.lists_again.Goals as goal
 
 pub returns-in-Some : goal.returns-in-Some

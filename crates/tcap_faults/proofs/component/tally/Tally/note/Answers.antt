@@ -1,7 +1,7 @@
 use Rattle.std.proofs.Common.{sym}
 use Rattle.std.proofs.lemmas.Result.{on_ok_weaker}
 use Rattle.tcap_parts.specs.Meaning.{component_of}
-use Rattle.tcap_faults.specs.Tallies.{tally_of}
+use Rattle.tcap_faults.specs.TallyMeaning.{tally_of}
 use Rattle.tcap_faults.proofs.component_laws.TallyLaws.{is_more, none_tallied}
 use Rattle.tcap_faults.proofs.component.tally.Tally.note.Goals as goal
 

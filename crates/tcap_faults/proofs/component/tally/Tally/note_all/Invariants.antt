@@ -2,7 +2,7 @@
 use Rattle.std.proofs.Common.{◌≡◌, ◌++◌, List}
 use Rattle.tcap_parts.specs.declared.component.Component.{Component}
 use Rattle.tcap_parts.specs.Meaning.{components_left}
-use Rattle.tcap_faults.specs.Tallies.{IsTally}
+use Rattle.tcap_faults.specs.TallyMeaning.{IsTally}
 use Rattle.tcap_faults.proofs.component.tally.Tally.note_all.Given as goal
 
 abbrev pub invariant-loop-component : goal.invariant-loop-component

@@ -2,7 +2,7 @@ use Rattle.std.proofs.Common.{Some, is_some, option_map, to_z-of_z, sym, ap, ◌
 use Rattle.std.specs.Box.{with_value}
 use Rattle.std.proofs.lemmas.Result.{on_ok_weaker}
 use Rattle.tcap_parts.specs.Meaning.{component_of}
-use Rattle.tcap_faults.specs.Tallies.{kept_of}
+use Rattle.tcap_faults.specs.TallyMeaning.{kept_of}
 use Rattle.tcap_faults.proofs.component_laws.TallyLaws.{steps_first, steps_on, tally_noted}
 use Rattle.tcap_faults.proofs.component.tally.Tally.note_of_id.Goals as goal
 

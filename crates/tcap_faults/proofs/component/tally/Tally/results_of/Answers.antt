@@ -1,6 +1,6 @@
 use Rattle.std.proofs.Common.{to_z-of_z, ap, ◌∙◌}
 use Rattle.tcap_parts.specs.Meaning.{code_of}
-use Rattle.tcap_faults.specs.Tallies.{count_of, of_kept}
+use Rattle.tcap_faults.specs.TallyMeaning.{count_of, of_kept}
 use Rattle.tcap_faults.proofs.component.tally.Tally.results_of.Goals as goal
 
 pub returns-in-Some : goal.returns-in-Some

@@ -1,6 +1,6 @@
 use Rattle.std.proofs.Common.{◌≡◌, true, ◌||◌, sym, ◌∙◌}
-use Rattle.tcap_refute.specs.Before.{since_quiet}
-use Rattle.tcap_faults.specs.Tangled.{goes_over_tangled}
+use Rattle.tcap_refute.specs.EarlierMessages.{since_quiet}
+use Rattle.tcap_faults.specs.TangledIds.{goes_over_tangled}
 use Rattle.tcap_faults.specs.UsedAgain.{has_used_again, uses_again}
 use Rattle.tcap_faults.proofs.component_laws.FewComponentsLaws.{still_roomy}
 use Rattle.tcap_faults.proofs.verdict_laws.NextEntryLaws.{first_fault, first_so, further_fault, no_fault, none_so, second_so, third_so, over}

@@ -1,4 +1,4 @@
-use Rattle.tcap_refute.specs.Before.{since_quiet}
+use Rattle.tcap_refute.specs.EarlierMessages.{since_quiet}
 use Rattle.tcap_faults.proofs.transaction.history.Facts.find.Goals as goal
 
 pub returns : goal.returns

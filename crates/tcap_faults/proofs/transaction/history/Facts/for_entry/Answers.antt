@@ -1,5 +1,5 @@
 use Rattle.std.proofs.Common.{ap, sym}
-use Rattle.tcap_faults.specs.Matters.{those_for}
+use Rattle.tcap_faults.specs.RelevantItems.{those_for}
 use Rattle.tcap_faults.specs.Replay.{items_up_to}
 use Rattle.tcap_faults.proofs.verdict_laws.RelevantEntriesLaws.{none_for_bad, none_from_no_end, noted_nothing}
 use Rattle.tcap_faults.proofs.transaction.history.Facts.for_entry.Goals as goal

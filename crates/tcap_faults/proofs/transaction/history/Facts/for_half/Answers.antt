@@ -1,6 +1,6 @@
 use Rattle.std.proofs.Common.{arith, length, refl, ℕ, subst}
 use Rattle.std.proofs.lemmas.Option.{slice_get_read}
-use Rattle.tcap_faults.specs.Matters.{IsNotedFor}
+use Rattle.tcap_faults.specs.RelevantItems.{IsNotedFor}
 use Rattle.tcap_faults.proofs.verdict_laws.RelevantEntriesLaws.{noted_all, noted_none}
 use Rattle.tcap_faults.proofs.transaction.history.Facts.for_half.Goals.{else-loop-place-test, then-loop-place-test+then-place-number}
 use Rattle.tcap_faults.proofs.transaction.history.Facts.for_half.Goals as goal

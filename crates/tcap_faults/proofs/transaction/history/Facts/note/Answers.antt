@@ -1,6 +1,6 @@
 use Rattle.std.proofs.lemmas.Result.{on_ok_weaker}
 use Rattle.tcap_record.specs.declared.entry.End.TheVariants as sides
-use Rattle.tcap_refute.specs.Before.{since_quiet}
+use Rattle.tcap_refute.specs.EarlierMessages.{since_quiet}
 use Rattle.tcap_faults.proofs.verdict_laws.NextEntryLaws.{kept_more}
 use Rattle.tcap_faults.proofs.transaction.history.Facts.note.Goals as goal
 

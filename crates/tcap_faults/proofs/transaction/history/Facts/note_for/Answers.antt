@@ -1,5 +1,5 @@
 use Rattle.std.proofs.Common.{filter, sym, ◌∙◌}
-use Rattle.tcap_faults.specs.Matters.{matters}
+use Rattle.tcap_faults.specs.RelevantItems.{matters}
 use Rattle.tcap_faults.specs.Replay.{items_up_to}
 use Rattle.tcap_faults.proofs.verdict_laws.RelevantEntriesLaws.{noted_more, on_ok_then, passed_over}
 use Rattle.tcap_faults.proofs.transaction.history.Facts.note_for.Goals as goal

@@ -2,13 +2,13 @@ use Rattle.std.proofs.Common.{◌≡◌, ℕ, List, Some, sym, ap, subst, option
 use Rattle.std.proofs.lemmas.Result.{IfOk-at_ok}
 use Rattle.tcap_msg.specs.Parts.{dtid_in}
 use Rattle.tcap_record.specs.Ends.{other}
-use Rattle.tcap_refute.specs.Asking.{told_from}
-use Rattle.tcap_refute.specs.Before.{since_quiet}
+use Rattle.tcap_refute.specs.KindsByFacts.{told_from}
+use Rattle.tcap_refute.specs.EarlierMessages.{since_quiet}
 use Rattle.tcap_refute.specs.Facts.{FromFact, told_since}
-use Rattle.tcap_refute.specs.Kept.{told_by_from}
-use Rattle.tcap_faults.specs.Found.{IsThere}
-use Rattle.tcap_faults.specs.HalfKept.{IsHalf}
-use Rattle.tcap_faults.specs.HalfOf.{half_of}
+use Rattle.tcap_refute.specs.KeptFacts.{told_by_from}
+use Rattle.tcap_faults.specs.KeptForMessage.{IsThere}
+use Rattle.tcap_faults.specs.KeptHalf.{IsHalf}
+use Rattle.tcap_faults.specs.HalfByPeerId.{half_of}
 use Rattle.tcap_faults.proofs.component_laws.FewComponentsLaws.{heard_are_few, invoked_are_few, still_roomy, told_are_few}
 use Rattle.tcap_faults.proofs.verdict_laws.SubjectLaws.{alone_subject, half_subject}
 use Rattle.tcap_faults.proofs.transaction.history.Facts.subject.Goals as goal

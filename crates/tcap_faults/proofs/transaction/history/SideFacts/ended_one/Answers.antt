@@ -1,6 +1,6 @@
 use Rattle.std.proofs.Common.{refl, sym, ap, ◌∙◌}
 use Rattle.std.specs.List.{list_any}
-use Rattle.tcap_faults.specs.Told.{has_ended}
+use Rattle.tcap_faults.specs.SentToId.{has_ended}
 use Rattle.tcap_faults.proofs.transaction_laws.JoinedIdsLaws.{none_at_all}
 use Rattle.tcap_faults.proofs.dialogue_laws.OpenHalvesLaws.{any_first, any_last, any_next, first_so, others_so}
 use Rattle.tcap_faults.proofs.transaction.history.SideFacts.ended_one.Goals as goal

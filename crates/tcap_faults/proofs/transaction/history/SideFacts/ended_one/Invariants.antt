@@ -4,8 +4,8 @@ use Rattle.std.specs.List.{list_any}
 use Rattle.tcap_record.specs.declared.entry.End.{End as Side}
 use Rattle.tcap_end.specs.Table.{Table}
 use Rattle.tcap_model.specs.World.{Item}
-use Rattle.tcap_faults.specs.Kept.{IsSide}
-use Rattle.tcap_faults.specs.Told.{has_ended}
+use Rattle.tcap_faults.specs.History.{IsSide}
+use Rattle.tcap_faults.specs.SentToId.{has_ended}
 use Rattle.tcap_faults.proofs.transaction.history.SideFacts.ended_one.Given as goal
 
 abbrev pub invariant-loop-id : goal.invariant-loop-id

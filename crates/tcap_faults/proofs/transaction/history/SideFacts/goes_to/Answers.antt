@@ -1,4 +1,4 @@
-use Rattle.tcap_faults.specs.Kept.{sent_from}
+use Rattle.tcap_faults.specs.History.{sent_from}
 use Rattle.tcap_faults.proofs.transaction.history.SideFacts.goes_to.Goals as goal
 
 pub returns : goal.returns

@@ -1,7 +1,7 @@
 use Rattle.std.proofs.Common.{◌≡◌, ℕ, List, Some, ◌&&◌, not, ap, ◌∙◌, ap₂}
 use Rattle.tcap_msg.specs.Parts.{dtid_in, otid_in}
 use Rattle.tcap_record.specs.Ends.{other}
-use Rattle.tcap_faults.specs.Told.{began, has_ended, has_used}
+use Rattle.tcap_faults.specs.SentToId.{began, has_ended, has_used}
 use Rattle.tcap_faults.proofs.transaction_laws.LookupLaws.{some_lent}
 use Rattle.tcap_faults.proofs.transaction_laws.HistoryLookupLaws.{used_at}
 use Rattle.tcap_faults.proofs.transaction.lookup.Found.effects.Goals.{in-Some, in-None, in-Some-there, in-None-there}

@@ -1,4 +1,4 @@
-use Rattle.tcap_refute.specs.Before.{since_quiet}
+use Rattle.tcap_refute.specs.EarlierMessages.{since_quiet}
 use Rattle.tcap_faults.proofs.transaction.lookup.Found.first_kind.Goals as goal
 
 pub returns : goal.returns

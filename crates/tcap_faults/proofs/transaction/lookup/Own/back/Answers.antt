@@ -1,7 +1,7 @@
 use Rattle.std.proofs.Common.{refl, sym}
 use Rattle.std.specs.Prelude.{option_copied}
 use Rattle.tcap_record.specs.Ends.{other}
-use Rattle.tcap_faults.specs.Kept.{sent_to}
+use Rattle.tcap_faults.specs.History.{sent_to}
 use Rattle.tcap_faults.proofs.transaction_laws.HistoryLookupLaws.{used_at}
 use Rattle.tcap_faults.proofs.transaction.lookup.Own.back.Goals as goal
 

@@ -1,8 +1,8 @@
 use Rattle.std.proofs.Common.{ℕ, List, [], cond, subst}
 use Rattle.tcap_record.specs.Ends.{other}
-use Rattle.tcap_faults.specs.Ids.{IsOneOf}
-use Rattle.tcap_faults.specs.Kept.{dtids_of, otids_of, sent_from, sent_to}
-use Rattle.tcap_faults.specs.Told.{has_used}
+use Rattle.tcap_faults.specs.IdList.{IsOneOf}
+use Rattle.tcap_faults.specs.History.{dtids_of, otids_of, sent_from, sent_to}
+use Rattle.tcap_faults.specs.SentToId.{has_used}
 use Rattle.tcap_faults.proofs.transaction_laws.JoinTestLaws.{peers_are}
 use Rattle.tcap_faults.proofs.transaction.lookup.Own.joined.Goals as goal
 

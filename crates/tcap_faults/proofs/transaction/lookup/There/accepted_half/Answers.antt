@@ -5,12 +5,12 @@ use Rattle.tcap_model.specs.World.{Item}
 use Rattle.tcap_msg.specs.Meaning.{id_of}
 use Rattle.std.specs.List.{list_any}
 use Rattle.tcap_msg.specs.Parts.{cause_in}
-use Rattle.tcap_faults.specs.Told.{is_cause, was_refused}
+use Rattle.tcap_faults.specs.SentToId.{is_cause, was_refused}
 use Rattle.tcap_faults.specs.declared.transaction.sent_to_id.SentTo.{SentTo}
 use Rattle.tcap_faults.specs.declared.dialogue.half_origin.How.TheVariants.{Accepted, Refused}
-use Rattle.tcap_faults.specs.HalfOf.{answered_from}
-use Rattle.tcap_faults.specs.Ids.{ids_first}
-use Rattle.tcap_faults.specs.Kept.{IsToAt, otids_of, sent_to}
+use Rattle.tcap_faults.specs.HalfByPeerId.{answered_from}
+use Rattle.tcap_faults.specs.IdList.{ids_first}
+use Rattle.tcap_faults.specs.History.{IsToAt, otids_of, sent_to}
 use Rattle.tcap_faults.proofs.dialogue_laws.HalfLookupLaws.{first_answer, is_accepted, later_of, refused_is, told_nowhere, told_there}
 use Rattle.tcap_faults.proofs.transaction.lookup.There.accepted_half.Goals as goal
 use Rattle.tcap_faults.proofs.transaction.lookup.There.accepted_half.Goals.{in-Some, in-None, in-Some-own, in-None-own, in-Some-own-2+in_ok-push_came, in_default, in-Some-told, in_default-told-2, in_default-told}

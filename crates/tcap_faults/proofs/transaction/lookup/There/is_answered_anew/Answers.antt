@@ -3,10 +3,10 @@ use Rattle.std.specs.List.{list_any}
 use Rattle.std.specs.Str.{bytes_eq}
 use Rattle.tcap_msg.specs.declared.kind.Kind.TheVariants as forms
 use Rattle.tcap_record.specs.Ends.{other}
-use Rattle.tcap_refute.specs.Before.{asked, has_a}
+use Rattle.tcap_refute.specs.EarlierMessages.{asked, has_a}
 use Rattle.tcap_faults.specs.Counts.{is_nothing}
-use Rattle.tcap_faults.specs.Told.{told}
-use Rattle.tcap_faults.specs.Tangled.{owns_of}
+use Rattle.tcap_faults.specs.SentToId.{told}
+use Rattle.tcap_faults.specs.TangledIds.{owns_of}
 use Rattle.tcap_faults.proofs.transaction_laws.HistoryLookupLaws.{began_asked}
 use Rattle.tcap_faults.proofs.transaction.lookup.There.is_answered_anew.Goals as goal
 use Rattle.tcap_faults.proofs.transaction.lookup.There.is_answered_anew.Goals.{then-begins, else-begins}

@@ -6,15 +6,15 @@ use Rattle.tcap_msg.specs.Meaning.{id_of}
 use Rattle.tcap_record.specs.declared.entry.End.{End as Side}
 use Rattle.tcap_model.specs.World.{Item}
 use Rattle.std.proofs.Common.{◌≡◌, ℕ, Bool, List, Option, None, Some, ◌&&◌, is_some, false, true, not, refl, sym, ap, ◌∙◌}
-use Rattle.tcap_refute.specs.Before.{has_a}
-use Rattle.tcap_faults.specs.Told.{told}
-use Rattle.tcap_faults.specs.HalfOf.{HalfOf}
-use Rattle.tcap_faults.specs.Ids.{ids_first}
+use Rattle.tcap_refute.specs.EarlierMessages.{has_a}
+use Rattle.tcap_faults.specs.SentToId.{told}
+use Rattle.tcap_faults.specs.HalfByPeerId.{HalfOf}
+use Rattle.tcap_faults.specs.IdList.{ids_first}
 use Rattle.tcap_faults.specs.contracts.dialogue.half_origin.How.{the_type}
 use Rattle.tcap_faults.specs.declared.dialogue.half_origin.How.{How}
 use Rattle.tcap_faults.specs.declared.dialogue.half_origin.How.TheVariants as hows
 use Rattle.tcap_faults.specs.HalfKinds.{is_accepted, is_first_answer}
-use Rattle.tcap_faults.specs.Kept.{otids_of, sent_to}
+use Rattle.tcap_faults.specs.History.{otids_of, sent_to}
 use Rattle.tcap_faults.proofs.dialogue_laws.HalfLookupLaws.{went_on}
 use Rattle.tcap_faults.proofs.transaction.lookup.There.is_first_answer.Goals as goal
 

@@ -2,8 +2,8 @@ use Rattle.std.proofs.Common.{◌||◌, sym, ap, ◌∙◌}
 use Rattle.std.specs.List.{list_any}
 use Rattle.std.proofs.lemmas.Bool.{or_left}
 use Rattle.tcap_record.specs.Ends.{other}
-use Rattle.tcap_faults.specs.Told.{goes_on_to}
-use Rattle.tcap_faults.specs.Kept.{sent_from}
+use Rattle.tcap_faults.specs.SentToId.{goes_on_to}
+use Rattle.tcap_faults.specs.History.{sent_from}
 use Rattle.tcap_faults.proofs.transaction_laws.JoinTestLaws.{joined_is}
 use Rattle.tcap_faults.proofs.transaction.lookup.There.is_joined.Goals as goal
 

@@ -1,8 +1,8 @@
 use Rattle.std.proofs.Common.{filter, ap, ◌∙◌}
 use Rattle.tcap_record.specs.Ends.{other}
-use Rattle.tcap_faults.specs.Kept.{dtids_of, otids_of, sent_from, sent_to}
-use Rattle.tcap_faults.specs.Tangled.{two_differ}
-use Rattle.tcap_faults.specs.Told.{has_used}
+use Rattle.tcap_faults.specs.History.{dtids_of, otids_of, sent_from, sent_to}
+use Rattle.tcap_faults.specs.TangledIds.{two_differ}
+use Rattle.tcap_faults.specs.SentToId.{has_used}
 use Rattle.tcap_faults.proofs.transaction_laws.JoinTestLaws.{owns_are}
 use Rattle.tcap_faults.proofs.transaction.lookup.There.owns_differ.Goals as goal
 

@@ -1,8 +1,8 @@
 use Rattle.std.proofs.Common.{refl}
 use Rattle.std.proofs.lemmas.Result.{on_ok_weaker}
-use Rattle.tcap_refute.specs.Before.{components_of}
-use Rattle.tcap_faults.specs.HalfOf.{from_first, responds}
-use Rattle.tcap_faults.specs.Kept.{before_response}
+use Rattle.tcap_refute.specs.EarlierMessages.{components_of}
+use Rattle.tcap_faults.specs.HalfByPeerId.{from_first, responds}
+use Rattle.tcap_faults.specs.History.{before_response}
 use Rattle.tcap_faults.proofs.transaction_laws.SentFromLaws.{came_since, came_sooner}
 use Rattle.tcap_faults.proofs.transaction.sent_from_id.CameOfMessages.note.Goals as goal
 

@@ -2,9 +2,9 @@ use Rattle.std.proofs.Common.{◌≡◌, rules, sym}
 use Rattle.std.specs.Prelude.{filter}
 use Rattle.std.proofs.lemmas.Result.{on_ok_weaker}
 use Rattle.tcap_msg.specs.Parts.{dtid_in}
-use Rattle.tcap_faults.specs.Told.{goes_on_to}
-use Rattle.tcap_faults.specs.Kept.{dtids_of}
-use Rattle.tcap_faults.specs.Tallied.{sum}
+use Rattle.tcap_faults.specs.SentToId.{goes_on_to}
+use Rattle.tcap_faults.specs.History.{dtids_of}
+use Rattle.tcap_faults.specs.InvokeCounts.{sum}
 use Rattle.tcap_faults.proofs.transaction_laws.SentFromLaws.{IsContinued, continued_nowhere, continued_to, from_continue}
 use Rattle.tcap_faults.proofs.transaction.sent_from_id.SentFrom.note_continue.Goals as goal
 use Rattle.tcap_faults.proofs.transaction.sent_from_id.SentFrom.note_continue.Goals.{in-Some+in_ok-add, in_default}

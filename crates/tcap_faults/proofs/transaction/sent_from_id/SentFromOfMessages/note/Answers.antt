@@ -1,8 +1,8 @@
 use Rattle.std.proofs.Common.{ap, sym, ◌∙◌}
 use Rattle.std.proofs.lemmas.Result.{on_ok_weaker}
 use Rattle.tcap_msg.specs.declared.kind.Kind.TheVariants as forms
-use Rattle.tcap_refute.specs.Kept.{tells_from}
-use Rattle.tcap_refute.specs.Before.{is_form}
+use Rattle.tcap_refute.specs.KeptFacts.{tells_from}
+use Rattle.tcap_refute.specs.EarlierMessages.{is_form}
 use Rattle.tcap_faults.proofs.transaction_laws.SentFromLaws.{first_noted, from_neither, from_same, neither}
 use Rattle.tcap_faults.proofs.transaction.sent_from_id.SentFromOfMessages.note.Goals as goal
 

@@ -1,7 +1,7 @@
 use Rattle.std.proofs.Common.{inl, inr, rules}
 use Rattle.std.proofs.lemmas.Result.{on_ok_weaker}
-use Rattle.tcap_refute.specs.Before.{components_of}
-use Rattle.tcap_faults.specs.Kept.{of_user, otids_of}
+use Rattle.tcap_refute.specs.EarlierMessages.{components_of}
+use Rattle.tcap_faults.specs.History.{of_user, otids_of}
 use Rattle.tcap_faults.proofs.transaction_laws.SentToLaws.{HasSpoken, spoke_from, spoke_only, told}
 use Rattle.tcap_faults.proofs.transaction.sent_to_id.SentTo.note_of_user.Goals as goal
 use Rattle.tcap_faults.proofs.transaction.sent_to_id.SentTo.note_of_user.Goals.{in-Continue-Some+in_ok-add, in-Continue+in-None-1, in-Unidirectional-1}

@@ -3,10 +3,10 @@ use Rattle.std.specs.List.{list_any}
 use Rattle.tcap_record.specs.Ends.{other}
 use Rattle.tcap_msg.specs.declared.transaction_id.TransactionIdView.{TransactionIdView}
 use Rattle.tcap_msg.specs.Meaning.{id_of}
-use Rattle.tcap_faults.specs.Closed.{is_surely_open}
+use Rattle.tcap_faults.specs.ClosedHalves.{is_surely_open}
 use Rattle.tcap_faults.specs.Counts.{is_nothing}
-use Rattle.tcap_faults.specs.Ids.{AreAmong}
-use Rattle.tcap_faults.specs.Kept.{dtids_of, sent_from}
+use Rattle.tcap_faults.specs.IdList.{AreAmong}
+use Rattle.tcap_faults.specs.History.{dtids_of, sent_from}
 use Rattle.tcap_faults.proofs.dialogue_laws.OpenHalvesLaws.{all_open_is, some_kept_of}
 use Rattle.tcap_faults.proofs.transaction.tangled_ids.Ends.all_go_to_open.Goals as goal
 

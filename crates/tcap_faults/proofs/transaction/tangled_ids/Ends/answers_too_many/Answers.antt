@@ -3,11 +3,11 @@ use Rattle.std.specs.Prelude.{nat_le}
 use Rattle.tcap_msg.specs.declared.kind.Kind.TheVariants as forms
 use Rattle.tcap_msg.specs.Parts.{cause_in}
 use Rattle.tcap_record.specs.Ends.{other}
-use Rattle.tcap_refute.specs.Before.{asked, is_a, sent_by}
-use Rattle.tcap_faults.specs.Told.{is_abort_with, is_cause, told}
+use Rattle.tcap_refute.specs.EarlierMessages.{asked, is_a, sent_by}
+use Rattle.tcap_faults.specs.SentToId.{is_abort_with, is_cause, told}
 use Rattle.tcap_faults.specs.Counts.{count, is_nothing}
 use Rattle.tcap_faults.specs.Fault.{count_received}
-use Rattle.tcap_faults.specs.HalfOf.{half_of}
+use Rattle.tcap_faults.specs.HalfByPeerId.{half_of}
 use Rattle.tcap_faults.proofs.dialogue_laws.OpenHalvesLaws.{few_from, few_to, none_left, none_received, none_spoken, received_one, unknown_is}
 use Rattle.tcap_faults.proofs.transaction_laws.HistoryLookupLaws.{from_nowhere, from_there, spoken_nowhere, spoken_there, to_nowhere, to_there}
 use Rattle.tcap_faults.proofs.transaction.tangled_ids.Ends.answers_too_many.Goals as goal

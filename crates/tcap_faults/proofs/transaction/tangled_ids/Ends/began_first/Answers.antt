@@ -1,6 +1,6 @@
 use Rattle.std.proofs.Common.{Some, None, sym, ap, ◌∙◌}
 use Rattle.std.specs.List.{list_any}
-use Rattle.tcap_faults.specs.Told.{began}
+use Rattle.tcap_faults.specs.SentToId.{began}
 use Rattle.tcap_faults.proofs.transaction_laws.SameIdsLaws.{among_one, any_one}
 use Rattle.tcap_faults.proofs.transaction.tangled_ids.Ends.began_first.Goals as goal
 

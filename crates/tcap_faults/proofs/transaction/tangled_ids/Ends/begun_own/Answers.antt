@@ -1,5 +1,5 @@
 use Rattle.std.proofs.Common.{sym, ◌∙◌}
-use Rattle.tcap_faults.specs.Kept.{dtids_of, sent_from}
+use Rattle.tcap_faults.specs.History.{dtids_of, sent_from}
 use Rattle.tcap_record.specs.Ends.{other}
 use Rattle.tcap_faults.proofs.dialogue_laws.WhichHalf.{first_own_is, joined_own_is}
 use Rattle.tcap_faults.proofs.transaction.tangled_ids.Ends.begun_own.Goals as goal

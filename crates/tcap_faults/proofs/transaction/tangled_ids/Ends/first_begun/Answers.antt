@@ -1,6 +1,6 @@
 use Rattle.std.proofs.Common.{ℕ, Bool, List, Some, refl, sym, ap, ◌∙◌}
 use Rattle.std.specs.List.{find}
-use Rattle.tcap_faults.specs.Told.{began}
+use Rattle.tcap_faults.specs.SentToId.{began}
 use Rattle.tcap_faults.proofs.transaction_laws.IdListLaws.{found_first, found_later, found_nothing, left_here, left_nothing, left_on}
 use Rattle.tcap_faults.proofs.transaction.tangled_ids.Ends.first_begun.Goals as goal
 

@@ -4,8 +4,8 @@ use Rattle.std.specs.List.{find}
 use Rattle.tcap_record.specs.declared.entry.End.{End as Side}
 use Rattle.tcap_end.specs.Table.{Table}
 use Rattle.tcap_model.specs.World.{Item}
-use Rattle.tcap_faults.specs.Told.{began}
-use Rattle.tcap_faults.specs.Kept.{IsSide}
+use Rattle.tcap_faults.specs.SentToId.{began}
+use Rattle.tcap_faults.specs.History.{IsSide}
 use Rattle.tcap_faults.proofs.transaction.tangled_ids.Ends.first_begun.Given as goal
 
 abbrev pub invariant-loop-id : goal.invariant-loop-id

@@ -1,7 +1,7 @@
 use Rattle.std.proofs.Common.{◌≡◌, ℕ, List, Some, None, rules, sym, subst, ap, ◌∙◌}
 use Rattle.std.proofs.lemmas.Result.{IfOk-weaker}
 use Rattle.tcap_msg.specs.Parts.{cause_in, dtid_in}
-use Rattle.tcap_faults.specs.Found.{IsThere}
+use Rattle.tcap_faults.specs.KeptForMessage.{IsThere}
 use Rattle.tcap_faults.proofs.transaction_laws.LookupLaws.{there_is, there_none}
 use Rattle.tcap_faults.proofs.verdict_laws.LowestKindLaws.{alone_found, half_found, not_tangled}
 use Rattle.tcap_faults.proofs.transaction.tangled_ids.Ends.further_kind.Goals as goal

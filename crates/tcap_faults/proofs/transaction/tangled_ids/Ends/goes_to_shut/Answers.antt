@@ -1,7 +1,7 @@
 use Rattle.std.proofs.Common.{ℕ, List, Bool, not, refl, sym, ap, ◌∙◌}
 use Rattle.std.specs.List.{list_any}
-use Rattle.tcap_faults.specs.Closed.{is_surely_open}
-use Rattle.tcap_faults.specs.Ids.{ids_kept}
+use Rattle.tcap_faults.specs.ClosedHalves.{is_surely_open}
+use Rattle.tcap_faults.specs.IdList.{ids_kept}
 use Rattle.tcap_faults.proofs.transaction_laws.JoinedIdsLaws.{any_kept}
 use Rattle.tcap_faults.proofs.dialogue_laws.OpenHalvesLaws.{any_first, any_last, any_next, first_so, others_so}
 use Rattle.tcap_faults.proofs.transaction.tangled_ids.Ends.goes_to_shut.Goals as goal

@@ -4,8 +4,8 @@ use Rattle.std.specs.List.{list_any}
 use Rattle.tcap_record.specs.declared.entry.End.{End as Side}
 use Rattle.tcap_record.specs.Ends.{other}
 use Rattle.tcap_model.specs.World.{Item}
-use Rattle.tcap_faults.specs.Closed.{is_surely_open}
-use Rattle.tcap_faults.specs.Kept.{IsSide}
+use Rattle.tcap_faults.specs.ClosedHalves.{is_surely_open}
+use Rattle.tcap_faults.specs.History.{IsSide}
 use Rattle.tcap_faults.proofs.transaction.tangled_ids.Ends.goes_to_shut.Given as goal
 
 abbrev pub invariant-loop-id : goal.invariant-loop-id

@@ -1,7 +1,7 @@
 use Rattle.std.proofs.Common.{◌∙◌}
 use Rattle.std.proofs.lemmas.Result.{IfOk-at_ok}
 use Rattle.tcap_msg.specs.Parts.{components_in}
-use Rattle.tcap_faults.specs.HalfOf.{half_of}
+use Rattle.tcap_faults.specs.HalfByPeerId.{half_of}
 use Rattle.tcap_faults.proofs.component_laws.FewComponentsLaws.{heard_are_few, invoked_are_few, told_are_few}
 use Rattle.tcap_faults.proofs.verdict_laws.LowestKindLaws.{kind_last, kind_of_dialogue, kinds_found}
 use Rattle.tcap_faults.proofs.transaction.tangled_ids.Ends.half_kind.Goals as goal

@@ -2,8 +2,8 @@ use Rattle.std.proofs.Common.{◌&&◌, not, sym, ap, ◌∙◌}
 use Rattle.std.specs.List.{list_any}
 use Rattle.tcap_record.specs.Ends.{other}
 use Rattle.tcap_msg.specs.Parts.{cause_in}
-use Rattle.tcap_faults.specs.Told.{is_cause}
-use Rattle.tcap_faults.specs.Kept.{sent_to}
+use Rattle.tcap_faults.specs.SentToId.{is_cause}
+use Rattle.tcap_faults.specs.History.{sent_to}
 use Rattle.tcap_faults.proofs.dialogue_laws.OpenHalvesLaws.{accepted_is}
 use Rattle.tcap_faults.proofs.transaction_laws.HistoryLookupLaws.{began_asked, to_nowhere, to_there}
 use Rattle.tcap_faults.proofs.transaction.tangled_ids.Ends.has_accepted.Goals as goal

@@ -2,10 +2,10 @@ use Rattle.std.proofs.Common.{◌&&◌, filter, sym, ap, ◌∙◌}
 use Rattle.std.specs.List.{list_any}
 use Rattle.std.proofs.lemmas.Bool.{and_left, and_right}
 use Rattle.tcap_record.specs.Ends.{other}
-use Rattle.tcap_refute.specs.Before.{asked}
-use Rattle.tcap_faults.specs.Told.{began, has_used}
-use Rattle.tcap_faults.specs.Kept.{dtids_of, sent_from}
-use Rattle.tcap_faults.specs.Tangled.{goes_to_begun}
+use Rattle.tcap_refute.specs.EarlierMessages.{asked}
+use Rattle.tcap_faults.specs.SentToId.{began, has_used}
+use Rattle.tcap_faults.specs.History.{dtids_of, sent_from}
+use Rattle.tcap_faults.specs.TangledIds.{goes_to_begun}
 use Rattle.tcap_faults.proofs.transaction_laws.HistoryLookupLaws.{began_asked}
 use Rattle.tcap_faults.proofs.transaction_laws.JoinTestLaws.{heard_same, of_both}
 use Rattle.tcap_faults.proofs.transaction.tangled_ids.Ends.is_begun_by_both.Goals as goal

@@ -1,8 +1,8 @@
 use Rattle.std.proofs.Common.{◌≡◌, Bool, true, false, ◌&&◌, not, sym, ap, ◌∙◌, ap₂}
 use Rattle.std.specs.List.{list_any}
 use Rattle.tcap_record.specs.Ends.{other}
-use Rattle.tcap_refute.specs.Before.{ends_to, sent_by}
-use Rattle.tcap_faults.specs.Told.{has_ended}
+use Rattle.tcap_refute.specs.EarlierMessages.{ends_to, sent_by}
+use Rattle.tcap_faults.specs.SentToId.{has_ended}
 use Rattle.tcap_faults.proofs.dialogue_laws.OpenHalvesLaws.{open_nowhere, open_there}
 use Rattle.tcap_faults.proofs.transaction.tangled_ids.Ends.is_open.Goals as goal
 use Rattle.tcap_faults.proofs.transaction.tangled_ids.Ends.is_open.Goals.{then-not-prearranged, else-not-prearranged}

@@ -5,7 +5,7 @@ use Rattle.std.specs.List.{list_any}
 use Rattle.tcap_record.specs.Ends.{other}
 use Rattle.tcap_model.specs.World.{Item}
 use Rattle.tcap_faults.specs.declared.transaction.sent_from_id.SentFrom.{SentFrom}
-use Rattle.tcap_faults.specs.Kept.{IsSide}
+use Rattle.tcap_faults.specs.History.{IsSide}
 use Rattle.tcap_faults.proofs.dialogue_laws.OpenHalvesLaws.{leaves}
 use Rattle.tcap_faults.proofs.transaction.tangled_ids.Ends.is_open_at_mark.Given as goal
 

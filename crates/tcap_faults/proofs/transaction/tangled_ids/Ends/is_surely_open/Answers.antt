@@ -1,6 +1,6 @@
 use Rattle.std.proofs.Common.{ap, sym}
-use Rattle.tcap_faults.specs.Ids.{ids_first}
-use Rattle.tcap_faults.specs.Kept.{dtids_of}
+use Rattle.tcap_faults.specs.IdList.{ids_first}
+use Rattle.tcap_faults.specs.History.{dtids_of}
 use Rattle.tcap_faults.proofs.dialogue_laws.OpenHalvesLaws.{open_nowhere}
 use Rattle.tcap_faults.proofs.transaction_laws.HistoryLookupLaws.{from_nowhere, from_there}
 use Rattle.tcap_faults.proofs.transaction.tangled_ids.Ends.is_surely_open.Goals as goal

@@ -2,9 +2,9 @@ use Rattle.std.proofs.Common.{◌≡◌, Bool, ◌||◌, false, refl, sym, ap, �
 use Rattle.std.specs.List.{list_any}
 use Rattle.std.proofs.lemmas.Bool.{or_left}
 use Rattle.tcap_record.specs.Ends.{other}
-use Rattle.tcap_refute.specs.Before.{ends_to, sent_by}
-use Rattle.tcap_faults.specs.Told.{has_ended}
-use Rattle.tcap_faults.specs.Tangled.{peers_of}
+use Rattle.tcap_refute.specs.EarlierMessages.{ends_to, sent_by}
+use Rattle.tcap_faults.specs.SentToId.{has_ended}
+use Rattle.tcap_faults.specs.TangledIds.{peers_of}
 use Rattle.tcap_faults.proofs.transaction.tangled_ids.Ends.may_be_over.Goals as goal
 use Rattle.tcap_faults.proofs.transaction.tangled_ids.Ends.may_be_over.Goals.{then-prearranged, else-prearranged}
 

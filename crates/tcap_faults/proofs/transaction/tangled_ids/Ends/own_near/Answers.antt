@@ -1,6 +1,6 @@
 use Rattle.std.proofs.Common.{◌≡◌, ℕ, List, subst, sym, ◌∙◌}
 use Rattle.std.proofs.lemmas.Slice.Eq.{bytes_eq-Decides}
-use Rattle.tcap_faults.specs.Found.{IsOwn}
+use Rattle.tcap_faults.specs.KeptForMessage.{IsOwn}
 use Rattle.tcap_faults.proofs.transaction_laws.LookupLaws.{own_is}
 use Rattle.tcap_faults.proofs.transaction.tangled_ids.Ends.own_near.Goals as goal
 

@@ -1,6 +1,6 @@
 use Rattle.std.proofs.Common.{refl, sym, ◌∙◌}
 use Rattle.tcap_record.specs.Ends.{other}
-use Rattle.tcap_faults.specs.Kept.{sent_from}
+use Rattle.tcap_faults.specs.History.{sent_from}
 use Rattle.tcap_faults.proofs.transaction_laws.HistoryLookupLaws.{other_twice}
 use Rattle.tcap_faults.proofs.transaction.tangled_ids.Ends.tangle_of_peer.Goals as goal
 

@@ -1,5 +1,5 @@
 use Rattle.std.proofs.Common.{◌∙◌}
-use Rattle.tcap_faults.specs.Tangled.{peers_of, tangle_of_peer}
+use Rattle.tcap_faults.specs.TangledIds.{peers_of, tangle_of_peer}
 use Rattle.tcap_faults.proofs.transaction_laws.FirstTangled.{first_none_of, first_one_of}
 use Rattle.tcap_faults.proofs.transaction.tangled_ids.Ends.tangled_behind.Goals as goal
 

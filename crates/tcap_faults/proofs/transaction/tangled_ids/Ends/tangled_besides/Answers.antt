@@ -1,7 +1,7 @@
 use Rattle.std.proofs.Common.{◌≡◌, ℕ, List, Option, Some, sym, ap, ◌∙◌}
 use Rattle.std.specs.Prelude.{Contains, option_copied}
-use Rattle.tcap_faults.specs.Ids.{IsOneOf}
-use Rattle.tcap_faults.specs.Tangled.{first_tangled, owns_of, peers_of, tangle_of_peer}
+use Rattle.tcap_faults.specs.IdList.{IsOneOf}
+use Rattle.tcap_faults.specs.TangledIds.{first_tangled, owns_of, peers_of, tangle_of_peer}
 use Rattle.tcap_faults.proofs.transaction_laws.FirstTangled.{one_behind, tangled_behind, tangled_besides, tangled_itself}
 use Rattle.tcap_faults.proofs.transaction_laws.JoinTestLaws.{it_is}
 use Rattle.tcap_faults.proofs.transaction.tangled_ids.Ends.tangled_besides.Goals as goal

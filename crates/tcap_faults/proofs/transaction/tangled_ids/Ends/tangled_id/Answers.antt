@@ -5,8 +5,8 @@ use Rattle.tcap_record.specs.declared.entry.End.{End as Side}
 use Rattle.tcap_record.specs.Ends.{other}
 use Rattle.tcap_model.specs.World.{Item}
 use Rattle.tcap_faults.specs.declared.verdict.unblamed_reason.TangledId.{TangledId}
-use Rattle.tcap_faults.specs.Ids.{IsOneOf}
-use Rattle.tcap_faults.specs.Tangled.{owns_of, tangle_of_peer, tangled_for, tangled_id}
+use Rattle.tcap_faults.specs.IdList.{IsOneOf}
+use Rattle.tcap_faults.specs.TangledIds.{owns_of, tangle_of_peer, tangled_for, tangled_id}
 use Rattle.tcap_faults.proofs.transaction_laws.FirstTangled.{one_near, tangled_alone, tangled_first, tangled_joined}
 use Rattle.tcap_faults.proofs.transaction_laws.LookupLaws.{own_is, own_none}
 use Rattle.tcap_faults.proofs.transaction.tangled_ids.Ends.tangled_id.Goals as goal

@@ -1,7 +1,7 @@
 use Rattle.std.proofs.Common.{◌≡◌, true, false, not, ◌&&◌, sym, ap, ◌∙◌}
 use Rattle.std.proofs.lemmas.Bool.{and_left, and_right}
 use Rattle.tcap_msg.specs.Parts.{dtid_in, otid_in}
-use Rattle.tcap_faults.specs.Told.{has_used}
+use Rattle.tcap_faults.specs.SentToId.{has_used}
 use Rattle.tcap_faults.specs.UsedAgain.{may_be_over}
 use Rattle.tcap_faults.proofs.transaction_laws.LookupLaws.{again_begin, again_continue, again_not, own_is, some_lent, there_is, there_none}
 use Rattle.tcap_faults.proofs.transaction_laws.HistoryLookupLaws.{used_at}

@@ -2,7 +2,7 @@ use Rattle.std.proofs.Common.{Some, None, [], ◌∷◌, ◌++◌, cond, sym, ap
 use Rattle.std.specs.Option.{option_or}
 use Rattle.tcap_model.specs.Entries.{item_of}
 use Rattle.tcap_faults.specs.Replay.{items_up_to}
-use Rattle.tcap_faults.specs.Subject.{items_among}
+use Rattle.tcap_faults.specs.FaultSubject.{items_among}
 use Rattle.tcap_faults.proofs.verdict_laws.EarlierEntriesLaws.{replayed_more}
 use Rattle.tcap_faults.proofs.verdict.earlier_entries.Replay.take.Goals.{then-ends, else-ends}
 use Rattle.tcap_faults.proofs.verdict.earlier_entries.Replay.take.Goals as goal

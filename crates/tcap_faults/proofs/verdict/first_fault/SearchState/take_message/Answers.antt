@@ -2,9 +2,9 @@ use Rattle.std.proofs.Common.{refl, sym, subst}
 use Rattle.std.proofs.lemmas.Bool.{not-false, not-true}
 use Rattle.std.proofs.lemmas.Result.{IfOk-at_ok, on_ok_weaker}
 use Rattle.tcap_faults.specs.declared.transaction.history.Facts.{Facts}
-use Rattle.tcap_refute.specs.Before.{since_quiet}
-use Rattle.tcap_faults.specs.Found.{AreFound}
-use Rattle.tcap_faults.specs.Searching.{IsKept}
+use Rattle.tcap_refute.specs.EarlierMessages.{since_quiet}
+use Rattle.tcap_faults.specs.KeptForMessage.{AreFound}
+use Rattle.tcap_faults.specs.SearchState.{IsKept}
 use Rattle.tcap_faults.proofs.verdict_laws.SearchLaws.{IsLookedAt, looked_over, looked_put, message_taken}
 use Rattle.tcap_faults.proofs.verdict.first_fault.SearchState.take_message.Goals.{then-not-looking+in_ok-kind, else-not-looking}
 use Rattle.tcap_faults.proofs.verdict.first_fault.SearchState.take_message.Goals as goal

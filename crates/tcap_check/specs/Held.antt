@@ -1,9 +1,0 @@
--- Which message does a `Keeping` hold, owned or lent?
-use Rattle.tcap_msg.specs.declared.message.Message.{Message}
-use Rattle.tcap_check.specs.declared.held.Keeping.{Keeping}
-use Rattle.tcap_check.specs.declared.held.Keeping.TheVariants.{Own, Lent}
-
--- the message, owned or lent
-abbrev pub kept_message : Keeping → Message
-kept_message (Own message) = message
-kept_message (Lent message) = message.now

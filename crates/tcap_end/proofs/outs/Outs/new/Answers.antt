@@ -1,9 +1,0 @@
-use Rattle.std.proofs.Common.{Option, sym, subst}
-use Rattle.std.specs.Ordering.{int_cmp}
-use Rattle.tcap_end.specs.declared.outs.OwnInvocation.{OwnInvocation}
-use Rattle.tcap_end.specs.Sound.{Rises}
-use Rattle.tcap_end.proofs.OutLaws.{none_rise}
-use Rattle.tcap_end.proofs.outs.Outs.new.Goals as goal
-
-pub invariant_of-result : goal.invariant_of-result
-invariant_of-result c = record { ordered = subst (Rises int_cmp) (sym c.new.ensures.items) (none_rise (Option OwnInvocation)) }

@@ -1,8 +1,0 @@
--- Each number so far is appended.
-use Rattle.std.proofs.Common.{◌≡◌, ◌++◌, take, flat_map}
-use Rattle.std.specs.String.{string_bytes}
-use Rattle.tcap_evidence.specs.Words.{number_behind}
-use Rattle.tcap_evidence.proofs.telling.push_numbers.Given as goal
-
-abbrev pub invariant-loop-number : goal.invariant-loop-number
-invariant-loop-number l = string_bytes l.text ≡ string_bytes l.fn.text ++ flat_map number_behind (take l.number-index l.numbers)

@@ -1,0 +1,67 @@
+-- Which transaction IDs does a segment find in use, given the segments before its quiet mark?
+use Rattle.std.specs.Prelude.{◌≡◌, ◌⊎◌, ℕ, Bool, true, false, List, ◌&&◌, ◌||◌, not, Option, Some, None}
+use Rattle.std.specs.BTreeMap as tree
+use Rattle.std.specs.BTreeSet as set
+use Rattle.std.specs.BTreeSet.{BTreeSet}
+use Rattle.std.specs.List.{list_any}
+use Rattle.tcap_record.specs.declared.entry.End.{End as Side}
+use Rattle.tcap_record.specs.Ends.{other}
+use Rattle.tcap_end.specs.Table.{octets_cmp}
+use Rattle.tcap_dialogues.specs.Course.{Heading}
+use Rattle.tcap_dialogues.specs.CutDialogues.{by_end}
+use Rattle.tcap_dialogues.specs.declared.complete_dialogue.Gathered.{Gathered}
+use Rattle.tcap_report.specs.declared.before_marks.Before.{Before}
+use Rattle.tcap_report.specs.declared.before_marks.BeforeMarks.{BeforeMarks}
+use Rattle.tcap_report.specs.declared.before_marks.Change.{Change}
+use Rattle.tcap_report.specs.declared.before_marks.Change.TheVariants as changes
+use Rattle.tcap_report.specs.declared.before_marks.EndMarks.{EndMarks}
+
+-- ---- the IDs of one end
+
+-- what is known of an ID; nothing, if no note of it exists
+abbrev pub known_by : Option Before → Before
+known_by None = record { sent = false; «open» = false }
+known_by (Some before) = before
+
+-- what is known of an ID at the beginning of the segment
+abbrev pub known_in : EndMarks → List ℕ → Before
+known_in marks octets = known_by (tree.get octets_cmp marks.known octets)
+
+-- what is known of an ID after a change
+abbrev pub changed : Change → Before → Before
+changed changes.Closed before = record before { «open» = false }
+changed changes.Opened before = record before { «open» = true }
+changed changes.Sent before = record before { sent = true }
+
+-- What is known of an ID after the next quiet mark. `sent`: its owner sent from it before the mark. `open`: the last
+-- segment that carries it has it in a dialogue that may go on. Only IDs that were open before are noted as closed.
+abbrev pub known_after : EndMarks → List ℕ → Before
+known_after marks octets = record {
+  sent = (known_in marks octets).sent || set.contains octets_cmp marks.sent octets;
+  «open» = set.contains octets_cmp marks.opened octets
+      || ((known_in marks octets).open && not (set.contains octets_cmp marks.closed octets));
+}
+
+-- The ID was in use: its owner sent from it, or it is open.
+abbrev pub IsInUse : Before → Type 0
+IsInUse before = (before.sent ≡ true) ⊎ (before.open ≡ true)
+
+-- whether one of these IDs is open
+abbrev pub has_open : EndMarks → BTreeSet (List ℕ) → Bool
+has_open marks ids = list_any (λ octets. (known_in marks octets).open) ids.keys
+
+-- ---- the IDs of both ends
+
+-- whether an ID's owner sent from it in an earlier segment; false if there is no ID
+abbrev pub is_sent_from : EndMarks → Option (List ℕ) → Bool
+is_sent_from marks None = false
+is_sent_from marks (Some octets) = (known_in marks octets).sent
+
+-- whether the peer of a heading's sender sent from the destination ID in an earlier segment
+abbrev pub is_sent_to : BeforeMarks → Heading → Bool
+is_sent_to marks h = is_sent_from (by_end (other h.sender) marks.a marks.b) h.dtid
+
+-- Whether a dialogue seems to continue one from before the quiet mark, by the heading of its first entry and by its
+-- IDs.
+abbrev pub is_in_use : BeforeMarks → Heading → Gathered → Bool
+is_in_use marks first g = is_sent_to marks first || (has_open marks.a g.a || has_open marks.b g.b)

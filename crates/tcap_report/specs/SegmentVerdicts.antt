@@ -1,0 +1,81 @@
+-- Which dialogues of a segment (the entries between two quiet marks) are judged?
+use Rattle.std.specs.List.{AllByRecursion}
+use Rattle.std.specs.Prelude.{◌≡◌, ℕ, Bool, true, false, List, [], ◌∷◌, ◌++◌, Option, ⊤, ◌||◌, is_some, length, map, filter, count_by}
+use Rattle.tcap_record.specs.declared.entry.End.{End as Side}
+use Rattle.tcap_dialogues.specs.Course.{Heading, courses_of, courses_so_far}
+use Rattle.tcap_dialogues.specs.CutDialogues.{AreGathered}
+use Rattle.tcap_dialogues.specs.declared.complete_dialogue.Gathered.{Gathered}
+use Rattle.tcap_dialogues.specs.declared.reuse.Reuse.{Reuse}
+use Rattle.tcap_traces.specs.declared.verdict.Verdict.{Verdict}
+use Rattle.tcap_traces.specs.declared.verdict.Verdict.TheVariants as verdicts
+use Rattle.tcap_report.specs.declared.sum.Counts.{Counts}
+use Rattle.tcap_report.specs.declared.trace.Asked.{Asked}
+use Rattle.tcap_report.specs.Counts.{more, no_counts, with_each}
+use Rattle.tcap_report.specs.Dialogue.{Dialogue, IsNoted, verdict_on}
+
+-- The headings of a segment's entries, in their order, and its judged dialogues, in the order in which they were
+-- judged.
+pub record Stretch : Type 0 where
+  pub headings : List Heading
+  pub judged : List Dialogue
+
+-- the gathered entries of the judged dialogues
+abbrev pub those_judged : Stretch → List Gathered
+those_judged s = map (λ d. d.gathered) s.judged
+
+-- Each dialogue of the segment was judged, once.
+abbrev pub IsWhole : Reuse → Stretch → Type 0
+IsWhole reuse s = AreGathered (courses_of reuse s.headings) (those_judged s)
+
+-- whether a verdict is a fail
+abbrev pub is_fail : Verdict → Bool
+is_fail verdicts.Fail = true
+is_fail verdict = false
+
+-- whether a dialogue that may lack later entries is reported: it is over, or it fails by the entries that it has
+abbrev pub is_told : Option Side → Dialogue → Bool
+is_told of d = is_some d.gathered.over || is_fail (verdict_on of d)
+
+-- A fault breaks off the segment. Dialogues whose IDs were free before are judged; of the others, those that are over
+-- or fail are reported.
+pub record IsBrokenOff (asked : Asked) (s : Stretch) : Type 0 where
+  pub done : List Dialogue
+  pub live : List Dialogue
+  pub done_are : AreGathered (courses_so_far asked.reuse s.headings).done (map (λ d. d.gathered) done)
+  pub live_are : AreGathered (courses_so_far asked.reuse s.headings).live (map (λ d. d.gathered) live)
+  pub noted : AllByRecursion (IsNoted asked.settled asked.complete) live
+  pub judged : s.judged ≡ done ++ filter (is_told asked.of) live
+
+-- All these segments are whole.
+abbrev pub AreWhole : Reuse → List Stretch → Type 0
+AreWhole reuse [] = Unit {0}
+AreWhole reuse (s ∷ before) = IsWhole reuse s × AreWhole reuse before
+
+-- The segments of a trace, the last one first, are whole; if the form has a fault, all but the last are.
+abbrev pub AreJudged : Asked → Bool → List Stretch → Type 0
+AreJudged asked false stretches = AreWhole asked.reuse stretches
+AreJudged asked true [] = Unit {0}
+AreJudged asked true (s ∷ before) = IsBrokenOff asked s × AreWhole asked.reuse before
+
+-- The circumstances of each judged dialogue meet `IsNotedOf`.
+abbrev pub AreNoted : Bool → Bool → List Stretch → Type 0
+AreNoted settled complete [] = ⊤
+AreNoted settled complete (s ∷ before) =
+    AllByRecursion (IsNoted settled complete) s.judged × AreNoted settled complete before
+
+-- ---- totals over segments
+
+-- the counts of the verdicts on their dialogues
+abbrev pub counts_in : Option Side → List Stretch → Counts
+counts_in of [] = no_counts
+counts_in of (s ∷ before) = with_each (map (verdict_on of) s.judged) (counts_in of before)
+
+-- the number of entries in these segments
+abbrev pub messages_in : List Stretch → ℕ
+messages_in [] = 0
+messages_in (s ∷ before) = more (messages_in before) (length s.headings)
+
+-- the number of entries in these segments whose kind can be read
+abbrev pub readable_in : List Stretch → ℕ
+readable_in [] = 0
+readable_in (s ∷ before) = more (readable_in before) (count_by (λ h. is_some h.kind) s.headings)

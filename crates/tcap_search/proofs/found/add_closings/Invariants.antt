@@ -1,7 +1,0 @@
--- the closings so far
-use Rattle.std.proofs.Common.{◌≡◌, ◌++◌, map, take}
-use Rattle.tcap_search.specs.Proposed.{closing_behind}
-use Rattle.tcap_search.proofs.found.add_closings.Given as goal
-
-abbrev pub invariant-loop-x : goal.invariant-loop-x
-invariant-loop-x l = l.close.items ≡ l.initial.close.items ++ map (closing_behind l.first) (take l.x-index l.more)

@@ -1,7 +1,0 @@
--- the fates so far
-use Rattle.std.proofs.Common.{◌≡◌, ◌++◌, map, take}
-use Rattle.tcap_search.specs.Proposed.{fate_behind}
-use Rattle.tcap_search.proofs.found.add_fates.Given as goal
-
-abbrev pub invariant-loop-fate : goal.invariant-loop-fate
-invariant-loop-fate l = l.fates.items ≡ l.initial.fates.items ++ map (fate_behind l.first) (take l.fate-index l.more)

@@ -1,0 +1,53 @@
+-- What the result for an end of a dialogue means: an end that fails is at fault, and an end that passes may have sent
+-- its part.
+use Rattle.std.specs.Prelude.{◌≡◌, ◌⊎◌, ℕ, false, List, ◌∷◌, ◌++◌, drop, take, Option, Some}
+use Rattle.std.specs.List.{list_any}
+use Rattle.tcap_record.specs.declared.entry.End.{End as Side}
+use Rattle.tcap_record.specs.declared.entry.Entry.{Entry}
+use Rattle.tcap_end.specs.Table.{Table}
+use Rattle.tcap_model.specs.World.{Item}
+use Rattle.tcap_model.specs.Run.{IsLawfulFor}
+use Rattle.tcap_faults.specs.BlameMeaning.{IsAtFaultOf}
+use Rattle.tcap_judge.specs.declared.findings.Finding.{Finding}
+use Rattle.tcap_judge.specs.BlameOutcome.{IsFound}
+use Rattle.tcap_judge.specs.LawfulOutcome.{AreLawful, AreLawfulUnheard}
+use Rattle.tcap_traces.specs.declared.end_result.Said.{Said}
+use Rattle.tcap_traces.specs.declared.end_result.Said.TheVariants as saids
+use Rattle.tcap_traces.specs.Verdict.{is_of}
+
+-- In some run the end keeps the rules, and this many messages of its peer are unheard. The run sends the entries, or
+-- those before an entry from which on none is of this end.
+abbrev pub MayHaveSentUnheard : Side → Table → List Entry → ℕ → Type 0
+MayHaveSentUnheard side table entries unheard = AreLawfulUnheard (Some side) table entries unheard
+    ⊎ ((number : ℕ) × AreLawfulUnheard (Some side) table (take number entries) unheard
+    × (list_any (is_of side) (drop number entries) ≡ false))
+
+-- The end may have sent its part with some number of unheard messages.
+abbrev pub MayHaveSent : Side → Table → List Entry → Type 0
+MayHaveSent side table entries = (unheard : ℕ) × MayHaveSentUnheard side table entries unheard
+
+-- What the result says of the end holds. If it fails or is doubtful, the entry is at fault, no matter what its peer
+-- sends or what follows. If it passes, it may have sent its part with this many unheard messages. If only the
+-- circumstances keep it from passing, it may have sent its part with some number of unheard messages.
+abbrev pub IsSo : Side → Table → List Entry → Said → Type 0
+IsSo side table entries (saids.Pass unheard) = MayHaveSentUnheard side table entries unheard
+IsSo side table entries (saids.Fail r) = IsAtFaultOf table side entries r
+IsSo side table entries (saids.Doubtful r doubt) = IsAtFaultOf table side entries r
+IsSo side table entries saids.Undecided = Unit {0}
+IsSo side table entries (saids.Behind number) = AreLawful (Some side) table (take number entries)
+IsSo side table entries saids.UnderWay = MayHaveSent side table entries
+IsSo side table entries saids.EarlyMark = MayHaveSent side table entries
+IsSo side table entries saids.TooLong = MayHaveSent side table entries
+IsSo side table entries saids.UnsureTable = MayHaveSent side table entries
+IsSo side table entries saids.Open = MayHaveSent side table entries
+
+-- the finding on the entries before this one, if there is one, holds
+abbrev pub IsFoundBefore : Side → Table → List Entry → Option ℕ → Option Finding → Type 0
+IsFoundBefore side table entries (Some number) (Some found) = IsFound side table (take number entries) found
+IsFoundBefore side table entries number found = Unit {0}
+
+-- No end that keeps the rules may have sent its part of these items, no matter what its peer sent. This holds at the
+-- beginning of a trace, and after other items and a quiet mark.
+abbrev pub IsFaultOfTrace : Table → Side → List Item → Type 0
+IsFaultOfTrace table side items = (IsLawfulFor side items table → ⊥)
+    × ((earlier : List Item) → IsLawfulFor side (earlier ++ Item.Quiet ∷ items) table → ⊥)
