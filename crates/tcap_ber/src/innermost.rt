@@ -55,7 +55,7 @@ fn last_opened(octets: &[u8], depth: usize) -> usize
     noted
 }
 
-#[tactic(auto, unfolding(crate::specs::Walking::innermost_at))]
+#[tactic(auto, unfolding(crate::specs::WalkResult::innermost_at))]
 fn find_innermost(octets: &[u8]) -> usize
     ensures { result ≡ innermost_at octets.now }
 {

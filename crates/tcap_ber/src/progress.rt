@@ -147,7 +147,7 @@ impl Progress {
     }
 
     /// Returns where a walk goes on from here, with `octets` next. `None` if the walk fails, ends or needs more octets.
-    #[tactic(auto, unfolding(crate::specs::Walking::goes))]
+    #[tactic(auto, unfolding(crate::specs::WalkResult::goes))]
     pub(crate) fn goes(self, octets: &[u8]) -> Option<Progress>
         requires placed { IsPlaced self }
         requires first { self.depth ≡ 0 → self.at ≡ 0 }

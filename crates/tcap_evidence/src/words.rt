@@ -9,7 +9,7 @@ use tcap_record::End;
 use tcap_refute::Kind;
 
 /// Returns the words for what a kind says of a message or a quiet mark.
-#[tactic(auto, unfolding(crate::specs::Words::kind_words))]
+#[tactic(auto, unfolding(crate::specs::EvidenceWords::kind_words))]
 pub(crate) fn kind_words(kind: Kind) -> &'static str
     ensures { result.now ≡ kind_words kind }
 {
@@ -35,7 +35,7 @@ pub(crate) fn kind_words(kind: Kind) -> &'static str
 }
 
 /// Returns the words for how a half began.
-#[tactic(auto, unfolding(crate::specs::Words::how_words))]
+#[tactic(auto, unfolding(crate::specs::EvidenceWords::how_words))]
 pub(crate) fn how_words(how: How) -> &'static str
     ensures { result.now ≡ how_words how }
 {
@@ -64,7 +64,7 @@ pub(crate) fn is_of_half(kind: Kind) -> bool
 }
 
 /// Returns the words for a class of operations, which follow those for a sort.
-#[tactic(auto, unfolding(crate::specs::Words::class_words))]
+#[tactic(auto, unfolding(crate::specs::EvidenceWords::class_words))]
 pub(crate) fn class_words(class: Class) -> &'static str
     ensures { result.now ≡ class_words class }
 {
@@ -77,7 +77,7 @@ pub(crate) fn class_words(class: Class) -> &'static str
 }
 
 /// Returns the words for a sort of components, without its class.
-#[tactic(auto, unfolding(crate::specs::Words::sort_words))]
+#[tactic(auto, unfolding(crate::specs::EvidenceWords::sort_words))]
 pub(crate) fn sort_words(sort: Sort) -> &'static str
     ensures { result.now ≡ sort_words sort }
 {
@@ -137,7 +137,7 @@ pub(crate) fn sort_in(what: What) -> Option<Sort>
 }
 
 /// Returns the words for messages and their IDs, or for the place of components.
-#[tactic(auto, unfolding(crate::specs::Words::place_words))]
+#[tactic(auto, unfolding(crate::specs::EvidenceWords::place_words))]
 pub(crate) fn place_words(what: What) -> &'static str
     ensures { result.now ≡ place_words what }
 {
@@ -188,7 +188,7 @@ pub(crate) fn is_told_empty(what: What) -> bool
 }
 
 /// Returns the line with another possible explanation, if the kind has one.
-#[tactic(auto, unfolding(crate::specs::Words::doubt_words))]
+#[tactic(auto, unfolding(crate::specs::EvidenceWords::doubt_words))]
 pub(crate) fn doubt_words(kind: Kind) -> &'static str
     ensures { result.now ≡ doubt_words kind }
 {
@@ -205,7 +205,7 @@ pub(crate) fn doubt_words(kind: Kind) -> &'static str
 }
 
 /// Returns the line on an operation that the table does not have, or no text.
-#[tactic(auto, unfolding(crate::specs::Words::lacks_words))]
+#[tactic(auto, unfolding(crate::specs::EvidenceWords::lacks_words))]
 pub(crate) fn lacks_words(lacks: bool) -> &'static str
     ensures { result.now ≡ lacks_words lacks }
 {

@@ -47,7 +47,7 @@ fn is_shown(shown: Option<Refutation>, refutation: Refutation) -> bool
 }
 
 /// Appends that the entry `count` is no message, so the search ends there.
-#[tactic(auto, unfolding(crate::specs::Refuted::unread_words))]
+#[tactic(auto, unfolding(crate::specs::RefutedLines::unread_words))]
 fn push_unread(text: &mut String, count: usize) -> Result<(), AllocError>
     ensures { OnOk result (string_bytes text.new ≡ string_bytes text.old ++ unread_words count) }
 {
@@ -58,7 +58,7 @@ fn push_unread(text: &mut String, count: usize) -> Result<(), AllocError>
 }
 
 /// Returns the words for an end without a fault.
-#[tactic(auto, unfolding(crate::specs::Refuted::none_found_words))]
+#[tactic(auto, unfolding(crate::specs::RefutedLines::none_found_words))]
 fn none_found_words() -> &'static str
     ensures { result.now ≡ none_found_words }
 {

@@ -15,7 +15,7 @@ use tcap_ber::{Fault, Outer, Window, outer};
 use tcap_msg::view;
 
 /// Reads one element as the content of an entry. Faults get their offset in the record.
-#[tactic(auto, unfolding(crate::specs::Framing::body_at))]
+#[tactic(auto, unfolding(crate::specs::FramingResult::body_at))]
 fn body_view(element: Window) -> BodyView
     ensures { body_read result ≡ body_at (span element.entry) }
 {
