@@ -13,7 +13,7 @@ import time
 PROGRAM = "crates/tcapjudge/out/tcapjudge"
 A, B, MARK = b"\x41", b"\x42", b"\x51"
 COUNTS = 25_000, 50_000, 100_000
-# Operations of each class, as docs/FORMAT.md writes tables.
+# Operations of each class, as docs/TABLES.md writes tables.
 TABLE = {"operations": [{"class": class_, "code": 44 + class_} for class_ in (1, 2, 3, 4)]}
 
 

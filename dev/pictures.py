@@ -3,7 +3,7 @@ that `explain --chart` writes. Run it by hand if page/ changes. It needs what te
 program is that of tests/tested.py.
 
 The report is over two dialogues of examples/ side by side, one of them with a planted fault, and over some unchanged
-examples. The chart is the run that docs/FORMAT.md shows."""
+examples. The chart is the run that docs/EXPLAIN.md shows."""
 
 import os
 import shutil

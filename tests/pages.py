@@ -1,8 +1,8 @@
 """Shows that the examples and commands in the pages are true.
 
 The example on each library's page is proved code: the block of code in crates/tcap_NAME/README.md is, word for word,
-the file crates/tcap_uses/src/NAME.rt without its `ghost use` lines, which import the words of the clauses. So are the
-blocks of docs/LIBRARY.md, in order.
+the file crates/tcap_uses/src/NAME.rt without its `ghost use` lines, which import the words of the clauses. So is the
+block of docs/LIBRARY.md.
 
 Each command in README.md and docs/*.md prints what the page says. A block between fences with a line that begins with
 `$ ` consists of commands, each followed by its output. A command whose line ends with a backslash continues in the
@@ -26,7 +26,7 @@ from tested import PROGRAM
 
 LIBRARIES = ["ber", "parts", "msg", "record", "end", "books", "model", "dialogues", "certificate_text", "check", "refute", "faults", "evidence", "search", "lines", "judge", "diagnostics", "explain", "traces", "words"]
 PAGES = {f"crates/tcap_{name}/README.md": [name] for name in LIBRARIES}
-PAGES["docs/LIBRARY.md"] = ["record", "msg", "end", "judge"]
+PAGES["docs/LIBRARY.md"] = ["judge"]
 RUST = re.compile(r"^```rust\n(.*?)^```$", re.DOTALL | re.MULTILINE)
 
 COPIED = ["examples", "tools"]
@@ -143,7 +143,7 @@ def runs_of(page, program):
 
 def main():
     held = [is_proved(page, names) for page, names in PAGES.items()]
-    held += map(is_sound, ["README.md", *sorted(glob.glob("docs/*.md") + glob.glob("crates/*/README.md"))])
+    held += map(is_sound, ["README.md", "CONTRIBUTING.md", *sorted(glob.glob("docs/*.md") + glob.glob("crates/*/README.md"))])
     with tempfile.TemporaryDirectory() as folder:
         os.symlink(os.path.abspath(PROGRAM), f"{folder}/tcapjudge")
         for page in ["README.md", *sorted(glob.glob("docs/*.md"))]:

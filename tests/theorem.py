@@ -104,8 +104,8 @@ def reached(known, roots, seen):
     return new
 
 
-def table(known, new):
-    """Returns the lines of the list of definitions, a row for each file."""
+def listed(known, new):
+    """Returns the lines of the list of definitions, an item for each file."""
     files = {}
     for module, name in new:
         files.setdefault(module, []).append(name)
@@ -115,9 +115,8 @@ def table(known, new):
         total += lines
         crate, name = module.split(".")
         link = f"[{crate}, {name}](../{known[module].path})"
-        rows.append(f"| {link} | {known[module].about()} | {', '.join(f'`{it}`' for it in names)} | {lines} |")
-    head = ["| File | What it answers | Definitions | Lines |", "|---|---|---|---|"]
-    return [*head, *rows, "", f"{len(new)} definitions in {len(files)} files, {total} lines."]
+        rows.append(f"- {link}, {lines} lines: {known[module].about()} {', '.join(f'`{it}`' for it in names)}")
+    return [*rows, "", f"{len(new)} definitions in {len(files)} files, {total} lines."]
 
 
 def clause(path, function, name):
@@ -135,7 +134,7 @@ def parts():
     known, seen = modules(), set()
     for name, path, function, clause_name, roots in PARTS:
         yield f"{name}-clause", ["```rust", f"// {function}, {path}", *clause(path, function, clause_name), "```"]
-        yield f"{name}-definitions", table(known, reached(known, roots, seen))
+        yield f"{name}-definitions", listed(known, reached(known, roots, seen))
 
 
 def main():

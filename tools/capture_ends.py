@@ -1,4 +1,4 @@
-"""Decides which addresses of a capture are one end, and whose ID a message goes to. docs/CAPTURES.md, "Ends", has the
+"""Decides which addresses of a capture are one end, and whose ID a message goes to. docs/LINES_OF_CAPTURE.md, "Ends", has the
 rules."""
 
 import collections

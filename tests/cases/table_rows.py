@@ -1,5 +1,5 @@
 """Texts of operation tables and of books of them, for tests/words.py, with what `table` has to print of each. It was worked out by hand
-from docs/FORMAT.md."""
+from docs/TABLES.md."""
 
 
 def meant(place, code, octets, number):
