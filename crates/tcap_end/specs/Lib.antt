@@ -16,6 +16,7 @@ pub mod TableReading
 pub mod OwnInvocations
 pub mod RejectProblems
 pub mod OldestPlace
+pub mod KindTest
 pub mod HalfState
 pub mod Halves
 pub mod Kinds

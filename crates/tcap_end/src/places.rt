@@ -1,12 +1,14 @@
 //! The oldest item of a row that a component can answer, reject or link to, and items that are added to rows.
 
-ghost use Rattle.std.specs.Prelude.{◌≡◌, ◌<◌, ◌++◌, ◌∷◌, [], IsSome, Some, None, OnErr, OnOk, is_some, option_map, slice_index_or, true, ℕ};
+ghost use Rattle.std.specs.Prelude.{◌≡◌, ◌<◌, ◌++◌, ◌∷◌, [], Bool, Some, None, OnErr, OnOk, is_some, option_map, slice_index_or, true, ℕ};
 ghost use Rattle.std.specs.List.{slice_get};
+ghost use Rattle.std.specs.Mem.{FitsInMemory};
 ghost use Rattle.tcap_parts.specs.Meaning.{code_of};
 ghost use Rattle.tcap_end.specs.Half.{with_newest};
 ghost use Rattle.tcap_end.specs.Component.{allows, allows_for, class_reports, is_code, links, may_answer};
 ghost use Rattle.tcap_lists.specs.Lists.{HasRow, KeepsKinds, KeepsRows, row_kinds, row_of, rows_of};
 ghost use Rattle.tcap_end.specs.OldestPlace.{place_of};
+ghost use Rattle.tcap_end.specs.KindTest.{IsTest};
 ghost use Rattle.tcap_end.specs.RejectProblems.{invoke_problems, target_problems};
 ghost use Rattle.tcap_lists.specs.Row.{earlier, fits_in};
 
@@ -62,20 +64,16 @@ fn may_answer(item: &Invocation, table: &Table, is_result: bool, named: Option<C
     is_named && reports_by(table, is_result, code)
 }
 
-/// Finds the place of the oldest invocation that this answer may answer, by a look at all kinds.
-fn answerable_of_all(
-    row: &Row<Invocation>,
-    table: &Table,
-    is_result: bool,
-    named: Option<CodeView>,
-) -> Option<usize>
-    ensures { result ≡ place_of (fits_in (may_answer table.now is_result (option_map code_of named.entry)))
-        (row_of row.now) }
+/// Finds the place of the oldest item that passes a test, by a look at all kinds.
+fn oldest_that<K, F: Fn(&K) -> bool>(row: &Row<K>, passes: F) -> Option<usize>
+    requires kinds { FitsInMemory K.row }
+    requires callable { F.IsAlwaysCallable passes }
+    ensures { (test : K → Bool) → IsTest F.Fn passes test → result ≡ place_of (fits_in test) (row_of row.now) }
 {
     let mut found = None;
     let kinds = row.kinds();
     for kind in 0..kinds.len() {
-        if may_answer(&kinds[kind], table, is_result, named) {
+        if passes(&kinds[kind]) {
             found = earlier(found, row.oldest_of(kind));
         }
     }
@@ -95,22 +93,11 @@ pub(crate) fn first_answerable(
     match row.oldest() {
         None => None,
         Some((at, kind)) if may_answer(kind, table, is_result, named) => Some(at),
-        Some(_) => answerable_of_all(row, table, is_result, named),
+        Some(_) => oldest_that(
+            row,
+            |kind: &Invocation| may_answer(kind, table, is_result, named),
+        ),
     }
-}
-
-/// Finds the place of the oldest invocation that may be rejected with this invoke problem, by a look at all kinds.
-fn rejectable_of_all(row: &Row<Invocation>, problem: u8) -> Option<usize>
-    ensures { result ≡ place_of (fits_in (allows problem)) (row_of row.now) }
-{
-    let mut found = None;
-    let kinds = row.kinds();
-    for kind in 0..kinds.len() {
-        if kinds[kind].allows(problem) {
-            found = earlier(found, row.oldest_of(kind));
-        }
-    }
-    found
 }
 
 /// Returns whether the invocation in a place may be rejected with this invoke problem.
@@ -147,7 +134,7 @@ pub(crate) fn first_rejectable(row: &Row<Invocation>, problem: u8) -> Option<usi
 {
     match rejectable_nearby(row, problem) {
         Some(at) => Some(at),
-        None => rejectable_of_all(row, problem),
+        None => oldest_that(row, |kind: &Invocation| kind.allows(problem)),
     }
 }
 
@@ -160,14 +147,7 @@ pub(crate) fn first_rejectable_answer(
 ) -> Option<usize>
     ensures { result ≡ place_of (fits_in (allows_for is_result problem)) (row_of row.now) }
 {
-    let mut found = None;
-    let kinds = row.kinds();
-    for kind in 0..kinds.len() {
-        if kinds[kind].allows(is_result, problem) {
-            found = earlier(found, row.oldest_of(kind));
-        }
-    }
-    found
+    oldest_that(row, |kind: &Answer| kind.allows(is_result, problem))
 }
 
 /// Returns whether there is an invocation of this kind to which the operation may be linked.
