@@ -23,7 +23,9 @@ from tested import PROGRAM
 sys.path.insert(0, "tools")
 
 import capture_answers
+import capture_carried
 import capture_frames
+import capture_shapes
 import capture_rows
 import cut_rows
 import lines_of_capture
@@ -214,7 +216,7 @@ def is_network_lawful(folder):
 
 def damaged_frames():
     """Yields frames of damaged packets, with their octets."""
-    chance, packets = random.Random(7), capture_rows.PACKETS
+    chance, packets = random.Random(7), capture_rows.PACKETS + capture_carried.PACKETS
     for number in range(1, DAMAGED + 1):
         octets = bytearray(chance.choice(packets))
         for _ in range(chance.randint(1, 4)):
@@ -222,8 +224,8 @@ def damaged_frames():
         octets = octets[: chance.choice([len(octets), chance.randrange(1, len(octets))])]
         fields = {"number": str(number), "time": "1.5", "octets": octets.hex(), "ip": "132", "protocols": "ip:data"}
         fields |= {"kept": "9", "length": chance.choice(["9", "10"]), "source": "10.0.0.1", "target": "10.0.0.2"}
-        values = [fields.get(name, "") for name in capture_frames.FIELDS]
-        yield octets, capture_frames.Frame(*values[: capture_frames.OWN], "\t".join(values[capture_frames.OWN :]))
+        values = [fields.get(name, "") for name in capture_shapes.FIELDS]
+        yield octets, capture_shapes.Frame(*values[: capture_shapes.OWN], "\t".join(values[capture_shapes.OWN :]))
 
 
 def is_steady():
@@ -301,13 +303,14 @@ def main():
     with tempfile.TemporaryDirectory() as folder:
         # Most of the time goes into the start of tshark.
         with concurrent.futures.ThreadPoolExecutor(os.cpu_count()) as lanes:
-            rows = [*capture_rows.rows(), *cut_rows.rows(), *capture_answers.rows()]
+            rows = [*capture_rows.rows(), *cut_rows.rows(), *capture_answers.rows(), *capture_carried.rows()]
             held = list(lanes.map(is_as_wanted, rows))
         held += [*examples_come_back(folder), vectors_come_back(folder), is_network_lawful(folder), is_steady()]
         held += [is_progress_said(folder), words_are_refused(folder), cut_rows.are_cuts_met(folder)]
         messages = [octets for octets, _ in vectors()]
         messages += [bytes.fromhex(line[2:]) for lines in example_lines() for line in lines]
         held += [*wireshark.agreements(PROGRAM, folder, messages), wireshark.addresses_agree(folder)]
+        held.append(wireshark.sua_addresses_agree(folder))
     print(f"{sum(held)} passed, {len(held) - sum(held)} failed")
     return int(not all(held))
 

@@ -1,7 +1,7 @@
 """Decides whether a frame that was not captured whole may carry signalling, SCTP or MTP3, by the layers that `tshark`
 reads of it before the cut. If whole frames of some kind are never read, cut frames of that kind are not missed."""
 
-SCTP_NUMBER = "132"
+SCTP_NUMBER, UDP_NUMBER = "132", "17"
 SCCP_USER = 3
 # These carry no packet of SCTP, though their content may quote one.
 ENDS = {"tcp", "arp", "icmp", "icmpv6", "lldp", "stp"}

@@ -15,14 +15,14 @@ LISTED = 4
 
 def text_of(address):
     """Returns an address as it is printed."""
-    parts = ((part, getattr(address, part)) for part in ("ni", *PARTS, "side"))
+    parts = ((part, getattr(address, part)) for part in ("ni", *PARTS, "side", "host"))
     return " ".join(f"{part}={value}" for part, value in parts if value is not None)
 
 
 def places_of(address):
-    """Returns where an address is: its point code and its title."""
-    codes = [] if address.pc is None else [(address.ni, address.pc)]
-    return codes if address.gt is None else [*codes, address.gt]
+    """Returns where an address is: its point code and its title, or its host."""
+    places = None if address.pc is None else (address.ni, address.pc), address.gt, address.host
+    return [place for place in places if place is not None]
 
 
 def are_near(one, other):
@@ -46,9 +46,10 @@ class Ends:
         """Returns the parts of an address that --by looks at, as an address, or None if there are none."""
         if address.name is None:
             pc, ssn, gt = (getattr(address, part) if part in self.by else None for part in PARTS)
-            if (pc, ssn, gt, address.side) == (None, None, None, None):
+            own = address.side, address.host
+            if {pc, ssn, gt, *own} == {None}:
                 return None
-            name = self.addresses.of(address.ni if "pc" in self.by else None, pc, ssn, gt, address.side)
+            name = self.addresses.of(address.ni if "pc" in self.by else None, pc, ssn, gt, *own)
             address.name, address.parent = name, name.parent
             self.named.append(address)
         return address.name

@@ -9,6 +9,7 @@ from signalling import Label
 
 # The number of missing messages is unknown after a message with this fault: each of its segments may have it.
 UNCOUNTED = "segment"
+NO_CODE = None, None
 
 
 class Pair:
@@ -18,6 +19,8 @@ class Pair:
         self.ends, self.messages, self.fault, self.behind, self.notes = ends, [], None, 0, []
         # Whether each message that is missing because of a fault is one that was found.
         self.is_counted = True
+        # The pairs of codes that copies of its messages went between, which the ends do not show.
+        self.hops = set()
 
     def both(self):
         """Returns the two ends, which may have one name."""
@@ -41,15 +44,15 @@ class Reach:
     has a title itself, so that any transfer point may be on the way."""
 
     def __init__(self, addresses, titles):
-        self.codes = {code_of(address) for address in addresses if address.pc is not None}
+        self.codes = {code_of(address) for address in addresses} - {NO_CODE}
         mine = {address.gt for address in addresses} | {None}
         self.own = {code for code in self.codes if titles[code] <= mine}
         self.has_title = len(mine) > 1
 
 
 def code_of(address):
-    """Returns the point code of an address, with its network."""
-    return address.ni, address.pc
+    """Returns the point code of an address with its network, or what an address of SUA has in its place."""
+    return next(((address.ni, part) for part in (address.pc, address.gt, address.host) if part is not None), NO_CODE)
 
 
 class Labels:
@@ -59,8 +62,10 @@ class Labels:
         self.labels = {frozenset(((label.ni, label.opc), (label.ni, label.dpc))) for label in labels}
         self.codes = frozenset().union(*self.labels)
 
-    def may_be_of(self, one, other):
-        """Returns whether a message with one of these labels may go between two ends."""
+    def may_be_of(self, one, other, hops):
+        """Returns whether a message with one of these labels may go between two ends, perhaps over these hops."""
+        if not self.labels.isdisjoint(hops):
+            return True
         if other.has_title and self.codes & one.own or one.has_title and self.codes & other.own:
             return True
         return any(frozenset((code, to)) in self.labels for code in one.codes for to in other.codes)
@@ -98,6 +103,7 @@ def pairs_of(messages, ends):
     for message in messages:
         own = pair_of(message.sender, message.receiver)
         own.messages.append(message)
+        own.hops |= message.hops
         if message.fault:
             for pair in [own, *(pair_of(*two) for two in message.fault.pairs)]:
                 pair.stop(message.fault, pair is own and message.fault.name != UNCOUNTED)
@@ -118,7 +124,7 @@ def stop_by(faults, pairs, ends):
     for fault in faults:
         if fault.labels not in met:
             labels = Labels(fault.labels)
-            met[fault.labels] = [pair for pair in pairs if labels.may_be_of(*(reaches[end] for end in pair.both()))]
+            met[fault.labels] = [pair for pair in pairs if labels.may_be_of(*(reaches[end] for end in pair.both()), pair.hops)]
         for pair in met[fault.labels]:
             pair.stop(fault)
     for pair in pairs:

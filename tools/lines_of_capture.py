@@ -1,8 +1,8 @@
 #!/usr/bin/env python3
 """Makes lines for `tcapjudge pack` from a capture, one file for each pair of ends. docs/CAPTURES.md describes it.
 
-    python3 tools/lines_of_capture.py CAPTURE FOLDER [--a WHAT] [--by PARTS] [--join | --apart] [--under-way] [--whole]
-        [--progress]
+    python3 tools/lines_of_capture.py CAPTURE FOLDER [--a WHAT] [--by PARTS] [--join | --apart] [--one-side]
+        [--under-way] [--whole] [--progress]
 
 Standard output has a line for each file. Standard error has what was left out (NOTE) and what could not be read or
 decided (FAULT). The exit status is 0, or 2 if tshark is not installed, 3 if there was a fault, or 4 for wrong words."""
@@ -16,7 +16,9 @@ import sys
 import time
 
 import capture_frames
+import capture_shapes
 import signalling
+from capture_copies import copies_of, one_side
 from capture_ends import PARTS, text_of
 from capture_frames import Fault
 from capture_pairs import lone_of, pairs_of, stop_by, with_ends
@@ -52,7 +54,7 @@ def wanted_of(text):
     wanted = {}
     for one in text.split(","):
         part, _, value = one.partition("=")
-        if part not in (*PARTS, "side") or not value or part in ("pc", "ssn") and not value.isdecimal():
+        if part not in (*PARTS, "side", "host") or not value or part in ("pc", "ssn") and not value.isdecimal():
             raise argparse.ArgumentTypeError(f"{text}: as ssn=8, pc=101, gt=4917012, side=near, with commas between")
         wanted[part] = int(value) if part in ("pc", "ssn") else value
     return wanted
@@ -60,7 +62,7 @@ def wanted_of(text):
 
 def words_of(arguments):
     words = Words(description="Makes lines for `tcapjudge pack` of a capture, one file for each pair of ends.")
-    which = "which end is A: ssn=8, pc=101, gt=4917012, or several of them, with commas between"
+    which = "which end is A: ssn=8, pc=101, gt=4917012, host=10.0.0.1, or several of them, with commas between"
     apart = "what tells ends apart: pc,ssn,gt, or some of it"
     words.add_argument("capture", metavar="CAPTURE", help="a pcap or a pcapng")
     words.add_argument("folder", metavar="FOLDER", help="where the files go: made where it is not there, else empty")
@@ -69,6 +71,7 @@ def words_of(arguments):
     answers = words.add_mutually_exclusive_group()
     answers.add_argument("--join", action="store_true", help="where it is not clear who answers: it is who was called")
     answers.add_argument("--apart", action="store_true", help="each address is an end")
+    words.add_argument("--one-side", action="store_true", help="of what both sides of a transfer point have, keep one")
     words.add_argument("--under-way", action="store_true", help="dialogues may be older than the capture: the files say so")
     words.add_argument("--whole", action="store_true", help="nothing was filtered: a missing chunk of SCTP is a fault")
     words.add_argument("--progress", action="store_true", help="say on standard error each second how far it is")
@@ -252,7 +255,7 @@ def read(words, progress):
     """Reads the capture. Returns the reader after the last frame."""
     reader = capture_frames.Reader()
     try:
-        for frame in progress.over("frames read", capture_frames.frames_of(words.capture)):
+        for frame in progress.over("frames read", capture_shapes.frames_of(words.capture)):
             reader.take(frame)
     except signalling.Refused as refused:
         reader.fault((reader.number + 1, 0, 0), refused)
@@ -263,6 +266,12 @@ def read(words, progress):
 def pairs_in(reader, gaps, words):
     """Returns the pairs of a capture that was read, its ends, and how many pairs each of its faults may be of."""
     reader.messages.sort(key=lambda message: message.place)
+    if copies := copies_of(reader.messages):
+        first = f"the first in frames {copies[0][0].frames[0]} and {copies[0][1].frames[0]}"
+        what = "only the first is kept" if words.one_side else "each appears twice; --one-side keeps the first"
+        reader.told[f"messages captured on both sides of a transfer point, {first}: {what}"] = len(copies)
+        if words.one_side:
+            reader.messages = one_side(reader.messages, copies)
     messages, ends, faults = with_ends(reader.messages, reader.addresses, words)
     reader.faults = sorted(reader.faults + faults + (gaps if words.whole else []), key=lambda fault: fault.place)
     pairs = pairs_of(messages, ends)

@@ -6,18 +6,21 @@ import collections
 import struct
 
 SCTP_HEADER = 12
-# The payload protocol identifiers of chunks of SCTP, and the port of M3UA.
-M3UA, M2PA, M3UA_PORT = 3, 5, b"\x0b\x59"
-OTHERS = {2: "M2UA", 4: "SUA", M2PA: "M2PA"}
+# The payload protocol identifiers of chunks of SCTP, and the ports of M3UA and SUA.
+M3UA, SUA, M2PA = 3, 4, 5
+PORTS = {M3UA: b"\x0b\x59", SUA: b"\x36\xb1"}
+OTHERS = {2: "M2UA", M2PA: "M2PA"}
 # SCCP's own management, and the subsystems of 3GPP TS 23.003 that do not use TCAP: RANAP, RNSAP, BSSAP+ and the like.
 NO_TCAP = {1, 98, 142, 143, *range(249, 255)}
 # The messages of Q.713 that carry data without a connection: the number of octets before the pointers, whether the
 # pointers and the length of the data have two octets, and whether there is a pointer to an optional part.
 FORMS = {0x09: (2, False, False), 0x11: (3, False, True), 0x13: (3, True, True)}
 FORMS |= {0x0A: (2, False, False), 0x12: (3, False, True), 0x14: (3, True, True)}
+# The messages of SUA (RFC 3868) that carry data without a connection: their class and their type.
+CLDT, CLDR = 0x701, 0x702
 # The messages that bring a message back to its sender.
-SERVICE = {0x0A, 0x12, 0x14}
-NAMES = {0x09: "UDT", 0x11: "XUDT", 0x13: "LUDT", 0x0A: "UDTS", 0x12: "XUDTS", 0x14: "LUDTS"}
+SERVICE = {0x0A, 0x12, 0x14, CLDR}
+NAMES = {0x09: "UDT", 0x11: "XUDT", 0x13: "LUDT", 0x0A: "UDTS", 0x12: "XUDTS", 0x14: "LUDTS", CLDR: "CLDR"}
 UNIDIRECTIONAL, BEGIN = 0x61, 0x62
 WITH_OTID, WITH_DTID = {0x62, 0x65}, {0x64, 0x65, 0x67}
 ANSI = {0xE1, 0xE2, 0xE3, 0xE4, 0xE5, 0xE6, 0xF6}
@@ -87,6 +90,13 @@ def cut_label(packet):
             return first_label(packet[at + 16 :])
         at += max(4, size + -size % 4)
     return None
+
+
+def adaptation_of(ppid, ports):
+    """Returns M3UA or SUA if a chunk carries it, by its payload protocol or, if that is 0, by the ports; else None."""
+    if ppid:
+        return ppid if ppid in PORTS else None
+    return next((protocol for protocol, port in PORTS.items() if port in ports), None)
 
 
 # ---- M3UA, M2PA

@@ -99,11 +99,12 @@ def routes():
     near = Wire(((101, 8), (901, 6)), titles, tag=70)
     far = Wire(((901, 8), (202, 6)), titles, tag=80, hosts=(2, 3))
     turns = [(near, BEGIN), (far, BEGIN), (far, RESULT), (near, RESULT)]
-    yield Row("both sides of a transfer point", frames_of(*turns), [], [DIALOGUE, DIALOGUE])
+    wanted = ["NOTE messages captured on both sides of a transfer point, the first in frames 1 and 2: ", "--one-side"]
+    yield Row("both sides of a transfer point", frames_of(*turns), [], [DIALOGUE, DIALOGUE], 0, wanted)
     away = Wire(((902, 8), (202, 6)), titles, tag=90, hosts=(4, 3))
     back = Wire(((101, 8), (902, 6)), titles, tag=95, hosts=(1, 4))
     turns = [(near, BEGIN), (far, BEGIN), (away, RESULT), (back, RESULT)]
-    yield Row("both sides of two transfer points", frames_of(*turns), [], [DIALOGUE, DIALOGUE])
+    yield Row("both sides of two transfer points", frames_of(*turns), [], [DIALOGUE, DIALOGUE], 0, wanted)
 
 
 def registers():

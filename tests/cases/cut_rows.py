@@ -4,7 +4,7 @@ tunnels; and cut frames of every type of Ethernet. tests/captures.py runs them, 
 import collections
 import subprocess
 
-import capture_frames
+import capture_shapes
 import made_captures as made
 from capture_rows import BEGIN, DIALOGUE, END, GOES_ON, LONG, OPEN, OTHER_RESULT, RESULT, SECOND, Row, Wire, over
 
@@ -119,17 +119,18 @@ def shapes_of(folder, frames, cuts=None):
     """What the tool makes of each frame."""
     with open(f"{folder}/frames", "wb") as file:
         file.write(made.pcap(frames, cuts=cuts))
-    return [capture_frames.Shape(frame.shape) for frame in capture_frames.frames_of(f"{folder}/frames")]
+    return [capture_shapes.Shape(frame.shape) for frame in capture_shapes.frames_of(f"{folder}/frames")]
 
 
 def are_cuts_met(folder):
     """Whether no frame that as a whole is read for SCTP is taken for one without signalling, wherever it is cut: of frames of
-    each type that tshark knows, in which SCTP over IP stands behind some octets, and of the same over SNAP."""
+    each type that tshark knows, in which SCTP over IP stands behind some octets, of the same over SNAP, and of SCTP in UDP."""
     frame = Wire().frames(BEGIN)[0]
+    in_udp = made.ip(made.udp(frame[34:]), protocol=17)[0]
     begins = [bytes(count) + inner for count in range(24) for inner in (frame, frame[12:], made.inside(frame))]
     kinds = [kind.to_bytes(2, "big") for kind in types()]
     heads = frame[:12], made.llc(b"")[:12] + b"\1\0\xaa\xaa\3\0\0\0"
-    frames = [head + kind + begin for head in heads for kind in kinds for begin in begins]
+    frames = [in_udp] + [head + kind + begin for head in heads for kind in kinds for begin in begins]
     stacks = collections.defaultdict(list)
     for frame, shape in zip(frames, shapes_of(folder, frames)):
         if shape.is_sctp:
@@ -137,6 +138,7 @@ def are_cuts_met(folder):
     turns = [(frame, kept) for found in stacks.values() for frame in found[:2] for kept in range(1, len(frame))]
     shapes = shapes_of(folder, [frame for frame, _ in turns], {at: kept for at, (_, kept) in enumerate(turns, 1)})
     missed = sorted({shape.protocols for shape in shapes if shape.is_harmless})
+    stacks.pop("eth:ethertype:ip:udp:data")
     if missed or len(stacks) < 20:
         print(f"cut frames of {len(stacks)} kinds that carry SCTP: taken for others where they are cut to {missed}")
     return not missed and len(stacks) >= 20

@@ -1,10 +1,11 @@
 """Captures written octet by octet, for tests/captures.py: TCAP messages in SCCP (ITU-T Q.713), M3UA (RFC 4666), SCTP
-(RFC 9260), IPv4 and Ethernet; in SCCP and MTP3 (ITU-T Q.704); and alone, as PDUs that Wireshark exported."""
+(RFC 9260), IPv4 and Ethernet; in SUA (RFC 3868), and SCTP in UDP (RFC 6951); in SCCP and MTP3 (ITU-T Q.704); and
+alone, as PDUs that Wireshark exported."""
 
 import struct
 
 ETHERNET, MTP2, MTP3, SCCP, EXPORTED = 1, 140, 141, 142, 252
-M3UA_PPID = 3
+M3UA_PPID, SUA_PPID, UDP_PORT = 3, 4, 9899
 START = 1_700_000_000
 
 
@@ -75,6 +76,11 @@ def sctp(chunks, tag=0x11223344, ports=(2905, 2905)):
     return struct.pack(">HHII", *ports, tag, 0) + b"".join(chunks)
 
 
+def udp(packet, ports=(UDP_PORT, UDP_PORT)):
+    """A datagram, without a checksum."""
+    return struct.pack(">HHHH", *ports, 8 + len(packet), 0) + packet
+
+
 def data(tsn, payload, sequence=0, flags=3, ppid=M3UA_PPID, stream=1):
     """A chunk of data: flags 3 for a whole one, 2 for the first piece, 0 for one between, 1 for the last."""
     head = struct.pack(">BBHIHHI", 0, flags, 16 + len(payload), tsn & 0xFFFFFFFF, stream, sequence & 0xFFFF, ppid)
@@ -91,6 +97,48 @@ def m3ua(sccp, opc=101, dpc=202, indicator=3):
 def m2pa(unit):
     """A message of M2PA (RFC 4165): its header, two sequence numbers, a priority, and a message signal unit."""
     return struct.pack(">BBBBI", 1, 0, 11, 1, 17 + len(unit)) + bytes(9) + unit
+
+
+def parameter(tag, content):
+    """A parameter of SUA, padded to a multiple of four octets, which its length does not count."""
+    return struct.pack(">HH", tag, 4 + len(content)) + content + bytes(-len(content) % 4)
+
+
+def sua_address(ssn=None, pc=None, gt=None, **hosts):
+    """An address of SUA (RFC 3868 3.10.2): a routing and an address indicator, then its parameters. A global title has
+    the indicator 4, E.164 and international."""
+    route = 1 if gt else 3 if "name" in hosts else 4 if hosts else 2
+    parts = struct.pack(">HH", route, (gt is not None) << 2 | (pc is not None) << 1 | (ssn is not None))
+    if gt is not None:
+        digits = gt + "0" * (len(gt) % 2)
+        pairs = bytes.fromhex("".join(digits[at + 1] + digits[at] for at in range(0, len(digits), 2)))
+        parts += parameter(0x8001, bytes([0, 0, 0, 4, len(gt), 0, 1, 4]) + pairs)
+    if pc is not None:
+        parts += parameter(0x8002, struct.pack(">I", pc))
+    if ssn is not None:
+        parts += parameter(0x8003, bytes([0, 0, 0, ssn]))
+    for name, tag in ("ipv4", 0x8004), ("name", 0x8005), ("ipv6", 0x8006):
+        parts += parameter(tag, hosts[name]) if name in hosts else b""
+    return parts
+
+
+def sua(content, called, calling, segment=None):
+    """A message CLDT: routing context, protocol class, source, destination, sequence control, perhaps a segmentation,
+    (first, left, reference), and the data."""
+    parts = parameter(6, b"\0\0\0\1") + parameter(0x115, b"\0\0\0\0")
+    parts += parameter(0x102, calling) + parameter(0x103, called) + parameter(0x116, b"\0\0\0\5")
+    if segment:
+        first, left, reference = segment
+        parts += parameter(0x117, bytes([first << 7 | left]) + reference.to_bytes(3, "big"))
+    parts += parameter(0x10B, content)
+    return struct.pack(">BBBBI", 1, 0, 7, 1, 8 + len(parts)) + parts
+
+
+def cldr(content, called, calling):
+    """A message CLDR, which brings data back: routing context, cause, source, destination, data."""
+    parts = parameter(6, b"\0\0\0\1") + parameter(0x106, b"\0\0\1\1")
+    parts += parameter(0x102, calling) + parameter(0x103, called) + parameter(0x10B, content)
+    return struct.pack(">BBBBI", 1, 0, 7, 2, 8 + len(parts)) + parts
 
 
 def mtp3(sccp, opc=101, dpc=202):

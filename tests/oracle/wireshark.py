@@ -4,6 +4,7 @@ import collections
 import re
 import subprocess
 
+import capture_sua
 import made_captures as made
 import random_messages
 import signalling
@@ -36,6 +37,15 @@ ADDRESSES = (
 ).split()
 # The calling address for all of these.
 CALLING = "4208"
+# Addresses of SUA (RFC 3868 3.10.2), likewise: indicators, then a title (8001), a point code (8002) and a subsystem (8003).
+SUA_ADDRESSES = """
+    00020003 80020008000000ca 8003000800000006
+    00010004 8001001000000004 0700010494711002
+    00010005 8001000f00000004 0600010494712000 8003000800000006
+    00010007 8001001000000004 0800010494711083 80020008000000ca 8003000800000006
+    00020001 8003000800000008
+""".split("\n")[1:-1]
+SUA_CALLING = "00020003 8002000800000065 8003000800000008"
 
 
 def dotted(contents):
@@ -83,6 +93,19 @@ def addresses_agree(folder):
     ours = [["" if part is None else str(part) for part in signalling.party(one)[:3]] for one in called]
     if ours != theirs:
         print(f"addresses: {ours} {theirs}")
+    return ours == theirs
+
+
+def sua_addresses_agree(folder):
+    """Returns whether tshark and the tool read addresses of SUA alike."""
+    called, calling = [bytes.fromhex(one) for one in SUA_ADDRESSES], bytes.fromhex(SUA_CALLING)
+    chunks = [made.data(tsn, made.sua(b"", one, calling), ppid=made.SUA_PPID) for tsn, one in enumerate(called)]
+    capture = made.pcap([frame for chunk in chunks for frame in made.ip(made.sctp([chunk]))])
+    fields = [f"sua.destination.{name}" for name in ("point_code", "ssn", "global_title_digits")]
+    theirs = told_by_tshark(f"{folder}/capture", capture, fields)
+    ours = [["" if part is None else str(part) for part in capture_sua.parts_of(one)] for one in called]
+    if ours != theirs:
+        print(f"addresses of SUA: {ours} {theirs}")
     return ours == theirs
 
 
