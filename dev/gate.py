@@ -49,6 +49,7 @@ TESTS = {
     "real_parts": "tests over a real stack",
     "traces": "traces",
     "archive": "looks at archives",
+    "live": "looks at pipes of a bench that runs",
     "books": "tables, pages and the book that agree",
     "page": "looks at pages of reports",
 }
