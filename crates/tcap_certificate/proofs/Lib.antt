@@ -1,3 +1,1 @@
 pub mod WorkedRuns
-pub mod WorkedRefusals
-pub mod NotDescribed

@@ -63,11 +63,6 @@ goes_on_behind_a_lost_end = record {
       ∷ [];
 }
 
--- If B's End is delivered, A may not send an End.
-abbrev pub ends_twice : Type 0
-ends_twice = RefusesAlone A worked.table (by_fates (Gap 1 ∷ Gap 2 ∷ Gap 3 ∷ Gap 4 ∷ Gap 5 ∷ [])) end_is_not_heard.items
-    (SendRefused faults.WrongPhase) 4
-
 -- A discards a message that it cannot receive, even if the certificate delivers the message. Here it is the Continue
 -- after B's End, which nothing answers.
 abbrev pub discards_what_it_cannot_receive : WorkedAlone
@@ -84,30 +79,7 @@ discards_what_it_cannot_receive = record {
 abbrev pub Discards : Table → WorkedAlone → List (ℕ × EndFault) → Type 0
 Discards table w discards = discards_by (Some w.side) table w.certificate (map item_of (map entry_of w.items)) ≡ Ok discards
 
--- A has no half for the Continue.
-abbrev pub discards_it_for_that : Type 0
-discards_it_for_that = Discards worked.table discards_what_it_cannot_receive ((3, faults.NoTransaction) ∷ [])
-
--- A message that the certificate loses is not a discard.
-abbrev pub loses_without_a_discard : Type 0
-loses_without_a_discard = Discards worked.table goes_on_behind_a_lost_end []
-
--- A's provider does not answer a discarded message.
-abbrev pub answers_what_it_discards : Type 0
-answers_what_it_discards = RefusesAlone A worked.table (by_fates (Gap 1 ∷ Gap 2 ∷ Gap 3 ∷ Gap 4 ∷ Gap 5 ∷ []))
-    continues_behind_its_end.items BadReply 4
-
--- B, which sent these messages, is not lawful: it sends a Continue although its half is closed.
-abbrev pub continues_where_it_closed : Type 0
-continues_where_it_closed = RefusesAlone B worked.table (by_fates (Gap 1 ∷ Gap 2 ∷ Gap 3 ∷ By 4 ∷ Gap 5 ∷ []))
-    continues_behind_its_end.items (SendRefused faults.WrongPhase) 3
-
 -- ---- order
-
--- B's second Begin is delivered before its first: a channel keeps order also for an end that keeps no rules.
-abbrev pub overtakes_what_was_told : Type 0
-overtakes_what_was_told = RefusesAlone A worked.table (by_fates (Gap 3 ∷ Gap 2 ∷ Gap 3 ∷ []))
-    (Sent B (begin None None) ∷ Sent B (Begin (id 3) None None) ∷ Sent B (Begin (id 4) None None) ∷ []) OutOfOrder 1
 
 -- The fates of A's own messages may be in any order: a replay of A does not use them.
 abbrev pub own_order_is_free : WorkedAlone
@@ -129,11 +101,6 @@ gives_up_at_a_mark = record {
   certificate = by_fates (Gap 1 ∷ Gap 2 ∷ []);
   events = Sends A (begin None None) ∷ Loses A 0 ∷ Closes A (Own (id 1)) ∷ Quiet ∷ [];
 }
-
--- B may not close the half that received this Begin.
-abbrev pub open_at_a_mark : Type 0
-open_at_a_mark =
-    RefusesAlone B worked.table (by_fates (Gap 1 ∷ Gap 2 ∷ [])) (Sent A (begin None None) ∷ Item.Quiet ∷ []) NotQuiet 1
 
 -- With prearranged end, B may close it.
 abbrev pub closes_at_a_mark : WorkedAlone

@@ -1,13 +1,13 @@
 -- Worked refusals: events that cannot happen after a run, and runs that a certificate does not describe.
-use Rattle.std.specs.Prelude.{◌≡◌, pos, List, [], ◌∷◌, Some, None}
+use Rattle.std.specs.Prelude.{◌≡◌, pos, List, [], ◌∷◌, Some, None, option_map}
 use Rattle.tcap_parts.specs.declared.code.Code.TheVariants.{Local}
 use Rattle.tcap_parts.specs.declared.component.Component.TheVariants.{ReturnError}
 use Rattle.tcap_msg.specs.declared.message.Message.TheVariants.{Begin, Unidirectional}
 use Rattle.tcap_record.specs.declared.entry.End.TheVariants.{A, B}
 use Rattle.tcap_end.specs.declared.half.HalfName.TheVariants.{Own}
 use Rattle.tcap_end.specs.Table.{Table}
-use Rattle.tcap_model.specs.World.{Item, Sent, World}
-use Rattle.tcap_model.specs.Run.{Event, Sends, Receives, Replies, Loses, Expires, Closes, Quiet, IsRunOf, Runs, after}
+use Rattle.tcap_model.specs.World.{Item, Sent, empty}
+use Rattle.tcap_model.specs.Run.{Event, Sends, Receives, Replies, Loses, Expires, Closes, Quiet, IsRunOf, after, played}
 use Rattle.tcap_certificate.specs.declared.certificate.Fate.TheVariants.{Gap, Lost, By}
 use Rattle.tcap_certificate.specs.DescribedRun.{Follows}
 use Rattle.tcap_model.specs.WorkedItems.{answer, begin, end_to, id, invoke, lasting, result, table}
@@ -17,72 +17,11 @@ use Rattle.tcap_certificate.specs.WorkedRuns.{Worked, by_fates}
 
 -- After these events, which are a run, the next event cannot happen.
 abbrev pub HasNoStep : Table → List Event → Event → Type 0
-HasNoStep table events event = (world : World) × Runs table events world × (after table event world ≡ None)
+HasNoStep table events event = option_map (after table event) (played table events empty) ≡ Some None
 
 -- A's Begin with an Invoke of 45
-abbrev begins : Event
+abbrev pub begins : Event
 begins = Sends A (begin None (Some (invoke 45 ∷ [])))
-
--- a second Begin with an originating ID in use
-abbrev pub used_again : Type 0
-used_again = HasNoStep table (begins ∷ []) begins
-
--- a Begin with the originating ID of a closed half
-abbrev pub used_by_closed : Type 0
-used_by_closed = HasNoStep table (begins ∷ Receives B 0 ∷ Sends B (end_to 1 None) ∷ Receives A 1 ∷ []) begins
-
--- a Return Error for an operation of class 3
-abbrev pub error_for_class_3 : Type 0
-error_for_class_3 = HasNoStep table (Sends A (begin None (Some (invoke 47 ∷ []))) ∷ Receives B 0 ∷ [])
-    (Sends B (end_to 1 (Some (ReturnError (pos 1) (Local (pos 1)) None ∷ []))))
-
--- the expiry of an invocation whose operation does not expire
-abbrev pub expires_without_leave : Type 0
-expires_without_leave = HasNoStep lasting (begins ∷ []) (Expires A (Own (id 1)) (pos 1))
-
--- the delivery of a message before an earlier one on its channel
-abbrev pub later_message_first : Type 0
-later_message_first = HasNoStep table (begins ∷ Sends A (Begin (id 3) None None) ∷ []) (Receives B 1)
-
--- the delivery of a lost message
-abbrev pub receives_what_is_lost : Type 0
-receives_what_is_lost = HasNoStep table (begins ∷ Loses A 0 ∷ []) (Receives B 0)
-
--- the delivery of a Continue to a closed half
-abbrev pub continue_to_closed : Type 0
-continue_to_closed = HasNoStep table
-    (Sends A (begin None None) ∷ Receives B 0 ∷ Sends B (answer None None) ∷ Receives A 1 ∷ Sends A (end_to 2 None)
-    ∷ Sends B (answer None None) ∷ [])
-    (Receives A 3)
-
--- a quiet mark while a message is in transit and no half is open
-abbrev pub quiet_with_a_message : Type 0
-quiet_with_a_message = HasNoStep table (begins ∷ Closes A (Own (id 1)) ∷ []) Quiet
-
--- a quiet mark while a message that belongs to no half is in transit
-abbrev pub quiet_with_a_unidirectional : Type 0
-quiet_with_a_unidirectional = HasNoStep table (Sends A (Unidirectional None (invoke 48 ∷ [])) ∷ []) Quiet
-
--- a quiet mark while a half is open
-abbrev pub quiet_with_an_open_half : Type 0
-quiet_with_an_open_half = HasNoStep table (begins ∷ Loses A 0 ∷ []) Quiet
-
--- the closing of an active half without prearranged end
-abbrev pub closes_active : Type 0
-closes_active = HasNoStep table (Sends A (begin None None) ∷ Receives B 0 ∷ Sends B (answer None None) ∷ Receives A 1 ∷ [])
-    (Closes A (Own (id 1)))
-
--- a provider's reply to a Continue to an open half
-abbrev pub replies_to_open : Type 0
-replies_to_open = HasNoStep table (Sends A (begin None None) ∷ Receives B 0 ∷ Sends B (answer None None) ∷ []) (Replies A 1)
-
--- a provider's reply to a message of its own end
-abbrev pub replies_to_own : Type 0
-replies_to_own = HasNoStep table (begins ∷ []) (Replies A 0)
-
--- a provider's reply to an End
-abbrev pub replies_to_end : Type 0
-replies_to_end = HasNoStep table (begins ∷ Receives B 0 ∷ Sends B (end_to 1 None) ∷ Closes A (Own (id 1)) ∷ []) (Replies A 1)
 
 -- ---- runs that a certificate does not describe
 

@@ -1,115 +1,69 @@
 //! Worked refusals: events that cannot happen after a run, and runs that a certificate does not describe. Each function
-//! has an empty body, and its contract is the fact.
+//! has an empty body, and its clauses are the facts.
 
+ghost use Rattle.std.specs.Prelude.{[], ◌∷◌, Some, None, pos};
+ghost use Rattle.tcap_parts.specs.declared.code.Code.TheVariants.{Local};
+ghost use Rattle.tcap_parts.specs.declared.component.Component.TheVariants.{ReturnError};
+ghost use Rattle.tcap_msg.specs.declared.message.Message.TheVariants.{Begin, Unidirectional};
+ghost use Rattle.tcap_record.specs.declared.entry.End.TheVariants.{A, B};
+ghost use Rattle.tcap_end.specs.declared.half.HalfName.TheVariants.{Own};
+ghost use Rattle.tcap_model.specs.Run.{Sends, Receives, Replies, Loses, Expires, Closes, Quiet};
+ghost use Rattle.tcap_model.specs.WorkedItems.{answer, begin, end_to, id, invoke, lasting, table};
 ghost use Rattle.tcap_certificate.specs.WorkedRefusals as refused;
-ghost use Rattle.tcap_certificate.specs.WorkedRefusals.{IsNotDescribed};
+ghost use Rattle.tcap_certificate.specs.WorkedRefusals.{HasNoStep, IsNotDescribed, begins};
 
-/// Shows that an end cannot send a second Begin with an originating ID in use.
-pub fn used_again()
-    ensures { refused.used_again }
+/// Shows what an end cannot send, and which hidden steps it cannot take.
+pub fn end_refuses()
+    // A second Begin with an originating ID in use.
+    ensures used_again { HasNoStep table (begins ∷ []) begins }
+    // A Begin with the originating ID of a closed half.
+    ensures used_by_closed { HasNoStep table
+        (begins ∷ Receives B 0 ∷ Sends B (end_to 1 None) ∷ Receives A 1 ∷ []) begins }
+    // A Return Error for an operation of class 3.
+    ensures error_for_class_3 { HasNoStep table (Sends A (begin None (Some (invoke 47 ∷ []))) ∷ Receives B 0 ∷ [])
+        (Sends B (end_to 1 (Some (ReturnError (pos 1) (Local (pos 1)) None ∷ [])))) }
+    // The expiry of an invocation whose operation does not expire.
+    ensures expires_without_leave { HasNoStep lasting (begins ∷ []) (Expires A (Own (id 1)) (pos 1)) }
+    // The closing of an active half without prearranged end.
+    ensures closes_active { HasNoStep table
+        (Sends A (begin None None) ∷ Receives B 0 ∷ Sends B (answer None None) ∷ Receives A 1 ∷ [])
+        (Closes A (Own (id 1))) }
 {}
 
-/// Shows that an end cannot send a Begin with the originating ID of a closed half.
-pub fn used_by_closed()
-    ensures { refused.used_by_closed }
+/// Shows which messages cannot be delivered or answered, and when no quiet mark is possible.
+pub fn channel_refuses()
+    // The delivery of a message before an earlier one on its channel.
+    ensures later_first { HasNoStep table (begins ∷ Sends A (Begin (id 3) None None) ∷ []) (Receives B 1) }
+    // The delivery of a lost message.
+    ensures lost { HasNoStep table (begins ∷ Loses A 0 ∷ []) (Receives B 0) }
+    // The delivery of a Continue to a closed half.
+    ensures to_closed { HasNoStep table
+        (Sends A (begin None None) ∷ Receives B 0 ∷ Sends B (answer None None) ∷ Receives A 1 ∷ Sends A (end_to 2 None)
+        ∷ Sends B (answer None None) ∷ []) (Receives A 3) }
+    // A quiet mark while a message is in transit and no half is open.
+    ensures mark_with_a_message { HasNoStep table (begins ∷ Closes A (Own (id 1)) ∷ []) Quiet }
+    // A quiet mark while a message that belongs to no half is in transit.
+    ensures mark_with_a_unidirectional { HasNoStep table (Sends A (Unidirectional None (invoke 48 ∷ [])) ∷ []) Quiet }
+    // A quiet mark while a half is open.
+    ensures mark_with_an_open_half { HasNoStep table (begins ∷ Loses A 0 ∷ []) Quiet }
+    // A provider's reply to a Continue to an open half.
+    ensures reply_to_open { HasNoStep table (Sends A (begin None None) ∷ Receives B 0 ∷ Sends B (answer None None) ∷ [])
+        (Replies A 1) }
+    // A provider's reply to a message of its own end.
+    ensures reply_to_own { HasNoStep table (begins ∷ []) (Replies A 0) }
+    // A provider's reply to an End.
+    ensures reply_to_end { HasNoStep table
+        (begins ∷ Receives B 0 ∷ Sends B (end_to 1 None) ∷ Closes A (Own (id 1)) ∷ []) (Replies A 1) }
 {}
 
-/// Shows that an end cannot send a Return Error for an operation of class 3.
-pub fn error_for_class_3()
-    ensures { refused.error_for_class_3 }
-{}
-
-/// Shows that an invocation cannot expire if its operation does not expire.
-pub fn expires_without_leave()
-    ensures { refused.expires_without_leave }
-{}
-
-/// Shows that an active half cannot close without prearranged end.
-pub fn closes_active()
-    ensures { refused.closes_active }
-{}
-
-/// Shows that a message cannot be delivered before an earlier one on its channel.
-pub fn later_message_first()
-    ensures { refused.later_message_first }
-{}
-
-/// Shows that a lost message cannot be received.
-pub fn receives_what_is_lost()
-    ensures { refused.receives_what_is_lost }
-{}
-
-/// Shows that a Continue to a closed half cannot be received.
-pub fn continue_to_closed()
-    ensures { refused.continue_to_closed }
-{}
-
-/// Shows that no quiet mark is possible while a message is in transit, even if no half is open.
-pub fn quiet_with_a_message()
-    ensures { refused.quiet_with_a_message }
-{}
-
-/// Shows that no quiet mark is possible while a Unidirectional is in transit.
-pub fn quiet_with_a_unidirectional()
-    ensures { refused.quiet_with_a_unidirectional }
-{}
-
-/// Shows that no quiet mark is possible while a half is open.
-pub fn quiet_with_an_open_half()
-    ensures { refused.quiet_with_an_open_half }
-{}
-
-/// Shows that a provider does not answer a Continue to an open half.
-pub fn replies_to_open()
-    ensures { refused.replies_to_open }
-{}
-
-/// Shows that a provider does not answer a message of its own end.
-pub fn replies_to_own()
-    ensures { refused.replies_to_own }
-{}
-
-/// Shows that a provider does not answer an End.
-pub fn replies_to_end()
-    ensures { refused.replies_to_end }
-{}
-
-/// Shows that a certificate that loses a message does not describe a run without this loss.
-pub fn not_lost()
-    ensures { IsNotDescribed refused.not_lost }
-{}
-
-/// Shows that a certificate describes no run if it delivers a message after the last gap.
-pub fn never_delivered()
-    ensures { IsNotDescribed refused.never_delivered }
-{}
-
-/// Shows that a certificate describes no run if the reply that takes a message is no entry.
-pub fn never_taken()
-    ensures { IsNotDescribed refused.never_taken }
-{}
-
-/// Shows that a certificate describes no run if an expiry is after the last gap.
-pub fn expired_behind_the_end()
-    ensures { IsNotDescribed refused.expired_behind_the_end }
-{}
-
-/// Shows that a certificate describes no run if a closing is after the last gap.
-pub fn closed_behind_the_end()
-    ensures { IsNotDescribed refused.closed_behind_the_end }
-{}
-
-/// Shows that a certificate describes no run if the fate of a quiet mark is not the next gap.
-pub fn marks_fate()
-    ensures { IsNotDescribed refused.marks_fate }
-{}
-
-/// Shows that a certificate describes no run if an expiry after a quiet mark names an entry before it.
-pub fn expiry_over_a_mark()
-    ensures { IsNotDescribed refused.expiry_over_a_mark }
-{}
-
-/// Shows that a certificate without expiries describes no run with an expiry that the next item does not imply.
-pub fn expiry_not_listed()
-    ensures { IsNotDescribed refused.expiry_not_listed }
+/// Shows runs that a certificate does not describe, with one reason each.
+pub fn undescribed_runs()
+    ensures not_lost { IsNotDescribed refused.not_lost }
+    ensures never_delivered { IsNotDescribed refused.never_delivered }
+    ensures never_taken { IsNotDescribed refused.never_taken }
+    ensures expired_behind_the_end { IsNotDescribed refused.expired_behind_the_end }
+    ensures closed_behind_the_end { IsNotDescribed refused.closed_behind_the_end }
+    ensures marks_fate { IsNotDescribed refused.marks_fate }
+    ensures expiry_over_a_mark { IsNotDescribed refused.expiry_over_a_mark }
+    ensures expiry_not_listed { IsNotDescribed refused.expiry_not_listed }
 {}

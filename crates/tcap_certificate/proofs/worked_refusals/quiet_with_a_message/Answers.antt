@@ -1,5 +1,0 @@
-use Rattle.tcap_certificate.proofs.WorkedRefusals.{quiet_with_a_message}
-use Rattle.tcap_certificate.proofs.worked_refusals.quiet_with_a_message.Goals as goal
-
-pub returns : goal.returns
-returns c = quiet_with_a_message

@@ -1,5 +1,0 @@
-use Rattle.tcap_certificate.proofs.WorkedRefusals.{replies_to_end}
-use Rattle.tcap_certificate.proofs.worked_refusals.replies_to_end.Goals as goal
-
-pub returns : goal.returns
-returns c = replies_to_end
