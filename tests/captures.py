@@ -99,8 +99,8 @@ def are_broken(row, files):
         return False
     for path, lines in files:
         judged = run(PROGRAM, "test", path).stdout.decode() if broken_of(lines) is not None else ""
-        error = f"{path}: error: line {len(lines)}: the trace was broken off{broken_of(lines)}\n"
-        if judged and (error not in judged or f", {len(entries_of(lines))} message" not in judged.splitlines()[-1]):
+        error = f"{path}: error: line {len(lines)}: the trace was broken off{broken_of(lines)}; "
+        if judged and (error not in judged or f"; {len(entries_of(lines))} message" not in judged.splitlines()[-1]):
             print(f"{row.name}: {judged}")
             return False
     return True
