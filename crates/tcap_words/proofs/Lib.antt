@@ -1,5 +1,4 @@
 pub mod Help
-pub mod Letters
 pub mod Valued
 pub mod PlacelessWalk
 pub mod PlacelessTakes
@@ -7,4 +6,3 @@ pub mod PlacelessFaults
 pub mod PlacelessCommands
 pub mod Tool
 pub mod Needed
-pub mod Matches

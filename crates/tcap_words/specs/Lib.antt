@@ -1,3 +1,4 @@
 pub mod CommandLine
+pub mod Subcommands
 pub mod Tests
 pub mod Words

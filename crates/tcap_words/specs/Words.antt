@@ -16,26 +16,18 @@ use Rattle.tcap_words.specs.declared.requests.Request.TheVariants.{Show, Pack, C
 use Rattle.tcap_words.specs.declared.words.WordsFault.{WordsFault}
 use Rattle.tcap_words.specs.declared.words.WordsFault.TheVariants.{Words, Memory}
 
--- the subcommand that the words name, and the first value of its argument `id`
-abbrev pub named_with : Text → List Text → Option (Text × Option Text)
-named_with id words = option_map (λ p. (p.0, first_of id p.1)) (subcommand_of tool words)
+-- the subcommand, with what `read` gives of its rows
+abbrev pub named_by : {X : Type 0} → (List Row → X) → Option (Text × List Row) → Option (Text × X)
+named_by read = option_map (λ p. (p.0, read p.1))
 
 -- the first values of the arguments of `check`
 abbrev pub checked_paths : List Row → Option Text × Option Text × Option Text
 checked_paths rows = (first_of (codes "RECORD") rows, first_of (codes "TABLE") rows, first_of (codes "CERT") rows)
 
--- the subcommand that the words name, with the first values of the arguments of `check`
-abbrev pub named_with_paths : List Text → Option (Text × (Option Text × Option Text × Option Text))
-named_with_paths words = option_map (λ p. (p.0, checked_paths p.1)) (subcommand_of tool words)
-
 -- the first values of the arguments of `judge`, and whether its flag is set
 abbrev pub judged_paths : List Row → Option Text × Option Text × Bool
 judged_paths rows =
     (first_of (codes "RECORD") rows, first_of (codes "TABLE") rows, is_set (first_of (codes "cert") rows))
-
--- the subcommand that the words name, with the values for `judge`
-abbrev pub named_with_flag : List Text → Option (Text × (Option Text × Option Text × Bool))
-named_with_flag words = option_map (λ p. (p.0, judged_paths p.1)) (subcommand_of tool words)
 
 -- the first values of the arguments of `explain`, except `--end`
 abbrev pub explained_paths : List Row → Option Text × Option Text × Option Text × Option Text
@@ -46,62 +38,43 @@ explained_paths rows = (
   first_of (codes "chart") rows,
 )
 
--- the subcommand that the words name, with the values for `explain`
-abbrev pub named_with_chart : List Text → Option (Text × (Option Text × Option Text × Option Text × Option Text))
-named_with_chart words = option_map (λ p. (p.0, explained_paths p.1)) (subcommand_of tool words)
-
 -- the first values of the arguments of `blame`
 abbrev pub blamed_paths : List Row → Option Text × Option Text
 blamed_paths rows = (first_of (codes "RECORD") rows, first_of (codes "TABLE") rows)
 
--- the subcommand that the words name, with the values for `blame`
-abbrev pub named_with_two : List Text → Option (Text × (Option Text × Option Text))
-named_with_two words = option_map (λ p. (p.0, blamed_paths p.1)) (subcommand_of tool words)
-
--- the value of the option `--end` of the subcommand that the words name
-abbrev pub end_value : List Text → Option Text
-end_value words = option_and_then (λ p. first_of (codes "end") p.1) (subcommand_of tool words)
+-- the value of the option `--end` of the subcommand
+abbrev pub end_value : Option (Text × List Row) → Option Text
+end_value = option_and_then (λ p. first_of (codes "end") p.1)
 
 -- the first value of the argument of `show`, and whether each of its flags is set
 abbrev pub shown_path : List Row → Option Text × Bool × Bool
 shown_path rows =
     (first_of (codes "RECORD") rows, is_set (first_of (codes "why") rows), is_set (first_of (codes "lines") rows))
 
--- the subcommand that the words name, with the values for `show`
-abbrev pub named_with_flags : List Text → Option (Text × (Option Text × Bool × Bool))
-named_with_flags words = option_map (λ p. (p.0, shown_path p.1)) (subcommand_of tool words)
+-- the subcommand with these rows asks for this request
+abbrev pub AskedBy : Option (Text × List Row) → Request → Type 0
+AskedBy named (Show path with_reasons of_lines) =
+    named_by shown_path named ≡ Some (codes "show", (path_text path, with_reasons, of_lines))
+AskedBy named (Pack path) = named_by (first_of (codes "LINES")) named ≡ Some (codes "pack", path_text path)
+AskedBy named (Check taken table cert side) =
+    (named_by checked_paths named ≡ Some (codes "check", (Some taken.now, Some table.now, Some cert.now)))
+    × (end_value named ≡ option_map letter side)
+AskedBy named (Judge taken table with_certificate side) =
+    (named_by judged_paths named ≡ Some (codes "judge", (Some taken.now, Some table.now, with_certificate)))
+    × (end_value named ≡ option_map letter side)
+AskedBy named (Explain taken table cert side chart) =
+    (named_by explained_paths named
+    ≡ Some (codes "explain", (Some taken.now, Some table.now, path_text cert, path_text chart)))
+    × (end_value named ≡ option_map letter side)
+AskedBy named (Blame taken table) =
+    named_by blamed_paths named ≡ Some (codes "blame", (Some taken.now, Some table.now))
+AskedBy named (Table table) = named_by (first_of (codes "TABLE")) named ≡ Some (codes "table", path_text table)
+AskedBy named (Test test) =
+    (named_by tested named ≡ Some (codes "test", requested test)) × ((requested test).traces ≢ [])
 
--- the subcommand that the words name, with the options of `test`
-abbrev pub named_with_traces : List Text → Option (Text × Tested)
-named_with_traces words = option_map (λ p. (p.0, tested p.1)) (subcommand_of tool words)
-
--- the words ask for this request
+-- the words ask for this request, by the subcommand that they name
 abbrev pub Asks : List Text → Request → Type 0
-Asks words (Show path with_reasons of_lines) =
-    named_with_flags words ≡ Some (codes "show", (path_text path, with_reasons, of_lines))
-Asks words (Pack path) =
-    named_with (codes "LINES") words ≡ Some (codes "pack", path_text path)
-Asks words (Check taken table cert side) =
-    (named_with_paths words ≡ Some (codes "check", (Some taken.now, Some table.now, Some cert.now)))
-    × (end_value words ≡ option_map letter side)
-Asks words (Judge taken table with_certificate side) =
-    (named_with_flag words ≡ Some (codes "judge", (Some taken.now, Some table.now, with_certificate)))
-    × (end_value words ≡ option_map letter side)
-Asks words (Explain taken table cert side chart) =
-    (named_with_chart words ≡ Some (codes "explain", (Some taken.now, Some table.now, path_text cert, path_text chart)))
-    × (end_value words ≡ option_map letter side)
-Asks words (Blame taken table) = named_with_two words ≡ Some (codes "blame", (Some taken.now, Some table.now))
-Asks words (Table table) = named_with (codes "TABLE") words ≡ Some (codes "table", path_text table)
-Asks words (Test test) =
-    (named_with_traces words ≡ Some (codes "test", requested test)) × ((requested test).traces ≢ [])
-
--- the request is to explain, with the values that `value` gives for the arguments
-abbrev pub Explains : (Text → Option Text) → Request → Type 0
-Explains value (Explain taken table cert side chart) =
-    (Some taken.now ≡ value (codes "RECORD")) × (Some table.now ≡ value (codes "TABLE"))
-    × (path_text cert ≡ value (codes "CERT")) × (option_map letter side ≡ value (codes "end"))
-    × (path_text chart ≡ value (codes "chart"))
-Explains value _ = ⊥
+Asks words = AskedBy (subcommand_of tool words)
 
 -- the word is the letter of an end
 abbrev pub is_letter : Text → Bool

@@ -1,15 +1,16 @@
 //! Turns the words of the command line into a request.
 
-ghost use Rattle.std.specs.Prelude.{◌≡◌, [], IfErr, IfOk, IfSome, List, MatchResult, None, Some, codes};
+ghost use Rattle.std.specs.Prelude.{◌≡◌, ◌≢◌, [], IfErr, IfOk, IfSome, List, MatchResult, None, Some, codes};
 ghost use Rattle.std.specs.Prelude.{is_some, option_map, true};
-ghost use Rattle.clap.specs.Words.{fault_of, first_value, found_of, takes};
+ghost use Rattle.clap.specs.Words.{Text, fault_of, first_of, found_of, takes};
 ghost use Rattle.clap.specs.Walk.{rows_of, texts};
 ghost use Rattle.tcap_record.specs.declared.entry.End.{End as Side};
 ghost use Rattle.tcap_record.specs.Ends.{letter};
 ghost use Rattle.tcap_words.specs.CommandLine.{ids_word, tool};
+ghost use Rattle.tcap_words.specs.Subcommands.{HasNeeded, is_known};
 ghost use Rattle.tcap_words.specs.Tests.{ids_value, linger_value, values_of};
-ghost use Rattle.tcap_words.specs.Words.{Asks, Becomes, Explains, IsFaultOf, IsMemory, is_letter, is_printed};
-ghost use Rattle.tcap_words.specs.Words.{is_ids_word, is_number, is_set, number_of, requested, tested, words_status};
+ghost use Rattle.tcap_words.specs.Words.{AskedBy, Asks, Becomes, IsFaultOf, IsMemory, is_letter, is_printed};
+ghost use Rattle.tcap_words.specs.Words.{is_ids_word, is_number, is_set, number_of, path_text, words_status};
 ghost use Rattle.tcap_words.specs.declared.requests.Request.TheVariants as asked;
 
 use crate::command_line::command;
@@ -88,12 +89,19 @@ impl fmt::Display for WordsFault {
 
 impl error::Error for WordsFault {}
 
-/// Returns the value of the argument `id`, which has one.
-fn needed<'a>(found: &ArgMatches<'a>, id: &str) -> &'a str
-    requires { is_some (first_value (found_of found.now) id.now) ≡ true }
-    ensures { Some result.now ≡ first_value (found_of found.now) id.now }
+/// Returns the first value of the argument `id`, if it has one.
+fn value_of<'a>(found: &ArgMatches<'a>, id: &str) -> Option<&'a str>
+    ensures { path_text result ≡ first_of id.now (rows_of (found_of found.now)) }
 {
-    let Some(value) = found.get_str(id) else {
+    found.get_str(id)
+}
+
+/// Returns the first value of the argument `id`, which has one.
+fn needed<'a>(found: &ArgMatches<'a>, id: &str) -> &'a str
+    requires { is_some (first_of id.now (rows_of (found_of found.now))) ≡ true }
+    ensures { Some result.now ≡ first_of id.now (rows_of (found_of found.now)) }
+{
+    let Some(value) = value_of(found, id) else {
         unreachable!()
     };
     value
@@ -101,9 +109,9 @@ fn needed<'a>(found: &ArgMatches<'a>, id: &str) -> &'a str
 
 /// Returns whether the flag `id` is set.
 fn is_set(found: &ArgMatches, id: &str) -> bool
-    ensures { result ≡ is_set (first_value (found_of found.now) id.now) }
+    ensures { result ≡ is_set (first_of id.now (rows_of (found_of found.now))) }
 {
-    matches!(found.get_str(id), Some("true"))
+    matches!(value_of(found, id), Some("true"))
 }
 
 /// Returns the end with this letter.
@@ -120,10 +128,10 @@ fn end_of(word: &str) -> End
 
 /// Returns the end that the option `id` names, or None if the option is not given.
 fn end_named(found: &ArgMatches, id: &str) -> Option<End>
-    requires { IfSome (first_value (found_of found.now) id.now) (λ word. is_letter word ≡ true) }
-    ensures { option_map letter result ≡ first_value (found_of found.now) id.now }
+    requires { IfSome (first_of id.now (rows_of (found_of found.now))) (λ word. is_letter word ≡ true) }
+    ensures { option_map letter result ≡ first_of id.now (rows_of (found_of found.now)) }
 {
-    match found.get_str(id) {
+    match value_of(found, id) {
         Some(word) => Some(end_of(word)),
         None => None,
     }
@@ -131,8 +139,8 @@ fn end_named(found: &ArgMatches, id: &str) -> Option<End>
 
 /// Returns the end that the option `--end` names, or None if the option is not given.
 fn end_given(found: &ArgMatches) -> Option<End>
-    requires { IfSome (first_value (found_of found.now) (codes "end")) (λ word. is_letter word ≡ true) }
-    ensures { option_map letter result ≡ first_value (found_of found.now) (codes "end") }
+    requires { IfSome (first_of (codes "end") (rows_of (found_of found.now))) (λ word. is_letter word ≡ true) }
+    ensures { option_map letter result ≡ first_of (codes "end") (rows_of (found_of found.now)) }
 {
     end_named(found, "end")
 }
@@ -152,10 +160,10 @@ fn ids_of(word: &str) -> Ids
 
 /// Returns the rule for reused IDs that the option `--ids` names, or `Again` if the option is not given.
 fn ids_given(found: &ArgMatches) -> Ids
-    requires { IfSome (first_value (found_of found.now) (codes "ids")) (λ word. is_ids_word word ≡ true) }
-    ensures { ids_word result ≡ ids_value (first_value (found_of found.now) (codes "ids")) }
+    requires { IfSome (first_of (codes "ids") (rows_of (found_of found.now))) (λ word. is_ids_word word ≡ true) }
+    ensures { ids_word result ≡ ids_value (first_of (codes "ids") (rows_of (found_of found.now))) }
 {
-    match found.get_str("ids") {
+    match value_of(found, "ids") {
         Some(word) => ids_of(word),
         None => Ids::Again,
     }
@@ -177,10 +185,10 @@ const LINGER: u64 = 10_000;
 
 /// Returns the number that the option `--linger` gives, or `LINGER`.
 fn linger_given(found: &ArgMatches) -> u64
-    requires { IfSome (first_value (found_of found.now) (codes "linger")) (λ word. is_number word ≡ true) }
-    ensures { result ≡ linger_value (first_value (found_of found.now) (codes "linger")) }
+    requires { IfSome (first_of (codes "linger") (rows_of (found_of found.now))) (λ word. is_number word ≡ true) }
+    ensures { result ≡ linger_value (first_of (codes "linger") (rows_of (found_of found.now))) }
 {
-    match found.get_str("linger") {
+    match value_of(found, "linger") {
         Some(word) => number_of(word),
         None => LINGER,
     }
@@ -203,10 +211,8 @@ fn all_values<'a>(
 
 /// Builds the request to judge the dialogues of traces, or fails if memory runs out.
 fn test_request<'a>(alloc: Global, found: &ArgMatches<'a>) -> Result<Test<'a>, AllocError>
-    requires letters { IfSome (first_value (found_of found.now) (codes "of")) (λ word. is_letter word ≡ true) }
-    requires ids { IfSome (first_value (found_of found.now) (codes "ids")) (λ word. is_ids_word word ≡ true) }
-    requires numbers { IfSome (first_value (found_of found.now) (codes "linger")) (λ word. is_number word ≡ true) }
-    ensures { IfOk result (λ test. requested test ≡ tested (rows_of (found_of found.now))) }
+    requires { HasNeeded (codes "test") (rows_of (found_of found.now)) }
+    ensures { IfOk result (λ test. AskedBy (Some (codes "test", rows_of (found_of found.now))) (asked.Test test)) }
 {
     let tables = all_values(alloc, found, "table")?;
     let traces = all_values(alloc, found, "TRACE")?;
@@ -216,9 +222,9 @@ fn test_request<'a>(alloc: Global, found: &ArgMatches<'a>) -> Result<Test<'a>, A
         ids: ids_given(found),
         complete: is_set(found, "complete"),
         linger: linger_given(found),
-        json: found.get_str("json"),
-        junit: found.get_str("junit"),
-        html: found.get_str("html"),
+        json: value_of(found, "json"),
+        junit: value_of(found, "junit"),
+        html: value_of(found, "html"),
         progress: is_set(found, "progress"),
         traces,
     })
@@ -226,22 +232,62 @@ fn test_request<'a>(alloc: Global, found: &ArgMatches<'a>) -> Result<Test<'a>, A
 
 /// Builds the request to explain a record.
 fn explain_request<'a>(found: &ArgMatches<'a>) -> Request<'a>
-    requires entries { is_some (first_value (found_of found.now) (codes "RECORD")) ≡ true }
-    requires table { is_some (first_value (found_of found.now) (codes "TABLE")) ≡ true }
-    requires letters { IfSome (first_value (found_of found.now) (codes "end")) (λ word. is_letter word ≡ true) }
-    ensures { Explains (first_value (found_of found.now)) result }
+    requires { HasNeeded (codes "explain") (rows_of (found_of found.now)) }
+    ensures { AskedBy (Some (codes "explain", rows_of (found_of found.now))) result }
 {
     let entries = needed(found, "RECORD");
     let table = needed(found, "TABLE");
-    let cert = found.get_str("CERT");
+    let cert = value_of(found, "CERT");
     let end = end_given(found);
-    let chart = found.get_str("chart");
+    let chart = value_of(found, "chart");
     Request::Explain {
         entries,
         table,
         cert,
         end,
         chart,
+    }
+}
+
+/// Builds the request of the subcommand `name`, or fails if memory runs out.
+fn request_of<'a>(
+    alloc: Global,
+    name: &str,
+    found: &ArgMatches<'a>,
+) -> Result<Request<'a>, AllocError>
+    requires known { is_known name.now ≡ true }
+    requires values { HasNeeded name.now (rows_of (found_of found.now)) }
+    ensures { IfOk result (AskedBy (Some (name.now, rows_of (found_of found.now)))) }
+{
+    match name {
+        "show" => {
+            let path = value_of(found, "RECORD");
+            let with_reasons = is_set(found, "why");
+            let of_lines = is_set(found, "lines");
+            Ok(Request::Show(path, with_reasons, of_lines))
+        }
+        "pack" => Ok(Request::Pack(value_of(found, "LINES"))),
+        "check" => {
+            let record = needed(found, "RECORD");
+            let table = needed(found, "TABLE");
+            let cert = needed(found, "CERT");
+            Ok(Request::Check(record, table, cert, end_given(found)))
+        }
+        "judge" => {
+            let record = needed(found, "RECORD");
+            let table = needed(found, "TABLE");
+            let with_certificate = is_set(found, "cert");
+            Ok(Request::Judge(record, table, with_certificate, end_given(found)))
+        }
+        "explain" => Ok(explain_request(found)),
+        "blame" => {
+            let record = needed(found, "RECORD");
+            let table = needed(found, "TABLE");
+            Ok(Request::Blame(record, table))
+        }
+        "table" => Ok(Request::Table(value_of(found, "TABLE"))),
+        "test" => Ok(Request::Test(test_request(alloc, found)?)),
+        _ => unreachable!(),
     }
 }
 
@@ -261,34 +307,5 @@ pub fn request<'a>(alloc: Global, words: &'a [&'a str]) -> Result<Request<'a>, W
     let Some((name, found)) = matches.subcommand() else {
         unreachable!()
     };
-    match name {
-        "show" => {
-            let path = found.get_str("RECORD");
-            let with_reasons = is_set(found, "why");
-            let of_lines = is_set(found, "lines");
-            Ok(Request::Show(path, with_reasons, of_lines))
-        }
-        "pack" => Ok(Request::Pack(found.get_str("LINES"))),
-        "check" => {
-            let record = needed(found, "RECORD");
-            let table = needed(found, "TABLE");
-            let cert = needed(found, "CERT");
-            Ok(Request::Check(record, table, cert, end_given(found)))
-        }
-        "judge" => {
-            let record = needed(found, "RECORD");
-            let table = needed(found, "TABLE");
-            let with_certificate = is_set(found, "cert");
-            Ok(Request::Judge(record, table, with_certificate, end_given(found)))
-        }
-        "explain" => Ok(explain_request(found)),
-        "blame" => {
-            let record = needed(found, "RECORD");
-            let table = needed(found, "TABLE");
-            Ok(Request::Blame(record, table))
-        }
-        "table" => Ok(Request::Table(found.get_str("TABLE"))),
-        "test" => Ok(Request::Test(test_request(alloc, found)?)),
-        _ => unreachable!(),
-    }
+    Ok(request_of(alloc, name, found)?)
 }

@@ -1,9 +1,39 @@
-use Rattle.std.proofs.Common.{◌≡◌, ◌∙◌, ap, codes}
-use Rattle.clap.proofs.WalkLemmas.{first_value-rows}
+use Rattle.std.proofs.Common.{◌≡◌, ◌∙◌, List, [], ◌∷◌, Option, Some, None, is_some, true, ap, refl, sym, codes}
+use Rattle.std.specs.Prelude.{◌≢◌, find, option_and_then, option_map, slice_get, unwrap_or}
+use Rattle.std.specs.Str.{bytes_eq}
+use Rattle.clap.proofs.OnLiterals.{clap_on_literals}
 use Rattle.clap.specs.Matches.{found_of}
-use Rattle.clap.specs.Walk.{rows_of}
-use Rattle.tcap_words.specs.Tests.{Tested, ids_value, is_set, linger_value, tested}
+use Rattle.clap.specs.Walk.{Row, Text, first_of, rows_of}
+use Rattle.tcap_words.specs.CommandLine.{tool}
+use Rattle.tcap_words.specs.Tests.{Tested, tested, values_of}
+use Rattle.tcap_words.specs.Words.{is_ids_word, is_letter, is_number}
+use Rattle.tcap_words.proofs.Needed.{taken_alone}
 use Rattle.tcap_words.proofs.words.test_request.Goals as goal
+
+pub end_named-requires : goal.end_named-requires
+unfolding tool clap_on_literals
+end_named-requires c = taken_alone (first_of (codes "of") (rows_of (found_of c.args.found.now))) is_letter (c.requires.taken (codes "of"))
+
+pub ids_given-requires : goal.ids_given-requires
+unfolding tool clap_on_literals
+ids_given-requires c = taken_alone (first_of (codes "ids") (rows_of (found_of c.args.found.now))) is_ids_word (c.requires.taken (codes "ids"))
+
+pub linger_given-requires : goal.linger_given-requires
+unfolding tool clap_on_literals
+linger_given-requires c = taken_alone (first_of (codes "linger") (rows_of (found_of c.args.found.now))) is_number (c.requires.taken (codes "linger"))
+
+-- an argument with a first value has values
+some_values : (id : Text) (rows : List Row) → is_some (first_of id rows) ≡ true → values_of id rows ≢ []
+some_values id rows there none = go (find (λ (r : Row). bytes_eq r.id id) rows) there none
+  where
+    at : (vs : List Text) → is_some (slice_get vs 0) ≡ true → vs ≡ [] → ⊥
+    at [] there none = cc
+    at (v ∷ vs) there none = cc
+
+    go : (o : Option Row) → is_some (option_and_then (λ (r : Row). slice_get r.values 0) o) ≡ true
+        → unwrap_or (option_map (λ (r : Row). r.values) o) [] ≡ [] → ⊥
+    go None there none = cc
+    go (Some r) there none = at r.values there none
 
 -- the options of `test` are equal if each part is
 same : (a b : Tested) → a.side ≡ b.side → a.tables ≡ b.tables → a.ids ≡ b.ids → a.complete ≡ b.complete → a.linger ≡ b.linger
@@ -20,17 +50,15 @@ same a b is_side is_tables is_ids is_complete is_linger is_json is_junit is_html
     ∙ ap (λ x. record a { side = b.side; tables = b.tables; ids = b.ids; complete = b.complete; linger = b.linger; json = b.json; junit = b.junit; html = b.html; progress = x }) is_progress
     ∙ ap (λ x. record a { side = b.side; tables = b.tables; ids = b.ids; complete = b.complete; linger = b.linger; json = b.json; junit = b.junit; html = b.html; progress = b.progress; traces = x }) is_traces
 
+abbrev asks : Tested → Option (Text × Tested)
+asks x = Some (codes "test", x)
+
 pub returns : goal.returns
-returns c =
-    let f = found_of c.args.found.now in
-    same _ (tested (rows_of f))
-    (c.end_named.ensures ∙ first_value-rows f (codes "of"))
-    c.in_ok-tables.ensures
-    (c.ids_given.ensures ∙ ap ids_value (first_value-rows f (codes "ids")))
-    (c.is_set.ensures ∙ ap is_set (first_value-rows f (codes "complete")))
-    (c.linger_given.ensures ∙ ap linger_value (first_value-rows f (codes "linger")))
-    (c.get_str.ensures ∙ first_value-rows f (codes "json"))
-    (c.get_str-2.ensures ∙ first_value-rows f (codes "junit"))
-    (c.get_str-3.ensures ∙ first_value-rows f (codes "html"))
-    (c.is_set-2.ensures ∙ ap is_set (first_value-rows f (codes "progress")))
-    c.in_ok-traces.ensures
+unfolding tool clap_on_literals
+returns c = (
+  ap asks (sym (same _ (tested (rows_of (found_of c.args.found.now))) c.end_named.ensures c.in_ok-tables.ensures
+      c.ids_given.ensures c.is_set.ensures c.linger_given.ensures c.value_of.ensures c.value_of-2.ensures
+      c.value_of-3.ensures c.is_set-2.ensures c.in_ok-traces.ensures)),
+  λ none. some_values (codes "TRACE") (rows_of (found_of c.args.found.now)) (c.requires.needed (codes "TRACE") refl)
+      (sym c.in_ok-traces.ensures ∙ none),
+)
