@@ -29,8 +29,8 @@ named_entry items gap entry = cond (has_quiet (drop entry (take gap items))) Non
     (where_so (nat_lt entry gap) (slice_get items entry))
 
 -- The half that an end has in the transaction of a Begin with this originating ID. The sender of the Begin identifies
--- it by its own ID, the other end by its peer's ID. A half that knows both IDs has two names (`Named`); this name is
--- the one that it has from the start.
+-- it by its own ID, the other end by its peer's ID. A half that knows both IDs has two names (`HalfNames`); this name
+-- is the one that it has from the start.
 abbrev pub half_begun : Side → Side → List ℕ → HalfName
 half_begun side sender otid = cond (is_side side sender) (names.Own otid) (names.Peer otid)
 

@@ -37,7 +37,8 @@ abbrev pub side_in : Data → Option Side
 side_in (string text) = if_text (codes "A") A text (if_text (codes "B") B text None)
 side_in _ = None
 
--- the fate of a message: the number of a gap, `"lost"`, or `{"by": N}` with the entry that took the message
+-- the fate of a message: the number of a gap, `"lost"`, or `{"by": N}` with the entry of the Abort that answered the
+-- message
 abbrev pub fate_in : Data → Option Fate
 fate_in (string text) = if_text (codes "lost") Lost text None
 fate_in (object members) =

@@ -60,7 +60,7 @@ fn has_only(keys: &[&str], members: &Map<String, Value>) -> bool
     true
 }
 
-/// Returns a whole number from 0 to the limit.
+/// Returns the number that a value represents, or `None` unless it is a whole number from 0 to `NUMBER_LIMIT`.
 fn number_in(value: &Value) -> Option<u32>
     ensures { result ≡ number_in (view value.now) }
 {
@@ -85,7 +85,7 @@ fn number_at(members: &Map<String, Value>, key: &str) -> Option<u32>
     number_in(member(members, key)?)
 }
 
-/// Returns the end with this letter.
+/// Returns the end that a value represents: the text `"A"` or `"B"`.
 fn side_in(value: &Value) -> Option<End>
     ensures { result ≡ side_in (view value.now) }
 {
@@ -103,7 +103,7 @@ fn side_at(members: &Map<String, Value>, key: &str) -> Option<End>
     side_in(member(members, key)?)
 }
 
-/// Returns the value of an end, its letter. Fails if memory runs out.
+/// Returns the JSON text of an end: its letter. Fails if memory runs out.
 fn side_value(alloc: Global, side: End) -> Result<Value, AllocError>
     ensures { IfOk result (λ v. view v ≡ side_data side) }
 {
@@ -113,7 +113,7 @@ fn side_value(alloc: Global, side: End) -> Result<Value, AllocError>
     }
 }
 
-/// Returns the fate of a text, which is `"lost"`.
+/// Returns the loss that the text `"lost"` represents, or `None` for another text.
 fn lost_in(text: &str) -> Option<Fate>
     ensures { result ≡ if_text (codes "lost") Fate.Lost text.now None }
 {
@@ -123,7 +123,7 @@ fn lost_in(text: &str) -> Option<Fate>
     }
 }
 
-/// Returns the fate of an object, which has the entry that took the message.
+/// Returns the fate that an object `{"by":N}` represents: the Abort in entry N answered the message.
 fn by_in(members: &Map<String, Value>) -> Option<Fate>
     ensures { result ≡ fate_in (object (members_view members.now.entries)) }
 {

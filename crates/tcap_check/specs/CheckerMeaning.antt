@@ -1,5 +1,5 @@
--- What does a checker implement? It implements the replay of the entries that it took (`Replayed`), for both ends or
--- for one end alone.
+-- What does a checker implement? It implements the replay of the entries that it took (`Replay` of tcap_certificate),
+-- for both ends or for one end alone.
 use Rattle.std.specs.Prelude.{◌≡◌, ℕ, ◌+◌, Bool, false, List, [], ◌∷◌, ◌++◌, map, slice_get, length, Option, Some, None, Result, Ok, Err, ok_or, ◌==◌, ◌&&◌, ◌||◌, not, nat_le, cond}
 use Rattle.tcap_msg.specs.declared.message.Message.{Message}
 use Rattle.tcap_ber.specs.declared.fault.Fault.{Fault}

@@ -1,5 +1,5 @@
 -- What does a certificate give for one end that is judged alone? It gives a run in which that end keeps the rules.
--- `Replayed` defines the run, and `Told` its losses.
+-- `Replay` of tcap_certificate defines the run, and `LossCounts` counts its losses.
 use Rattle.std.specs.Prelude.{◌≡◌, ◌+◌, ◌*◌, ◌≤◌, List, [], length, Option, Some, None}
 use Rattle.tcap_record.specs.declared.entry.End.{End as Side}
 use Rattle.tcap_record.specs.declared.entry.Entry.{Entry}

@@ -1,4 +1,5 @@
--- What does a checker keep of two ends and two channels, and what does one step of `Replayed` do to it?
+-- What does a checker keep of two ends and two channels, and what does one step of `Replay` of tcap_certificate do to
+-- it?
 use Rattle.std.specs.Prelude.{◌≡◌, ◌≢◌, ℕ, ℤ, ◌+◌, ◌*◌, Bool, true, false, List, [], ◌∷◌, ◌++◌, ◌≤◌, filter_map, length, Option, Some, None, Result, Ok, Err, ok_or, option_map, ◌==◌, ◌&&◌, nat_lt, cond}
 use Rattle.tcap_msg.specs.declared.message.AbortReason.TheVariants.{Cause}
 use Rattle.tcap_msg.specs.declared.message.Message.{Message}

@@ -1,4 +1,4 @@
--- What does a refused call leave? It leaves the steps that `SoFar` gives, computed over what is kept.
+-- What does a refused call leave? It leaves the steps that `PartialReplay` gives, computed over what is kept.
 use Rattle.std.specs.Prelude.{◌≡◌, ◌≢◌, ℕ, ◌+◌, List, [], ◌∷◌, filter_map, length, not, slice_get, Option, Some, None, Result, Ok, Err, ◌==◌, ◌||◌, cond}
 use Rattle.tcap_msg.specs.declared.message.AbortReason.TheVariants.{Cause}
 use Rattle.tcap_msg.specs.declared.message.Message.{Message}

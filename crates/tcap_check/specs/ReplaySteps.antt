@@ -1,5 +1,5 @@
--- What do the steps of `Replayed` do to what a checker keeps, if both ends are judged or only one? An end that is
--- judged alone loses its own messages at once, so only its peer's messages wait.
+-- What do the steps of `Replay` of tcap_certificate do to what a checker keeps, if both ends are judged or only one? An
+-- end that is judged alone loses its own messages at once, so only its peer's messages wait.
 use Rattle.std.specs.Prelude.{ℕ, ◌+◌, Bool, false, ◌≡◌, ◌≢◌, List, [], ◌∷◌, drop, filter, map, slice_get, length, Option, Some, None, Result, Ok, Err, ◌==◌, cond}
 use Rattle.tcap_msg.specs.declared.message.Message.{Message}
 use Rattle.tcap_record.specs.declared.entry.End.{End as Side}

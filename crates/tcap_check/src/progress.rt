@@ -32,7 +32,7 @@ pub(crate) struct Waiting<'r> {
     pub(crate) message: Option<Held<'r>>,
 }
 
-/// An end, the messages on their way from it, and the latest time of a message from it.
+/// The state of one end, the messages on their way from it, and the latest time of a message from it.
 #[derive(Debug, Drop)]
 pub(crate) struct Seat<'r> {
     pub(crate) end: EndState,
@@ -170,7 +170,7 @@ impl<'r> Progress<'r> {
         Ok(())
     }
 
-    /// Returns an end with the messages on their way from it.
+    /// Returns the state of this end, and of the channel from it.
     pub(crate) fn seat(&self, side: End) -> &Seat<'r>
         ensures { result.now ≡ seat_at side self.now }
     {

@@ -102,7 +102,7 @@ impl<'a, 'r> Replaying<'a, 'r> {
         }
     }
 
-    /// Returns whether a listed event names the next entry.
+    /// Returns whether an expiry or a closing of the certificate names the next entry.
     fn is_named(&self) -> bool
         ensures { result ≡ flag_by (slice_get self.now.plan.named.items (length self.now.entries.items)) }
     {

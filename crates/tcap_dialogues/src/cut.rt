@@ -22,7 +22,7 @@ use tcap_record::End;
 
 /// The dialogues of a segment between quiet marks, as its entries arrive. A cut keeps the live dialogues and some facts
 /// about each ID of a dialogue that is done. These are the number of the first entry of the last such dialogue, whether
-/// the ID's owner sent a message from it, and whether the ID is firm.
+/// the ID's owner sent a message from it, and whether the ID is firm (see `Known`).
 #[derive(Debug, Drop)]
 pub struct Cut {
     pub(crate) alloc: Global,
@@ -31,7 +31,7 @@ pub struct Cut {
     pub(crate) count: u64,
     /// The live dialogues, by name.
     pub(crate) live: BTreeMap<u64, Live>,
-    /// The names of those that are over, by the number of the first entry with which each is over.
+    /// The names of the live dialogues that are over, by the number of the first entry with which each is over.
     pub(crate) overs: BTreeMap<u64, u64>,
     pub(crate) ids: Ids,
 }

@@ -22,7 +22,7 @@ pub record End : Type 0 where
 abbrev pub nothing : End
 nothing = record { begun = []; accepted = [] }
 
--- a half, with the list and the ID by which the end keeps it
+-- a half, with the list in which the end keeps it, and the ID that the list has it by: its key
 pub record KeptHalf : Type 0 where
   pub slot : Slot
   pub key : List ℕ

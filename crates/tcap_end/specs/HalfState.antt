@@ -106,7 +106,7 @@ without_inn id at kept = record kept { inn = with_place id at None kept.inn }
 abbrev pub without_grant : ℤ → ℕ → Kept → Kept
 without_grant id at kept = record kept { grants = with_place id at None kept.grants }
 
--- the transaction ID by which a half in that slot is not kept
+-- the transaction ID of a half in that slot that is not its key
 abbrev pub other_id : Slot → Half → Option (List ℕ)
 other_id Begun h = h.peer
 other_id Accepted h = h.own

@@ -33,7 +33,7 @@ abbrev pub open_at : Slab HalfState → Place → Option HalfState
 open_at slab (Open k) = get slab k
 open_at slab (Closed other) = None
 
--- a closed half that is kept by this ID, with its other ID
+-- a closed half with this key, and its other ID
 abbrev pub closed_at : Slot → List ℕ → Option (List ℕ) → Half
 closed_at Begun key other = fresh phases.Closed (Some key) other standings.Without
 closed_at Accepted key other = fresh phases.Closed other (Some key) standings.Without
@@ -43,7 +43,7 @@ abbrev pub half_at : Slab HalfState → Slot → List ℕ → Place → Half
 half_at slab slot key (Open k) = half_in (get slab k)
 half_at slab slot key (Closed other) = closed_at slot key other
 
--- the halves at the places of a slot, by the IDs by which they are kept
+-- the halves at the places of a slot, by their keys
 abbrev pub halves_at : Slab HalfState → Slot → List (List ℕ × Place) → List (List ℕ × Half)
 halves_at slab slot [] = []
 halves_at slab slot (e ∷ more) = (e.0, half_at slab slot e.0 e.1) ∷ halves_at slab slot more
@@ -57,22 +57,21 @@ abbrev pub places_of : Slot → Halves → List (List ℕ × Place)
 places_of Begun s = s.begun.entries
 places_of Accepted s = s.accepted.entries
 
--- the half that is kept by this ID is at this place
+-- the half with this key is at this place
 abbrev pub IsAt : Slot → List ℕ → Place → Halves → Type 0
 IsAt slot key place s = lookup (is_at (octets_cmp key)) (places_of slot s) ≡ Some place
 
--- The slab has an open half under this number, and this ID is the one by which it is kept.
+-- The slab has an open half under this number, and this ID is its key.
 abbrev pub IsOpen : Slot → List ℕ → ℕ → Halves → Type 0
 IsOpen slot key k s =
     (h : HalfState) × (get s.slab k ≡ Some h) × (h.slot ≡ slot) × (is_closed h.phase ≡ false)
     × IsKept slot key (half_of h)
 
--- a half with the slot and the ID by which it is kept
+-- a half with its slot and its key
 abbrev pub kept_half : Slot → List ℕ → Half → KeptHalf
 kept_half slot key h = record { slot = slot; key = key; half = h }
 
--- An index maps each ID that `id_in` finds in a half of this slot to the ID by which that half is kept. It maps no
--- other ID.
+-- An index maps each ID that `id_in` finds in a half of this slot to the key of that half. It maps no other ID.
 abbrev pub Indexes : List (List ℕ × List ℕ) → Slot → (Half → Option (List ℕ)) → End → Type 0
 Indexes index slot id_in e = (id key : List ℕ)
     → (lookup (is_at (octets_cmp id)) index ≡ Some key)
@@ -87,17 +86,17 @@ pub record IsHeld (s : Halves) : Type 0 where
   pub by_own : Indexes s.by_own.entries Accepted (λ h. h.own) (end_of s)
   pub by_peer : Indexes s.by_peer.entries Begun (λ h. h.peer) (end_of s)
 
--- The half that is kept by this ID is open.
+-- The half with this key is open.
 abbrev pub HasOpen : Slot → List ℕ → Halves → Type 0
 HasOpen slot key s = (k : ℕ) × IsAt slot key (Open k) s
 
--- The half that is kept by this ID was changed as `change` says. Nothing else changed.
+-- The half with this key was changed as `change` says. Nothing else changed.
 abbrev pub Becomes : Slot → List ℕ → (Half → Half) → Halves → Halves → Type 0
 Becomes slot key change s next = (h : Half) → Has (end_of s) (kept_half slot key h)
     → end_of next ≡ put (end_of s) slot key (change h)
 
--- A call over the half that is kept by this ID returns what the step on that half gives, unless memory ran out. On Ok
--- the half after the step is stored there, and nothing else changed.
+-- A call over the half with this key returns what the step on that half gives, unless memory ran out. On Ok the half
+-- after the step is stored there, and nothing else changed.
 abbrev pub AnswersOver : Slot → List ℕ → (Half → Result Half EndFault) → Result (Unit {0}) EndFault → Halves → Halves
     → Type 0
 AnswersOver slot key step result s next = (h : Half) → Has (end_of s) (kept_half slot key h)
@@ -108,18 +107,17 @@ unfoldable pub IsNumbered : HalfKey → Halves → Type 0
 IsNumbered found s = MatchOption found.number ((other : Option (List ℕ)) × IsAt found.slot found.key (Closed other) s)
     (λ k. IsAt found.slot found.key (Open k) s)
 
--- the name of a half by the ID by which it is kept
+-- the name of the half of a slot with this key
 abbrev pub name_in : Slot → List ℕ → HalfName
 name_in Begun = names.Own
 name_in Accepted = names.Peer
 
--- the index of a slot: from the IDs by which its halves are not kept
+-- the index of a slot: from the other IDs of its halves to their keys
 abbrev pub index_of : Slot → Halves → List (List ℕ × List ℕ)
 index_of Begun s = s.by_peer.entries
 index_of Accepted s = s.by_own.entries
 
--- A half that is not yet kept. It is open and knows only the ID by which it will be kept. No half of its slot is kept
--- by this ID.
+-- A half that is not yet kept. It is open and knows only the ID that will be its key. No half of its slot has this key.
 pub record IsNew (key : List ℕ) (h : HalfState) (s : Halves) : Type 0 where
   pub free : lookup (is_at (octets_cmp key)) (places_of h.slot s) ≡ None
   pub open_half : is_closed h.phase ≡ false

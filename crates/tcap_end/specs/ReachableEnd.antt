@@ -38,20 +38,20 @@ abbrev pub halves_of : Slot → End → List (List ℕ × Half)
 halves_of Begun e = e.begun
 halves_of Accepted e = e.accepted
 
--- The end keeps that half in that slot by that ID.
+-- The end keeps that half in that slot with that key.
 abbrev pub Has : End → KeptHalf → Type 0
 Has e found = lookup (is_at (octets_cmp found.key)) (halves_of found.slot e) ≡ Some found.half
 
--- A half whose end sent the Begin is kept by its own transaction ID, any other half by the peer's.
+-- The key of a half whose end sent the Begin is its own transaction ID, that of any other half the peer's ID.
 abbrev pub IsKept : Slot → List ℕ → Half → Type 0
 IsKept Begun key h = h.own ≡ Some key
 IsKept Accepted key h = h.peer ≡ Some key
 
--- Two halves are kept in the same slot by the same ID.
+-- Two halves have the same slot and the same key.
 abbrev pub IsSame : KeptHalf → KeptHalf → Type 0
 IsSame f g = (f.slot ≡ g.slot) × (f.key ≡ g.key)
 
--- What holds for an end: its halves are sorted, sound, and kept by their IDs.
+-- What holds for an end: its halves are sorted by their keys and sound, and each has the right key.
 pub record IsEnd (e : End) : Type 0 where
   pub begun : Rises octets_cmp e.begun
   pub accepted : Rises octets_cmp e.accepted

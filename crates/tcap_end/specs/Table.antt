@@ -40,6 +40,6 @@ abbrev pub expires_by : Option Operation → Bool
 expires_by None = false
 expires_by (Some operation) = operation.expires
 
--- whether an invocation of an operation may expire: end by timer or by the user's cancel
+-- whether an invocation of an operation may expire, by timer or by the user's cancel
 abbrev pub expires_of : Table → Code → Bool
 expires_of table code = expires_by (operation_of table code)

@@ -16,7 +16,7 @@ use crate::table::Table;
 use std::alloc::AllocError;
 use tcap_msg::TransactionId;
 
-/// Returns the name of a half of this slot, by the ID by which it is kept.
+/// Returns the name of the half of a slot with this key.
 fn name_of(slot: Slot, key: &TransactionId) -> HalfName
     ensures { result ≡ name_in slot key.now }
 {
@@ -130,7 +130,7 @@ impl Halves {
         Some(begun + accepted)
     }
 
-    /// Appends the names of the open halves of a slot, in the order of the IDs by which they are kept.
+    /// Appends the names of the open halves of a slot, in the order of their keys.
     pub(crate) fn push_open(&self, slot: Slot, names: &mut Vec<HalfName>) -> Result<(), AllocError>
         requires held { IsHeld self.now }
         requires placed { AllPlaced self.now }

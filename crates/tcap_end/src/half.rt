@@ -35,7 +35,7 @@ pub enum InvocationState {
     WaitForReject,
 }
 
-/// The list in which an end keeps a half.
+/// The list in which an end keeps a half. The ID by which the list has the half is its key.
 #[derive(Clone, Copy, Debug, PartialEq, Eq)]
 pub enum Slot {
     /// The halves whose Begin this end sent, by their own transaction IDs.

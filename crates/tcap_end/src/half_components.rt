@@ -112,7 +112,8 @@ impl HalfState {
         }
     }
 
-    /// Sets the transaction ID by which the half is not kept, and returns its earlier value.
+    /// Replaces the transaction ID that is not the half's key, and returns the earlier one. It is the peer's ID if the
+    /// half's end sent the Begin, else the half's own ID.
     fn put_other_id(&mut self, id: Option<TransactionId>) -> Option<TransactionId>
         ensures put { half_of self.new ≡ with_other_id self.old.slot id (half_of self.old) }
         ensures was { result ≡ other_id self.old.slot (half_of self.old) }

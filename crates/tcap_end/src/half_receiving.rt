@@ -58,7 +58,7 @@ impl HalfState {
         }
     }
 
-    /// Returns what a Return Result (`is_result`) or Return Error is for.
+    /// Returns which own invocation a received Return Result (`is_result`) or Return Error with this ID is for.
     fn target(&self, table: &Table, is_result: bool, id: i8) -> Target
         ensures { result ≡ target_of is_result (answered_operation table.now (half_of self.now) id) }
     {

@@ -35,7 +35,7 @@ use tcap_parts::Components;
 pub(crate) enum Place {
     /// An open half, by its number in the slab.
     Open(usize),
-    /// A closed half, with its other ID if it has one.
+    /// A closed half, with the ID that is not its key, if it has one.
     Closed(Option<TransactionId>),
 }
 
@@ -54,7 +54,7 @@ pub(crate) struct Halves {
     pub(crate) by_peer: BTreeMap<TransactionId, TransactionId>,
 }
 
-/// The place at which a half was found: its slot, the ID by which it is kept, and its number if it is open.
+/// The place at which a half was found: its slot, its key, and its number in the slab if it is open.
 #[derive(Debug, Drop)]
 pub(crate) struct HalfKey {
     pub(crate) slot: Slot,
@@ -108,7 +108,7 @@ impl Halves {
         }
     }
 
-    /// Finds the half of a slot that is kept by this ID.
+    /// Finds the half of a slot with this key.
     fn find(&self, slot: Slot, key: &TransactionId) -> Option<HalfKey>
         ensures { MatchOption result (lookup (is_at (octets_cmp key.now)) (places_of slot self.now) ≡ None)
             (λ found. (found.slot ≡ slot) × (found.key ≡ key.now) × IsNumbered found self.now) }
@@ -250,7 +250,7 @@ impl Halves {
         }
     }
 
-    /// Puts a place by an ID.
+    /// Sets the place of the half of a slot with this key.
     fn put_place(&mut self, slot: Slot, key: TransactionId, place: Place) -> Result<(), AllocError>
         ensures put { OnOk result (places_of slot self.new
             ≡ insert_entry octets_cmp (places_of slot self.old) key place) }
@@ -267,7 +267,7 @@ impl Halves {
         Ok(())
     }
 
-    /// Keeps a new half by an ID by which no half of its slot is kept.
+    /// Adds a new half with a key that no half of its slot has.
     pub(crate) fn add(&mut self, key: TransactionId, half: HalfState) -> Result<(), AllocError>
         requires held { IsHeld self.old }
         requires new { IsNew key half self.old }
@@ -287,7 +287,7 @@ impl Halves {
         }
     }
 
-    /// Maps the ID by which a half is not kept to the ID by which it is kept.
+    /// Maps an ID of a half, other than its key, to its key.
     fn put_index(
         &mut self,
         slot: Slot,
@@ -308,7 +308,7 @@ impl Halves {
         Ok(())
     }
 
-    /// Removes an ID from the index of a slot.
+    /// Removes an ID from the index that maps IDs to the keys of a slot.
     fn remove_index(&mut self, slot: Slot, id: &TransactionId)
         ensures removed { index_of slot self.new ≡ remove_entry (is_at (octets_cmp id.now)) (index_of slot self.old) }
         ensures by_own { slot ≢ Slot.Accepted → self.new.by_own ≡ self.old.by_own }

@@ -337,7 +337,7 @@ abbrev pub evidence_text : Table → Side → Option Entry → Refutation → Su
 evidence_text table side entry r about id grounds invocations =
     fault_text table side entry r about id grounds ++ invocation_lines table id invocations
 
--- the lines for an entry of a record; `of_one` tells whether its kind was found for one end alone
+-- the lines for an entry of a record; `of_one` says whether its kind was found for one end alone
 abbrev pub told_text : Bool → Table → Side → List Entry → Refutation → List ℕ
 told_text of_one table side entries r =
     evidence_text table side (slice_get entries r.entry) r (subject_of of_one table side entries r)

@@ -229,8 +229,8 @@ impl<'a> Scene<'a> {
         }
     }
 
-    /// Returns the entries of such components in the end's messages to the destination ID, and among these components
-    /// of the message.
+    /// Returns the entries of the components of the invoke ID and this sort in the end's messages to the destination
+    /// ID. The message's own entry follows, once for each such component among `components`.
     fn told_with(
         &self,
         alloc: Global,

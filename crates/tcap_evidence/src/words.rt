@@ -108,7 +108,7 @@ pub(crate) fn class_of_sort(sort: Sort) -> Class
     }
 }
 
-/// Returns the end that sent the entries.
+/// Returns the end that sent the entries which show this thing about a fault of `end`.
 pub(crate) fn sender_of(end: End, what: What) -> End
     ensures { result ≡ sender_of end what }
 {

@@ -17,6 +17,6 @@ abbrev pub fault_lines : Outcome → List ℕ
 fault_lines (Faulty number place) = cond (number == 99) [] (codes "  why: " ++ fault_words number ++ line_end)
 fault_lines outcome = []
 
--- The text is that line, or nothing if there was no memory for it.
+-- The text is the line after the fault, or nothing if memory ran out.
 abbrev pub IsFaultBehind : Outcome → List ℕ → Type 0
 IsFaultBehind outcome behind = (behind ≡ fault_lines outcome) ⊎ (behind ≡ [])

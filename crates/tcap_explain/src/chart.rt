@@ -25,7 +25,7 @@ pub(crate) struct Chart<'a> {
 /// A row of a chart.
 #[derive(Clone, Copy)]
 enum Row<'a> {
-    /// A step, after so many sent entries.
+    /// A step, after this many sent entries.
     Step(usize, &'a Step),
     /// The entry with this number, after the last step.
     Stands(usize),
@@ -218,8 +218,8 @@ fn push_rows(alloc: Global, json: &mut String, rows: &[Row]) -> Result<(), Alloc
 }
 
 impl Chart<'_> {
-    /// Appends the head of the run: the line of the outcome, the judged end, and the entry that the outcome is about. If
-    /// there is such an entry, also appends the text after the line.
+    /// Appends the head of the run: the line of the outcome, the judged end, and the entry that the outcome is about.
+    /// If there is such an entry, also appends the text after the line.
     fn push_head(self, alloc: Global, json: &mut String) -> Result<(), AllocError> {
         let mut title = String::new(alloc);
         push_outcome(&mut title, self.outcome)?;

@@ -71,8 +71,8 @@ links_badly table h own before c = false
 
 -- ---- F12: an invocation that was answered already
 
--- More is answered than was heard: so many Return Results, Return Errors and Rejects with an invoke problem, for too
--- few Invokes of the ID whose classes allow them.
+-- This many Return Results, Return Errors and Rejects with an invoke problem are more than the heard Invokes of the ID
+-- allow by their classes.
 abbrev pub more_answered : Table → HalfOf → ℤ → ℕ → ℕ → ℕ → Bool
 more_answered table h id results errors rejects =
     nat_lt (of_class 1 + of_class 3) results || nat_lt (of_class 1 + of_class 2) errors
@@ -82,7 +82,7 @@ more_answered table h id results errors rejects =
     of_class : ℕ → ℕ
     of_class class = count_class table id class h.heard
 
--- The components answer more than was heard, if they have so many Return Results besides.
+-- The components answer more than was heard, if this many Return Results are counted besides.
 abbrev pub is_overspent : Table → HalfOf → ℤ → List Component → ℕ → Bool
 is_overspent table h id components besides =
     more_answered table h id (count (is_last_result id) components + besides) (count (is_error id) components)

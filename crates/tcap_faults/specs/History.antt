@@ -134,7 +134,7 @@ pub record IsSide (table : Table) (side : Side) (items : List Item) (kept : Side
   pub joined : (id : List ℕ)
       → AreAmong (filter (has_used (other side) items) (dtids_of (sent_from side items id)))
       (lookup (is_at (octets_cmp id)) kept.joined.entries)
-  -- Its IDs from which it guessed an ID of the other end (`Tangled`).
+  -- Its IDs from which it guessed an ID of the other end (`TangledIds`).
   pub guessed : (id : List ℕ) → set.contains octets_cmp kept.guessed id ≡ one_passes (guesses (other side) id) [] items
   -- Its IDs that it answered as closed.
   pub closed : (id : List ℕ) → set.contains octets_cmp kept.closed id ≡ one_passes (shows_closed side id) [] items

@@ -64,7 +64,7 @@ abbrev pub more_last_by : ℕ → ℕ → ℕ → ℕ → ℕ → ℕ → ℕ �
 more_last_by all of_1 of_3 ends results generals not_lasts =
     nat_lt (sum (sum ends results) generals) (sum of_1 of_3) || nat_lt (sum ends not_lasts) all
 
--- Whether an invocation of the ID lasts that cannot have ended.
+-- Whether some own invocations of the ID do not expire and cannot all have ended.
 abbrev pub is_busy_by : Counted → ℤ → Bool
 is_busy_by by id =
     not (lasting classes.Any == 0)
@@ -102,7 +102,7 @@ links_badly_by table by _ = false
 
 -- ---- F12: an invocation that was answered already
 
--- Whether so many Return Results, Return Errors and Rejects answer more than the heard Invokes of the ID allow.
+-- Whether this many Return Results, Return Errors and Rejects answer more than the heard Invokes of the ID allow.
 abbrev pub more_answered_by : Tallied → ℤ → ℕ → ℕ → ℕ → Bool
 more_answered_by heard id results errors rejects =
     nat_lt (sum of_1 of_3) results || nat_lt (sum of_1 of_2) errors
@@ -118,7 +118,7 @@ more_answered_by heard id results errors rejects =
     of_3 : ℕ
     of_3 = invokes_in heard id classes.Three
 
--- Whether more is answered than was heard, with so many Return Results, Return Errors and Rejects besides those that
+-- Whether more is answered than was heard, with this many Return Results, Return Errors and Rejects besides those that
 -- were sent.
 abbrev pub is_overspent_by : Counted → ℤ → ℕ → ℕ → ℕ → Bool
 is_overspent_by by id results errors rejects =
@@ -167,20 +167,20 @@ abbrev pub answers_of : Bool → Sort
 answers_of true = sorts.Results
 answers_of false = sorts.Errors
 
--- The number of own invocations whose class allows such an answer.
+-- The number of own invocations of an ID whose class allows a Return Result (if `true`), or a Return Error.
 abbrev pub suited_by : Bool → Tallied → ℤ → ℕ
 suited_by true invoked id = sum (invokes_in invoked id classes.One) (invokes_in invoked id classes.Three)
 suited_by false invoked id = sum (invokes_in invoked id classes.One) (invokes_in invoked id classes.Two)
 
--- Whether no such answer can be unexpected: the class of each own invocation allows it, fewer than two answers were
--- heard, and none names an operation that no own invocation has.
+-- Whether no Return Result (if `of_result`), or Return Error, with the ID can be unexpected: the class of each own
+-- invocation allows it, fewer than two answers were heard, and none names an operation that no own invocation has.
 abbrev pub is_expected_by : Counted → Bool → ℤ → Bool
 is_expected_by by of_result id =
     (suited_by of_result by.invoked id == invokes_in by.invoked id classes.Any)
     && nat_lt (sum (by.heard.count id sorts.Results) (by.heard.count id sorts.Errors)) 2
     && not (by.heard.has_result id (is_of_none by.invoked id))
 
--- Whether own invocations rule out this problem for all such answers.
+-- Whether the own invocations of the ID rule out this problem for each Return Result (if `of_result`), or Return Error.
 abbrev pub is_known_wrong_by : Counted → Bool → ℤ → ℕ → Bool
 is_known_wrong_by by of_result id problem =
     (problem == 1 && is_expected_by by of_result id)

@@ -1,14 +1,16 @@
--- What a reader did in a call.
+-- What a reader returned in a call, and how often it failed.
 use Rattle.std.specs.Prelude.{◌≡◌, ℕ, List, Option}
 
--- What a reader had still to return, where that is known, and how often it had failed, before a call and after it.
+-- A reader before a call and after it: the octets that it still has to return, if they are known, and the number of its
+-- failures.
 pub record Device : Type 0 where
   pub before : Option (List ℕ)
   pub after : Option (List ℕ)
   pub failed_before : ℕ
   pub failed_after : ℕ
 
--- that of a reader, by what it has still to return and how often it failed, as it was before the call and is after it
+-- The `Device` of a reader that was `old` before the call and is `new` after it. `untold` gives the octets that it
+-- still has to return, and `failures` the number of its failures.
 abbrev pub device : {A : Type 0} → (A → Option (List ℕ)) → (A → ℕ) → A → A → Device
 device untold failures old new = record {
   before = untold old;
@@ -17,6 +19,6 @@ device untold failures old new = record {
   failed_after = failures new;
 }
 
--- Nothing was asked of it.
+-- The call did not use the reader.
 abbrev pub IsUntouched : Device → Type 0
 IsUntouched d = (d.after ≡ d.before) × (d.failed_after ≡ d.failed_before)

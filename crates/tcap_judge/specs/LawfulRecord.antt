@@ -1,5 +1,5 @@
--- What it means that a record is found lawful, in terms of the standard and of runs alone. Neither certificates, nor their
--- replay, nor entries appear in it.
+-- What it means that a record is found lawful, in terms of the standard and of runs alone. It does not mention
+-- certificates, their replay or entries.
 use Rattle.std.specs.Prelude.{◌≡◌, ℕ, List, [], ◌∷◌, ◌++◌, length, Option, Ok, codes}
 use Rattle.std.specs.Fmt.{decimal}
 use Rattle.std.specs.Io.KnownBytes.{Appends, Consumes, IsAtEnd}
@@ -12,8 +12,8 @@ use Rattle.tcap_model.specs.World.{Item, Sent}
 use Rattle.tcap_model.specs.Run.{IsLawful}
 use Rattle.tcap_judge.specs.Device.{Device}
 
--- Octets spell these items, one after the other and nothing over: a message is the octet of the end that sent it and
--- then a spelling of the message; a quiet mark is its octet.
+-- The octets spell these items, one after the other, with no octet left over. A message is spelled by the octet of the
+-- end that sent it and a spelling of the message. A quiet mark is spelled by its octet.
 abbrev pub SpellsRecord : List Item → List ℕ → Type 0
 SpellsRecord [] octets = octets ≡ []
 SpellsRecord (Sent side message ∷ items) octets =
@@ -36,12 +36,13 @@ pub record TellsItems (entries table : Device) (operations : Table) (items : Lis
   pub is_table : IsTableOf text (Ok operations)
   pub spells : SpellsRecord items octets
 
--- the line that says that so many items are lawful
+-- the line `LAWFUL COUNT`
 abbrev pub lawful_line : ℕ → List ℕ
 lawful_line count = codes "LAWFUL " ++ decimal count ++ line_end
 
 -- The readers returned a record and an operation table. Two lawful ends may have sent the items of the record, in this
--- order, by a run of so many steps, and the writer took the line that says so, with the count of the items.
+-- order: a run of `moves` steps sends them. The writer took the line `LAWFUL COUNT`, with the number of the items.
+-- `taken` and `taken'` are the octets that the writer took before the call and after it, if they are known.
 pub record FindsLawful (entries table : Device) (taken taken' : Option (List ℕ)) : Type 0 where
   pub operations : Table
   pub items : List Item

@@ -72,7 +72,8 @@ fn push_reason(text: &mut String, reason: Reason) -> Result<(), AllocError>
     }
 }
 
-/// Appends the line if a certificate does not show a record lawful. Fails if memory runs out.
+/// Appends the line `NOT SHOWN ENTRY REASON`, for a certificate that does not show a record lawful. Fails if memory
+/// runs out.
 fn push_not_shown(text: &mut String, fault: CheckFault) -> Result<(), AllocError>
     ensures { OnOk result (string_bytes text.new ≡ string_bytes text.old ++ not_shown_line fault) }
 {
@@ -82,7 +83,7 @@ fn push_not_shown(text: &mut String, fault: CheckFault) -> Result<(), AllocError
     text.push_str("\n")
 }
 
-/// Appends the line if an entry is at fault. Fails if memory runs out.
+/// Appends the line `REFUTED ENTRY KIND`, for an entry at fault. Fails if memory runs out.
 fn push_refuted(text: &mut String, refutation: Refutation) -> Result<(), AllocError>
     ensures { OnOk result (string_bytes text.new ≡ string_bytes text.old ++ refuted_line refutation) }
 {
@@ -91,7 +92,8 @@ fn push_refuted(text: &mut String, refutation: Refutation) -> Result<(), AllocEr
     writeln!(text, "REFUTED {entry} F{number}")
 }
 
-/// Appends the line if a record is neither refuted nor shown lawful. Fails if memory runs out.
+/// Appends the line `UNDECIDED ENTRY REASON`, for a record that is neither refuted nor shown lawful. Fails if memory
+/// runs out.
 fn push_undecided(text: &mut String, fault: CheckFault) -> Result<(), AllocError>
     ensures { OnOk result (string_bytes text.new ≡ string_bytes text.old ++ undecided_line fault) }
 {

@@ -1,6 +1,7 @@
--- What two ends over two channels can do, one step at a time (Q.774 3.2 and 3.3). The other end receives a message, its
--- provider answers the message with an Abort, or the message is lost. Each end either keeps the rules or sends any
--- message at any time (`Tells`).
+-- What two ends over two channels can do, one step at a time (Q.774 3.2 and 3.3). An end sends a message; then the
+-- other end receives the message, its provider answers the message with an Abort, or the message is lost. An end that
+-- keeps the rules sends only what it may send. An end that does not keep them may send any message at any time
+-- (`Tells`).
 use Rattle.std.specs.Prelude.{◌≡◌, ℕ, ◌+◌, ℤ, Bool, false, List, [], ◌∷◌, ◌++◌, map, length, Option, Some, None, is_ok, ◌==◌, ◌||◌, cond, option_and_then, option_map}
 use Rattle.std.specs.Result.{result_ok}
 use Rattle.tcap_msg.specs.declared.message.AbortReason.TheVariants.{Cause}

@@ -97,7 +97,7 @@ pub(crate) struct Rules {
 }
 
 impl Case {
-    /// Returns its number, which is that of its first entry in the trace.
+    /// Returns the dialogue's number: that of its first entry in the trace.
     pub(crate) fn number(&self) -> u64 {
         match self.gathered.numbers.first() {
             Some(first) => self.before.saturating_add(*first),
@@ -113,19 +113,19 @@ impl Case {
         }
     }
 
-    /// Returns whether it has more entries than are judged. A quiet mark after it counts as an entry.
+    /// Returns whether the dialogue has more entries than are judged. A quiet mark after it counts as an entry.
     pub(crate) fn is_cut(&self) -> bool
         ensures { result ≡ true → 100000 ≤ length self.now.entries.items }
     {
         self.entries.len() > MOST || (self.is_marked() && self.entries.len() == MOST)
     }
 
-    /// Returns whether a quiet mark ends it.
+    /// Returns whether a quiet mark ends the dialogue.
     pub(crate) fn is_marked(&self) -> bool {
         matches!(self.behind, Behind::Mark { .. })
     }
 
-    /// Returns whether one of its entries carries an ID.
+    /// Returns whether an entry of the dialogue carries an ID.
     pub(crate) fn has_ids(&self) -> bool {
         !self.gathered.a.is_empty() || !self.gathered.b.is_empty()
     }
@@ -146,7 +146,7 @@ impl Case {
         }
     }
 
-    /// Returns the octets of its record, with at most `MOST` entries.
+    /// Returns the dialogue as the octets of a record, with at most `MOST` entries.
     fn octets(&self, alloc: Global) -> Result<Vec<u8>, AllocError> {
         let mut octets = Vec::new(alloc);
         for held in self.entries.iter().take(MOST) {

@@ -14,7 +14,7 @@ fn is_silent(judged: &Judged, end: End, said: Said) -> bool {
     }
 }
 
-/// Returns whether this holds for an end that is asked.
+/// Returns whether an end that is asked passes, but missed a message of its peer or sent nothing.
 pub(crate) fn is_unheard(judged: &Judged, of: Option<End>) -> bool {
     match judged.ends {
         Some(ends) => [End::A, End::B].iter().any(|end| is_asked(of, *end)

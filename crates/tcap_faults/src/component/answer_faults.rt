@@ -12,7 +12,7 @@ use crate::component::several_tallies::{invokes_of, results_of};
 use tcap_parts::{ComponentView, ProblemView, ResultBodyView};
 
 impl Before<'_> {
-    /// Returns whether so many Return Results, Return Errors and Rejects answer more than the invocations of this ID
+    /// Returns whether this many Return Results, Return Errors and Rejects answer more than the invocations of this ID
     /// allow.
     fn is_more_answered(&self, id: i8, results: u128, errors: u128, rejects: u128) -> bool
         ensures { result ≡ more_answered_by (counted self.now).heard id results errors rejects }
@@ -27,8 +27,8 @@ impl Before<'_> {
             || self.heard(id, Sort::Invokes(Class::Any)) < more(answers, rejects)
     }
 
-    /// Returns whether the end sent more than the invocations of this ID allow, if it sends so many more Return
-    /// Results, Return Errors and Rejects.
+    /// Returns whether the end sends more answers than the invocations of this ID allow, with this many Return Results,
+    /// Return Errors and Rejects besides those that it sent.
     fn is_overspent(&self, id: i8, results: u128, errors: u128, rejects: u128) -> bool
         ensures { result ≡ is_overspent_by (counted self.now) id results errors rejects }
     {

@@ -74,7 +74,8 @@ impl ComponentFaults {
         }
     }
 
-    /// Returns these faults with those of the next component, which has this number.
+    /// Returns these faults after the next component, which has this number. Its number is noted for each kind that it
+    /// has and no component before it had.
     fn with(
         self,
         table: &Table,

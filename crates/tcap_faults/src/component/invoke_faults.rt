@@ -25,8 +25,8 @@ struct Ended {
 }
 
 impl Ended {
-    /// Returns whether they cannot have ended all lasting invocations: those of class 1 and 3, or those of all
-    /// classes.
+    /// Returns whether these components cannot have ended all lasting invocations: not all `of_1` and `of_3` ones of
+    /// class 1 and 3, or not `all` of any class.
     fn is_less(&self, all: u128, of_1: u128, of_3: u128) -> bool
         ensures { result ≡ more_last_by all of_1 of_3 self.now.heard self.now.result_rejects self.now.general_rejects
             self.now.not_lasts }
@@ -48,7 +48,8 @@ impl Before<'_> {
         more(more(more(results, errors), rejects), generals)
     }
 
-    /// Returns whether an own invocation of this ID lasts.
+    /// Returns whether this ID is surely in use: some own invocations of it do not expire, and what was heard and sent
+    /// cannot have ended all of them.
     fn is_busy(&self, id: i8) -> bool
         ensures { result ≡ is_busy_by (counted self.now) id }
     {
@@ -79,7 +80,7 @@ impl Before<'_> {
         }
     }
 
-    /// Returns the number of invocations of this ID that were taken.
+    /// Returns the number of invocations of this ID that were taken: by a last answer, or by a Reject of the Invoke.
     fn taken(&self, id: i8) -> u128
         ensures { result ≡ taken_by (counted self.now).told id }
     {

@@ -223,7 +223,7 @@ fn links_so_again(
     }
 }
 
-/// Returns whether a tally has such a linked Invoke. Looks at one in each tally.
+/// Returns whether the linked Invoke with this ID that was found last has the problem. Looks at one in each tally.
 fn one_links_so_again(
     heard: &[&Tally],
     invoked: &[&Tally],

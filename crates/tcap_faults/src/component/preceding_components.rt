@@ -27,21 +27,24 @@ impl Before<'_> {
         count(&self.half.heard, id, sort)
     }
 
-    /// Returns the number of such components among which its own invocations are.
+    /// Returns the number of components with this invoke ID and of this sort in the messages that carry the half's own
+    /// invocations.
     pub(crate) fn invoked(&self, id: i8, sort: Sort) -> u128
         ensures { result ≡ (counted self.now).invoked.count id sort }
     {
         count(&self.half.invoked, id, sort)
     }
 
-    /// Returns the number of such components that it sent, with those of the message before this one.
+    /// Returns the number of components with this invoke ID and of this sort that the half sent, with those of the
+    /// message before this component.
     pub(crate) fn told(&self, id: i8, sort: Sort) -> u128
         ensures { result ≡ (counted self.now).told.count id sort }
     {
         more(count(&self.half.told, id, sort), self.own.count(id, sort))
     }
 
-    /// Returns the number of such components that it sent, with all Rejects of the message.
+    /// Returns the number of components with this invoke ID and of this sort that the half sent, with all Rejects of
+    /// the message.
     pub(crate) fn all_told(&self, id: i8, sort: Sort) -> u128
         ensures { result ≡ (counted self.now).all_told.count id sort }
     {

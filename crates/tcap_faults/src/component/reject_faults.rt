@@ -73,7 +73,8 @@ impl Before<'_> {
         }
     }
 
-    /// Returns the number of own invocations whose class allows such an answer.
+    /// Returns the number of own invocations of this ID whose class allows a Return Result (`of_result`) or Return
+    /// Error.
     fn suited(&self, of_result: bool, id: i8) -> u128
         ensures { result ≡ suited_by of_result (counted self.now).invoked id }
     {
@@ -82,7 +83,7 @@ impl Before<'_> {
         more(of_1, self.invoked(id, Sort::Invokes(class)))
     }
 
-    /// Returns whether no such answer can be unexpected.
+    /// Returns whether no Return Result (`of_result`) or Return Error with this ID can be unexpected.
     ///
     /// The class of each own invocation allows it, fewer than two answers were heard, and none names an operation
     /// that no own invocation has.
@@ -94,7 +95,8 @@ impl Before<'_> {
             && !is_of_no_operation(&self.half.heard, &self.half.invoked, id)
     }
 
-    /// Returns whether own invocations rule out this problem for such an answer.
+    /// Returns whether the own invocations of this ID rule out this problem for a Return Result (`of_result`) or Return
+    /// Error.
     fn is_known_wrong(&self, of_result: bool, id: i8, problem: u8) -> bool
         ensures { result ≡ is_known_wrong_by (counted self.now) of_result id problem }
     {
@@ -105,7 +107,7 @@ impl Before<'_> {
         }
     }
 
-    /// Returns whether no such answer with this ID can be rejected with this problem.
+    /// Returns whether no Return Result (`of_result`) or Return Error with this ID can be rejected with this problem.
     fn is_answer_reject_wrong(&self, of_result: bool, id: i8, problem: u8) -> bool
         ensures { result ≡ is_answer_reject_wrong_by (counted self.now) of_result id problem }
     {

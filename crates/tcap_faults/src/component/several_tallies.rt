@@ -60,7 +60,8 @@ fn one_lists(tallies: &[&Tally], table: &Table, id: i8, code: CodeView) -> bool
     false
 }
 
-/// Returns whether such an Invoke was found last. Looks at one in each tally.
+/// Returns whether the Invoke with this ID that was found last has an operation that lists this one. Looks at one
+/// Invoke in each tally.
 fn one_lists_again(tallies: &[&Tally], table: &Table, id: i8, code: CodeView) -> bool
     ensures { result ≡ true → (tallies_of (map (λ b. b.now) tallies.now)).has_operation id
         (λ to. links table.now to (code_of code.entry)) ≡ true }

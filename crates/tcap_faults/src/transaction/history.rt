@@ -67,7 +67,8 @@ impl SideFacts {
         }
     }
 
-    /// Returns what F2 to F7 need of what the end sent from an ID, if there is one.
+    /// Returns the notes for F2 to F7 on what the end sent from this ID; `None` if there is no ID, or nothing was sent
+    /// from it.
     pub(crate) fn first_from(&self, id: Option<TransactionIdView>) -> Option<&FromId>
         ensures { (table : Table) (side : Side) (items : List Item) (fact : FromFact) → IsSide table side items self.now
             → told_by_from (option_copied result) fact ≡ told_from (told_since table side items) (id_of id.entry) fact }

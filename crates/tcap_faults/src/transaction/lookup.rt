@@ -65,7 +65,7 @@ pub(crate) fn key_of(id: Option<TransactionIdView>) -> Option<TransactionId>
     }
 }
 
-/// Returns whether two of the IDs in both lists together differ; each list may be absent.
+/// Returns whether two IDs differ, of all those in the two lists together. Each list may be absent.
 fn differ(some: Option<&Ids>, others: Option<&Ids>) -> bool
     ensures { (xs ys : List (List ℕ)) → AreAmong xs (option_copied some.entry) → AreAmong ys (option_copied others.entry)
         → result ≡ two_differ (xs ++ ys) }
@@ -147,7 +147,7 @@ impl There<'_> {
 }
 
 impl<'a> Found<'a> {
-    /// Returns what F2 to F7 need of what the end sent from the originating ID, if it sent anything.
+    /// Returns the notes for F2 to F7 on what the end sent from the originating ID, if it sent anything.
     pub(crate) fn first_own(self) -> Option<&'a FromId>
         ensures { (table : Table) (side : Side) (items : List Item) (m : Message) (fact : FromFact)
             → AreFound table side items m self.entry
@@ -159,7 +159,7 @@ impl<'a> Found<'a> {
         }
     }
 
-    /// Returns what F2 to F7 need of what the peer sent from the destination ID, if it sent anything.
+    /// Returns the notes for F2 to F7 on what the peer sent from the destination ID, if it sent anything.
     pub(crate) fn first_there(self) -> Option<&'a FromId>
         ensures { (table : Table) (side : Side) (items : List Item) (m : Message) (fact : FromFact)
             → AreFound table side items m self.entry
