@@ -7,4 +7,3 @@ pub mod AlikeLaws
 pub mod DescribedGaps
 pub mod DescribedSends
 pub mod DescribedRuns
-pub mod HalfNameLaws

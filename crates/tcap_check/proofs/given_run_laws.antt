@@ -6,4 +6,3 @@ pub mod NumberLaws
 pub mod GivenLosses
 pub mod GivenEvents
 pub mod GivenRuns
-pub mod NothingLeftLaws

@@ -2,13 +2,10 @@
 pub mod AloneWeights
 pub mod AloneLoad
 pub mod AloneCounts
-pub mod AloneSteps
 pub mod AloneReplays
 pub mod AloneRuns
 pub mod AloneViews
 pub mod AloneMirrors
-pub mod AloneGaps
 pub mod AloneTies
 pub mod AloneBoth
 pub mod AloneTaken
-pub mod AloneLeft

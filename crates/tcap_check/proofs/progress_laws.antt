@@ -1,6 +1,4 @@
 -- The steps over what a checker keeps are those of the replay, part by part.
-pub mod LosingLaws
-pub mod HearingLaws
 pub mod KeptLeft
 pub mod KeptBasics
 pub mod KeptCounts
@@ -8,10 +6,8 @@ pub mod KeptDeliveries
 pub mod KeptEntries
 pub mod KeptGaps
 pub mod KeptGrowth
-pub mod KeptHidden
 pub mod KeptMarks
 pub mod KeptMessages
-pub mod KeptOwn
 pub mod KeptPending
 pub mod KeptSends
 pub mod KeptStays

@@ -5,7 +5,6 @@ pub mod FollowingLaws
 pub mod TakenNumberLaws
 pub mod PendingLaws
 pub mod PendingBoth
-pub mod PendingAlone
 pub mod ReasonGaps
 pub mod ReasonItems
 pub mod ReasonPending
@@ -13,4 +12,3 @@ pub mod ReasonMarks
 pub mod ReasonLaws
 pub mod RefusedReplayLaws
 pub mod TakenEntriesLaws
-pub mod TakenSoFarLaws

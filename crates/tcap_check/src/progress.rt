@@ -66,7 +66,7 @@ impl<'r> Seat<'r> {
     }
 
     /// Counts the messages on their way that will not be lost.
-    #[tactic(auto, using(crate::proofs::progress_laws::LosingLaws::kept_more, crate::proofs::progress_laws::LosingLaws::lost_more))]
+    #[tactic(auto, using(crate::proofs::progress_laws::KeptGrowth::kept_more, crate::proofs::progress_laws::KeptGrowth::lost_more))]
     pub(crate) fn count_kept(&self) -> usize
         ensures count { result ≡ count_kept self.now.waiting }
         ensures few { result < 2 ^ 63 }

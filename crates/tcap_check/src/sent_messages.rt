@@ -277,7 +277,7 @@ impl<'r> Progress<'r> {
     /// Sends a message from an end. First tries without expiries: a message that can be sent this way invokes no ID in
     /// use. Else expires the earlier invocations whose IDs it invokes again, and tries once more. Fails with
     /// `SendRefused` or `Memory`.
-    #[tactic(auto, using(crate::proofs::checker_laws::SentAsItIsLaws::sends_as_is, crate::proofs::refusal_laws::SendShows::memory_shows))]
+    #[tactic(auto, using(crate::proofs::checker_laws::SendingLaws::sends_as_is, crate::proofs::refusal_laws::SendShows::memory_shows))]
     fn send<M: MessageParts>(
         &mut self,
         alloc: Global,

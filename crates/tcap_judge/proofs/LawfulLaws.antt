@@ -20,7 +20,7 @@ use Rattle.tcap_check.specs.declared.checker.Report.{Report}
 use Rattle.tcap_certificate.specs.LossCounts.{unheard_of}
 use Rattle.tcap_check.proofs.one_end_laws.AloneRuns.{gives_for}
 use Rattle.tcap_check.proofs.given_run_laws.GivenRuns.{gives}
-use Rattle.tcap_check.proofs.described_run_laws.HalfNameLaws.{described_is_given}
+use Rattle.tcap_check.proofs.described_run_laws.DescribedRuns.{described_is_given}
 use Rattle.tcap_check.proofs.refusal_laws.ReasonGaps.{as_many}
 use Rattle.tcap_check.proofs.refusal_laws.ReasonLaws.{refusal_says}
 use Rattle.tcap_judge.specs.declared.text_reading.TextFault.{TextFault}

@@ -51,32 +51,26 @@ took_err listing judged table c k next entry fault is entries took =
 
 -- ---- the end
 
--- The events of a run are those of the replay, with the losses at the end.
+-- What is made of the replay of all entries is made of its result.
+made_so : {A : Type 0} (c : Certificate) (all o : Result Replay CheckFault) (made : Replay → Result A CheckFault)
+    → (certificate_fits c >> all) ≡ o → (certificate_fits c >> (all >>= made)) ≡ (o >>= made)
+made_so {A} c all o made is = by (certificate_fits c) is
+  where
+    by : (x : Result (Unit {0}) CheckFault) → (x >> all) ≡ o → (x >> (all >>= made)) ≡ (o >>= made)
+    by (Ok fits) e = ap (λ (z : Result Replay CheckFault). z >>= made) e
+    by (Err fault) e = ap (λ (z : Result Replay CheckFault). z >>= made) e
+
+-- The events of a run are those of the replay, with the losses at the end, and so are the discards.
 pub ends_so : (judged : Option Side) (table : Table) (c : Certificate) (entries : List (Result Item Reason)) (o : Result Replay CheckFault)
     → (certificate_fits c >> entries_by judged table c entries nothing_replayed) ≡ o
     → run_by judged table c entries ≡ (o >>= λ r. Ok (lost_last judged c r).events)
-ends_so judged table c entries o is = by (certificate_fits c) is
-  where
-    events_of : Replay → Result (List Event) CheckFault
-    events_of r = Ok (lost_last judged c r).events
+ends_so judged table c entries o is =
+    made_so c (entries_by judged table c entries nothing_replayed) o (λ r. Ok (lost_last judged c r).events) is
 
-    by : (x : Result (Unit {0}) CheckFault) → (x >> entries_by judged table c entries nothing_replayed) ≡ o
-        → (x >> (entries_by judged table c entries nothing_replayed >>= events_of)) ≡ (o >>= events_of)
-    by (Ok fits) e = ap (λ (z : Result Replay CheckFault). z >>= events_of) e
-    by (Err fault) e = ap (λ (z : Result Replay CheckFault). z >>= events_of) e
-
--- The discards are those of the replay of all entries.
 pub discards_so : (judged : Option Side) (table : Table) (c : Certificate) (entries : List (Result Item Reason)) (o : Result Replay CheckFault)
     → replay_by judged table c entries ≡ o → discards_by judged table c entries ≡ (o >>= λ r. Ok (lost_last judged c r).discards)
-discards_so judged table c entries o is = by (certificate_fits c) is
-  where
-    discards : Replay → Result (List (ℕ × EndFault)) CheckFault
-    discards r = Ok (lost_last judged c r).discards
-
-    by : (x : Result (Unit {0}) CheckFault) → (x >> entries_by judged table c entries nothing_replayed) ≡ o
-        → (x >> (entries_by judged table c entries nothing_replayed >>= discards)) ≡ (o >>= discards)
-    by (Ok fits) e = ap (λ (z : Result Replay CheckFault). z >>= discards) e
-    by (Err fault) e = ap (λ (z : Result Replay CheckFault). z >>= discards) e
+discards_so judged table c entries o is =
+    made_so c (entries_by judged table c entries nothing_replayed) o (λ r. Ok (lost_last judged c r).discards) is
 
 abbrev report_ok : Progress → Result Report CheckFault
 report_ok p = Ok (report_of p)

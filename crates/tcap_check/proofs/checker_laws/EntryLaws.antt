@@ -17,10 +17,8 @@ use Rattle.tcap_check.specs.EntryOutlines.{is_named, outline_of, outlines_from, 
 use Rattle.tcap_check.specs.Progress.{last_lost}
 use Rattle.tcap_check.specs.CheckerMeaning.{Checking, Kept, TookListed, ended, entry_kept, gap_before, kept_ended, kept_next, kept_of, kept_with, map_ok, progress_of, taken, taken_from, taken_next}
 use Rattle.tcap_check.proofs.progress_laws.KeptBasics.{last_is, map_both, ok_behind, then_same, then_then}
-use Rattle.tcap_check.proofs.progress_laws.KeptEntries.{item_is, item_sends, outlines_more, since_more}
-use Rattle.tcap_check.proofs.progress_laws.KeptGaps.{gap_is}
-use Rattle.tcap_check.proofs.progress_laws.KeptHidden.{outlines_count}
-use Rattle.tcap_check.proofs.progress_laws.KeptOwn.{IsHeard, gap_keeps, heard_empty}
+use Rattle.tcap_check.proofs.progress_laws.KeptEntries.{item_is, item_sends, outlines_more, since_more, IsHeard, gap_keeps, heard_empty}
+use Rattle.tcap_check.proofs.progress_laws.KeptGaps.{gap_is, outlines_count}
 
 pub taken_is_heard : (judged : Option Side) (table : Table) (c : Certificate) (entries : List (Result Item Reason)) (r : Replay)
     → taken judged table c entries ≡ Ok r → IsHeard judged r

@@ -19,7 +19,7 @@ use Rattle.tcap_certificate.specs.Replay.{certificate_fits, discards_by, fault_a
 use Rattle.tcap_check.specs.RunSoFar.{EndsListed, UnlessMemory, IsAnswered, IsRefusedThere, ShowsAmong, answered}
 use Rattle.tcap_check.specs.ReportedSteps.{discards_of, events_of, told_of}
 use Rattle.tcap_check.proofs.checker_laws.CheckerLaws.{discards_so, ends_so, listed_err, listed_ok}
-use Rattle.tcap_check.proofs.checker_laws.RecordLaws.{run_given, run_may}
+use Rattle.tcap_check.proofs.checker_laws.RefusalLaws.{run_given, run_may}
 use Rattle.tcap_check.proofs.refusal_laws.SendShows.{unfit_shows}
 use Rattle.tcap_check.proofs.refusal_laws.TakenEntriesLaws.{GoesAlike}
 

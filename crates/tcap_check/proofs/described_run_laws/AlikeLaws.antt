@@ -20,8 +20,7 @@ use Rattle.tcap_model.specs.Run.{Event, Sends, Receives, Replies, Loses, Expires
 use Rattle.tcap_certificate.specs.DescribedRun.{without_losses}
 use Rattle.tcap_certificate.specs.Replay.{Replay, if_lost, lost_before, lost_from_both, lost_from_front, lost_front, stepped, with_step}
 use Rattle.tcap_model.proofs.RunLaws.{played_on}
-use Rattle.tcap_check.proofs.replay_laws.ReplaySteps.{channel_with}
-use Rattle.tcap_check.proofs.replay_laws.WaitingLaws.{behind_lost, waiting, waiting_by}
+use Rattle.tcap_check.proofs.replay_laws.ReplaySteps.{channel_with, behind_lost, waiting, waiting_by}
 use Rattle.tcap_model.proofs.WorldLaws.{with_same}
 use Rattle.tcap_model.proofs.RunLaws.{closing, delivery, expiry, loss, quiet, reply, then_some}
 

@@ -18,13 +18,12 @@ use Rattle.tcap_certificate.specs.Certificate.{Certificate}
 use Rattle.tcap_certificate.specs.DescribedRun.{deliveries, gap_events, is_loss, losses_from, lost_from, without_losses}
 use Rattle.tcap_certificate.specs.Replay.{Replay, deliveries_by, fault_at, gap_by, happens, lost_before, next_entry, stepped, with_step}
 use Rattle.tcap_model.proofs.RunLaws.{grows, map_some, same_events}
-use Rattle.tcap_check.proofs.replay_laws.ReplaySteps.{Replays, without_both}
+use Rattle.tcap_check.proofs.replay_laws.ReplaySteps.{Replays, without_both, AreFrom, from_next, first_from, from_start}
 use Rattle.tcap_check.proofs.replay_laws.ReplayLaws.{gap_replays, closes_in_gap, expires_in_gap}
 use Rattle.tcap_check.proofs.described_run_laws.AlikeLaws.{Ahead, Alike, LossFits, closes_goes, expires_goes, go_on, next_step, receives_goes, Goes}
 use Rattle.tcap_check.specs.declared.listed_steps.Listed.{Listed}
 use Rattle.tcap_check.specs.ListedSteps.{all_replayed, entry_of, event_listed, listed_for, listed_in, listed_replayed, side_of, why_refused}
-use Rattle.tcap_check.proofs.replay_laws.ListedEventLaws.{gap_events_are, gap_is_listed, judged_all, listed_so}
-use Rattle.tcap_check.proofs.replay_laws.FateLaws.{AreFrom, from_next, first_from, from_start}
+use Rattle.tcap_check.proofs.replay_laws.ReplayGaps.{gap_events_are, gap_is_listed, judged_all, listed_so}
 
 -- ---- results that are Ok
 

@@ -26,7 +26,7 @@ use Rattle.tcap_check.proofs.described_run_laws.OrderLaws.{Rises, Takes, here_ta
 use Rattle.tcap_check.proofs.replay_laws.ReplayGaps.{get_before}
 use Rattle.tcap_check.proofs.refusal_laws.TakenNumberLaws.{taken_sent}
 use Rattle.tcap_check.proofs.given_run_laws.NumberLaws.{among_plain}
-use Rattle.tcap_check.proofs.replay_laws.MemberLaws.{IsIn, in_left, in_right}
+use Rattle.tcap_check.proofs.replay_laws.ReplaySteps.{IsIn, in_left, in_right}
 
 -- ---- ranges
 

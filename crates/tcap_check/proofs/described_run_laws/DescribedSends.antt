@@ -10,7 +10,6 @@ use Rattle.tcap_msg.specs.declared.message.Message.{Message}
 use Rattle.tcap_msg.specs.declared.message.Message.TheVariants.{Unidirectional, Begin, Continue, End as EndMessage, Abort}
 use Rattle.tcap_msg.specs.Parts.{components_in}
 use Rattle.tcap_record.specs.declared.entry.End.{End as Side}
-use Rattle.tcap_record.specs.declared.entry.End.TheVariants as sides
 use Rattle.tcap_end.specs.declared.half.HalfName.{HalfName}
 use Rattle.tcap_end.specs.End.{End}
 use Rattle.tcap_end.specs.Table.{Table}
@@ -28,13 +27,13 @@ use Rattle.tcap_certificate.specs.Replay.{Replay, fault_at, happens, implied, im
 use Rattle.tcap_model.proofs.ChannelLaws.{get_new}
 use Rattle.tcap_model.proofs.RunLaws.{expiry, grows, map_some, sending as sending_of, sound}
 use Rattle.tcap_check.proofs.replay_laws.ReplayLaws.{reply_replays, send_replays}
-use Rattle.tcap_check.proofs.described_run_laws.ImpliedLaws.{implied_same}
+use Rattle.tcap_check.proofs.described_run_laws.ImpliedLaws.{implied_same, with_same, with_twice}
 use Rattle.tcap_check.proofs.described_run_laws.AlikeLaws.{Ahead, Alike, alike_end, alike_joined, to_same, ends_same, expires_goes, go_on, next_step, replies_goes}
 use Rattle.tcap_check.proofs.described_run_laws.DescribedGaps.{ok_needs, ok_some, ok_then, plain, plain_more, plain_step, some_same}
 use Rattle.tcap_model.proofs.RunLaws.{then_some}
 use Rattle.tcap_model.proofs.WorldLaws.{sent_with_end}
-use Rattle.tcap_check.proofs.replay_laws.FateLaws.{from_start, taken_are}
-use Rattle.tcap_check.proofs.replay_laws.ListedEventLaws.{implied_so}
+use Rattle.tcap_check.proofs.replay_laws.ReplaySteps.{from_start, taken_are}
+use Rattle.tcap_check.proofs.replay_laws.ReplayGaps.{implied_so}
 
 -- ---- a message
 
@@ -70,14 +69,6 @@ send_goes table c final side message rest r ahead =
       count = plain_more table r next (Sends side message ∷ []) (Sent side message ∷ []) steps;
     }
 
-end_twice : (side : Side) (a b : End) (w : World) → with_end side a (with_end side b w) ≡ with_end side a w
-end_twice sides.A a b w = refl
-end_twice sides.B a b w = refl
-
-end_itself : (side : Side) (w : World) → w ≡ with_end side (end_at side w) w
-end_itself sides.A w = refl
-end_itself sides.B w = refl
-
 after_stepped : (table : Table) (event : Event) (r next : Replay) → stepped table event r ≡ Some next → after table event r.world ≡ Some next.world
 after_stepped table event r next is =
     let found = map_some (with_step event r) (after table event r.world) next is in
@@ -94,7 +85,7 @@ implied_go : (table : Table) (c : Certificate) (final : World) (side : Side) (me
     → AllByRecursion (IsImplied (Sent side message)) made → Ahead table c.fates final (made ++ rest) r.world
     → AreImplied table c.fates final side made rest r.world
 implied_go table c final side message [] rest r all ahead =
-    record { before = r.world; plays = refl; world = end_itself side r.world; ahead = ahead }
+    record { before = r.world; plays = refl; world = sym (with_same side r.world); ahead = ahead }
 implied_go table c final side message (Expires own name id ∷ made) rest r all ahead =
     let event = Expires side name id in
     let at : Ahead table c.fates final (event ∷ (made ++ rest)) r.world =
@@ -112,7 +103,7 @@ implied_go table c final side message (Expires own name id ∷ made) rest r all 
       plays =
           ap (λ (x : Side). played table (Expires x name id ∷ made) r.world) ((all.0).0)
           ∙ ap (λ (o : Option World). then_so o (played table made)) step ∙ behind.plays;
-      world = behind.world ∙ ap (λ (x : World). with_end side last x) h.next_is ∙ end_twice side last h.made r.world;
+      world = behind.world ∙ ap (λ (x : World). with_end side last x) h.next_is ∙ with_twice side h.made last r.world;
       ahead = behind.ahead;
     }
 implied_go table c final side message (Sends own m ∷ made) rest r all ahead = absurd (all.0)

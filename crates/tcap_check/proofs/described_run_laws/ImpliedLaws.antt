@@ -221,11 +221,11 @@ is_expiry side message name (Closes other half) is over = absurd is
 is_expiry side message name Quiet is over = absurd is
 is_expiry side message name (Tells sender m) is over = absurd is
 
-with_same : (side : Side) (w : World) → with_end side (end_at side w) w ≡ w
+pub with_same : (side : Side) (w : World) → with_end side (end_at side w) w ≡ w
 with_same sides.A w = refl
 with_same sides.B w = refl
 
-with_twice : (side : Side) (e f : End) (w : World) → with_end side f (with_end side e w) ≡ with_end side f w
+pub with_twice : (side : Side) (e f : End) (w : World) → with_end side f (with_end side e w) ≡ with_end side f w
 with_twice sides.A e f w = refl
 with_twice sides.B e f w = refl
 

@@ -1,5 +1,5 @@
 -- A run that follows a certificate takes the messages of an end in the order of their numbers and of their times.
-use Rattle.std.proofs.Common.{arith, ◌≡◌, ◌⊎◌, inl, inr, ℕ, ◌+◌, ◌*◌, ◌≤◌, ◌<◌, ◌==◌, Bool, true, false, cond, nat_lt, List, [], ◌∷◌, ◌++◌, map, Option, Some, None, refl, sym, ap, subst, ◌∙◌, append-nil}
+use Rattle.std.proofs.Common.{arith, ◌≡◌, ◌⊎◌, inl, inr, ℕ, ◌+◌, ◌*◌, ◌≤◌, ◌<◌, Bool, true, false, cond, nat_lt, List, [], ◌∷◌, ◌++◌, map, Option, Some, refl, sym, ap, ◌∙◌, append-nil}
 use Rattle.std.specs.Prelude.{slice_get}
 use Rattle.std.specs.Cmp.{nat_cmp_is}
 use Rattle.std.specs.List.{AllByRecursion}
@@ -7,24 +7,20 @@ use Rattle.std.specs.List.Sorted.{IsStrictlySortedBy}
 use Rattle.std.specs.Ordering.{nat_cmp}
 use Rattle.std.specs.declared.cmp.Ordering.TheVariants.{Less, Greater}
 use Rattle.std.proofs.lemmas.Bool.{ltb-false, ltb-true}
-use Rattle.tcap_msg.specs.declared.message.AbortReason.TheVariants.{Cause, Dialogue as ByDialogue}
-use Rattle.tcap_msg.specs.declared.message.Message.{Message}
-use Rattle.tcap_msg.specs.declared.message.Message.TheVariants.{Unidirectional, Begin, Continue, End as EndMessage, Abort}
 use Rattle.tcap_record.specs.declared.entry.End.{End as Side}
 use Rattle.tcap_record.specs.Ends.{other}
-use Rattle.tcap_model.specs.World.{Item, Sent, is_side}
-use Rattle.tcap_model.specs.Run.{Event, Sends, Replies, numbers_taken, takes_from, then_so}
+use Rattle.tcap_model.specs.World.{Item, is_side}
+use Rattle.tcap_model.specs.Run.{Event, Replies, numbers_taken, takes_from, then_so}
 use Rattle.tcap_certificate.specs.declared.certificate.Fate.{Fate}
-use Rattle.tcap_certificate.specs.declared.certificate.Fate.TheVariants.{Gap, Lost, By}
+use Rattle.tcap_certificate.specs.declared.certificate.Fate.TheVariants.{By}
 use Rattle.tcap_certificate.specs.Certificate.{Certificate}
-use Rattle.tcap_certificate.specs.DescribedRun.{FollowsFrom, IsImplied, deliveries, gap_events, is_loss, quiet_by, sending_by, taken_by, without_losses}
+use Rattle.tcap_certificate.specs.DescribedRun.{FollowsFrom, IsImplied, deliveries, gap_events, is_loss, sending_by, taken_by, without_losses}
 use Rattle.tcap_certificate.specs.Replay.{time_of}
 use Rattle.tcap_model.proofs.ListLaws.{all_both, all_weaker}
-use Rattle.tcap_model.proofs.RunLaws.{where_some, some_is}
-use Rattle.tcap_check.proofs.replay_laws.ListedEventLaws.{gap_split, all_implied}
-use Rattle.tcap_check.proofs.replay_laws.MemberLaws.{IsIn, in_left, in_right, in_either, all_in}
-use Rattle.tcap_check.proofs.replay_laws.FateLaws.{from_start, all_delivered, taken_are}
+use Rattle.tcap_check.proofs.replay_laws.ReplayGaps.{gap_split, all_implied}
+use Rattle.tcap_check.proofs.replay_laws.ReplaySteps.{IsIn, in_left, in_right, in_either, all_in, from_start, all_delivered, taken_are}
 use Rattle.tcap_check.proofs.given_run_laws.NumberLaws.{taken_both, among_plain}
+use Rattle.tcap_check.proofs.given_run_laws.GivenEvents.{IsSender, by_mark, by_reply, by_send, sender_is}
 
 -- ---- numbers in lists
 
@@ -178,39 +174,16 @@ abbrev pub Takes : List ℕ → Event → Type 0
 Takes taken sends = (((side : Side) → takes_from side sends ≡ []) × (taken ≡ []))
     ⊎ ((replier : Side) × (n : ℕ) × (taken ≡ n ∷ []) × (sends ≡ Replies replier n))
 
-a_send : (side : Side) (message : Message) (sends : Event) → Some (Sends side message) ≡ Some sends → Takes [] sends
-a_send side message sends is = inl (λ place. subst (λ f. takes_from place f ≡ []) (some_is is) refl, refl)
-
 -- The event that sends an item takes exactly the messages that the item takes.
 pub sending_takes : (c : Certificate) (number : ℕ) (item : Item) (taken : List ℕ) (sends : Event)
     → sending_by c number item taken ≡ Some sends
     → Takes taken sends
-sending_takes c number (Sent side (Unidirectional dialogue components)) [] sends is = a_send side _ sends is
-sending_takes c number (Sent side (Unidirectional dialogue components)) (t ∷ more) sends is = cc
-sending_takes c number (Sent side (Begin otid dialogue components)) [] sends is = a_send side _ sends is
-sending_takes c number (Sent side (Begin otid dialogue components)) (t ∷ more) sends is = cc
-sending_takes c number (Sent side (Continue otid dtid dialogue components)) [] sends is = a_send side _ sends is
-sending_takes c number (Sent side (Continue otid dtid dialogue components)) (t ∷ more) sends is = cc
-sending_takes c number (Sent side (EndMessage dtid dialogue components)) [] sends is = a_send side _ sends is
-sending_takes c number (Sent side (EndMessage dtid dialogue components)) (t ∷ more) sends is = cc
-sending_takes c number (Sent side (Abort dtid None)) [] sends is = a_send side _ sends is
-sending_takes c number (Sent side (Abort dtid None)) (t ∷ more) sends is = cc
-sending_takes c number (Sent side (Abort dtid (Some (ByDialogue d)))) [] sends is = a_send side _ sends is
-sending_takes c number (Sent side (Abort dtid (Some (ByDialogue d)))) (t ∷ more) sends is = cc
-sending_takes c number (Sent side (Abort dtid (Some (Cause cause)))) [] sends is = cc
-sending_takes c number (Sent side (Abort dtid (Some (Cause cause)))) (t ∷ []) sends is =
-    inr (side, t, refl, sym (some_is is))
-sending_takes c number (Sent side (Abort dtid (Some (Cause cause)))) (t ∷ u ∷ more) sends is = cc
-sending_takes c number Item.Quiet [] sends is = by (slice_get c.fates number) is
+sending_takes c number item taken sends is = by taken sends (sender_is c number item taken sends is)
   where
-    by : (o : Option Fate) → quiet_by number o ≡ Some sends → Takes [] sends
-    by (Some (Gap g)) is =
-        let so = where_some (g == number + 1) _ sends is in
-        inl (λ place. subst (λ f. takes_from place f ≡ []) (some_is so.1) refl, refl)
-    by (Some Lost) is = cc
-    by (Some (By k)) is = cc
-    by None is = cc
-sending_takes c number Item.Quiet (t ∷ more) sends is = cc
+    by : (taken : List ℕ) (sends : Event) → IsSender taken sends → Takes taken sends
+    by taken sends (by_send side m none) = inl (λ place. refl, none)
+    by taken sends (by_reply side n one) = inr (side, n, one, refl)
+    by taken sends (by_mark none) = inl (λ place. refl, none)
 
 -- ---- the time of each event
 

@@ -1,34 +1,32 @@
 -- A bound on the length of a run that a certificate describes.
 use Rattle.std.proofs.Common.{arith, ◌≡◌, ◌≤◌, ◌+◌, ◌*◌, ◌==◌, ℕ, ℤ, Bool, true, false, cond, nat_le, List, [], ◌∷◌, ◌++◌, map, filter, filter_map, length, Option, Some, None, refl, sym, ap, ◌∙◌}
-use Rattle.std.specs.Prelude.{Contains, slice_get}
+use Rattle.std.specs.Prelude.{Contains}
 use Rattle.std.specs.List.{AllByRecursion}
 use Rattle.std.proofs.lemmas.Bool.{eqb-true, le-leb, leb-true}
 use Rattle.std.proofs.lemmas.List.{length-map}
 use Rattle.std.proofs.lemmas.List.Sums.{count_by-le-length, length-filter}
-use Rattle.tcap_msg.specs.declared.message.AbortReason.TheVariants.{Cause, Dialogue as ByDialogue}
 use Rattle.tcap_msg.specs.declared.message.Message.{Message}
-use Rattle.tcap_msg.specs.declared.message.Message.TheVariants.{Unidirectional, Begin, Continue, End as EndMessage, Abort}
 use Rattle.tcap_msg.specs.Parts.{components_in}
 use Rattle.tcap_record.specs.declared.entry.End.{End as Side}
-use Rattle.tcap_record.specs.declared.entry.End.TheVariants.{A, B}
 use Rattle.tcap_end.specs.declared.half.HalfName.{HalfName}
 use Rattle.tcap_end.specs.End.{End}
 use Rattle.tcap_end.specs.ReachableEnd.{IsEnd}
 use Rattle.tcap_end.specs.Table.{Table}
 use Rattle.tcap_end.proofs.StepLaws.{expires}
-use Rattle.tcap_model.specs.World.{Item, OnItsWay, Sent, World, empty, end_at, with_channel, with_end}
-use Rattle.tcap_model.specs.Run.{Event, Sends, Receives, Replies, Loses, Expires, Closes, Quiet, Tells, IsRunOf, Runs, after, played, then_so, where_so}
+use Rattle.tcap_model.specs.World.{Item, Sent, World, empty, end_at}
+use Rattle.tcap_model.specs.Run.{Event, Sends, Receives, Replies, Loses, Expires, Closes, Quiet, Tells, IsRunOf, Runs, after, played, then_so}
 use Rattle.tcap_certificate.specs.declared.certificate.Closing.{Closing}
 use Rattle.tcap_certificate.specs.declared.certificate.Expiry.{Expiry}
 use Rattle.tcap_certificate.specs.declared.certificate.Fate.{Fate}
-use Rattle.tcap_certificate.specs.declared.certificate.Fate.TheVariants.{Gap, Lost, By}
 use Rattle.tcap_certificate.specs.Certificate.{Certificate}
 use Rattle.tcap_model.specs.Entries.{count_components}
-use Rattle.tcap_certificate.specs.DescribedRun.{Follows, FollowsFrom, IsImplied, closing_event, deliveries, expiry_event, gap_events, invoke_id, invoking_half, is_loss, quiet_by, sending, sending_by, taken_by, without_losses}
+use Rattle.tcap_certificate.specs.DescribedRun.{Follows, FollowsFrom, IsImplied, closing_event, deliveries, expiry_event, gap_events, invoke_id, invoking_half, is_loss, sending, taken_by, without_losses}
 use Rattle.tcap_model.proofs.RunLaws.{played_on}
 use Rattle.tcap_model.proofs.RunLaws.{expiry, loss, sound as ends_sound}
+use Rattle.tcap_model.proofs.WorldLaws.{end_with, end_with_channel}
 use Rattle.tcap_check.proofs.given_run_laws.StepCounts.{expired, fewer, filter_map_most, hides, in_use, joins_most, one, one_most, steps_most, taken_most, total, total_both, total_most}
-use Rattle.tcap_check.proofs.replay_laws.FateLaws.{from_start, all_delivered}
+use Rattle.tcap_check.proofs.replay_laws.ReplaySteps.{from_start, all_delivered}
+use Rattle.tcap_check.proofs.given_run_laws.GivenEvents.{IsSender, by_mark, by_reply, by_send, sender_is}
 
 -- ---- runs in parts
 
@@ -144,23 +142,13 @@ onward table before first v w runs is = played_on table before first empty v run
 abbrev uses : End → Option HalfName → List ℤ → ℕ
 uses e name ids = total (one (in_use e name)) ids
 
-pub same_end : (side place : Side) (more : List OnItsWay) (w : World) → end_at side (with_channel place more w) ≡ end_at side w
-same_end A A more w = refl
-same_end A B more w = refl
-same_end B A more w = refl
-same_end B B more w = refl
-
-own_end : (side : Side) (made : End) (w : World) → end_at side (with_end side made w) ≡ made
-own_end A made w = refl
-own_end B made w = refl
-
 -- After an expiry, fewer of the IDs are in use.
 expiry_uses : (table : Table) (side : Side) (name : HalfName) (id : ℤ) (half : Option HalfName) (ids : List ℤ) (v next : World)
     → IsEnd (end_at side v) → after table (Expires side name id) v ≡ Some next → half ≡ Some name → Contains ids id
     → IsEnd (end_at side next) × (uses (end_at side next) half ids + 1 ≤ uses (end_at side v) half ids)
 expiry_uses table side name id half ids v next sound step half_is there =
     let h = expiry table side name id v next step in
-    let same : end_at side next ≡ h.made = ap (end_at side) h.next_is ∙ own_end side h.made v in
+    let same : end_at side next ≡ h.made = ap (end_at side) h.next_is ∙ end_with side h.made v in
     let ends = expired table (end_at side v) h.made name id sound h.step_is in
     let kept = (expires table (end_at side v) h.made name id sound h.step_is).sound in
     let less = fewer (in_use (end_at side v) (Some name)) (in_use h.made (Some name)) ids id ends.others ends.was
@@ -175,7 +163,7 @@ expiries_most table sender m [] v w sound is all = omega arith
 expiries_most table sender m (Loses side number ∷ events) v w sound is all =
     let (next, step, on) = first_step table (Loses side number) events v w is in
     let l = loss table side number v next step in
-    let same : end_at sender next ≡ end_at sender v = rw (l.next_is) (same_end sender side l.more v) in
+    let same : end_at sender next ≡ end_at sender v = rw (l.next_is) (end_with_channel sender side l.more v) in
     let rest = expiries_most table sender m events next w (rw same sound) on all in
     omega (arith, rw same at rest)
 expiries_most table sender m (Expires side name id ∷ events) v w sound is all =
@@ -280,39 +268,14 @@ here_most c items gap here is =
       length-map (filter (λ x. x.gap == gap) c.expire) (expiry_event items),
     )
 
--- The event that sends an item is not hidden, no matter what it takes.
-sending_none : (c : Certificate) (number : ℕ) (item : Item) (taken : List ℕ) → hides_some (sending_by c number item taken) ≡ 0
-sending_none c number (Sent side (Unidirectional dialogue components)) [] = refl
-sending_none c number (Sent side (Unidirectional dialogue components)) (one ∷ more) = refl
-sending_none c number (Sent side (Begin otid dialogue components)) [] = refl
-sending_none c number (Sent side (Begin otid dialogue components)) (one ∷ more) = refl
-sending_none c number (Sent side (Continue otid dtid dialogue components)) [] = refl
-sending_none c number (Sent side (Continue otid dtid dialogue components)) (one ∷ more) = refl
-sending_none c number (Sent side (EndMessage dtid dialogue components)) [] = refl
-sending_none c number (Sent side (EndMessage dtid dialogue components)) (one ∷ more) = refl
-sending_none c number (Sent side (Abort dtid None)) [] = refl
-sending_none c number (Sent side (Abort dtid None)) (one ∷ more) = refl
-sending_none c number (Sent side (Abort dtid (Some (ByDialogue dialogue)))) [] = refl
-sending_none c number (Sent side (Abort dtid (Some (ByDialogue dialogue)))) (one ∷ more) = refl
-sending_none c number (Sent side (Abort dtid (Some (Cause cause)))) [] = refl
-sending_none c number (Sent side (Abort dtid (Some (Cause cause)))) (one ∷ []) = refl
-sending_none c number (Sent side (Abort dtid (Some (Cause cause)))) (one ∷ two ∷ more) = refl
-sending_none c number Item.Quiet (one ∷ more) = refl
-sending_none c number Item.Quiet [] = by (slice_get c.fates number)
-  where
-    quiet : (b : Bool) → hides_some (where_so b (Some Quiet)) ≡ 0
-    quiet true = refl
-    quiet false = refl
-
-    by : (fate : Option Fate) → hides_some (quiet_by number fate) ≡ 0
-    by None = refl
-    by (Some (Gap g)) = quiet (g == number + 1)
-    by (Some Lost) = refl
-    by (Some (By k)) = refl
-
--- This also holds in a run.
+-- The event that sends an item is not hidden.
 sends_none : (c : Certificate) (number : ℕ) (item : Item) (event : Event) → sending c number item ≡ Some event → hides event ≡ 0
-sends_none c number item event is = sym (ap hides_some is) ∙ sending_none c number item (taken_by number 0 c.fates)
+sends_none c number item event is = by (taken_by number 0 c.fates) event (sender_is c number item (taken_by number 0 c.fates) event is)
+  where
+    by : (taken : List ℕ) (event : Event) → IsSender taken event → hides event ≡ 0
+    by taken event (by_send side m none) = refl
+    by taken event (by_reply side n one) = refl
+    by taken event (by_mark none) = refl
 
 -- the count of events that are listed for this gap or a later one
 abbrev later : {X : Type 0} → (X → ℕ) → ℕ → List X → ℕ

@@ -3,9 +3,7 @@ use Rattle.std.proofs.Common.{arith, ◌≡◌, ◌≤◌, ◌<◌, ◌⊎◌, i
 use Rattle.std.specs.Prelude.{slice_get}
 use Rattle.std.specs.List.{AllByRecursion}
 use Rattle.std.proofs.Math.Nat.{eq-or-lt_of_le}
-use Rattle.tcap_msg.specs.declared.message.AbortReason.TheVariants.{Cause, Dialogue as ByDialogue}
 use Rattle.tcap_msg.specs.declared.message.Message.{Message}
-use Rattle.tcap_msg.specs.declared.message.Message.TheVariants.{Unidirectional, Begin, Continue, End as EndMessage, Abort}
 use Rattle.tcap_record.specs.declared.entry.End.{End as Side}
 use Rattle.tcap_record.specs.declared.entry.End.TheVariants.{A, B}
 use Rattle.tcap_record.specs.Ends.{other}
@@ -18,9 +16,8 @@ use Rattle.tcap_certificate.specs.DescribedRun.{FollowsFrom, IsImplied, deliveri
 use Rattle.tcap_check.proofs.given_run_laws.GivenLosses.{IsFated, is_lost, taken_fated, says_lost}
 use Rattle.tcap_model.proofs.ListLaws.{all_both}
 use Rattle.tcap_model.proofs.RunLaws.{some_is}
-use Rattle.tcap_check.proofs.replay_laws.ListedEventLaws.{gap_split, all_implied}
-use Rattle.tcap_check.proofs.replay_laws.MemberLaws.{IsIn, in_left, in_right}
-use Rattle.tcap_check.proofs.replay_laws.FateLaws.{from_start, all_delivered}
+use Rattle.tcap_check.proofs.replay_laws.ReplayGaps.{gap_split, all_implied}
+use Rattle.tcap_check.proofs.replay_laws.ReplaySteps.{IsIn, in_left, in_right, from_start, all_delivered, sending_so}
 use Rattle.tcap_check.proofs.given_run_laws.NumberLaws.{taken_left, taken_right}
 
 -- ---- gaps
@@ -49,28 +46,10 @@ sender_as taken made event is of_made = subst (IsSender taken) (let same : made 
 pub sender_is : (c : Certificate) (number : ℕ) (item : Item) (taken : List ℕ) (event : Event)
     → sending_by c number item taken ≡ Some event
     → IsSender taken event
-sender_is c number (Sent side (Abort dtid (Some (Cause cause)))) [] event is = cc
-sender_is c number (Sent side (Abort dtid (Some (Cause cause)))) (t ∷ []) event is =
-    sender_as (t ∷ []) (Replies side t) event is (by_reply side t refl)
-sender_is c number (Sent side (Abort dtid (Some (Cause cause)))) (t ∷ u ∷ more) event is = cc
-sender_is c number (Sent side (Abort dtid (Some (ByDialogue d)))) [] event is =
-    sender_as [] (Sends side _) event is (by_send side _ refl)
-sender_is c number (Sent side (Abort dtid (Some (ByDialogue d)))) (t ∷ more) event is = cc
-sender_is c number (Sent side (Abort dtid None)) [] event is =
-    sender_as [] (Sends side _) event is (by_send side _ refl)
-sender_is c number (Sent side (Abort dtid None)) (t ∷ more) event is = cc
-sender_is c number (Sent side (Unidirectional dialogue components)) [] event is =
-    sender_as [] (Sends side _) event is (by_send side _ refl)
-sender_is c number (Sent side (Unidirectional dialogue components)) (t ∷ more) event is = cc
-sender_is c number (Sent side (Begin otid dialogue components)) [] event is =
-    sender_as [] (Sends side _) event is (by_send side _ refl)
-sender_is c number (Sent side (Begin otid dialogue components)) (t ∷ more) event is = cc
-sender_is c number (Sent side (Continue otid dtid dialogue components)) [] event is =
-    sender_as [] (Sends side _) event is (by_send side _ refl)
-sender_is c number (Sent side (Continue otid dtid dialogue components)) (t ∷ more) event is = cc
-sender_is c number (Sent side (EndMessage dtid dialogue components)) [] event is =
-    sender_as [] (Sends side _) event is (by_send side _ refl)
-sender_is c number (Sent side (EndMessage dtid dialogue components)) (t ∷ more) event is = cc
+sender_is c number (Sent side message) taken event is =
+    sending_so (λ taken o. o ≡ Some event → IsSender taken event) c number side message
+    (λ e. sender_as [] (Sends side message) event e (by_send side message refl))
+    (λ t e. sender_as (t ∷ []) (Replies side t) event e (by_reply side t refl)) (λ taken e. cc) taken is
 sender_is c number Item.Quiet (t ∷ more) event is = cc
 sender_is c number Item.Quiet [] event is = by (slice_get c.fates number) is
   where

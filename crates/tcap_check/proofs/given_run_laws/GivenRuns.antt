@@ -1,5 +1,5 @@
 -- Each certificate that gives events gives a run.
-use Rattle.std.proofs.Common.{get_or, arith, ◌≡◌, ◌≤◌, ◌<◌, ◌*◌, ◌⊎◌, inl, inr, ℕ, zero, suc, ◌+◌, ◌==◌, Bool, true, false, cond, List, [], ◌∷◌, ◌++◌, map, length, Option, Some, None, Result, Ok, Err, drop, refl, sym, ap, subst, ◌∙◌, append-nil}
+use Rattle.std.proofs.Common.{get_or, arith, ◌≡◌, ◌≤◌, ◌<◌, ◌*◌, ◌⊎◌, inl, inr, ℕ, zero, suc, ◌+◌, ◌==◌, Bool, true, false, cond, List, [], ◌∷◌, ◌++◌, map, length, Option, Some, None, Result, Ok, Err, drop, refl, sym, ap, subst, ◌∙◌, append-nil, filter}
 use Rattle.std.specs.Prelude.{slice_get}
 use Rattle.std.specs.List.{AllByRecursion}
 use Rattle.std.proofs.lemmas.Bool.{eq-eqb}
@@ -14,7 +14,7 @@ use Rattle.tcap_end.specs.Table.{Table}
 use Rattle.tcap_end.proofs.AnsweringLaws.{ok_same, then_ok}
 use Rattle.tcap_record.specs.Ends.{other}
 use Rattle.tcap_model.specs.World.{Item, OnItsWay, Sent, World, channel_from, is_side}
-use Rattle.tcap_model.specs.Run.{BothKeepRules, Event, Receives, Runs, numbers_taken, takes_from}
+use Rattle.tcap_model.specs.Run.{BothKeepRules, Event, Receives, Runs, numbers_taken, takes_from, numbers_of, numbers_sent}
 use Rattle.tcap_certificate.specs.declared.certificate.Closing.{Closing}
 use Rattle.tcap_certificate.specs.declared.certificate.Expiry.{Expiry}
 use Rattle.tcap_certificate.specs.declared.certificate.Fate.{Fate}
@@ -23,19 +23,18 @@ use Rattle.tcap_certificate.specs.declared.fault.CheckFault.{CheckFault}
 use Rattle.tcap_model.specs.declared.reason.Reason.{Reason}
 use Rattle.tcap_certificate.specs.Certificate.{Certificate}
 use Rattle.tcap_model.specs.Entries.{AreItems, count_components, item_of}
-use Rattle.tcap_certificate.specs.DescribedRun.{FatesFit, Follows, FollowsFrom, deliveries, taken_by, without_losses}
+use Rattle.tcap_certificate.specs.DescribedRun.{FatesFit, Follows, FollowsFrom, deliveries, taken_by, without_losses, lost_from}
 use Rattle.tcap_check.specs.GivenRun.{IsGiven}
 use Rattle.tcap_certificate.specs.Replay.{Replay, all_fit, certificate_fits, entries_by, fates_fit, if_lost, lost_from_both, lost_front, nothing_replayed, replayed_by}
 use Rattle.tcap_check.proofs.given_run_laws.GivenBound.{described_bound}
-use Rattle.tcap_check.proofs.given_run_laws.NumberLaws.{among_plain, taken_right}
-use Rattle.tcap_check.proofs.given_run_laws.GivenLosses.{IsFated, IsSettled, fated_keeps, fits_gap, fits_reply, is_lost, left_lost, losses_are, says_lost}
+use Rattle.tcap_check.proofs.given_run_laws.NumberLaws.{among_plain, taken_right, among_losses, parts_apart}
+use Rattle.tcap_check.proofs.given_run_laws.GivenLosses.{IsFated, IsSettled, fated_keeps, fits_gap, fits_reply, is_lost, left_lost, losses_are, says_lost, filter_sent}
 use Rattle.tcap_check.proofs.replay_laws.ReplayEntries.{entries_replay, item_is}
-use Rattle.tcap_check.proofs.replay_laws.ReplayGaps.{fates_ok, listed_ok}
-use Rattle.tcap_check.proofs.replay_laws.ReplaySteps.{Extends, both_replay, extends_then, without_both}
+use Rattle.tcap_check.proofs.replay_laws.ReplayGaps.{fates_ok, listed_ok, gap_split}
+use Rattle.tcap_check.proofs.replay_laws.ReplaySteps.{Extends, both_replay, extends_then, without_both, IsIn, in_right, from_start}
 use Rattle.tcap_check.proofs.given_run_laws.GivenEvents.{follows_fated, gap_at, sender_at, sender_is, sender_takes}
-use Rattle.tcap_check.proofs.replay_laws.ListedEventLaws.{gap_split}
 use Rattle.tcap_check.proofs.refusal_laws.TakenNumberLaws.{taken_sent}
-use Rattle.tcap_check.proofs.replay_laws.MemberLaws.{IsIn, in_right}
+use Rattle.tcap_model.proofs.ChannelLaws.{are_whole, in_order}
 
 -- ---- each message is lost by its fate or taken
 
@@ -313,3 +312,54 @@ pub described_keeps : (c : Certificate) (items : List Item) (events : List Event
 described_keeps c items events follows =
     let fated = follows_fated c items 0 items (without_losses events) follows.gaps in
     (fated_keeps c.fates sides.A events fated, fated_keeps c.fates sides.B events fated)
+
+-- ---- nothing is left on its way
+
+-- An element that passes a test stays among those that do.
+pub among_filter : (p : ℕ → Bool) (n : ℕ) (xs : List ℕ) → p n ≡ true → IsIn n xs → IsIn n (filter p xs)
+among_filter p n [] so is = is
+among_filter p n (x ∷ xs) so (inl e) = let here : p x ≡ true = ap p (sym e) ∙ so in rw here (inl e)
+among_filter p n (x ∷ xs) so (inr rest) = by (p x) (among_filter p n xs so rest)
+  where
+    by : (b : Bool) → IsIn n (filter p xs) → IsIn n (cond b (x ∷ filter p xs) (filter p xs))
+    by true there = inr there
+    by false there = there
+
+-- Such a run took every message.
+pub nothing_left : (table : Table) (c : Certificate) (items : List Item) (events : List Event) (w : World) → Runs table events w
+    → w.sent ≡ items → Follows c items events → (w.from_a ≡ []) × (w.from_b ≡ [])
+nothing_left table c items events w runs sent given = (none sides.A, none sides.B)
+  where
+    follows : Follows c w.sent events
+    follows = subst (λ (x : List Item). Follows c x events) (sym sent) given
+
+    settled : IsSettled c.fates w (without_losses events)
+    settled = settled_by c w (without_losses events) follows.counted follows.fates follows.gaps
+        (λ side n is. taken_sent table events w side n runs (among_plain side n events is))
+
+    lost_are : (side : Side) → filter (is_lost c.fates) (numbers_sent side 0 w.sent) ≡ lost_from side 0 c.fates w.sent
+    lost_are side = filter_sent side c.fates 0 c.fates w.sent (from_start c.fates) follows.counted
+
+    -- A message that is still on its way has a loss as its fate, so it was taken.
+    taken : (side : Side) (head : OnItsWay) (more : List OnItsWay) → channel_from side w ≡ head ∷ more
+        → is_lost c.fates head.number ≡ true → IsIn head.number (numbers_taken side events)
+    taken side head more at lost =
+        let there : IsIn head.number (numbers_of (channel_from side w)) = rw at (inl refl) in
+        let sent_at : IsIn head.number (numbers_sent side 0 w.sent) =
+        subst (IsIn head.number) (are_whole table events w runs side)
+        (in_right head.number (numbers_taken side events) (numbers_of (channel_from side w)) there) in
+        among_losses side head.number events
+        (subst (IsIn head.number) (lost_are side ∙ sym (follows.losses side))
+        (among_filter (is_lost c.fates) head.number (numbers_sent side 0 w.sent) lost sent_at))
+
+    none : (side : Side) → channel_from side w ≡ []
+    none side = by (channel_from side w) refl (left_lost table c.fates events w runs settled side)
+      where
+        by : (channel : List OnItsWay) → channel_from side w ≡ channel
+            → AllByRecursion (λ m. is_lost c.fates m.number ≡ true) (channel_from side w) → channel_from side w ≡ []
+        by [] at all = at
+        by (head ∷ more) at all =
+            let head_lost : AllByRecursion (λ m. is_lost c.fates m.number ≡ true) (head ∷ more) = rw at at all in
+            absurd
+            (parts_apart head.number (numbers_taken side events) (numbers_of (channel_from side w)) (in_order table events w runs side)
+            (taken side head more at head_lost.0) (rw at (inl refl)))

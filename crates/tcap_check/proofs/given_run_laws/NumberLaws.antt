@@ -8,7 +8,7 @@ use Rattle.tcap_record.specs.declared.entry.End.{End as Side}
 use Rattle.tcap_model.specs.World.{is_side}
 use Rattle.tcap_model.specs.Run.{Event, Sends, Receives, Replies, Loses, Expires, Closes, Quiet, Tells, numbers_taken, takes_from}
 use Rattle.tcap_certificate.specs.DescribedRun.{is_loss, losses_from, without_losses}
-use Rattle.tcap_check.proofs.replay_laws.MemberLaws.{IsIn, in_left, in_right, in_either, all_in}
+use Rattle.tcap_check.proofs.replay_laws.ReplaySteps.{IsIn, in_left, in_right, in_either, all_in}
 
 -- ---- numbers
 

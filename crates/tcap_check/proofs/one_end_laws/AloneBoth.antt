@@ -30,13 +30,12 @@ use Rattle.tcap_check.specs.OneEndRun.{DiscardsNothing}
 use Rattle.tcap_check.proofs.replay_laws.DiscardReasons.{none_discarded}
 use Rattle.tcap_check.proofs.described_run_laws.DescribedGaps.{ok_both, ok_needs, ok_some, ok_then}
 use Rattle.tcap_check.proofs.described_run_laws.DescribedRuns.{items_of, items_same}
-use Rattle.tcap_check.proofs.given_run_laws.GivenBound.{same_end}
 use Rattle.tcap_check.proofs.given_run_laws.GivenRuns.{both_ok, gives}
 use Rattle.tcap_check.proofs.replay_laws.ReplayEntries.{item_replays, nothing_is}
 use Rattle.tcap_check.proofs.replay_laws.ReplayLaws.{gap_replays}
 use Rattle.tcap_model.proofs.RunLaws.{map_some}
-use Rattle.tcap_check.proofs.one_end_laws.AloneGaps.{gap_reflects}
-use Rattle.tcap_check.proofs.one_end_laws.AloneMirrors.{Mirrors, Reflects, all_lost_mirrors, both_fronts_mirror, same_sent, seen_step}
+use Rattle.tcap_model.proofs.WorldLaws.{end_with_channel}
+use Rattle.tcap_check.proofs.one_end_laws.AloneMirrors.{gap_reflects, Mirrors, Reflects, all_lost_mirrors, both_fronts_mirror, same_sent, seen_step}
 use Rattle.tcap_check.proofs.one_end_laws.AloneTies.{IsReached, is_from, own_reflects, peer_mirrors, peer_ties, reached_on, told}
 use Rattle.tcap_check.proofs.one_end_laws.AloneViews.{AreClosed, quiet_closed, seen_end, seen_quiet}
 
@@ -116,7 +115,7 @@ peer_item side table c fate m r next s is mirrors reached =
           (same_sent side r s mirrors) ∙ so.0)
           (ok_then (gap_by (Some side) table c s) _ gap.made last gap.is
           (ok_needs (is_nothing (tied (Some side) c s)) (fault_at BadReply (next_entry s)) (Ok last) last free refl));
-      mirrors = peer_mirrors side table c m (sending_by c (next_entry mid) (Sent (other side) m) taken)
+      mirrors = peer_mirrors side table c m (next_entry mid) taken
           mid next gap.made on gap.mirrors;
     }
 
@@ -157,7 +156,7 @@ mark_item side table c fate r next s is mirrors reached =
     let quiet = seen_step side table Quiet before next mine step
     (λ w at. seen_quiet table side before.world w at) fronts in
     let end_is : end_at side gap.made.world ≡ end_at side before.world =
-    sym (same_end side (other side) _ gap.made.world) ∙ ap (end_at side) fronts.world ∙ seen_end side before.world in
+    sym (end_with_channel side (other side) _ gap.made.world) ∙ ap (end_at side) fronts.world ∙ seen_end side before.world in
     let found = map_some _ (after table Quiet before.world) next step in
     let open_is : open_halves (end_at side gap.made.world) ≡ [] =
     ap open_halves end_is

@@ -19,22 +19,17 @@ use Rattle.tcap_model.specs.Run.{Event, Receives, Replies, Loses, after, numbers
 use Rattle.tcap_certificate.specs.Certificate.{Certificate}
 use Rattle.tcap_certificate.specs.DescribedRun.{sending_by, taken_by}
 use Rattle.tcap_certificate.specs.Replay.{Replay, all_lost_from, deliveries_by, delivery_by, discarded, entries_by, entry_by, fault_at, gap_by, heard, is_gap, is_nothing, is_overtaking, item_by, lost_from_front, mark_judged, message_by, next_entry, or_else, own_judged, reply_replayed, stepped, tied, told_replayed}
-use Rattle.tcap_check.proofs.replay_laws.ReplaySteps.{discard_is}
-use Rattle.tcap_check.proofs.given_run_laws.GivenEvents.{IsSender, by_mark, by_reply, by_send, sender_is}
-use Rattle.tcap_check.proofs.given_run_laws.GivenRuns.{replied_at}
+use Rattle.tcap_check.proofs.replay_laws.ReplaySteps.{discard_is, IsIn, sending_so}
+use Rattle.tcap_check.proofs.given_run_laws.GivenRuns.{replied_at, among_filter}
 use Rattle.tcap_check.proofs.given_run_laws.NumberLaws.{among_plain, taken_left, taken_right}
 use Rattle.tcap_check.proofs.replay_laws.ReplayEntries.{nothing_is}
-use Rattle.tcap_check.proofs.replay_laws.ReplayGaps.{get_before}
+use Rattle.tcap_check.proofs.replay_laws.ReplayGaps.{get_before, gap_parts}
 use Rattle.tcap_check.proofs.replay_laws.ReplayLaws.{reply_replays}
 use Rattle.tcap_model.proofs.RunLaws.{map_some}
-use Rattle.tcap_check.proofs.one_end_laws.AloneReplays.{deliveries_lead, entries_lead, gap_leads, item_leads, mark_rest, own_rest, peer_rest, tied_behind}
-use Rattle.tcap_check.proofs.one_end_laws.AloneSteps.{Leads, all_lost_leads}
+use Rattle.tcap_check.proofs.one_end_laws.AloneReplays.{deliveries_lead, entries_lead, gap_leads, item_leads, mark_rest, own_rest, peer_rest, tied_behind, Leads, all_lost_leads}
 use Rattle.tcap_check.proofs.one_end_laws.AloneTies.{is_from}
 use Rattle.tcap_model.proofs.WorldLaws.{itself}
 use Rattle.tcap_check.proofs.refusal_laws.TakenNumberLaws.{takes_replied}
-use Rattle.tcap_check.proofs.given_run_laws.NothingLeftLaws.{among_filter}
-use Rattle.tcap_check.proofs.replay_laws.ListedEventLaws.{gap_parts}
-use Rattle.tcap_check.proofs.replay_laws.MemberLaws.{IsIn}
 
 -- The message with this number was taken from the peer's channel.
 abbrev pub Took : Side → ℕ → Replay → Type 0
@@ -140,7 +135,9 @@ not_tied numbers n none is = subst (IsIn n) (nothing_is numbers none) is
 message_takes : (side : Side) (table : Table) (c : Certificate) (m : Message) (n k : ℕ) (taken : List ℕ)
     (r next : Replay)
     → message_by table c side m (sending_by c k (Sent side m) taken) r ≡ Ok next → IsIn n taken → Took side n next
-message_takes side table c m n k taken r next is tied = by (sending_by c k (Sent side m) taken) refl is
+message_takes side table c m n k taken r next is tied =
+    sending_so (λ taken o. message_by table c side m o r ≡ Ok next → IsIn n taken → Took side n next) c k side m
+    (λ e none. absurd none) (λ t e there. replied t there e) (λ taken e there. cc) taken is tied
   where
     replied : (t : ℕ) → IsIn n (t ∷ []) → reply_replayed table c side m t r ≡ Ok next → Took side n next
     replied t (inr there) e = absurd there
@@ -151,17 +148,6 @@ message_takes side table c m n k taken r next is tied = by (sending_by c k (Sent
         (sym steps.are) one in
         subst (λ (events : List Event). IsIn n (numbers_taken (other side) events)) (sym steps.extends.events)
         (taken_right (other side) n r.events steps.steps (among_plain (other side) n steps.steps plain))
-
-    sent : (event : Event) → IsSender taken event → message_by table c side m (Some event) r ≡ Ok next
-        → Took side n next
-    sent event (by_send place message none) e = absurd (subst (IsIn n) none tied)
-    sent event (by_mark none) e = absurd (subst (IsIn n) none tied)
-    sent event (by_reply place t one) e = replied t (subst (IsIn n) one tied) e
-
-    by : (o : Option Event) → sending_by c k (Sent side m) taken ≡ o → message_by table c side m o r ≡ Ok next
-        → Took side n next
-    by None at e = cc
-    by (Some event) at e = sent event (sender_is c k (Sent side m) taken event at) e
 
 -- ---- entries
 
@@ -194,7 +180,7 @@ own_takes side table c sent m n f r next is fate now item =
     let event = sending_by c (next_entry gap.0) (Sent side sent) taken in
     let behind = then_ok (message_by table c side sent event gap.0) (λ x. Ok (all_lost_from side x)) next gap.2 in
     by_next side table c m n f r gap.0 (Sent side sent ∷ [])
-    next gap.1 (own_rest side table c sent event gap.0 next gap.2)
+    next gap.1 (own_rest side table c sent (next_entry gap.0) taken gap.0 next gap.2)
     (λ tied.
     subst (Took side n) (ok_same {F = CheckFault} (all_lost_from side behind.0) next behind.2)
     (took_on side table n behind.0 [] (all_lost_from side behind.0) (all_lost_leads side table behind.0)

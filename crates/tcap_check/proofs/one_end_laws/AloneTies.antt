@@ -18,17 +18,16 @@ use Rattle.tcap_certificate.specs.declared.fault.CheckFault.{CheckFault}
 use Rattle.tcap_model.specs.declared.reason.Reason.TheVariants.{BadReply}
 use Rattle.tcap_record.specs.Ends.{other}
 use Rattle.tcap_model.specs.World.{Item, OnItsWay, Sent, World, channel_from, empty, end_at, is_side, with_channel, with_end}
-use Rattle.tcap_model.specs.Run.{Event, Sends, Receives, Replies, Loses, Expires, Closes, Quiet, Tells, Runs, after, joined, played}
+use Rattle.tcap_model.specs.Run.{Event, Sends, Replies, Expires, Tells, Runs, after, joined, played}
 use Rattle.tcap_certificate.specs.Certificate.{Certificate}
 use Rattle.tcap_certificate.specs.DescribedRun.{invoke_id, invoking_half, losses_from, sending_by}
 use Rattle.tcap_certificate.specs.Replay.{Replay, fault_at, happens, implied, implied_over, is_abort, is_sent_by, lost_from_front, message_by, next_entry, or_same, reply_replayed, send_replayed, sent_or_refused, stepped, with_step}
 use Rattle.tcap_model.specs.SinceMark.{WasSent}
 use Rattle.tcap_model.proofs.ChannelLaws.{were_sent}
 use Rattle.tcap_check.proofs.described_run_laws.DescribedGaps.{ok_needs, ok_some, ok_then}
-use Rattle.tcap_check.proofs.given_run_laws.GivenEvents.{IsSender, by_mark, by_reply, by_send, sender_is}
 use Rattle.tcap_check.proofs.replay_laws.ReplayLaws.{reply_replays}
 use Rattle.tcap_model.proofs.RunLaws.{played_on}
-use Rattle.tcap_check.proofs.replay_laws.ReplaySteps.{losing_replays}
+use Rattle.tcap_check.proofs.replay_laws.ReplaySteps.{losing_replays, sending_so}
 use Rattle.tcap_model.proofs.WorldLaws.{sent_with_channel}
 use Rattle.tcap_model.proofs.RunLaws.{expiry, map_some, reply}
 use Rattle.tcap_model.proofs.WorldLaws.{itself, sent_joined}
@@ -180,44 +179,27 @@ reply_reflects side table c abort n r next s is mirrors =
 own_ties : (side : Side) (table : Table) (c : Certificate) (m : Message) (n : ℕ) (taken : List ℕ) (r next : Replay)
     → IsReached table r.world → message_by table c side m (sending_by c n (Sent side m) taken) r ≡ Ok next
     → filter (is_from (other side) r.world.sent) taken ≡ taken
-own_ties side table c m n taken r next reached is = by (sending_by c n (Sent side m) taken) refl is
+own_ties side table c m n taken r next reached is =
+    sending_so (λ taken o. message_by table c side m o r ≡ Ok next → filter (is_from (other side) r.world.sent) taken ≡ taken)
+    c n side m (λ e. refl) one (λ taken e. cc) taken is
   where
-    none : (taken : List ℕ) → taken ≡ [] → filter (is_from (other side) r.world.sent) taken ≡ taken
-    none taken is = rw is refl
-
-    one : (taken : List ℕ) (t : ℕ) → taken ≡ t ∷ [] → is_from (other side) r.world.sent t ≡ true
-        → filter (is_from (other side) r.world.sent) taken ≡ taken
-    one taken t is so = rw (is, so) refl
-
-    sent : (event : Event) → IsSender taken event → message_by table c side m (Some event) r ≡ Ok next
-        → filter (is_from (other side) r.world.sent) taken ≡ taken
-    sent event (by_send place message is) e = none taken is
-    sent event (by_mark is) e = none taken is
-    sent event (by_reply place t is) e =
+    one : (t : ℕ) → message_by table c side m (Some (Replies side t)) r ≡ Ok next
+        → filter (is_from (other side) r.world.sent) (t ∷ []) ≡ t ∷ []
+    one t e =
         let there = reply_takes table c side m t r next reached e in
-        one taken t is (ap (is_sent_by (other side)) there.1 ∙ itself (other side))
-
-    by : (o : Option Event) → sending_by c n (Sent side m) taken ≡ o → message_by table c side m o r ≡ Ok next
-        → filter (is_from (other side) r.world.sent) taken ≡ taken
-    by None at e = cc
-    by (Some event) at e = sent event (sender_is c n (Sent side m) taken event at) e
+        let so : is_from (other side) r.world.sent t ≡ true = ap (is_sent_by (other side)) there.1 ∙ itself (other side) in
+        rw so refl
 
 -- A message of the end is sent in both replays.
-message_reflects : (side : Side) (table : Table) (c : Certificate) (m : Message) (o : Option Event) (r next s : Replay)
-    → message_by table c side m o r ≡ Ok next → Mirrors side r s → ReflectsBut side next (message_by table c side m o s)
-message_reflects side table c m None r next s is mirrors = cc
-message_reflects side table c m (Some (Sends sender sent)) r next s is mirrors =
-    send_reflects side table m (implied_over table side m (invoking_half m) r)
-    next (implied_over table side m (invoking_half m) s) is
-    (over_mirrors side table m (invoking_half m) r s mirrors)
-message_reflects side table c m (Some (Replies replier n)) r next s is mirrors =
-    reply_reflects side table c m n r next s is mirrors
-message_reflects side table c m (Some (Receives receiver n)) r next s is mirrors = cc
-message_reflects side table c m (Some (Loses sender n)) r next s is mirrors = cc
-message_reflects side table c m (Some (Expires actor name id)) r next s is mirrors = cc
-message_reflects side table c m (Some (Closes actor name)) r next s is mirrors = cc
-message_reflects side table c m (Some Quiet) r next s is mirrors = cc
-message_reflects side table c m (Some (Tells teller n)) r next s is mirrors = cc
+message_reflects : (side : Side) (table : Table) (c : Certificate) (m : Message) (n : ℕ) (taken : List ℕ) (r next s : Replay)
+    → message_by table c side m (sending_by c n (Sent side m) taken) r ≡ Ok next → Mirrors side r s
+    → ReflectsBut side next (message_by table c side m (sending_by c n (Sent side m) taken) s)
+message_reflects side table c m n taken r next s =
+    sending_so (λ taken o. message_by table c side m o r ≡ Ok next → Mirrors side r s
+    → ReflectsBut side next (message_by table c side m o s)) c n side m
+    (λ is mirrors. send_reflects side table m (implied_over table side m (invoking_half m) r) next
+    (implied_over table side m (invoking_half m) s) is (over_mirrors side table m (invoking_half m) r s mirrors))
+    (λ k is mirrors. reply_reflects side table c m k r next s is mirrors) (λ taken is mirrors. cc) taken
 
 pub own_reflects : (side : Side) (table : Table) (c : Certificate) (m : Message) (n : ℕ) (taken : List ℕ)
     (r next s : Replay)
@@ -228,7 +210,7 @@ pub own_reflects : (side : Side) (table : Table) (c : Certificate) (m : Message)
 own_reflects side table c m n taken r next s reached is mirrors =
     subst (λ (x : List ℕ). ReflectsBut side next (message_by table c side m (sending_by c n (Sent side m) x) s))
     (sym (own_ties side table c m n taken r next reached is))
-    (message_reflects side table c m (sending_by c n (Sent side m) taken) r next s is mirrors)
+    (message_reflects side table c m n taken r next s is mirrors)
 
 -- ---- messages of the peer
 
@@ -342,41 +324,24 @@ pub peer_ties : (side : Side) (table : Table) (c : Certificate) (m : Message) (n
     → IsReached table r.world
     → message_by table c (other side) m (sending_by c n (Sent (other side) m) taken) r ≡ Ok next
     → filter (is_from (other side) r.world.sent) taken ≡ []
-peer_ties side table c m n taken r next reached is = by (sending_by c n (Sent (other side) m) taken) refl is
+peer_ties side table c m n taken r next reached is =
+    sending_so (λ taken o. message_by table c (other side) m o r ≡ Ok next → filter (is_from (other side) r.world.sent) taken ≡ [])
+    c n (other side) m (λ e. refl) one (λ taken e. cc) taken is
   where
-    none : (taken : List ℕ) → taken ≡ [] → filter (is_from (other side) r.world.sent) taken ≡ []
-    none taken is = rw is refl
-
-    one : (taken : List ℕ) (t : ℕ) → taken ≡ t ∷ [] → is_from (other side) r.world.sent t ≡ false
-        → filter (is_from (other side) r.world.sent) taken ≡ []
-    one taken t is so = rw (is, so) refl
-
-    sent : (event : Event) → IsSender taken event → message_by table c (other side) m (Some event) r ≡ Ok next
-        → filter (is_from (other side) r.world.sent) taken ≡ []
-    sent event (by_send place message is) e = none taken is
-    sent event (by_mark is) e = none taken is
-    sent event (by_reply place t is) e =
+    one : (t : ℕ) → message_by table c (other side) m (Some (Replies (other side) t)) r ≡ Ok next
+        → filter (is_from (other side) r.world.sent) (t ∷ []) ≡ []
+    one t e =
         let there = reply_takes table c (other side) m t r next reached e in
-        one taken t is (ap (is_sent_by (other side)) there.1 ∙ not_back side)
-
-    by : (o : Option Event) → sending_by c n (Sent (other side) m) taken ≡ o
-        → message_by table c (other side) m o r ≡ Ok next
-        → filter (is_from (other side) r.world.sent) taken ≡ []
-    by None at e = cc
-    by (Some event) at e = sent event (sender_is c n (Sent (other side) m) taken event at) e
+        let so : is_from (other side) r.world.sent t ≡ false = ap (is_sent_by (other side)) there.1 ∙ not_back side in
+        rw so refl
 
 -- A message of the peer is sent in the second replay by `Tells`.
-pub peer_mirrors : (side : Side) (table : Table) (c : Certificate) (m : Message) (o : Option Event) (r next s : Replay)
-    → message_by table c (other side) m o r ≡ Ok next → Mirrors side r s → Mirrors side next (told side m s)
-peer_mirrors side table c m None r next s is mirrors = cc
-peer_mirrors side table c m (Some (Sends sender sent)) r next s is mirrors =
-    send_away side table m (implied_over table (other side) m (invoking_half m) r) next s is
-    (over_away side table m (invoking_half m) r s mirrors)
-peer_mirrors side table c m (Some (Replies replier n)) r next s is mirrors =
-    reply_away side table c m n r next s is mirrors
-peer_mirrors side table c m (Some (Receives receiver n)) r next s is mirrors = cc
-peer_mirrors side table c m (Some (Loses sender n)) r next s is mirrors = cc
-peer_mirrors side table c m (Some (Expires actor name id)) r next s is mirrors = cc
-peer_mirrors side table c m (Some (Closes actor name)) r next s is mirrors = cc
-peer_mirrors side table c m (Some Quiet) r next s is mirrors = cc
-peer_mirrors side table c m (Some (Tells teller n)) r next s is mirrors = cc
+pub peer_mirrors : (side : Side) (table : Table) (c : Certificate) (m : Message) (n : ℕ) (taken : List ℕ) (r next s : Replay)
+    → message_by table c (other side) m (sending_by c n (Sent (other side) m) taken) r ≡ Ok next → Mirrors side r s
+    → Mirrors side next (told side m s)
+peer_mirrors side table c m n taken r next s =
+    sending_so (λ taken o. message_by table c (other side) m o r ≡ Ok next → Mirrors side r s → Mirrors side next (told side m s))
+    c n (other side) m
+    (λ is mirrors. send_away side table m (implied_over table (other side) m (invoking_half m) r) next s is
+    (over_away side table m (invoking_half m) r s mirrors))
+    (λ k is mirrors. reply_away side table c m k r next s is mirrors) (λ taken is mirrors. cc) taken

@@ -18,7 +18,7 @@ use Rattle.tcap_end.specs.Step.{needs, ◌>>◌}
 use Rattle.tcap_record.specs.Ends.{other}
 use Rattle.tcap_model.specs.World.{Item, OnItsWay, World, channel_from, end_at, with_channel, with_end}
 use Rattle.tcap_model.specs.Run.{Receives, Replies, Expires, Closes, Quiet, after, after_quiet, joined, reply_to, then_so}
-use Rattle.tcap_model.proofs.RunLaws.{closing, delivery, quiet, reply}
+use Rattle.tcap_model.proofs.RunLaws.{delivery, quiet, reply}
 
 -- the end's view of a world
 abbrev pub seen_by : Side → World → World
@@ -45,37 +45,31 @@ pub seen_with : (side : Side) (more : List OnItsWay) (w : World)
 seen_with A more w = refl
 seen_with B more w = refl
 
--- An expiry occurs in both or in neither.
+-- A hidden step of the end occurs in both or in neither.
+hidden_seen : (side : Side) (step : End → Result End EndFault) (w : World)
+    → option_map (λ e. with_end side e (seen_by side w)) (result_ok (step (end_at side (seen_by side w))))
+    ≡ option_map (seen_by side) (option_map (λ e. with_end side e w) (result_ok (step (end_at side w))))
+hidden_seen side step w = of side
+  where
+    by : (side : Side) (r : Result End EndFault)
+        → option_map (λ e. with_end side e (seen_by side w)) (result_ok r)
+        ≡ option_map (seen_by side) (option_map (λ e. with_end side e w) (result_ok r))
+    by A (Ok e) = refl
+    by B (Ok e) = refl
+    by side (Err reason) = refl
+
+    of : (side : Side) → option_map (λ e. with_end side e (seen_by side w)) (result_ok (step (end_at side (seen_by side w))))
+        ≡ option_map (seen_by side) (option_map (λ e. with_end side e w) (result_ok (step (end_at side w))))
+    of A = by A (step w.a)
+    of B = by B (step w.b)
+
 pub seen_expiry : (table : Table) (side : Side) (name : HalfName) (id : ℤ) (w : World)
-    → after table (Expires side name id) (seen_by side w)
-    ≡ option_map (seen_by side) (after table (Expires side name id) w)
-seen_expiry table A name id w = by (expire table w.a name id)
-  where
-    by : (r : Result End EndFault)
-        → option_map (λ e. with_end A e (seen_by A w)) (result_ok r)
-        ≡ option_map (seen_by A) (option_map (λ e. with_end A e w) (result_ok r))
-    by (Ok e) = refl
-    by (Err reason) = refl
-seen_expiry table B name id w = by (expire table w.b name id)
-  where
-    by : (r : Result End EndFault)
-        → option_map (λ e. with_end B e (seen_by B w)) (result_ok r)
-        ≡ option_map (seen_by B) (option_map (λ e. with_end B e w) (result_ok r))
-    by (Ok e) = refl
-    by (Err reason) = refl
+    → after table (Expires side name id) (seen_by side w) ≡ option_map (seen_by side) (after table (Expires side name id) w)
+seen_expiry table side name id w = hidden_seen side (λ e. expire table e name id) w
 
--- A closing occurs in the view.
-close_seen : (table : Table) (side : Side) (name : HalfName) (w next : World) (made : End)
-    → close table (end_at side w) name ≡ Ok made → next ≡ with_end side made w
-    → after table (Closes side name) (seen_by side w) ≡ Some (seen_by side next)
-close_seen table A name w next made step same = rw (step, same) refl
-close_seen table B name w next made step same = rw (step, same) refl
-
-pub seen_closing : (table : Table) (side : Side) (name : HalfName) (w next : World)
-    → after table (Closes side name) w ≡ Some next
-    → after table (Closes side name) (seen_by side w) ≡ Some (seen_by side next)
-seen_closing table side name w next is =
-    let h = closing table side name w next is in close_seen table side name w next h.made h.step_is h.next_is
+pub seen_closing : (table : Table) (side : Side) (name : HalfName) (w : World)
+    → after table (Closes side name) (seen_by side w) ≡ option_map (seen_by side) (after table (Closes side name) w)
+seen_closing table side name w = hidden_seen side (λ e. close table e name) w
 
 -- A delivery occurs in the view.
 receive_seen : (table : Table) (side : Side) (number : ℕ) (w next : World) (head : OnItsWay)

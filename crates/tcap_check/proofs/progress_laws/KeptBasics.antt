@@ -1,7 +1,8 @@
 -- What is kept of a replay, and its single steps.
-use Rattle.std.proofs.Common.{◌≡◌, ℕ, suc, ◌+◌, Bool, true, false, cond, Result, Ok, Err, List, [], ◌∷◌, ◌++◌, map, length, drop, Option, Some, None, refl, sym, ap, ap₂, ◌∙◌, arith, append-nil, append_assoc}
+use Rattle.std.proofs.Common.{◌≡◌, ℕ, ◌+◌, Bool, true, false, Result, Ok, Err, List, [], ◌∷◌, ◌++◌, map, length, drop, Option, Some, None, refl, sym, ap, ap₂, ◌∙◌, arith, append-nil, append_assoc}
 use Rattle.std.specs.Prelude.{filter, not, option_map, slice_get}
 use Rattle.std.proofs.lemmas.List.{length-append}
+use Rattle.std.proofs.lemmas.List.Elements.{filter-append}
 use Rattle.tcap_record.specs.declared.entry.End.{End as Side}
 use Rattle.tcap_record.specs.declared.entry.End.TheVariants as sides
 use Rattle.tcap_end.specs.declared.fault.EndFault.{EndFault}
@@ -28,22 +29,14 @@ use Rattle.tcap_model.proofs.WorldLaws.{itself, with_same}
 
 -- One more element that passes a test, or does not.
 count_more : {A : Type 0} (p : A → Bool) (xs : List A) (x : A) → p x ≡ true → length (filter p (xs ++ x ∷ [])) ≡ length (filter p xs) + 1
-count_more p [] x is = rw is refl
-count_more p (y ∷ ys) x is = by (p y) (count_more p ys x is)
-  where
-    by : (b : Bool) → length (filter p (ys ++ x ∷ [])) ≡ length (filter p ys) + 1
-        → length (cond b (y ∷ filter p (ys ++ x ∷ [])) (filter p (ys ++ x ∷ []))) ≡ length (cond b (y ∷ filter p ys) (filter p ys)) + 1
-    by true rest = omega (arith, rest)
-    by false rest = rest
+count_more p xs x is =
+    let one : length (filter p (x ∷ [])) ≡ 1 = rw is refl in
+    omega (arith, one, ap length (filter-append p xs (x ∷ [])) ∙ length-append (filter p xs) (filter p (x ∷ [])))
 
 count_same : {A : Type 0} (p : A → Bool) (xs : List A) (x : A) → p x ≡ false → length (filter p (xs ++ x ∷ [])) ≡ length (filter p xs)
-count_same p [] x is = rw is refl
-count_same p (y ∷ ys) x is = by (p y) (count_same p ys x is)
-  where
-    by : (b : Bool) → length (filter p (ys ++ x ∷ [])) ≡ length (filter p ys)
-        → length (cond b (y ∷ filter p (ys ++ x ∷ [])) (filter p (ys ++ x ∷ []))) ≡ length (cond b (y ∷ filter p ys) (filter p ys))
-    by true rest = ap suc rest
-    by false rest = rest
+count_same p xs x is =
+    let none : length (filter p (x ∷ [])) ≡ 0 = rw is refl in
+    omega (arith, none, ap length (filter-append p xs (x ∷ [])) ∙ length-append (filter p xs) (filter p (x ∷ [])))
 
 -- the progress with the counts of these events, and this report
 abbrev pub counted : Option Side → List Event → Option Told → Progress → Progress

@@ -17,7 +17,7 @@ use Rattle.tcap_certificate.specs.Replay.{Replay, if_lost, is_sent_by, lost_from
 use Rattle.tcap_check.specs.CheckerMeaning.{count_ahead}
 use Rattle.tcap_check.specs.ReplaySteps.{is_heard}
 use Rattle.tcap_check.proofs.refusal_laws.PendingLaws.{IsAhead}
-use Rattle.tcap_check.proofs.replay_laws.WaitingLaws.{behind_lost, waiting, waiting_by}
+use Rattle.tcap_check.proofs.replay_laws.ReplaySteps.{behind_lost, waiting, waiting_by}
 
 -- ---- the count of messages that wait
 
@@ -300,27 +300,6 @@ mark_behind judged gaps replies (first ∷ second ∷ fates) [] = refl
 mark_behind judged gaps replies (first ∷ fates) (Item.Quiet ∷ items) = mark_behind judged gaps replies fates items
 mark_behind judged gaps replies (first ∷ fates) (Sent side message ∷ items) =
     ap (λ (n : ℕ). cond (is_heard judged side && is_behind gaps replies first) (n + 1) n) (mark_behind judged gaps replies fates items)
-
-at_end : (b : Bool) (n : ℕ) → n ≡ 0 → cond (b && false) (n + 1) n ≡ 0
-at_end true n rest = rest
-at_end false n rest = rest
-
--- After the last gap nothing is counted.
-pub none_behind : (judged : Option Side) (count n : ℕ) (fates : List Fate) (items : List Item) → FatesFit count n fates
-    → count_behind judged (count + 1) count fates items ≡ 0
-none_behind judged count n [] items fit = refl
-none_behind judged count n (fate ∷ fates) [] fit = refl
-none_behind judged count n (Gap g ∷ fates) (Sent sender message ∷ items) fit =
-    rw (lt-leb (count + 1) g (let within = fit.1 in omega (arith, within)))
-    (at_end (is_heard judged sender) (count_behind judged (count + 1) count fates items) (none_behind judged count (n + 1) fates items fit.2))
-none_behind judged count n (By k ∷ fates) (Sent sender message ∷ items) fit =
-    rw (lt-leb count k (let within = fit.1 in omega (arith, within)))
-    (at_end (is_heard judged sender) (count_behind judged (count + 1) count fates items) (none_behind judged count (n + 1) fates items fit.2))
-none_behind judged count n (Lost ∷ fates) (Sent sender message ∷ items) fit =
-    at_end (is_heard judged sender) (count_behind judged (count + 1) count fates items) (none_behind judged count (n + 1) fates items fit)
-none_behind judged count n (Gap g ∷ fates) (Item.Quiet ∷ items) fit = none_behind judged count (n + 1) fates items fit.2
-none_behind judged count n (By k ∷ fates) (Item.Quiet ∷ items) fit = none_behind judged count (n + 1) fates items fit.2
-none_behind judged count n (Lost ∷ fates) (Item.Quiet ∷ items) fit = none_behind judged count (n + 1) fates items fit
 
 -- `AreMarks` holds after one more message.
 pub marks_sent : (fates : List Fate) (items : List Item) (side : Side) (message : Message) → AreMarks fates items

@@ -24,9 +24,8 @@ use Rattle.tcap_check.specs.EntryOutlines.{outlines_from}
 use Rattle.tcap_check.specs.Progress.{discard_told, due_in, lost_counted, map_ok, moved, seat_at, with_seat_end, with_waiting}
 use Rattle.tcap_check.specs.ReplaySteps.{deliveries_kept, delivery_kept, first_received, is_heard, received_or_not}
 use Rattle.tcap_check.specs.CheckerMeaning.{fate_of, kept_by, progress_of, waiting_at}
-use Rattle.tcap_check.proofs.replay_laws.WaitingLaws.{head_stays, same_end}
+use Rattle.tcap_check.proofs.replay_laws.ReplaySteps.{head_stays, same_end, channel_with}
 use Rattle.tcap_check.proofs.progress_laws.KeptBasics.{channel_put, end_kept, end_step_is, front_is, discard_step_is, discarding, not_alone, then_is, waiting_kept}
-use Rattle.tcap_check.proofs.replay_laws.ReplaySteps.{channel_with}
 
 -- ---- one message
 

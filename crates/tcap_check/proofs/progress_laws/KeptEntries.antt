@@ -1,6 +1,6 @@
 -- The steps of a checker over what is kept are those of the replay, entry by entry.
-use Rattle.std.proofs.Common.{◌≡◌, ℕ, ◌+◌, Bool, true, false, cond, List, [], ◌∷◌, ◌++◌, filter, length, Option, Some, None, Result, Ok, refl, sym, ap, ap₂, subst, ◌∙◌, arith, append-nil}
-use Rattle.std.specs.Prelude.{not, option_map, slice_get}
+use Rattle.std.proofs.Common.{◌≡◌, ℕ, ◌+◌, Bool, true, false, cond, List, [], ◌∷◌, ◌++◌, filter, length, Option, Some, None, Result, Ok, refl, sym, ap, ap₂, subst, ◌∙◌, arith, append-nil, ◌==◌, drop, Err}
+use Rattle.std.specs.Prelude.{not, option_map, slice_get, ◌&&◌, ok_or}
 use Rattle.tcap_msg.specs.declared.message.Message.{Message}
 use Rattle.tcap_record.specs.declared.entry.End.{End as Side}
 use Rattle.tcap_record.specs.declared.entry.End.TheVariants as sides
@@ -8,30 +8,38 @@ use Rattle.tcap_end.specs.Table.{Table}
 use Rattle.tcap_end.specs.Step.{needs, ◌>>◌, ◌>>=◌}
 use Rattle.tcap_certificate.specs.declared.certificate.Fate.{Fate}
 use Rattle.tcap_certificate.specs.declared.fault.CheckFault.{CheckFault}
-use Rattle.tcap_model.specs.declared.reason.Reason.TheVariants.{BadReply, FateRange, OutOfOrder}
+use Rattle.tcap_model.specs.declared.reason.Reason.TheVariants.{BadReply, FateRange, OutOfOrder, FateCount, NotQuiet}
 use Rattle.tcap_check.specs.declared.outline.Outline.{Outline}
 use Rattle.tcap_check.specs.declared.progress.Progress.{Progress}
 use Rattle.tcap_record.specs.Ends.{other}
-use Rattle.tcap_model.specs.World.{Item, Sent}
-use Rattle.tcap_model.specs.Run.{Tells, joined}
+use Rattle.tcap_model.specs.World.{Item, Sent, World, channel_from, end_at, is_side, with_channel}
+use Rattle.tcap_model.specs.Run.{Tells, joined, Loses, Quiet, Receives, after, numbers_of}
 use Rattle.tcap_certificate.specs.Certificate.{Certificate}
-use Rattle.tcap_certificate.specs.DescribedRun.{taken_by}
-use Rattle.tcap_certificate.specs.Replay.{Replay, behind_sending, fault_at, gap_by, is_gap, is_nothing, is_overtaking, is_sent_by, item_by, mark_judged, next_entry, own_message, tied, told_replayed, with_step}
+use Rattle.tcap_certificate.specs.DescribedRun.{taken_by, sending_by}
+use Rattle.tcap_certificate.specs.Replay.{Replay, behind_sending, fault_at, gap_by, is_gap, is_nothing, is_overtaking, is_sent_by, item_by, mark_judged, next_entry, own_message, tied, told_replayed, with_step, all_lost_from, certificate_fits, closed_at_mark, deliveries_by, delivery_by, discarded, entry_by, heard, lost_from_front, message_by, nothing_replayed, or_else, own_judged, stepped}
 use Rattle.tcap_check.specs.EntryOutlines.{is_named, outline_of, outlines_from, since_from}
 use Rattle.tcap_check.specs.Progress.{overtakes, seat_at}
 use Rattle.tcap_check.specs.ReplaySteps.{is_heard, is_told, mark_taken, own_taken, told_among, told_taken}
-use Rattle.tcap_check.specs.CheckerMeaning.{gap_before, item_kept, kept_of, map_ok, progress_of, tied_now}
-use Rattle.tcap_check.proofs.one_end_laws.AloneReplays.{gap_leads, item_leads}
+use Rattle.tcap_check.specs.CheckerMeaning.{gap_before, item_kept, kept_of, map_ok, progress_of, tied_now, taken, taken_from, taken_next}
+use Rattle.tcap_check.proofs.one_end_laws.AloneReplays.{gap_leads, item_leads, drop_all}
 use Rattle.tcap_check.proofs.replay_laws.ReplayLaws.{gap_replays}
 use Rattle.tcap_check.proofs.replay_laws.ReplayEntries.{item_replays}
-use Rattle.tcap_check.proofs.replay_laws.ReplaySteps.{replays_then}
+use Rattle.tcap_check.proofs.replay_laws.ReplaySteps.{replays_then, channel_with, discard_is}
 use Rattle.tcap_check.proofs.progress_laws.KeptBasics.{not_alone, then_is}
-use Rattle.tcap_check.proofs.progress_laws.KeptGaps.{gap_is}
-use Rattle.tcap_check.proofs.progress_laws.KeptHidden.{outline_at, outlines_count}
-use Rattle.tcap_check.proofs.progress_laws.KeptMarks.{mark_is, marked_by}
+use Rattle.tcap_check.proofs.progress_laws.KeptGaps.{gap_is, outline_at, outlines_count}
+use Rattle.tcap_check.proofs.progress_laws.KeptMarks.{mark_is, marked_by, quiet_empty}
 pub use Rattle.tcap_check.proofs.progress_laws.KeptMarks.{latest_with_mark}
 use Rattle.tcap_check.proofs.progress_laws.KeptSends.{overtakes_is}
 use Rattle.tcap_check.proofs.progress_laws.KeptMessages.{own_is, told_is}
+use Rattle.tcap_end.specs.HiddenSteps.{open_halves}
+use Rattle.tcap_end.proofs.AnsweringLaws.{needs_ok, ok_same, some_ok, then_ok}
+use Rattle.tcap_certificate.specs.declared.certificate.Fate.TheVariants.{Gap, Lost, By}
+use Rattle.tcap_model.specs.declared.reason.Reason.{Reason}
+use Rattle.tcap_model.proofs.RunLaws.{delivery, loss, map_some}
+use Rattle.tcap_model.proofs.WorldLaws.{own_with_channel, own_with_end}
+use Rattle.tcap_check.specs.ListedSteps.{listed_for}
+use Rattle.tcap_check.proofs.replay_laws.ReplayGaps.{gap_parts}
+use Rattle.tcap_check.proofs.progress_laws.KeptStays.{listed_stay}
 
 pub outlines_more : (c : Certificate) (n : ℕ) (items : List Item) (item : Item)
     → outlines_from c n (items ++ item ∷ [])
@@ -206,3 +214,151 @@ item_is listing (Some sides.A) table c fate (Sent sides.A message) r has = own_e
 item_is listing (Some sides.A) table c fate (Sent sides.B message) r has = told_entry listing table c sides.A r fate message refl has
 item_is listing (Some sides.B) table c fate (Sent sides.A message) r has = told_entry listing table c sides.B r fate message refl has
 item_is listing (Some sides.B) table c fate (Sent sides.B message) r has = own_entry listing (Some sides.B) table c r fate sides.B message refl has
+
+-- ---- messages on their way from the end
+
+-- No message is on its way from the end that is judged alone.
+abbrev pub IsHeard : Option Side → Replay → Type 0
+IsHeard None r = Unit {0}
+IsHeard (Some judged) r = channel_from judged r.world ≡ []
+
+nothing_left : (side : Side) (r : Replay) → channel_from side (all_lost_from side r).world ≡ []
+nothing_left side r =
+    let channel = channel_from side r.world in
+    channel_with side (drop (length (numbers_of channel)) channel) r.world ∙ drop_all channel
+
+own_told : (side : Side) (message : Message) (w : World) → channel_from side (joined (other side) message w) ≡ channel_from side w
+own_told sides.A message w = refl
+own_told sides.B message w = refl
+
+-- ---- a gap
+
+-- A message of the peer that the end receives or discards does not change the channel from the end.
+heard_keeps : (side : Side) (table : Table) (c : Certificate) (n : ℕ) (r next : Replay) → heard table c side n r ≡ Ok next
+    → channel_from side next.world ≡ channel_from side r.world
+heard_keeps side table c n r next is =
+    by (stepped table (Receives side n) before) refl
+    (some_ok (or_else (stepped table (Receives side n) before) (discarded table side n before)) (fault_at BadReply n) next is)
+    ∙ own_with_channel side _ r.world
+  where
+    before : Replay
+    before = lost_from_front c (other side) r
+
+    by : (o : Option Replay) → stepped table (Receives side n) before ≡ o
+        → or_else o (discarded table side n before) ≡ Some next
+        → channel_from side next.world ≡ channel_from side before.world
+    by (Some x) at found =
+        let event = Receives side n in
+        let step = map_some _ (after table event before.world) next (at ∙ found) in
+        let d = delivery table side n before.world step.0 step.1 in
+        ap (λ (x : Replay). channel_from side x.world) (sym step.2) ∙ ap (channel_from side) d.next_is
+        ∙ own_with_end side d.made (with_channel (other side) d.more before.world) ∙ own_with_channel side d.more before.world
+    by None at found =
+        let event = Loses (other side) n in
+        let d = discard_is table side n before next found in
+        let step = map_some _ (after table event before.world) d.lost d.step in
+        let l = loss table (other side) n before.world step.0 step.1 in
+        ap (channel_from side) d.world ∙ ap (λ (x : Replay). channel_from side x.world) (sym step.2) ∙ ap (channel_from side) l.next_is
+        ∙ own_with_channel side l.more before.world
+
+same_channel : (side : Side) (r next : Replay) → r ≡ next → channel_from side next.world ≡ channel_from side r.world
+same_channel side r next is = ap (λ (x : Replay). channel_from side x.world) (sym is)
+
+delivery_keeps : (side : Side) (table : Table) (c : Certificate) (place n : ℕ) (fate : Fate) (item : Item) (r next : Replay)
+    → delivery_by (Some side) table c place n fate item r ≡ Ok next → channel_from side next.world ≡ channel_from side r.world
+delivery_keeps side table c place n (Gap g) (Sent sender message) r next is = by ((g == place) && is_side (other side) sender) is
+  where
+    by : (b : Bool) → cond b (heard table c side n r) (Ok r) ≡ Ok next → channel_from side next.world ≡ channel_from side r.world
+    by true e = heard_keeps side table c n r next e
+    by false e = same_channel side r next (ok_same {F = CheckFault} r next e)
+delivery_keeps side table c place n (Gap g) Item.Quiet r next is = same_channel side r next (ok_same {F = CheckFault} r next is)
+delivery_keeps side table c place n (By k) item r next is = same_channel side r next (ok_same {F = CheckFault} r next is)
+delivery_keeps side table c place n Lost item r next is = same_channel side r next (ok_same {F = CheckFault} r next is)
+
+deliveries_keep : (side : Side) (table : Table) (c : Certificate) (place n : ℕ) (fates : List Fate) (items : List Item) (r next : Replay)
+    → deliveries_by (Some side) table c place n fates items r ≡ Ok next → channel_from side next.world ≡ channel_from side r.world
+deliveries_keep side table c place n [] items r next is = same_channel side r next (ok_same {F = CheckFault} r next is)
+deliveries_keep side table c place n (fate ∷ fates) [] r next is = same_channel side r next (ok_same {F = CheckFault} r next is)
+deliveries_keep side table c place n (fate ∷ fates) (item ∷ items) r next is =
+    let one = then_ok (delivery_by (Some side) table c place n fate item r) _ next is in
+    deliveries_keep side table c place (n + 1) fates items one.0 next one.2 ∙ delivery_keeps side table c place n fate item r one.0 one.1
+
+pub gap_keeps : (side : Side) (table : Table) (c : Certificate) (r next : Replay) → gap_by (Some side) table c r ≡ Ok next
+    → channel_from side next.world ≡ channel_from side r.world
+gap_keeps side table c r next is =
+    let parts = gap_parts (Some side) table c r next is in
+    deliveries_keep side table c (next_entry r) 0 c.fates r.world.sent parts.0 next parts.2
+    ∙ (listed_stay table c (listed_for (Some side) c (next_entry r)) r parts.0 parts.1).channels side
+
+-- ---- entries
+
+own_empty : (side : Side) (table : Table) (c : Certificate) (message : Message) (r next : Replay)
+    → own_judged (Some side) table c Lost side message r ≡ Ok next → channel_from side next.world ≡ []
+own_empty side table c message r next is =
+    let gap = then_ok (gap_by (Some side) table c r) _ next is in
+    let event = sending_by c (next_entry gap.0) (Sent side message) (tied (Some side) c gap.0) in
+    let sent = then_ok (message_by table c side message event gap.0) _ next gap.2 in
+    same_channel side (all_lost_from side sent.0) next (ok_same {F = CheckFault} (all_lost_from side sent.0) next sent.2)
+    ∙ nothing_left side sent.0
+
+told_empty : (side : Side) (table : Table) (c : Certificate) (fate : Fate) (message : Message) (r next : Replay)
+    → told_replayed table c fate side message r ≡ Ok next → channel_from side r.world ≡ [] → channel_from side next.world ≡ []
+told_empty side table c fate message r next is empty =
+    let so = needs_ok (not (is_overtaking (other side) fate c.fates r.world.sent)) (fault_at OutOfOrder (next_entry r)) _ next is in
+    let gap = then_ok (gap_by (Some side) table c r) _ next so.1 in
+    let free = needs_ok (is_nothing (tied (Some side) c r)) (fault_at BadReply (next_entry r)) _ next gap.2 in
+    let made = with_step (Tells (other side) message) gap.0 (joined (other side) message gap.0.world) in
+    same_channel side made next (ok_same {F = CheckFault} made next free.1)
+    ∙ own_told side message gap.0.world ∙ gap_keeps side table c r gap.0 gap.1 ∙ empty
+
+mark_empty : (side : Side) (table : Table) (c : Certificate) (fate : Fate) (r next : Replay)
+    → mark_judged (Some side) table c fate r ≡ Ok next → channel_from side next.world ≡ []
+mark_empty side table c fate r next is =
+    let entry = next_entry r in
+    let so = needs_ok (is_gap (entry + 1) fate) (fault_at FateRange entry) _ next is in
+    let gap = then_ok (gap_by (Some side) table c r) _ next so.1 in
+    let free = needs_ok (is_nothing (tied (Some side) c r)) (fault_at NotQuiet entry) _ next gap.2 in
+    let halves = open_halves (end_at side gap.0.world) in
+    let closed = then_ok (closed_at_mark table side entry halves gap.0) _ next free.1 in
+    let before = lost_from_front c (other side) closed.0 in
+    quiet_empty table side before next (some_ok (stepped table Quiet before) (fault_at NotQuiet entry) next closed.2)
+
+item_empty : (side : Side) (table : Table) (c : Certificate) (fate : Fate) (item : Item) (r next : Replay)
+    → item_by (Some side) table c fate item r ≡ Ok next → channel_from side r.world ≡ [] → channel_from side next.world ≡ []
+item_empty side table c fate Item.Quiet r next is empty = mark_empty side table c fate r next is
+item_empty side table c fate (Sent sender message) r next is empty = by (is_side side sender) is
+  where
+    by : (b : Bool) → cond b (own_judged (Some side) table c Lost side message r) (told_replayed table c fate side message r) ≡ Ok next
+        → channel_from side next.world ≡ []
+    by true e = own_empty side table c message r next e
+    by false e = told_empty side table c fate message r next e empty
+
+entry_empty : (side : Side) (table : Table) (c : Certificate) (entry : Result Item Reason) (r next : Replay)
+    → taken_next (Some side) table c entry r ≡ Ok next → channel_from side r.world ≡ [] → channel_from side next.world ≡ []
+entry_empty side table c entry r next is empty =
+    let fate = then_ok (ok_or (slice_get c.fates (next_entry r)) (fault_at FateCount (next_entry r))) _ next is in by entry fate.0 fate.2
+  where
+    by : (x : Result Item Reason) (fate : Fate) → entry_by (Some side) table c fate x r ≡ Ok next → channel_from side next.world ≡ []
+    by (Ok item) fate e = item_empty side table c fate item r next e empty
+    by (Err reason) fate e = cc
+
+from_empty : (side : Side) (table : Table) (c : Certificate) (entries : List (Result Item Reason)) (r next : Replay)
+    → taken_from (Some side) table c entries r ≡ Ok next → channel_from side r.world ≡ [] → channel_from side next.world ≡ []
+from_empty side table c [] r next is empty = same_channel side r next (ok_same {F = CheckFault} r next is) ∙ empty
+from_empty side table c (entry ∷ entries) r next is empty =
+    let one = then_ok (taken_next (Some side) table c entry r) _ next is in
+    from_empty side table c entries one.0 next one.2 (entry_empty side table c entry r one.0 one.1 empty)
+
+nothing_sent : (side : Side) → channel_from side nothing_replayed.world ≡ []
+nothing_sent sides.A = refl
+nothing_sent sides.B = refl
+
+-- After these entries, no message is on its way from the end.
+pub heard_empty : (side : Side) (table : Table) (c : Certificate) (entries : List (Result Item Reason)) (r : Replay)
+    → taken (Some side) table c entries ≡ Ok r → channel_from side r.world ≡ []
+heard_empty side table c entries r is = by (certificate_fits c) is
+  where
+    by : (fits : Result (Unit {0}) CheckFault) → (fits >> taken_from (Some side) table c entries nothing_replayed) ≡ Ok r
+        → channel_from side r.world ≡ []
+    by (Ok done) e = from_empty side table c entries nothing_replayed r e (nothing_sent side)
+    by (Err fault) e = cc

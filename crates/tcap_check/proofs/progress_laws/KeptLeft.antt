@@ -1,45 +1,100 @@
 -- What a refused entry leaves is what is kept of the replay up to the first step that cannot happen.
-use Rattle.std.proofs.Common.{◌≡◌, arith, ℕ, ◌+◌, ◌==◌, Bool, true, false, cond, List, [], ◌∷◌, length, Option, Some, None, Result, Ok, Err, refl, sym, ap, ap₂, ◌∙◌}
+use Rattle.std.proofs.Common.{◌≡◌, ℕ, zero, suc, true, false, ◌+◌, ◌^◌, ◌≤◌, ◌<◌, List, [], ◌∷◌, length, drop, get_or, Option, Result, Ok, Err, refl, ap, ◌∙◌, arith, ◌==◌, Bool, cond, Some, None, sym, ap₂}
+use Rattle.tcap_record.specs.declared.entry.End.{End as Side}
+use Rattle.tcap_certificate.specs.declared.fault.CheckFault.{CheckFault}
+use Rattle.tcap_check.specs.declared.progress.Progress.{Progress}
+use Rattle.tcap_end.specs.Table.{Table}
+use Rattle.tcap_check.specs.declared.outline.Outline.{Outline}
+use Rattle.tcap_certificate.specs.Replay.{is_judged, Replay, closed_at_mark, fault_at, gap_by, is_gap, is_heard, is_nothing, is_overtaking, lost_from_front, lost_last, next_entry, received, stepped, tied}
+use Rattle.tcap_check.specs.Progress.{HasNoMore, due_in, end_moved, front_lost, last_lost, overtakes, seat_at, all_kept, listed_kept}
+use Rattle.tcap_check.specs.ReplaySteps.{deliveries_kept, delivery_kept, halves_shut}
+use Rattle.tcap_check.specs.PartialReplay.{behind_or, deliveries_so_far, fated_so_far, gap_so_far, halves_so_far, item_so_far, mark_so_far, message_so_far, next_so_far, quiet_so_far, sending_so_far, listed_so_far}
+use Rattle.tcap_check.specs.declared.listed_steps.Listed.{Listed}
+use Rattle.tcap_check.specs.ListedSteps.{listed_judged, side_of, all_replayed, listed_for, listed_replayed}
 use Rattle.std.specs.Prelude.{◌||◌, not, ok_or, slice_get}
 use Rattle.std.specs.List.{AllByRecursion}
 use Rattle.tcap_msg.specs.declared.message.AbortReason.TheVariants.{Cause, Dialogue as ByDialogue}
 use Rattle.tcap_msg.specs.declared.message.Message.{Message}
 use Rattle.tcap_msg.specs.declared.message.Message.TheVariants.{Unidirectional, Begin, Continue, End as EndMessage, Abort}
-use Rattle.tcap_record.specs.declared.entry.End.{End as Side}
 use Rattle.tcap_record.specs.declared.entry.End.TheVariants as sides
 use Rattle.tcap_record.specs.Ends.{other}
 use Rattle.tcap_end.specs.declared.half.HalfName.{HalfName}
 use Rattle.tcap_end.specs.End.{End}
 use Rattle.tcap_end.specs.HiddenSteps.{close, open_halves}
 use Rattle.tcap_end.specs.Step.{◌>>=◌}
-use Rattle.tcap_end.specs.Table.{Table}
 use Rattle.tcap_model.specs.declared.reason.Reason.{Reason}
 use Rattle.tcap_model.specs.declared.reason.Reason.TheVariants.{NotQuiet}
 use Rattle.tcap_model.specs.World.{Item, Sent, end_at}
 use Rattle.tcap_model.specs.Run.{Closes}
 use Rattle.tcap_certificate.specs.declared.certificate.Fate.{Fate}
 use Rattle.tcap_certificate.specs.declared.certificate.Fate.TheVariants.{Gap, Lost, By}
-use Rattle.tcap_certificate.specs.declared.fault.CheckFault.{CheckFault}
 use Rattle.tcap_certificate.specs.Certificate.{Certificate}
 use Rattle.tcap_certificate.specs.DescribedRun.{invoking_half, sending_by}
-use Rattle.tcap_certificate.specs.Replay.{Replay, closed_at_mark, fault_at, gap_by, is_gap, is_heard, is_judged, is_nothing, is_overtaking, lost_from_front, lost_last, next_entry, received, stepped, tied}
-use Rattle.tcap_check.specs.declared.outline.Outline.{Outline}
-use Rattle.tcap_check.specs.declared.progress.Progress.{Progress}
 use Rattle.tcap_check.specs.CheckerMeaning.{gap_before, is_alone, kept_of, map_ok, progress_of, tied_now}
-use Rattle.tcap_check.specs.ReplaySteps.{delivery_kept, halves_shut}
 use Rattle.tcap_check.specs.RefusedReplay.{deliveries_left, end_left, entry_left, fated_left, gap_left, halves_left, item_left, mark_left, message_left, quiet_left, listed_left, taken_left}
 use Rattle.tcap_check.specs.EntryOutlines.{outlines_from, since_from}
-use Rattle.tcap_check.specs.Progress.{due_in, end_moved, front_lost, last_lost, overtakes, seat_at, all_kept, listed_kept}
-use Rattle.tcap_check.specs.PartialReplay.{behind_or, deliveries_so_far, fated_so_far, gap_so_far, halves_so_far, item_so_far, mark_so_far, message_so_far, next_so_far, quiet_so_far, sending_so_far, listed_so_far}
 use Rattle.tcap_check.proofs.progress_laws.KeptBasics.{end_kept, front_is, last_is, ok_behind, then_is}
 use Rattle.tcap_check.proofs.progress_laws.KeptDeliveries.{StandsFrom, delivered_is, due_is, first_stands, none_next, stands_next}
 use Rattle.tcap_check.proofs.progress_laws.KeptEntries.{gap_sends, tied_is, tied_still}
-use Rattle.tcap_check.proofs.progress_laws.KeptGaps.{gap_is}
-use Rattle.tcap_check.proofs.progress_laws.KeptHidden.{end_is, outlines_count, IsNamed, listed_are, listed_named, one_is, one_sends}
+use Rattle.tcap_check.proofs.progress_laws.KeptGaps.{gap_is, end_is, outlines_count, IsNamed, listed_are, listed_named, one_is, one_sends}
 use Rattle.tcap_check.proofs.progress_laws.KeptMessages.{over_is}
 use Rattle.tcap_check.proofs.progress_laws.KeptSends.{overtakes_is}
-use Rattle.tcap_check.specs.declared.listed_steps.Listed.{Listed}
-use Rattle.tcap_check.specs.ListedSteps.{all_replayed, listed_for, listed_replayed}
+
+-- The items from this index on have the same result from here as all items from the start, and there is room to count
+-- them.
+pub record Going {X : Type 0} (all : List X → Progress → Result Progress CheckFault) (first : Progress) (xs : List X)
+    (p : Progress) (index : ℕ) : Type 0 where
+  pub same : all xs first ≡ all (drop index xs) p
+  pub room : p.moves + length (drop index xs) < 2 ^ 128
+
+-- The deliveries from this index on have the same result from here as all deliveries from the start.
+pub record Listening (judged : Option Side) (table : Table) (entries : List Outline) (first : Progress) (numbers : List ℕ)
+    (p : Progress) (index : ℕ) : Type 0 where
+  pub same : deliveries_kept judged table entries numbers first ≡ deliveries_kept judged table entries (drop index numbers) p
+  pub grown : HasNoMore first p
+
+pub next_left : {A : Type 0} (xs : List A) (i : ℕ) (default : A) → i < length xs → drop i xs ≡ get_or xs i default ∷ drop (i + 1) xs
+next_left [] i default less = absurd (omega (arith, less))
+next_left (x ∷ xs) zero default less = refl
+next_left (x ∷ xs) (suc i) default less =
+    let behind : suc i + 1 ≡ suc (i + 1) = omega arith in
+    rw behind (next_left xs i default (omega (arith, less)))
+
+-- The equation still holds after the item at this index.
+pub same_next : {X B : Type 0} (all : List X → Progress → B) (first : Progress) (xs : List X) (p q : Progress)
+    (i : ℕ) (default : X) → all xs first ≡ all (drop i xs) p → i < length xs
+    → all (get_or xs i default ∷ drop (i + 1) xs) p ≡ all (drop (i + 1) xs) q
+    → all xs first ≡ all (drop (i + 1) xs) q
+same_next all first xs p q i default same less step = same ∙ ap (λ left. all left p) (next_left xs i default less) ∙ step
+
+-- There is still room for the items that are left.
+pub going_next : {X : Type 0} (all : List X → Progress → Result Progress CheckFault) (first : Progress) (xs : List X) (p q : Progress)
+    (i : ℕ) (default : X) → Going all first xs p i → i < length xs
+    → all (get_or xs i default ∷ drop (i + 1) xs) p ≡ all (drop (i + 1) xs) q → q.moves ≤ p.moves + 1
+    → Going all first xs q (i + 1)
+going_next all first xs p q i default going less step grows =
+    let left = ap length (next_left xs i default less) in
+    let room = going.room in
+    record {
+      same = same_next all first xs p q i default going.same less step;
+      room = omega (arith, left, room, grows);
+    }
+
+-- ---- listed events
+
+-- The first listed event counts if its end is judged, and is skipped if not.
+module _ (judged : Option Side) (x : Listed) (more : List Listed) where
+  pub listed_first : is_judged judged (side_of x) ≡ true → listed_judged judged (x ∷ more) ≡ x ∷ listed_judged judged more
+  listed_first is = rw is refl
+
+  pub listed_none : is_judged judged (side_of x) ≡ false → listed_judged judged (x ∷ more) ≡ listed_judged judged more
+  listed_none is = rw is refl
+
+pub left_behind : {A F : Type 0} (o : Result A F) (left next : A) (on : A → A) → o ≡ Ok next → behind_or o left on ≡ on next
+left_behind (Ok x) left next on is = let same : x ≡ next = cc in ap on same
+left_behind (Err fault) left next on is = cc
+
+-- ---- a gap that is refused
 
 -- A step and what follows it, over what is kept, for `behind_or`.
 behind_is : {A B F : Type 0} (f : A → B) (o : Result A F) (kept : Result B F) (left : A) (left_kept : B) (on : A → A) (on_kept : B → B)

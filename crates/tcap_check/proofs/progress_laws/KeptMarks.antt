@@ -26,7 +26,7 @@ use Rattle.tcap_check.specs.Progress.{YieldsInMemory, both_quiet, end_moved, fro
 use Rattle.tcap_check.specs.ReplaySteps.{alone_marked, closed_or_not, halves_closed, halves_shut, mark_taken, quieted}
 use Rattle.tcap_check.specs.CheckerMeaning.{is_alone, latest_at, latest_of, map_ok, progress_of, waiting_at}
 use Rattle.tcap_model.proofs.RunLaws.{map_some, quiet as quiet_step}
-use Rattle.tcap_check.proofs.replay_laws.WaitingLaws.{same_end}
+use Rattle.tcap_check.proofs.replay_laws.ReplaySteps.{same_end}
 use Rattle.tcap_check.proofs.progress_laws.KeptBasics.{end_kept, end_step_is, last_is, moved_counts}
 use Rattle.tcap_check.proofs.progress_laws.KeptStays.{Stays, closes_stays, stays_same, stays_then}
 use Rattle.tcap_check.specs.ReportedSteps.{Told, more_told}

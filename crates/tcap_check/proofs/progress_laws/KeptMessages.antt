@@ -34,7 +34,7 @@ use Rattle.tcap_check.specs.Progress.{end_tried, first_answered, ids_ended, ids_
 use Rattle.tcap_check.specs.ReplaySteps.{is_heard, own_fate, own_taken, sent_lost, told_taken}
 use Rattle.tcap_check.specs.CheckerMeaning.{map_ok, progress_of, waiting_at}
 use Rattle.tcap_model.proofs.ChannelLaws.{get_new}
-use Rattle.tcap_check.proofs.replay_laws.WaitingLaws.{same_end}
+use Rattle.tcap_check.proofs.replay_laws.ReplaySteps.{same_end}
 use Rattle.tcap_check.proofs.replay_laws.ReplayLaws.{abort_of}
 use Rattle.tcap_check.proofs.progress_laws.KeptBasics.{channel_put, end_kept, end_put, end_step_is, front_is, sent_lost_is, waiting_kept}
 use Rattle.tcap_check.proofs.progress_laws.KeptDeliveries.{HasFront, front_waits, without_head}

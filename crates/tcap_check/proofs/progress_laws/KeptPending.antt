@@ -26,7 +26,7 @@ use Rattle.tcap_check.proofs.refusal_laws.PendingLaws.{IsAhead, ahead}
 use Rattle.tcap_check.proofs.replay_laws.ReplayEntries.{nothing_is}
 use Rattle.tcap_check.proofs.replay_laws.ReplayGaps.{fates_ok}
 use Rattle.tcap_check.proofs.progress_laws.KeptCounts.{AreMarks, ahead_is, count_behind, count_for, heard_among, joined_waits, mark_behind, marks_quiet, marks_sent, new_behind, new_by, ok_item, one_behind, replies_behind}
-use Rattle.tcap_check.proofs.replay_laws.WaitingLaws.{waiting, waiting_by}
+use Rattle.tcap_check.proofs.replay_laws.ReplaySteps.{waiting, waiting_by}
 use Rattle.tcap_check.proofs.progress_laws.KeptSteps.{gap_waits, mark_waits, message_waits, sent_waits}
 use Rattle.tcap_check.proofs.progress_laws.KeptEntries.{gap_sends, item_sends, tied_still}
 

@@ -19,9 +19,10 @@ use Rattle.tcap_certificate.specs.DescribedRun.{invoke_id}
 use Rattle.tcap_certificate.specs.LossCounts.{is_lost_from}
 use Rattle.tcap_certificate.specs.Replay.{Replay, fault_at, happens, implied, implied_over, or_same, stepped, with_step}
 use Rattle.tcap_model.proofs.RunLaws.{closing, expiry, map_some}
+use Rattle.tcap_model.proofs.WorldLaws.{sent_with_end}
 use Rattle.tcap_check.specs.declared.listed_steps.Listed.{Listed}
 use Rattle.tcap_check.specs.ListedSteps.{all_replayed, entry_of, event_listed, listed_replayed, side_of, why_refused}
-use Rattle.tcap_check.proofs.replay_laws.ListedEventLaws.{listed_so}
+use Rattle.tcap_check.proofs.replay_laws.ReplayGaps.{listed_so}
 
 -- ---- losses
 
@@ -73,10 +74,6 @@ channel_with_end sides.A sides.A e w = refl
 channel_with_end sides.A sides.B e w = refl
 channel_with_end sides.B sides.A e w = refl
 channel_with_end sides.B sides.B e w = refl
-
-sent_with_end : (at : Side) (e : End) (w : World) → (with_end at e w).sent ≡ w.sent
-sent_with_end sides.A e w = refl
-sent_with_end sides.B e w = refl
 
 -- A step that changes only an end.
 pub end_step_stays : (event : Event) (at : Side) (e : End) (r next : Replay) (w : World)

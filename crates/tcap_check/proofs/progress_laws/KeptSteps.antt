@@ -2,9 +2,7 @@
 use Rattle.std.proofs.Common.{◌≡◌, ℕ, ◌+◌, ◌==◌, arith, Bool, true, false, cond, nat_le, List, [], ◌∷◌, length, Option, Some, None, Result, Ok, Err, refl, sym, ap, ap₂, ◌∙◌}
 use Rattle.std.specs.Prelude.{◌&&◌, ok_or, slice_get}
 use Rattle.std.proofs.lemmas.Bool.{eqb-false}
-use Rattle.tcap_msg.specs.declared.message.AbortReason.TheVariants.{Cause, Dialogue as ByDialogue}
 use Rattle.tcap_msg.specs.declared.message.Message.{Message}
-use Rattle.tcap_msg.specs.declared.message.Message.TheVariants.{Unidirectional, Begin, Continue, End as EndMessage, Abort}
 use Rattle.tcap_record.specs.declared.entry.End.{End as Side}
 use Rattle.tcap_record.specs.declared.entry.End.TheVariants as sides
 use Rattle.tcap_end.specs.declared.fault.EndFault.{EndFault}
@@ -25,17 +23,16 @@ use Rattle.tcap_model.specs.Run.{Sends, Receives, Replies, Loses, Closes, Quiet,
 use Rattle.tcap_certificate.specs.Certificate.{Certificate}
 use Rattle.tcap_certificate.specs.DescribedRun.{invoking_half, sending_by}
 use Rattle.tcap_certificate.specs.Replay.{Replay, all_lost_from, behind_sending, closed_at_mark, closed_before, deliveries_by, discarded, fault_at, gap_by, happens, heard, implied_over, is_abort, lost_from_front, lost_last, message_by, next_entry, or_else, received, send_replayed, sent_or_refused, stepped, with_step}
-use Rattle.tcap_check.proofs.replay_laws.ReplaySteps.{discard_is}
+use Rattle.tcap_check.proofs.replay_laws.ReplaySteps.{discard_is, waiting, sending_so}
 use Rattle.tcap_check.specs.ReplaySteps.{is_heard}
 use Rattle.tcap_model.proofs.RunLaws.{delivery, loss, map_some, quiet as quiet_step, reply}
 use Rattle.tcap_check.proofs.progress_laws.KeptCounts.{count_behind, count_for, counts_same, is_next, joined_waits, losses_wait, new_by, not_next, taken_waits}
-use Rattle.tcap_check.proofs.replay_laws.WaitingLaws.{waiting}
 use Rattle.tcap_check.proofs.progress_laws.KeptDeliveries.{due_is}
 use Rattle.tcap_model.proofs.WorldLaws.{peer_stays}
 use Rattle.tcap_check.proofs.progress_laws.KeptStays.{Stays, closes_stays, implied_over_stays, stays_same, stays_then, listed_stay}
 use Rattle.tcap_model.proofs.WorldLaws.{itself, sent_with_channel, sent_with_end}
 use Rattle.tcap_check.specs.ListedSteps.{listed_for}
-use Rattle.tcap_check.proofs.replay_laws.ListedEventLaws.{gap_parts}
+use Rattle.tcap_check.proofs.replay_laws.ReplayGaps.{gap_parts}
 
 -- ---- steps
 
@@ -252,34 +249,14 @@ pub message_waits : (judged : Option Side) (table : Table) (c : Certificate) (si
     → message_by table c side message (sending_by c (next_entry r) (Sent side message) takes) r ≡ Ok next
     → count_for judged c.fates next.world + length takes
     ≡ count_for judged c.fates r.world + cond (is_heard judged side) (new_by (slice_get c.fates (next_entry r))) 0
-message_waits judged table c side message takes r next so is = by message takes is
+message_waits judged table c side message takes r next so is =
+    sending_so (λ takes o. message_by table c side message o r ≡ Ok next
+    → count_for judged c.fates next.world + length takes ≡ joins) c (next_entry r) side message
+    (λ e. let same = sends_wait judged table c side message r next e in omega (arith, same))
+    (λ taken e. replies_wait judged table c side message taken r next so e) (λ takes e. cc) takes is
   where
     joins : ℕ
     joins = count_for judged c.fates r.world + cond (is_heard judged side) (new_by (slice_get c.fates (next_entry r))) 0
-
-    sends : (message : Message)
-        → send_replayed table side message (implied_over table side message (invoking_half message) r) ≡ Ok next
-        → count_for judged c.fates next.world + 0 ≡ joins
-    sends message e = let same = sends_wait judged table c side message r next e in omega (arith, same)
-
-    by : (message : Message) (takes : List ℕ)
-        → message_by table c side message (sending_by c (next_entry r) (Sent side message) takes) r ≡ Ok next
-        → count_for judged c.fates next.world + length takes ≡ joins
-    by (Abort dtid (Some (Cause n))) [] e = cc
-    by (Abort dtid (Some (Cause n))) (taken ∷ []) e = replies_wait judged table c side (Abort dtid (Some (Cause n))) taken r next so e
-    by (Abort dtid (Some (Cause n))) (taken ∷ second ∷ more) e = cc
-    by (Abort dtid (Some (ByDialogue d))) [] e = sends (Abort dtid (Some (ByDialogue d))) e
-    by (Abort dtid (Some (ByDialogue d))) (taken ∷ more) e = cc
-    by (Abort dtid None) [] e = sends (Abort dtid None) e
-    by (Abort dtid None) (taken ∷ more) e = cc
-    by (Unidirectional dialogue components) [] e = sends (Unidirectional dialogue components) e
-    by (Unidirectional dialogue components) (taken ∷ more) e = cc
-    by (Begin otid dialogue components) [] e = sends (Begin otid dialogue components) e
-    by (Begin otid dialogue components) (taken ∷ more) e = cc
-    by (Continue otid dtid dialogue components) [] e = sends (Continue otid dtid dialogue components) e
-    by (Continue otid dtid dialogue components) (taken ∷ more) e = cc
-    by (EndMessage dtid dialogue components) [] e = sends (EndMessage dtid dialogue components) e
-    by (EndMessage dtid dialogue components) (taken ∷ more) e = cc
 
 -- A message of an end that is judged alone does not count, so its loss changes nothing.
 pub sent_waits : (judged : Option Side) (c : Certificate) (step : Result Replay CheckFault) (next : Replay)

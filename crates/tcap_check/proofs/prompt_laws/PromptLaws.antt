@@ -1,22 +1,19 @@
 -- A run that follows a prompt certificate has no loss, no provider's reply and no closing.
-use Rattle.std.proofs.Common.{◌≡◌, ℕ, ◌+◌, ◌==◌, Bool, true, false, List, [], ◌∷◌, ◌++◌, map, Option, Some, None, refl, ◌∙◌}
-use Rattle.std.specs.Prelude.{slice_get}
+use Rattle.std.proofs.Common.{◌≡◌, ℕ, ◌+◌, List, [], ◌∷◌, ◌++◌, map, Some, refl, ◌∙◌}
 use Rattle.std.specs.List.{AllByRecursion}
-use Rattle.tcap_msg.specs.declared.message.AbortReason.TheVariants.{Cause, Dialogue as ByDialogue}
-use Rattle.tcap_msg.specs.declared.message.Message.{Message}
-use Rattle.tcap_msg.specs.declared.message.Message.TheVariants.{Unidirectional, Begin, Continue, End as EndMessage, Abort}
 use Rattle.tcap_record.specs.declared.entry.End.{End as Side}
 use Rattle.tcap_record.specs.declared.entry.End.TheVariants as sides
-use Rattle.tcap_model.specs.World.{Item, Sent}
-use Rattle.tcap_model.specs.Run.{Event, Sends, Receives, Replies, Loses, Expires, Closes, Quiet, Tells, where_so}
+use Rattle.tcap_model.specs.World.{Item}
+use Rattle.tcap_model.specs.Run.{Event, Sends, Receives, Replies, Loses, Expires, Closes, Quiet, Tells}
 use Rattle.tcap_certificate.specs.declared.certificate.Fate.{Fate}
 use Rattle.tcap_certificate.specs.declared.certificate.Fate.TheVariants.{Gap, Lost, By}
 use Rattle.tcap_certificate.specs.Certificate.{Certificate, IsPrompt, prompt_from}
 use Rattle.tcap_certificate.specs.DescribedRun.{Follows, FollowsFrom, IsPlain, deliveries, gap_events, losses_from, lost_from, sending, taken_by, without_losses}
 use Rattle.tcap_model.proofs.ListLaws.{all_both}
 use Rattle.tcap_model.proofs.RunLaws.{same_events}
-use Rattle.tcap_check.proofs.replay_laws.FateLaws.{from_start, all_delivered}
-use Rattle.tcap_check.proofs.replay_laws.ListedEventLaws.{all_implied}
+use Rattle.tcap_check.proofs.replay_laws.ReplaySteps.{from_start, all_delivered}
+use Rattle.tcap_check.proofs.replay_laws.ReplayGaps.{all_implied}
+use Rattle.tcap_check.proofs.given_run_laws.GivenEvents.{IsSender, by_mark, by_reply, by_send, sender_is}
 
 -- events that are all sends, deliveries, expiries and quiet marks
 abbrev AllPlain : List Event → Type 0
@@ -49,32 +46,15 @@ gap_plain certificate items gap here prompt is =
 
 -- ---- between gaps
 
-a_send : (side : Side) (m : Message) (event : Event) → Some (Sends side m) ≡ Some event → IsPlain event
-a_send side m event is = let same : Sends side m ≡ event = cc in rw (← same) tt
-
 -- An item that takes no message is sent, or is a quiet mark.
 sending_plain : (certificate : Certificate) (number : ℕ) (item : Item) (event : Event) → taken_by number 0 certificate.fates ≡ []
     → sending certificate number item ≡ Some event → IsPlain event
-sending_plain certificate number (Sent side (Unidirectional dialogue components)) event none is =
-    a_send side _ event (rw none at is)
-sending_plain certificate number (Sent side (Begin otid dialogue components)) event none is = a_send side _ event (rw none at is)
-sending_plain certificate number (Sent side (Continue otid dtid dialogue components)) event none is = a_send side _ event (rw none at is)
-sending_plain certificate number (Sent side (EndMessage dtid dialogue components)) event none is = a_send side _ event (rw none at is)
-sending_plain certificate number (Sent side (Abort dtid None)) event none is = a_send side _ event (rw none at is)
-sending_plain certificate number (Sent side (Abort dtid (Some (ByDialogue dialogue)))) event none is = a_send side _ event (rw none at is)
-sending_plain certificate number (Sent side (Abort dtid (Some (Cause cause)))) event none is =
-    let bad : None ≡ Some event = rw none at is in cc
-sending_plain certificate number Item.Quiet event none is = by (slice_get certificate.fates number) refl
+sending_plain certificate number item event none is = by event (sender_is certificate number item (taken_by number 0 certificate.fates) event is)
   where
-    quiet : (b : Bool) → where_so b (Some Quiet) ≡ Some event → IsPlain event
-    quiet true is = let same : Quiet ≡ event = cc in rw (← same) tt
-    quiet false is = cc
-
-    by : (fate : Option Fate) → slice_get certificate.fates number ≡ fate → IsPlain event
-    by None at = let bad : None ≡ Some event = rw (none, at) at is in cc
-    by (Some (Gap g)) at = quiet (g == number + 1) (rw (none, at) at is)
-    by (Some Lost) at = let bad : None ≡ Some event = rw (none, at) at is in cc
-    by (Some (By k)) at = let bad : None ≡ Some event = rw (none, at) at is in cc
+    by : (event : Event) → IsSender (taken_by number 0 certificate.fates) event → IsPlain event
+    by event (by_send side m free) = tt
+    by event (by_reply side n one) = cc
+    by event (by_mark free) = tt
 
 -- ---- losses
 

@@ -4,9 +4,7 @@ use Rattle.std.proofs.Common.{◌≡◌, ◌⊎◌, inl, inr, ℕ, zero, suc, �
 use Rattle.std.specs.Prelude.{slice_get}
 use Rattle.std.proofs.lemmas.Bool.{cases_lt, eq-eqb}
 use Rattle.std.proofs.lemmas.Option.{slice_get_within}
-use Rattle.tcap_msg.specs.declared.message.AbortReason.TheVariants.{Cause, Dialogue as ByDialogue}
 use Rattle.tcap_msg.specs.declared.message.Message.{Message}
-use Rattle.tcap_msg.specs.declared.message.Message.TheVariants.{Unidirectional, Begin, Continue, End as EndMessage, Abort}
 use Rattle.tcap_record.specs.declared.entry.End.{End as Side}
 use Rattle.tcap_record.specs.declared.entry.Entry.{Entry}
 use Rattle.tcap_end.specs.Table.{Table}
@@ -20,13 +18,14 @@ use Rattle.tcap_model.specs.Entries.{IsItem}
 use Rattle.tcap_certificate.specs.DescribedRun.{FatesFit, deliveries, gap_events, sending_by, taken_by, without_losses}
 use Rattle.tcap_certificate.specs.Replay.{Replay, next_entry}
 use Rattle.tcap_check.proofs.replay_laws.ReplayGaps.{get_before}
-use Rattle.tcap_check.proofs.replay_laws.ReplaySteps.{Replays}
+use Rattle.tcap_check.proofs.replay_laws.ReplaySteps.{Replays, IsIn, in_right}
 use Rattle.tcap_check.proofs.replay_laws.ReplayLaws.{IsSentBy}
 use Rattle.tcap_check.proofs.refusal_laws.FollowingLaws.{FollowsBehind, FollowsSo, IsUpTo, follows_gap, follows_more, plain_on}
 use Rattle.tcap_check.proofs.refusal_laws.TakenNumberLaws.{in_all, in_events, in_some, in_taken, taken_sent, takes_received, takes_replied}
 use Rattle.tcap_check.proofs.refusal_laws.PendingLaws.{AreTaken, IsAsSaid, IsOver, SendsSoFar, further_on, old_or_new, runs_on, stands_more, stands_on, taken_next, taken_on, taken_still}
-use Rattle.tcap_check.proofs.replay_laws.MemberLaws.{IsIn, in_right}
 use Rattle.tcap_check.proofs.given_run_laws.NumberLaws.{taken_right}
+use Rattle.tcap_check.proofs.given_run_laws.GivenRuns.{replied_at}
+use Rattle.tcap_check.proofs.given_run_laws.GivenEvents.{IsSender, by_mark, by_reply, by_send, sender_is}
 
 -- ---- fates
 
@@ -61,41 +60,19 @@ delivered_in gap k (suc i) (first ∷ fates) (one ∷ items) side message fate i
     by (By r) (Sent sender m) is = is
     by (By r) Item.Quiet is = is
 
--- A message whose fate is this reply is taken by it.
-taken_in : (reply k i : ℕ) (fates : List Fate) → slice_get fates i ≡ Some (By reply) → IsIn (k + i) (taken_by reply k fates)
-taken_in reply k i [] is = cc
-taken_in reply k zero (first ∷ fates) is =
-    let fate_is : first ≡ By reply = cc in
-    let here : k + 0 ≡ k = omega arith in
-    rw (fate_is, eq-eqb reply reply refl) (inl here)
-taken_in reply k (suc i) (first ∷ fates) is =
-    by first (subst (λ (n : ℕ). IsIn n (taken_by reply (k + 1) fates)) (further_on k i) (taken_in reply (k + 1) i fates is))
-  where
-    or_not : (b : Bool) → IsIn (k + suc i) (taken_by reply (k + 1) fates)
-        → IsIn (k + suc i) (cond b (k ∷ taken_by reply (k + 1) fates) (taken_by reply (k + 1) fates))
-    or_not true there = inr there
-    or_not false there = there
-
-    by : (first : Fate) → IsIn (k + suc i) (taken_by reply (k + 1) fates) → IsIn (k + suc i) (taken_by reply k (first ∷ fates))
-    by (Gap g) there = there
-    by Lost there = there
-    by (By r) there = or_not (r == reply) there
-
 -- If an item takes a message, the event that sends the item is the reply to this message.
 replied : (c : Certificate) (number n : ℕ) (item : Item) (sends : Event) (taken : List ℕ) → sending_by c number item taken ≡ Some sends
     → IsIn n taken → (side : Side) × (sends ≡ Replies side n)
-replied c number n item sends [] is there = absurd there
-replied c number n (Sent side (Abort dtid (Some (Cause cause)))) sends (t ∷ []) is (inl same) =
-    let event : Replies side t ≡ sends = cc in (side, sym event ∙ ap (Replies side) (sym same))
-replied c number n (Sent side (Abort dtid (Some (Cause cause)))) sends (t ∷ []) is (inr more) = absurd more
-replied c number n (Sent side (Abort dtid (Some (Cause cause)))) sends (t ∷ u ∷ more) is there = cc
-replied c number n (Sent side (Abort dtid (Some (ByDialogue d)))) sends (t ∷ more) is there = cc
-replied c number n (Sent side (Abort dtid None)) sends (t ∷ more) is there = cc
-replied c number n (Sent side (Unidirectional dialogue components)) sends (t ∷ more) is there = cc
-replied c number n (Sent side (Begin otid dialogue components)) sends (t ∷ more) is there = cc
-replied c number n (Sent side (Continue otid dtid dialogue components)) sends (t ∷ more) is there = cc
-replied c number n (Sent side (EndMessage dtid dialogue components)) sends (t ∷ more) is there = cc
-replied c number n Item.Quiet sends (t ∷ more) is there = cc
+replied c number n item sends taken is there = by taken sends there (sender_is c number item taken sends is)
+  where
+    by : (taken : List ℕ) (sends : Event) → IsIn n taken → IsSender taken sends → (side : Side) × (sends ≡ Replies side n)
+    by taken sends there (by_send side m none) = absurd (subst (IsIn n) none there)
+    by taken sends there (by_reply side t one) = (side, ap (Replies side) (sym (only (subst (IsIn n) one there))))
+      where
+        only : IsIn n (t ∷ []) → n ≡ t
+        only (inl same) = same
+        only (inr more) = absurd more
+    by taken sends there (by_mark none) = absurd (subst (IsIn n) none there)
 
 -- ---- a gap
 
@@ -215,7 +192,7 @@ stands_next table c count front entry item fate r next fit old is has mark sent 
         let number = next_entry r in
         let runs = runs_on table r next on.steps old.runs on.extends in
         let zero_n : 0 + n ≡ n = omega arith in
-        let listed = subst (λ (k : ℕ). IsIn k (taken_by number 0 c.fates)) zero_n (taken_in number 0 n c.fates has_n) in
+        let listed = subst (λ (k : ℕ). IsIn k (taken_by number 0 c.fates)) zero_n (replied_at number 0 n c.fates has_n) in
         let reply = replied c number n item sent.sends (taken_by number 0 c.fates) sent.sends_is listed in
         let event = Replies reply.0 n in
         let last = in_right event sent.implied (sent.sends ∷ []) (inl (sym reply.1)) in

@@ -25,9 +25,9 @@ use Rattle.tcap_certificate.specs.Replay.{Replay, all_fit, certificate_fits, del
 use Rattle.tcap_check.specs.declared.listed_steps.Listed.{Listed}
 use Rattle.tcap_check.specs.declared.listed_steps.Listed.TheVariants as listings
 use Rattle.tcap_check.specs.ListedSteps.{all_replayed, entry_of, event_listed, listed_for, listed_in, listed_replayed, side_of, why_refused}
-use Rattle.tcap_check.proofs.replay_laws.ListedEventLaws.{gap_is_listed}
+use Rattle.tcap_check.proofs.replay_laws.ReplayGaps.{gap_is_listed}
 use Rattle.tcap_check.proofs.replay_laws.ReplayLaws.{one_replays}
-use Rattle.tcap_check.proofs.replay_laws.MemberLaws.{IsIn, contained, in_either}
+use Rattle.tcap_check.proofs.replay_laws.ReplaySteps.{IsIn, contained, in_either}
 
 -- ---- results that are reasons
 

@@ -1,7 +1,7 @@
 -- What a refusal shows of the certificate and the entries, for each choice of judged ends.
 use Rattle.std.proofs.Common.{◌≡◌, ◌⊎◌, inl, inr, ℕ, ◌+◌, ◌<◌, ◌≤◌, ◌==◌, arith, true, false, List, [], ◌∷◌, ◌++◌, map, length, Option, Some, None, Result, Ok, Err, refl, sym, ap, subst, ◌∙◌, append-nil, append_assoc}
 use Rattle.std.specs.Prelude.{not, ok_or, slice_get}
-use Rattle.std.proofs.lemmas.Bool.{cases_lt, eq-eqb, eqb-false, eqb-true}
+use Rattle.std.proofs.lemmas.Bool.{eq-eqb, eqb-false, eqb-true}
 use Rattle.std.proofs.lemmas.List.{map-append}
 use Rattle.std.proofs.lemmas.Option.{slice_get_within}
 use Rattle.tcap_ber.specs.declared.fault.Fault.{Fault}
@@ -29,14 +29,14 @@ use Rattle.tcap_certificate.specs.Replay.{Replay, certificate_fits, entries_by, 
 use Rattle.tcap_check.proofs.replay_laws.ReplayGaps.{fates_ok}
 use Rattle.tcap_check.proofs.replay_laws.ReplayLaws.{IsSentBy, message_replays}
 use Rattle.tcap_check.proofs.refusal_laws.FollowingLaws.{follows_nothing}
-use Rattle.tcap_check.proofs.refusal_laws.PendingAlone.{alone_next}
+use Rattle.tcap_check.proofs.refusal_laws.PendingLaws.{alone_next, IsSo, SendsSoFar}
 use Rattle.tcap_check.proofs.checker_laws.EntryLaws.{taken_more}
 use Rattle.tcap_check.proofs.refusal_laws.PendingBoth.{stands_next}
-use Rattle.tcap_check.proofs.refusal_laws.PendingLaws.{IsSo, SendsSoFar}
 use Rattle.tcap_check.proofs.refusal_laws.ReasonGaps.{Says, as_many, both_err, certificate_says, gap_says, needs_err, next_at, none_err, says, then_err}
 use Rattle.tcap_check.proofs.refusal_laws.ReasonItems.{sent_says}
-use Rattle.tcap_check.proofs.refusal_laws.ReasonMarks.{gap_sent, gap_stands, quiet_says}
+use Rattle.tcap_check.proofs.refusal_laws.ReasonMarks.{gap_stands, quiet_says}
 use Rattle.tcap_check.proofs.replay_laws.ReplayEntries.{item_is, nothing_is, quiet_happens}
+use Rattle.tcap_check.proofs.progress_laws.KeptEntries.{gap_sends}
 
 -- ---- entries, one by one
 
@@ -85,7 +85,7 @@ item_stands : (table : Table) (c : Certificate) (front : List Entry) (entry : En
     → gap_by None table c r ≡ Ok mid → IsSentBy table c item mid next
     → SendsSoFar None table c (front ++ entry ∷ []) (next_entry next) next
 item_stands table c front entry item fate r mid next fit old is has mark goes sent =
-    let number : next_entry mid ≡ next_entry r = ap length (gap_sent None table c r mid goes) in
+    let number : next_entry mid ≡ next_entry r = ap length (gap_sends None table c r mid goes) in
     let stands = subst (λ (n : ℕ). SendsSoFar None table c front (n + 1) mid) (sym number) (gap_stands None table c front r mid old goes) in
     stands_next table c (length c.fates) front entry item fate mid next fit stands is (ap (slice_get c.fates) number ∙ has)
     (λ e. mark e ∙ ap (λ (n : ℕ). Gap (n + 1)) (sym number)) sent
@@ -107,7 +107,7 @@ quiet_stands table c front entry fate r next fit old is has goes =
     let gap = then_ok (gap_by None table c r) _ next so.1 in
     let free = needs_ok (is_nothing (taken_by number 0 c.fates)) (fault_at reasons.NotQuiet number) _ next gap.2 in
     let fate_is = gap_of (number + 1) fate so.0 in
-    let same : next_entry gap.0 ≡ number = ap length (gap_sent None table c r gap.0 gap.1) in
+    let same : next_entry gap.0 ≡ number = ap length (gap_sends None table c r gap.0 gap.1) in
     let by_gap : quiet_by number (Some (Gap (number + 1))) ≡ Some Quiet = rw (eq-eqb (number + 1) (number + 1) refl) refl in
     let sends : sending c number Item.Quiet ≡ Some Quiet =
     ap (sending_by c number Item.Quiet) (nothing_is (taken_by number 0 c.fates) free.0) ∙ ap (quiet_by number) has
@@ -148,11 +148,7 @@ entry_stands judged table c front entry fate r next fit old has is = by judged o
     by judged old (Err reason) at goes = cc
 
 more_left : (n count : ℕ) → n ≤ count → (n ≡ count → ⊥) → n < count
-more_left n count within apart = by (cases_lt n count)
-  where
-    by : (n < count) ⊎ (count ≤ n) → n < count
-    by (inl below) = below
-    by (inr above) = absurd (apart (omega (arith, within, above)))
+more_left n count within apart = omega arith
 
 -- One more entry was taken.
 took_one : (judged : Option Side) (table : Table) (c : Certificate) (front : List Entry) (entry : Entry) (fate : Fate) (r next : Replay)

@@ -1,5 +1,5 @@
 -- What the refusal of a quiet mark shows, for each choice of judged ends.
-use Rattle.std.proofs.Common.{◌≡◌, ◌⊎◌, inl, inr, ℕ, ◌+◌, true, false, List, ◌∷◌, ◌++◌, map, take, length, Option, Some, None, Result, Ok, Err, refl, sym, ap, subst, ◌∙◌, append-nil}
+use Rattle.std.proofs.Common.{◌≡◌, ◌⊎◌, inl, inr, ℕ, ◌+◌, true, false, List, ◌∷◌, ◌++◌, map, take, length, Option, Some, None, Result, Ok, Err, refl, sym, ap, subst, ◌∙◌}
 use Rattle.std.specs.Prelude.{ok_or, slice_get}
 use Rattle.std.proofs.lemmas.Bool.{eq-eqb}
 use Rattle.tcap_record.specs.declared.entry.End.{End as Side}
@@ -24,17 +24,15 @@ use Rattle.tcap_check.specs.GivenRun.{IsAt, IsPending, IsStillOpen}
 use Rattle.tcap_certificate.specs.Replay.{Replay, closed_before, fault_at, gap_by, is_gap, is_nothing, lost_from_both, lost_last, mark_judged, next_entry, stepped, tied, with_step}
 use Rattle.tcap_check.proofs.replay_laws.ReplayLaws.{gap_replays}
 use Rattle.tcap_check.proofs.refusal_laws.FollowingLaws.{follows_all}
-use Rattle.tcap_check.proofs.refusal_laws.PendingLaws.{SendsSoFar}
+use Rattle.tcap_check.proofs.refusal_laws.PendingLaws.{SendsSoFar, alone_behind, peer_is_nothing}
 use Rattle.tcap_check.proofs.refusal_laws.ReasonGaps.{Says, as_many, gap_says, needs_err, next_at, none_err, says, taken_front, then_err}
 use Rattle.tcap_end.specs.declared.half.HalfName.{HalfName}
 use Rattle.tcap_end.specs.HiddenSteps.{close_each, open_halves, quiet_unseen}
 use Rattle.tcap_end.proofs.AnsweringLaws.{ok_same}
 use Rattle.tcap_check.specs.CheckerMeaning.{taken}
-use Rattle.tcap_check.proofs.refusal_laws.PendingAlone.{alone_behind, peer_is_nothing}
-use Rattle.tcap_check.proofs.one_end_laws.AloneReplays.{gap_leads}
 use Rattle.tcap_check.proofs.checker_laws.EntryLaws.{gap_is_heard, taken_is_heard}
 use Rattle.tcap_check.proofs.progress_laws.KeptMarks.{Closings, closings_are}
-use Rattle.tcap_check.proofs.progress_laws.KeptOwn.{IsHeard}
+use Rattle.tcap_check.proofs.progress_laws.KeptEntries.{IsHeard, gap_sends}
 use Rattle.tcap_check.proofs.progress_laws.KeptSteps.{before_stays}
 use Rattle.tcap_check.proofs.refusal_laws.PendingBoth.{stands_behind}
 use Rattle.tcap_model.proofs.WorldLaws.{end_with_channel}
@@ -123,11 +121,6 @@ gap_stands None table c front r mid old goes =
     let here = gap_replays table c r mid goes in stands_behind table c front r mid here.0 old here.1 here.2
 gap_stands (Some side) table c front r mid old goes = alone_behind side table c front r mid old goes
 
-pub gap_sent : (judged : Option Side) (table : Table) (c : Certificate) (r mid : Replay) → gap_by judged table c r ≡ Ok mid
-    → mid.world.sent ≡ r.world.sent
-gap_sent None table c r mid goes = (gap_replays table c r mid goes).2.sent ∙ append-nil r.world.sent
-gap_sent (Some side) table c r mid goes = (gap_leads side table c r mid goes).sent ∙ append-nil r.world.sent
-
 -- If a mark is refused after its gap, a message is pending, or a half is open.
 mark_refused : (judged : Option Side) (table : Table) (c : Certificate) (front rest : List Entry) (r mid : Replay) (fault : CheckFault)
     → SendsSoFar judged table c front (next_entry r) r → taken judged table c (map item_of front) ≡ Ok r → gap_by judged table c r ≡ Ok mid
@@ -161,7 +154,7 @@ mark_refused judged table c front rest r mid fault old took goes refuses =
 
         same : next_entry last ≡ next_entry r
         same = ap length (last_sent judged table c closed ∙ (before_stays judged table (next_entry r) mid closed closes).sent
-            ∙ gap_sent judged table c r mid goes)
+            ∙ gap_sends judged table c r mid goes)
 
         which : ((side : Side) × (head : OnItsWay) × (more : List OnItsWay) × (channel_from side last.world ≡ head ∷ more))
             ⊎ ((side : Side) × (quiet (end_at side last.world) ≡ Err faults.StillOpen)) → Why

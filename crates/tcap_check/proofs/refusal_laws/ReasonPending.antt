@@ -26,22 +26,18 @@ use Rattle.tcap_check.specs.GivenRun.{IsAt, IsPending}
 use Rattle.tcap_certificate.specs.Replay.{Replay, closed_before, is_heard, is_nothing, is_sent_by, lost_from_both, lost_from_front, lost_front, lost_last, next_entry, tied}
 use Rattle.tcap_model.specs.SinceMark.{WasSent}
 use Rattle.tcap_model.proofs.ChannelLaws.{were_sent}
-use Rattle.tcap_check.proofs.replay_laws.WaitingLaws.{head_stays}
-use Rattle.tcap_check.proofs.replay_laws.ReplaySteps.{both_replay}
-use Rattle.tcap_check.proofs.refusal_laws.PendingLaws.{IsOver, SendsSoFar, ahead, stands_still}
+use Rattle.tcap_check.proofs.replay_laws.ReplaySteps.{head_stays, IsIn, both_replay}
+use Rattle.tcap_check.proofs.refusal_laws.PendingLaws.{IsOver, SendsSoFar, ahead, stands_still, leads_still}
 use Rattle.tcap_model.proofs.RunLaws.{same_side}
 use Rattle.tcap_check.proofs.refusal_laws.TakenNumberLaws.{taken_is_gone}
 use Rattle.tcap_check.proofs.refusal_laws.ReasonGaps.{at_front, in_filter}
 use Rattle.tcap_end.specs.HiddenSteps.{open_halves}
 use Rattle.tcap_end.proofs.AnsweringLaws.{ok_same}
-use Rattle.tcap_check.proofs.refusal_laws.PendingAlone.{leads_still}
-use Rattle.tcap_check.proofs.one_end_laws.AloneReplays.{closed_leads}
-use Rattle.tcap_check.proofs.one_end_laws.AloneSteps.{front_leads}
-use Rattle.tcap_check.proofs.progress_laws.KeptOwn.{IsHeard}
+use Rattle.tcap_check.proofs.one_end_laws.AloneReplays.{closed_leads, front_leads}
+use Rattle.tcap_check.proofs.progress_laws.KeptEntries.{IsHeard}
 use Rattle.tcap_check.proofs.progress_laws.KeptSteps.{before_stays}
 use Rattle.tcap_check.proofs.refusal_laws.PendingBoth.{losses_said}
 use Rattle.tcap_model.proofs.WorldLaws.{itself, sent_with_channel}
-use Rattle.tcap_check.proofs.replay_laws.MemberLaws.{IsIn}
 
 -- ---- messages that a mark takes
 

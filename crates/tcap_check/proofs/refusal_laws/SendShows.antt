@@ -32,7 +32,7 @@ use Rattle.tcap_check.specs.ReplaySteps.{gap_kept, mark_taken, told_taken}
 use Rattle.tcap_check.specs.Progress.{IsMemory, YieldsInMemory, front_lost, last_lost, map_ok, reply_kept, seat_at, sent_by}
 use Rattle.tcap_certificate.specs.Replay.{Replay, all_fit, certificate_fits, fate_fits, fates_fit, fault_at, is_gap, is_nothing}
 use Rattle.tcap_check.specs.RunSoFar.{IsRefusedThere, ShowsAmong, ShowsItem, ShowsSend, of_side, refusal_to_send}
-use Rattle.tcap_check.proofs.progress_laws.KeptHidden.{outlines_count}
+use Rattle.tcap_check.proofs.progress_laws.KeptGaps.{outlines_count}
 use Rattle.tcap_check.proofs.refusal_laws.ReasonGaps.{as_many, both_err, needs_err, none_err, then_err}
 use Rattle.tcap_check.proofs.replay_laws.ReplayEntries.{item_is}
 use Rattle.tcap_check.proofs.refusal_laws.TakenEntriesLaws.{taken_stands}

@@ -29,12 +29,10 @@ use Rattle.tcap_check.specs.CheckerMeaning.{taken, taken_from}
 use Rattle.tcap_check.specs.RunSoFar.{DiscardsSo, IsDiscardOf, TellsSo}
 use Rattle.tcap_check.specs.ReportedSteps.{IsDiscarded, IsTold, MayAllBeDiscarded}
 use Rattle.tcap_check.proofs.given_run_laws.GivenRuns.{both_ok}
-use Rattle.tcap_check.proofs.replay_laws.ReplaySteps.{Extends, losing_replays, stepped_extends}
-use Rattle.tcap_check.proofs.one_end_laws.AloneSteps.{all_lost_leads}
+use Rattle.tcap_check.proofs.replay_laws.ReplaySteps.{Extends, losing_replays, stepped_extends, head_stays}
+use Rattle.tcap_check.proofs.one_end_laws.AloneReplays.{all_lost_leads}
 use Rattle.tcap_check.proofs.one_end_laws.AloneMirrors.{losses_both}
-use Rattle.tcap_check.proofs.replay_laws.DiscardLaws.{all_may}
-use Rattle.tcap_check.proofs.replay_laws.ReplayInvariants.{IsKept, entries_keep, last_keeps, taken_keeps}
-use Rattle.tcap_check.proofs.replay_laws.WaitingLaws.{head_stays}
+use Rattle.tcap_check.proofs.replay_laws.ReplayInvariants.{all_may, IsKept, entries_keep, last_keeps, taken_keeps}
 use Rattle.tcap_model.proofs.WorldLaws.{apart, itself}
 
 pub none_in : {A : Type 0} (x : A) → Contains [] x → ⊥

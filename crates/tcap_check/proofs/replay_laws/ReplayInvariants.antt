@@ -1,5 +1,5 @@
 -- What each step of a replay keeps holds for the whole replay.
-use Rattle.std.proofs.Common.{◌≡◌, ℕ, ℤ, ◌+◌, ◌==◌, Bool, true, false, cond, List, [], ◌∷◌, length, Option, Some, None, Result, Ok, Err, refl, ap, subst, ◌∙◌}
+use Rattle.std.proofs.Common.{◌≡◌, ℕ, ℤ, ◌+◌, ◌==◌, Bool, true, false, cond, List, [], ◌∷◌, length, Option, Some, None, Result, Ok, Err, refl, ap, subst, ◌∙◌, map, sym}
 use Rattle.std.specs.Prelude.{filter_map, not, ok_or, slice_get}
 use Rattle.tcap_msg.specs.declared.message.Message.{Message}
 use Rattle.tcap_msg.specs.Parts.{components_in}
@@ -15,20 +15,23 @@ use Rattle.tcap_end.specs.Table.{Table}
 use Rattle.tcap_end.proofs.AnsweringLaws.{needs_ok, ok_same, some_ok, then_ok}
 use Rattle.tcap_model.specs.declared.reason.Reason.{Reason}
 use Rattle.tcap_model.specs.declared.reason.Reason.TheVariants.{BadReply, FateCount, FateRange, NotQuiet, OutOfOrder}
-use Rattle.tcap_model.specs.World.{Item, Sent, end_at, is_side, with_end}
-use Rattle.tcap_model.specs.Run.{Event, Sends, Receives, Replies, Loses, Expires, Closes, Quiet, Tells, joined}
+use Rattle.tcap_model.specs.World.{Item, Sent, end_at, is_side, with_end, channel_from}
+use Rattle.tcap_model.specs.Run.{Event, Sends, Receives, Replies, Loses, Expires, Closes, Quiet, Tells, joined, after}
 use Rattle.tcap_certificate.specs.declared.certificate.Fate.{Fate}
 use Rattle.tcap_certificate.specs.declared.certificate.Fate.TheVariants.{Gap, Lost, By}
 use Rattle.tcap_certificate.specs.declared.fault.CheckFault.{CheckFault}
 use Rattle.tcap_certificate.specs.Certificate.{Certificate}
 use Rattle.tcap_certificate.specs.DescribedRun.{invoke_id, invoking_half, is_loss, sending_by}
 use Rattle.tcap_check.specs.CheckerMeaning.{taken_from, taken_next}
-use Rattle.tcap_certificate.specs.Replay.{Replay, all_lost_from, behind_sending, closed_at_mark, closed_before, comes_in_order, deliveries_by, delivery_by, entries_by, entry_by, fault_at, gap_by, happens, heard, implied, implied_over, is_abort, is_due, is_gap, is_nothing, is_overtaking, item_by, lost_before, lost_from_front, lost_last, mark_judged, message_by, next_entry, or_same, own_judged, received, sent_or_refused, stepped, tied, told_replayed, with_step}
+use Rattle.tcap_certificate.specs.Replay.{Replay, all_lost_from, behind_sending, closed_at_mark, closed_before, comes_in_order, deliveries_by, delivery_by, entries_by, entry_by, fault_at, gap_by, happens, heard, implied, implied_over, is_abort, is_due, is_gap, is_nothing, is_overtaking, item_by, lost_before, lost_from_front, lost_last, mark_judged, message_by, next_entry, or_same, own_judged, received, sent_or_refused, stepped, tied, told_replayed, with_step, certificate_fits, discarded, discards_by, nothing_replayed, or_else, why_not_first}
 use Rattle.tcap_check.proofs.given_run_laws.GivenRuns.{both_ok}
 use Rattle.tcap_check.specs.declared.listed_steps.Listed.{Listed}
 use Rattle.tcap_check.specs.ListedSteps.{all_replayed, entry_of, event_listed, listed_for, listed_replayed, why_refused}
-use Rattle.tcap_check.proofs.replay_laws.ListedEventLaws.{gap_parts, listed_so}
-use Rattle.tcap_check.proofs.replay_laws.FateLaws.{AreFrom, from_next, first_from, from_start}
+use Rattle.tcap_check.proofs.replay_laws.ReplayGaps.{gap_parts, listed_so}
+use Rattle.tcap_check.proofs.replay_laws.ReplaySteps.{AreFrom, from_next, first_from, from_start}
+use Rattle.tcap_model.proofs.ListLaws.{all_both}
+use Rattle.tcap_model.proofs.RunLaws.{map_some}
+use Rattle.tcap_check.specs.ReportedSteps.{MayAllBeDiscarded, MayBeDiscarded}
 
 -- `Holds` is kept by each step that is no loss, by the losses at the front of a channel, and, if one end is judged
 -- alone, by the loss of all its messages and by the deliveries to it.
@@ -244,3 +247,64 @@ module _ (judged : Option Side) (table : Table) (c : Certificate) (Holds : Repla
       let one = then_ok (taken_next judged table c entry r) (taken_from judged table c entries) next is in
       let fate = then_ok (ok_or (slice_get c.fates (next_entry r)) (fault_at FateCount (next_entry r))) _ one.0 one.1 in
       taken_keeps entries one.0 next one.2 (entry_keeps entry fate.0 r one.0 fate.2 holds)
+
+-- ---- discards
+
+-- If both ends are judged, nothing is discarded. If one end is judged alone, only messages whose fates are gaps are.
+module _ (judged : Option Side) (table : Table) (c : Certificate) where
+  -- All discards so far are allowed.
+  abbrev AllMay : Replay → Type 0
+  AllMay r = MayAllBeDiscarded judged c r.discards
+
+  step_may : (event : Event) (r next : Replay) → stepped table event r ≡ Some next → AllMay r → AllMay next
+  step_may event r next is may = let found = map_some _ (after table event r.world) next is in subst AllMay found.2 may
+
+  each_may : (number : ℕ) (reasons : List EndFault) → MayBeDiscarded judged c number
+      → MayAllBeDiscarded judged c (map (λ reason. (number, reason)) reasons)
+  each_may number [] this = tt
+  each_may number (reason ∷ reasons) this = (this, each_may number reasons this)
+
+  -- A message is discarded, and this is allowed.
+  discarded_may : (side : Side) (number : ℕ) (r next : Replay) → MayBeDiscarded judged c number
+      → discarded table side number r ≡ Some next → AllMay r → AllMay next
+  discarded_may side number r next this is may =
+      let found = map_some _ (stepped table (Loses (other side) number) r) next is in
+      let reasons = why_not_first table (end_at side r.world) (channel_from (other side) r.world) in
+      subst AllMay found.2
+      (all_both (λ (x : ℕ × EndFault). MayBeDiscarded judged c x.0) found.0.discards (map (λ reason. (number, reason)) reasons)
+      (step_may (Loses (other side) number) r found.0 found.1 may) (each_may number reasons this))
+
+  -- A message is received or discarded.
+  heard_may : (side : Side) (number : ℕ) (r next : Replay) → MayBeDiscarded judged c number
+      → heard table c side number r ≡ Ok next → AllMay r → AllMay next
+  heard_may side number r next this is may =
+      by (stepped table (Receives side number) before) refl
+      (some_ok (or_else (stepped table (Receives side number) before) (discarded table side number before)) (fault_at BadReply number) next is)
+    where
+      before : Replay
+      before = lost_from_front c (other side) r
+
+      by : (o : Option Replay) → stepped table (Receives side number) before ≡ o
+          → or_else o (discarded table side number before) ≡ Some next → AllMay next
+      by (Some x) at found = step_may (Receives side number) before next (at ∙ found) may
+      by None at found = discarded_may side number before next this found may
+
+  may_kept : IsKept judged table c AllMay
+  may_kept = record {
+    step = λ event r next plain. step_may event r next;
+    front = λ sender r may. may;
+    all = λ side r who may. may;
+    hears = λ side number gap r next who at.
+        heard_may side number r next (subst (λ (x : Option Side). MayBeDiscarded x c number) (sym who) (gap, at));
+  }
+
+-- All discards of a record are allowed.
+pub all_may : (judged : Option Side) (table : Table) (c : Certificate) (entries : List (Result Item Reason)) (discards : List (ℕ × EndFault))
+    → discards_by judged table c entries ≡ Ok discards → MayAllBeDiscarded judged c discards
+all_may judged table c entries discards is =
+    let fits = both_ok (certificate_fits c) _ discards is in
+    let made = then_ok (entries_by judged table c entries nothing_replayed) _ discards fits.2 in
+    let may = AllMay judged table c in
+    let kept = may_kept judged table c in
+    subst (MayAllBeDiscarded judged c) (ok_same {F = CheckFault} (lost_last judged c made.0).discards discards made.2)
+    (last_keeps judged table c may kept made.0 (entries_keep judged table c may kept entries nothing_replayed made.0 made.1 tt))

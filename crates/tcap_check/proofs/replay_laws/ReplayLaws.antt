@@ -6,6 +6,7 @@ use Rattle.std.specs.List.{AllByRecursion}
 use Rattle.std.proofs.lemmas.List.Elements.{Contains-append_right}
 use Rattle.std.proofs.lemmas.Bool.{and_parts, eqb-true}
 use Rattle.std.proofs.lemmas.Slice.Eq.{bytes_eq-Decides}
+use Rattle.std.proofs.lemmas.List.{map-append}
 use Rattle.tcap_msg.specs.declared.message.AbortReason.TheVariants.{Cause, Dialogue as ByDialogue}
 use Rattle.tcap_msg.specs.declared.message.Message.{Message}
 use Rattle.tcap_msg.specs.declared.message.Message.TheVariants.{Unidirectional, Begin, Continue, End as EndMessage, Abort}
@@ -21,21 +22,21 @@ use Rattle.tcap_end.specs.Message.{send}
 use Rattle.tcap_end.proofs.AnsweringLaws.{needs_ok, ok_same, some_ok, then_ok}
 use Rattle.tcap_record.specs.Ends.{other}
 use Rattle.tcap_model.specs.World.{Item, Sent, World, end_at, with_end}
-use Rattle.tcap_model.specs.Run.{Event, Sends, Receives, Replies, Loses, Expires, Closes, Quiet, Tells, after, joined}
+use Rattle.tcap_model.specs.Run.{Event, Sends, Receives, Replies, Expires, Closes, after, joined}
 use Rattle.tcap_certificate.specs.declared.certificate.Fate.{Fate}
 use Rattle.tcap_certificate.specs.declared.certificate.Fate.TheVariants.{Gap, Lost, By}
 use Rattle.tcap_certificate.specs.Certificate.{Certificate}
-use Rattle.tcap_certificate.specs.DescribedRun.{IsImplied, invoking_half, deliveries, gap_events, invoke_id, is_loss, sending, sending_by}
-use Rattle.tcap_model.proofs.RunLaws.{grows, map_some, some_is}
+use Rattle.tcap_certificate.specs.DescribedRun.{IsImplied, invoking_half, deliveries, gap_events, invoke_id, is_loss, sending, taken_by}
+use Rattle.tcap_model.proofs.RunLaws.{grows, map_some}
 use Rattle.tcap_certificate.specs.declared.fault.CheckFault.{CheckFault}
 use Rattle.tcap_model.specs.declared.reason.Reason.{Reason}
 use Rattle.tcap_model.specs.declared.reason.Reason.TheVariants.{BadReply, FateRange}
 use Rattle.tcap_model.proofs.ChannelLaws.{get_new}
 use Rattle.tcap_certificate.specs.Replay.{Replay, deliveries_by, fault_at, gap_by, happens, implied, implied_over, is_abort, lost_before, lost_from_front, message_by, next_entry, or_same, own_message, reply_replayed, send_replayed, sent_or_refused, stepped, with_step}
-use Rattle.tcap_check.proofs.replay_laws.ReplaySteps.{Replays, before_replays, losing_replays, replays_nothing, replays_then, stepped_replays}
+use Rattle.tcap_check.proofs.replay_laws.ReplaySteps.{Replays, before_replays, losing_replays, replays_nothing, replays_then, stepped_replays, sending_so}
 use Rattle.tcap_check.specs.declared.listed_steps.Listed.{Listed}
 use Rattle.tcap_check.specs.ListedSteps.{all_replayed, entry_of, event_listed, listed_for, listed_replayed, side_of, why_refused}
-use Rattle.tcap_check.proofs.replay_laws.ListedEventLaws.{gap_events_are, gap_parts, judged_all, listed_so, map_both}
+use Rattle.tcap_check.proofs.replay_laws.ReplayGaps.{gap_events_are, gap_parts, judged_all, listed_so}
 
 -- ---- a gap
 
@@ -138,7 +139,7 @@ gap_replays table c r next is =
     let events = deliveries gap 0 c.fates items in
     let all = ap (map (event_listed items)) (judged_all c gap) in (
       listed.0 ++ events,
-      map_both Some listed.0 events ∙ ap (λ (x : List (Option Event)). x ++ map Some events) (listed.1 ∙ all) ∙ sym (gap_events_are c items gap),
+      map-append Some listed.0 events ∙ ap (λ (x : List (Option Event)). x ++ map Some events) (listed.1 ∙ all) ∙ sym (gap_events_are c items gap),
       replays_then table r parts.0 next listed.0 events [] [] listed.2 delivered,
     )
 
@@ -239,43 +240,6 @@ reply_replays table c side abort number r next is =
     replays_then table r before next [] (event ∷ []) [] (Sent side abort ∷ []) lost
     (stepped_replays table event (Sent side abort ∷ []) before next refl (made ∙ ap Some last) sent)
 
--- If a send or a reply sends an item, the send is of this item, or the reply is by its end.
-sends_itself : (c : Certificate) (number : ℕ) (side sender : Side) (message sent : Message) (taken : List ℕ)
-    → sending_by c number (Sent side message) taken ≡ Some (Sends sender sent) → Sends sender sent ≡ Sends side message
-sends_itself c number side sender (Abort dtid (Some (Cause cause))) sent [] is = cc
-sends_itself c number side sender (Abort dtid (Some (Cause cause))) sent (t ∷ []) is = cc
-sends_itself c number side sender (Abort dtid (Some (Cause cause))) sent (t ∷ u ∷ more) is = cc
-sends_itself c number side sender (Abort dtid (Some (ByDialogue d))) sent [] is = sym (some_is is)
-sends_itself c number side sender (Abort dtid (Some (ByDialogue d))) sent (t ∷ more) is = cc
-sends_itself c number side sender (Abort dtid None) sent [] is = sym (some_is is)
-sends_itself c number side sender (Abort dtid None) sent (t ∷ more) is = cc
-sends_itself c number side sender (Unidirectional dialogue components) sent [] is = sym (some_is is)
-sends_itself c number side sender (Unidirectional dialogue components) sent (t ∷ more) is = cc
-sends_itself c number side sender (Begin otid dialogue components) sent [] is = sym (some_is is)
-sends_itself c number side sender (Begin otid dialogue components) sent (t ∷ more) is = cc
-sends_itself c number side sender (Continue otid dtid dialogue components) sent [] is = sym (some_is is)
-sends_itself c number side sender (Continue otid dtid dialogue components) sent (t ∷ more) is = cc
-sends_itself c number side sender (EndMessage dtid dialogue components) sent [] is = sym (some_is is)
-sends_itself c number side sender (EndMessage dtid dialogue components) sent (t ∷ more) is = cc
-
-replies_itself : (c : Certificate) (number k : ℕ) (side replier : Side) (message : Message) (taken : List ℕ)
-    → sending_by c number (Sent side message) taken ≡ Some (Replies replier k) → Replies replier k ≡ Replies side k
-replies_itself c number k side replier (Abort dtid (Some (Cause cause))) [] is = cc
-replies_itself c number k side replier (Abort dtid (Some (Cause cause))) (t ∷ []) is = cc
-replies_itself c number k side replier (Abort dtid (Some (Cause cause))) (t ∷ u ∷ more) is = cc
-replies_itself c number k side replier (Abort dtid (Some (ByDialogue d))) [] is = cc
-replies_itself c number k side replier (Abort dtid (Some (ByDialogue d))) (t ∷ more) is = cc
-replies_itself c number k side replier (Abort dtid None) [] is = cc
-replies_itself c number k side replier (Abort dtid None) (t ∷ more) is = cc
-replies_itself c number k side replier (Unidirectional dialogue components) [] is = cc
-replies_itself c number k side replier (Unidirectional dialogue components) (t ∷ more) is = cc
-replies_itself c number k side replier (Begin otid dialogue components) [] is = cc
-replies_itself c number k side replier (Begin otid dialogue components) (t ∷ more) is = cc
-replies_itself c number k side replier (Continue otid dtid dialogue components) [] is = cc
-replies_itself c number k side replier (Continue otid dtid dialogue components) (t ∷ more) is = cc
-replies_itself c number k side replier (EndMessage dtid dialogue components) [] is = cc
-replies_itself c number k side replier (EndMessage dtid dialogue components) (t ∷ more) is = cc
-
 -- A message is replayed: the expiries that it implies, and the event that adds it to the sent list.
 pub record IsSentBy (table : Table) (c : Certificate) (item : Item) (r next : Replay) : Type 0 where
   pub implied : List Event
@@ -296,30 +260,29 @@ implied_by table side message r = by (invoking_half message) refl
 
 pub message_replays : (table : Table) (c : Certificate) (side : Side) (message : Message) (r next : Replay)
     → own_message None table c side message r ≡ Ok next → IsSentBy table c (Sent side message) r next
-message_replays table c side message r next is = by (sending c (next_entry r) (Sent side message)) refl is
+message_replays table c side message r next is =
+    sending_so (λ taken o. sending c (next_entry r) (Sent side message) ≡ o → message_by table c side message o r ≡ Ok next
+    → IsSentBy table c (Sent side message) r next) c (next_entry r) side message sends replies (λ taken found e. cc)
+    (taken_by (next_entry r) 0 c.fates) refl is
   where
-    by : (o : Option Event) → sending c (next_entry r) (Sent side message) ≡ o → message_by table c side message o r ≡ Ok next
-        → IsSentBy table c (Sent side message) r next
-    by None found e = cc
-    by (Some (Sends sender sent)) found e =
+    sends : sending c (next_entry r) (Sent side message) ≡ Some (Sends side message)
+        → message_by table c side message (Some (Sends side message)) r ≡ Ok next → IsSentBy table c (Sent side message) r next
+    sends found e =
         let before = implied_by table side message r in
         let mid = implied_over table side message (invoking_half message) r in record {
           implied = before.0;
           sends = Sends side message;
           are_implied = before.1;
-          sends_is = found ∙ ap Some (sends_itself c (next_entry r) side sender message sent _ found);
+          sends_is = found;
           replays = replays_then table r mid next before.0 (Sends side message ∷ []) [] (Sent side message ∷ []) before.2 (send_replays table side message mid next e);
         }
-    by (Some (Replies replier number)) found e = record {
+
+    replies : (number : ℕ) → sending c (next_entry r) (Sent side message) ≡ Some (Replies side number)
+        → message_by table c side message (Some (Replies side number)) r ≡ Ok next → IsSentBy table c (Sent side message) r next
+    replies number found e = record {
       implied = [];
       sends = Replies side number;
       are_implied = tt;
-      sends_is = found ∙ ap Some (replies_itself c (next_entry r) number side replier message _ found);
+      sends_is = found;
       replays = reply_replays table c side message number r next e;
     }
-    by (Some (Receives receiver number)) found e = cc
-    by (Some (Loses sender number)) found e = cc
-    by (Some (Expires sender name id)) found e = cc
-    by (Some (Closes sender name)) found e = cc
-    by (Some Quiet) found e = cc
-    by (Some (Tells sender m)) found e = cc

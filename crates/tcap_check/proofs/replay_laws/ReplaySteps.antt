@@ -1,20 +1,165 @@
--- The steps of a replay in order, with the losses before them.
-use Rattle.std.proofs.Common.{◌≡◌, ℕ, Bool, true, false, cond, List, [], ◌∷◌, ◌++◌, map, length, drop, Option, Some, None, refl, sym, ap, ◌∙◌, append_assoc, append-nil}
-use Rattle.std.specs.Prelude.{slice_get}
-use Rattle.std.proofs.lemmas.Bool.{eq-eqb}
+-- The steps of a replay in order, with the losses before them; elements of lists, and the fates from a number on.
+use Rattle.std.proofs.Common.{◌≡◌, ◌⊎◌, inl, inr, List, [], ◌∷◌, ◌++◌, arith, sym, subst, ℕ, suc, ◌+◌, ◌==◌, Bool, true, false, cond, Some, refl, ap, ◌∙◌, drop, length, Option, None, map, append_assoc, append-nil}
+use Rattle.std.specs.Prelude.{Contains, slice_get}
+use Rattle.std.specs.List.{AllByRecursion}
+use Rattle.std.proofs.lemmas.List.Elements.{Contains-append_right}
+use Rattle.std.proofs.lemmas.Bool.{eqb-true, eq-eqb}
 use Rattle.tcap_record.specs.declared.entry.End.{End as Side}
-use Rattle.tcap_record.specs.declared.entry.End.TheVariants as sides
-use Rattle.tcap_end.specs.Table.{Table}
 use Rattle.tcap_record.specs.Ends.{other}
-use Rattle.tcap_model.specs.World.{Item, OnItsWay, World, channel_from, with_channel}
-use Rattle.tcap_model.specs.Run.{Event, Sends, Receives, Replies, Loses, Expires, Closes, Quiet, Tells, after, played}
+use Rattle.tcap_model.specs.Run.{Event, Receives, Sends, Replies, Loses, Expires, Closes, Quiet, Tells, after, played}
+use Rattle.tcap_model.specs.World.{Item, Sent, OnItsWay, end_at, World, channel_from, with_channel}
 use Rattle.tcap_certificate.specs.declared.certificate.Fate.{Fate}
 use Rattle.tcap_certificate.specs.declared.certificate.Fate.TheVariants.{Gap, Lost, By}
+use Rattle.tcap_certificate.specs.DescribedRun.{deliveries, taken_by, is_loss, without_losses, sending_by}
+use Rattle.tcap_record.specs.declared.entry.End.TheVariants as sides
 use Rattle.tcap_certificate.specs.Certificate.{Certificate}
-use Rattle.tcap_certificate.specs.DescribedRun.{is_loss, without_losses}
+use Rattle.tcap_certificate.specs.Replay.{Replay, if_lost, lost_front, lost_from_front, discarded, lost_before, lost_from_both, stepped}
+use Rattle.tcap_end.specs.Table.{Table}
 use Rattle.tcap_model.proofs.RunLaws.{map_some, played_on}
-use Rattle.tcap_certificate.specs.Replay.{Replay, discarded, lost_before, lost_from_both, lost_from_front, if_lost, lost_front, stepped}
 use Rattle.tcap_model.proofs.WorldLaws.{sent_with_channel, with_same}
+use Rattle.tcap_msg.specs.declared.message.AbortReason.TheVariants.{Cause, Dialogue as ByDialogue}
+use Rattle.tcap_msg.specs.declared.message.Message.{Message}
+use Rattle.tcap_msg.specs.declared.message.Message.TheVariants.{Unidirectional, Begin, Continue, End as EndMessage, Abort}
+
+-- x is in the list.
+abbrev pub IsIn : {A : Type 0} → A → List A → Type 0
+IsIn x [] = ⊥
+IsIn x (y ∷ ys) = (x ≡ y) ⊎ IsIn x ys
+
+pub contained : {A : Type 0} (x : A) (ys : List A) → IsIn x ys → Contains ys x
+contained x [] is = absurd is
+contained x (y ∷ ys) (inl same) = (0, omega arith, sym same)
+contained x (y ∷ ys) (inr more) = Contains-append_right (y ∷ []) ys x (contained x ys more)
+
+pub in_left : {A : Type 0} (x : A) (ys zs : List A) → IsIn x ys → IsIn x (ys ++ zs)
+in_left x [] zs is = absurd is
+in_left x (y ∷ ys) zs (inl same) = inl same
+in_left x (y ∷ ys) zs (inr more) = inr (in_left x ys zs more)
+
+pub in_right : {A : Type 0} (x : A) (ys zs : List A) → IsIn x zs → IsIn x (ys ++ zs)
+in_right x [] zs is = is
+in_right x (y ∷ ys) zs is = inr (in_right x ys zs is)
+
+pub in_either : {A : Type 0} (x : A) (ys zs : List A) → IsIn x (ys ++ zs) → IsIn x ys ⊎ IsIn x zs
+in_either x [] zs is = inr is
+in_either x (y ∷ ys) zs (inl same) = inl (inl same)
+in_either x (y ∷ ys) zs (inr more) = by (in_either x ys zs more)
+  where
+    by : IsIn x ys ⊎ IsIn x zs → IsIn x (y ∷ ys) ⊎ IsIn x zs
+    by (inl found) = inl (inr found)
+    by (inr found) = inr found
+
+pub all_in : {A : Type 0} (P : A → Type 0) (x : A) (ys : List A) → AllByRecursion P ys → IsIn x ys → P x
+all_in P x [] all is = absurd is
+all_in P x (y ∷ ys) all (inl same) = subst P (sym same) all.0
+all_in P x (y ∷ ys) all (inr more) = all_in P x ys all.1 more
+
+-- ---- the fates from a number on
+
+-- these are the fates of the certificate from number n on
+abbrev pub AreFrom : List Fate → ℕ → List Fate → Type 0
+AreFrom all n fates = (i : ℕ) → slice_get fates i ≡ slice_get all (n + i)
+
+pub from_next : (all fates : List Fate) (n : ℕ) (fate : Fate) → AreFrom all n (fate ∷ fates) → AreFrom all (n + 1) fates
+from_next all fates n fate are i =
+    let same : n + suc i ≡ (n + 1) + i = omega arith in are (suc i) ∙ ap (slice_get all) same
+
+pub first_from : (all fates : List Fate) (n : ℕ) (fate : Fate) → AreFrom all n (fate ∷ fates) → slice_get all n ≡ Some fate
+first_from all fates n fate are =
+    let same : n ≡ n + 0 = omega arith in ap (slice_get all) same ∙ sym (are 0)
+
+pub from_start : (all : List Fate) → AreFrom all 0 all
+from_start all i = let same : i ≡ 0 + i = omega arith in ap (slice_get all) same
+
+-- What holds for each message with this gap holds for each delivery in it.
+pub all_delivered : (P : Event → Type 0) (all : List Fate) (gap n : ℕ) (fates : List Fate) (items : List Item) → AreFrom all n fates
+    → ((side : Side) (number : ℕ) → slice_get all number ≡ Some (Gap gap) → P (Receives (other side) number))
+    → AllByRecursion P (deliveries gap n fates items)
+all_delivered P all gap n [] items are each = tt
+all_delivered P all gap n (fate ∷ fates) [] are each = tt
+all_delivered P all gap n (fate ∷ fates) (item ∷ items) are each =
+    by item fate (first_from all fates n fate are) (all_delivered P all gap (n + 1) fates items (from_next all fates n fate are) each)
+  where
+    others : List Event
+    others = deliveries gap (n + 1) fates items
+
+    if_so : (side : Side) (g : ℕ) (b : Bool) → (g == gap) ≡ b → slice_get all n ≡ Some (Gap g) → AllByRecursion P others
+        → AllByRecursion P (cond b (Receives (other side) n ∷ others) others)
+    if_so side g true so here rest = (each side n (here ∙ ap (λ (x : ℕ). Some (Gap x)) (eqb-true g gap so)), rest)
+    if_so side g false so here rest = rest
+
+    by : (item : Item) (fate : Fate) → slice_get all n ≡ Some fate → AllByRecursion P others
+        → AllByRecursion P (deliveries gap n (fate ∷ fates) (item ∷ items))
+    by (Sent side message) (Gap g) here rest = if_so side g (g == gap) refl here rest
+    by (Sent side message) (By k) here rest = rest
+    by (Sent side message) Lost here rest = rest
+    by Item.Quiet fate here rest = rest
+
+-- The messages that a reply takes have this reply as their fate.
+pub taken_are : (all fates : List Fate) (reply n : ℕ) → AreFrom all n fates
+    → AllByRecursion (λ k. slice_get all k ≡ Some (By reply)) (taken_by reply n fates)
+taken_are all [] reply n are = tt
+taken_are all (Lost ∷ fates) reply n are = taken_are all fates reply (n + 1) (from_next all fates n Lost are)
+taken_are all (Gap g ∷ fates) reply n are = taken_are all fates reply (n + 1) (from_next all fates n (Gap g) are)
+taken_are all (By k ∷ fates) reply n are =
+    by (k == reply) refl (first_from all fates n (By k) are) (taken_are all fates reply (n + 1) (from_next all fates n (By k) are))
+  where
+    by : (b : Bool) → (k == reply) ≡ b → slice_get all n ≡ Some (By k)
+        → AllByRecursion (λ k. slice_get all k ≡ Some (By reply)) (taken_by reply (n + 1) fates)
+        → AllByRecursion (λ k. slice_get all k ≡ Some (By reply)) (cond b (n ∷ taken_by reply (n + 1) fates) (taken_by reply (n + 1) fates))
+    by true same one rest = (one ∙ ap (λ (x : ℕ). Some (By x)) (eqb-true k reply same), rest)
+    by false same one rest = rest
+
+-- ---- the messages on a channel whose fates are not losses
+
+-- the messages with this one, unless it is lost
+abbrev pub waiting_by : Option Fate → OnItsWay → List OnItsWay → List OnItsWay
+waiting_by (Some Lost) m messages = messages
+waiting_by _ m messages = m ∷ messages
+
+-- the messages of a channel that are not lost, oldest first
+abbrev pub waiting : List Fate → List OnItsWay → List OnItsWay
+waiting fates [] = []
+waiting fates (m ∷ more) = waiting_by (slice_get fates m.number) m (waiting fates more)
+
+-- The losses at the front do not change which messages of a channel wait.
+pub behind_lost : (fates : List Fate) (channel : List OnItsWay)
+    → waiting fates (drop (length (lost_front fates channel)) channel) ≡ waiting fates channel
+behind_lost fates [] = refl
+behind_lost fates (first ∷ more) = by (slice_get fates first.number) refl (behind_lost fates more)
+  where
+    by : (o : Option Fate) → slice_get fates first.number ≡ o
+        → waiting fates (drop (length (lost_front fates more)) more) ≡ waiting fates more
+        → waiting fates (drop (length (if_lost o (first.number ∷ lost_front fates more))) (first ∷ more))
+        ≡ waiting_by o first (waiting fates more)
+    by None at rest = rw at refl
+    by (Some (Gap g)) at rest = rw at refl
+    by (Some (By k)) at rest = rw at refl
+    by (Some Lost) at rest = rest
+
+-- The head of a channel after the losses at its front is not lost.
+pub head_stays : (fates : List Fate) (channel : List OnItsWay) (head : OnItsWay) (more : List OnItsWay)
+    → drop (length (lost_front fates channel)) channel ≡ head ∷ more → slice_get fates head.number ≡ Some Lost → ⊥
+head_stays fates [] head more is lost = cc
+head_stays fates (first ∷ channel) head more is lost = by (slice_get fates first.number) refl (head_stays fates channel head more) is
+  where
+    stays : (o : Option Fate) → slice_get fates first.number ≡ o → (o ≡ Some Lost → ⊥) → first ∷ channel ≡ head ∷ more → ⊥
+    stays o at kept is =
+        let same : head ≡ first = cc in kept (sym at ∙ ap (λ (m : OnItsWay). slice_get fates m.number) (sym same) ∙ lost)
+
+    by : (o : Option Fate) → slice_get fates first.number ≡ o
+        → (drop (length (lost_front fates channel)) channel ≡ head ∷ more → slice_get fates head.number ≡ Some Lost → ⊥)
+        → drop (length (if_lost o (first.number ∷ lost_front fates channel))) (first ∷ channel) ≡ head ∷ more → ⊥
+    by None at on is = stays None at (λ e. cc) is
+    by (Some (Gap g)) at on is = stays (Some (Gap g)) at (λ e. cc) is
+    by (Some (By k)) at on is = stays (Some (By k)) at (λ e. cc) is
+    by (Some Lost) at on is = on is lost
+
+pub same_end : (c : Certificate) (sender at : Side) (r : Replay) → end_at at (lost_from_front c sender r).world ≡ end_at at r.world
+same_end c sides.A sides.A r = refl
+same_end c sides.A sides.B r = refl
+same_end c sides.B sides.A r = refl
+same_end c sides.B sides.B r = refl
 
 -- ---- extended runs
 
@@ -163,3 +308,26 @@ stepped_replays table event items r next plain is sent = record {
   are = rw plain refl;
   sent = sent;
 }
+
+-- ---- the event that sends a message
+
+-- What holds if a message takes nothing and is sent, if it answers the one message that it takes, and if no event sends
+-- it, holds of the event by which it is sent.
+pub sending_so : (P : List ℕ → Option Event → Type 0) (c : Certificate) (number : ℕ) (side : Side) (message : Message)
+    → P [] (Some (Sends side message)) → ((n : ℕ) → P (n ∷ []) (Some (Replies side n))) → ((taken : List ℕ) → P taken None)
+    → (taken : List ℕ) → P taken (sending_by c number (Sent side message) taken)
+sending_so P c number side (Abort dtid (Some (Cause cause))) sends replies none [] = none []
+sending_so P c number side (Abort dtid (Some (Cause cause))) sends replies none (n ∷ []) = replies n
+sending_so P c number side (Abort dtid (Some (Cause cause))) sends replies none (n ∷ m ∷ more) = none (n ∷ m ∷ more)
+sending_so P c number side (Abort dtid (Some (ByDialogue d))) sends replies none [] = sends
+sending_so P c number side (Abort dtid (Some (ByDialogue d))) sends replies none (n ∷ more) = none (n ∷ more)
+sending_so P c number side (Abort dtid None) sends replies none [] = sends
+sending_so P c number side (Abort dtid None) sends replies none (n ∷ more) = none (n ∷ more)
+sending_so P c number side (Unidirectional dialogue components) sends replies none [] = sends
+sending_so P c number side (Unidirectional dialogue components) sends replies none (n ∷ more) = none (n ∷ more)
+sending_so P c number side (Begin otid dialogue components) sends replies none [] = sends
+sending_so P c number side (Begin otid dialogue components) sends replies none (n ∷ more) = none (n ∷ more)
+sending_so P c number side (Continue otid dtid dialogue components) sends replies none [] = sends
+sending_so P c number side (Continue otid dtid dialogue components) sends replies none (n ∷ more) = none (n ∷ more)
+sending_so P c number side (EndMessage dtid dialogue components) sends replies none [] = sends
+sending_so P c number side (EndMessage dtid dialogue components) sends replies none (n ∷ more) = none (n ∷ more)

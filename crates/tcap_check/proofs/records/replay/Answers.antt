@@ -2,7 +2,7 @@ use Rattle.std.proofs.Common.{refl, sym, ap, ◌∙◌, map, false}
 use Rattle.std.proofs.lemmas.Result.{err_from_is_err_and}
 use Rattle.tcap_model.specs.Entries.{item_of}
 use Rattle.tcap_check.proofs.checker_laws.CheckerLaws.{refusing}
-use Rattle.tcap_check.proofs.checker_laws.RecordLaws.{no_report, refused_for}
+use Rattle.tcap_check.proofs.checker_laws.RefusalLaws.{no_report, refused_for}
 use Rattle.tcap_check.proofs.records.replay.Goals as goal
 
 pub returns-in_err-take_all : goal.returns-in_err-take_all

@@ -2,7 +2,7 @@ use Rattle.std.proofs.Common.{◌∷◌, ap, sym, drop, ◌+◌, ◌∙◌, arit
 use Rattle.tcap_end.specs.Step.{◌>>=◌}
 use Rattle.tcap_check.specs.ReplaySteps.{halves_shut}
 use Rattle.tcap_check.specs.RefusedReplay.{halves_left}
-use Rattle.tcap_check.proofs.progress_laws.HearingLaws.{going_next, left_behind, same_next}
+use Rattle.tcap_check.proofs.progress_laws.KeptLeft.{going_next, left_behind, same_next}
 use Rattle.tcap_check.proofs.progress.Progress.close_each.Goals as goal
 
 pub loop-name-preserved : goal.loop-name-preserved

@@ -2,7 +2,7 @@
 use Rattle.std.proofs.Common.{◌≡◌, drop}
 use Rattle.tcap_check.specs.ReplaySteps.{halves_shut}
 use Rattle.tcap_check.specs.RefusedReplay.{halves_left}
-use Rattle.tcap_check.proofs.progress_laws.HearingLaws.{Going}
+use Rattle.tcap_check.proofs.progress_laws.KeptLeft.{Going}
 use Rattle.tcap_check.proofs.progress.Progress.close_each.Given as goal
 
 abbrev pub invariant-loop-name : goal.invariant-loop-name

@@ -5,7 +5,7 @@ use Rattle.tcap_end.specs.Step.{◌>>=◌}
 use Rattle.tcap_check.specs.ReplaySteps.{delivery_kept, deliveries_kept, heard_from}
 use Rattle.tcap_check.specs.RefusedReplay.{deliveries_left, delivery_left}
 use Rattle.tcap_check.specs.PartialReplay.{behind_or}
-use Rattle.tcap_check.proofs.progress_laws.HearingLaws.{left_behind, same_next}
+use Rattle.tcap_check.proofs.progress_laws.KeptLeft.{left_behind, same_next}
 use Rattle.tcap_check.proofs.progress_laws.KeptGrowth.{no_more}
 use Rattle.tcap_check.proofs.progress.Progress.deliver_all.Goals.{in-Some+in_ok-deliver, in_default}
 use Rattle.tcap_check.proofs.progress.Progress.deliver_all.Goals as goal

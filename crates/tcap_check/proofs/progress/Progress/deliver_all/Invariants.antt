@@ -1,7 +1,7 @@
 -- The deliveries that are left have the same result from here as all deliveries from the start.
 use Rattle.std.proofs.Common.{◌≡◌, drop}
 use Rattle.tcap_check.specs.RefusedReplay.{deliveries_left}
-use Rattle.tcap_check.proofs.progress_laws.HearingLaws.{Listening}
+use Rattle.tcap_check.proofs.progress_laws.KeptLeft.{Listening}
 use Rattle.tcap_check.proofs.progress.Progress.deliver_all.Given as goal
 
 abbrev pub invariant-loop-number : goal.invariant-loop-number

@@ -7,7 +7,7 @@ use Rattle.tcap_check.specs.declared.listed_steps.Listed.TheVariants as listings
 use Rattle.tcap_check.specs.ListedSteps.{listed_judged}
 use Rattle.tcap_check.specs.Progress.{all_kept, listed_kept}
 use Rattle.tcap_check.specs.RefusedReplay.{listed_left}
-use Rattle.tcap_check.proofs.progress_laws.HearingLaws.{going_next, left_behind, listed_first, listed_none, same_next}
+use Rattle.tcap_check.proofs.progress_laws.KeptLeft.{going_next, left_behind, listed_first, listed_none, same_next}
 use Rattle.tcap_check.proofs.progress.Progress.hide_all.Goals.{else-is_judged, then-is_judged+in_ok-hide}
 use Rattle.tcap_check.proofs.progress.Progress.hide_all.Goals as goal
 

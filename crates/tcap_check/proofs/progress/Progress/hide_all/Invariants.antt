@@ -3,7 +3,7 @@ use Rattle.std.proofs.Common.{◌≡◌, drop}
 use Rattle.tcap_check.specs.Progress.{all_kept}
 use Rattle.tcap_check.specs.ListedSteps.{listed_judged}
 use Rattle.tcap_check.specs.RefusedReplay.{listed_left}
-use Rattle.tcap_check.proofs.progress_laws.HearingLaws.{Going}
+use Rattle.tcap_check.proofs.progress_laws.KeptLeft.{Going}
 use Rattle.tcap_check.proofs.progress.Progress.hide_all.Given as goal
 
 abbrev pub invariant-loop-x : goal.invariant-loop-x

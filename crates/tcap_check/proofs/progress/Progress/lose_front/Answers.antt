@@ -3,8 +3,7 @@ use Rattle.std.specs.LinkedList.{linked_list_len}
 use Rattle.tcap_check.specs.declared.progress.Progress.{Progress}
 use Rattle.tcap_check.specs.declared.progress.Seat.{Seat}
 use Rattle.tcap_check.specs.Progress.{HasNoMore, front_lost, seat_at}
-use Rattle.tcap_check.proofs.progress_laws.KeptGrowth.{no_more}
-use Rattle.tcap_check.proofs.progress_laws.LosingLaws.{none_left, one_grows, one_left, one_lost, seat_way}
+use Rattle.tcap_check.proofs.progress_laws.KeptGrowth.{no_more, none_left, one_grows, one_left, one_lost, seat_way}
 use Rattle.tcap_check.proofs.progress.Progress.lose_front.Goals as goal
 
 pub loop-init : goal.loop-init

@@ -8,12 +8,12 @@ use Rattle.tcap_certificate.specs.declared.fault.CheckFault.{CheckFault}
 use Rattle.tcap_check.specs.CheckerMeaning.{TookListed, taken}
 use Rattle.tcap_check.specs.ReplayInvariants.{checking_of, kept_in}
 use Rattle.tcap_certificate.specs.Replay.{replay_by}
-use Rattle.tcap_check.proofs.checker_laws.RecordLaws.{refused_at, taken_at, took_more, whole_is}
+use Rattle.tcap_check.proofs.checker_laws.RefusalLaws.{refused_at, taken_at, took_more, whole_is}
 use Rattle.tcap_end.specs.Table.{Table}
 use Rattle.tcap_check.specs.RunSoFar.{IsRefusedThere}
 use Rattle.tcap_check.proofs.refusal_laws.SendShows.{next_shows}
 use Rattle.tcap_check.proofs.refusal_laws.TakenEntriesLaws.{GoesAlike, among_refused, refused_next}
-use Rattle.tcap_check.proofs.progress_laws.HearingLaws.{next_left}
+use Rattle.tcap_check.proofs.progress_laws.KeptLeft.{next_left}
 use Rattle.tcap_record.specs.declared.entry.Entry.{Entry}
 use Rattle.tcap_check.proofs.replaying.Replaying.take_all.Goals as goal
 
