@@ -1,11 +1,10 @@
 -- The things that show a message's kind never include one that is for quiet marks only.
-use Rattle.std.proofs.Common.{◌≡◌, ◌==◌, ◌<◌, length, get_or, ℕ, Bool, true, false, cond, List, [], ◌∷◌, Option, Some, None, refl}
-use Rattle.std.specs.List.{list_any}
+use Rattle.tcap_evidence.proofs.Common.{◌≡◌, ◌<◌, length, get_or, ℕ, Bool, true, false, cond, List, [], ◌∷◌, Option, Some, None, refl, list_any, Component, Kind, shows, is_of_mark}
+use Rattle.std.proofs.Common.{◌==◌}
+use Rattle.std.proofs.lemmas.Bool.{false_from_ne_true}
 use Rattle.std.proofs.lemmas.List.Folds.{list_any_at}
-use Rattle.tcap_parts.specs.declared.component.Component.{Component}
-use Rattle.tcap_parts.specs.declared.component.Component.TheVariants.{Invoke, ReturnResult, ReturnError, Reject}
+use Rattle.tcap_parts.specs.declared.component.Component.TheVariants.{Invoke, Reject}
 use Rattle.tcap_parts.specs.declared.problem.Problem.TheVariants as problems
-use Rattle.tcap_refute.specs.declared.kind.Kind.{Kind}
 use Rattle.tcap_refute.specs.declared.kind.Kind.TheVariants as kinds
 use Rattle.tcap_faults.specs.declared.dialogue.half_origin.How.{How}
 use Rattle.tcap_faults.specs.declared.dialogue.half_origin.How.TheVariants as hows
@@ -13,35 +12,21 @@ use Rattle.tcap_faults.specs.Components.{is_of_link}
 use Rattle.tcap_faults.specs.declared.component.component_sort.Class.TheVariants.{Any}
 use Rattle.tcap_faults.specs.declared.component.component_sort.Sort.TheVariants as sorts
 use Rattle.tcap_evidence.specs.declared.shown_things.What.TheVariants as whats
-use Rattle.tcap_evidence.specs.Evidence.{allowed_by, answered_by, dialogue_of, problem_of_invoke, rejected_by, shows, shows_alone, shows_to}
-use Rattle.tcap_evidence.specs.OpenAtMark.{is_of_mark}
+use Rattle.tcap_evidence.specs.Evidence.{allowed_by, answered_by, dialogue_of, problem_of_invoke, rejected_by, shows_alone, shows_to}
 
 -- If no item of a list passes a test, the item at an index does not.
 pub fails_at : {A : Type 0} (p : A → Bool) (xs : List A) (i : ℕ) (d : A) → i < length xs → list_any p xs ≡ false
     → p (get_or xs i d) ≡ false
-fails_at p xs i d within none = by (p (get_or xs i d)) refl
-  where
-    by : (b : Bool) → p (get_or xs i d) ≡ b → b ≡ false
-    by true is = let one = list_any_at p xs i d within is in cc
-    by false is = refl
+fails_at p xs i d within none =
+    false_from_ne_true (p (get_or xs i d)) (λ is. let one = list_any_at p xs i d within is in cc)
 
 answered_open : (c : Option Component) → list_any is_of_mark (answered_by c) ≡ false
-answered_open None = refl
-answered_open (Some (Invoke id linked code parameter)) = refl
-answered_open (Some (ReturnResult last id body)) = refl
-answered_open (Some (ReturnError id code parameter)) = refl
-answered_open (Some (Reject None problem)) = refl
 answered_open (Some (Reject (Some id) (problems.General n))) = refl
-answered_open (Some (Reject (Some id) (problems.Invoke n))) = refl
-answered_open (Some (Reject (Some id) (problems.ReturnResult n))) = refl
-answered_open (Some (Reject (Some id) (problems.ReturnError n))) = refl
+answered_open c = refl
 
 allowed_open : (c : Option Component) → list_any is_of_mark (allowed_by c) ≡ false
-allowed_open None = refl
 allowed_open (Some (Invoke id linked code parameter)) = refl
-allowed_open (Some (ReturnResult last id body)) = refl
-allowed_open (Some (ReturnError id code parameter)) = refl
-allowed_open (Some (Reject id problem)) = refl
+allowed_open c = refl
 
 dialogue_open : (how : How) → list_any is_of_mark (dialogue_of how) ≡ false
 dialogue_open hows.Begun = refl
@@ -58,14 +43,8 @@ problem_open n = by (n == 0) (is_of_link n)
     by false false = refl
 
 rejected_open : (c : Option Component) → list_any is_of_mark (rejected_by c) ≡ false
-rejected_open None = refl
-rejected_open (Some (Invoke id linked code parameter)) = refl
-rejected_open (Some (ReturnResult last id body)) = refl
-rejected_open (Some (ReturnError id code parameter)) = refl
-rejected_open (Some (Reject id (problems.General n))) = refl
 rejected_open (Some (Reject id (problems.Invoke n))) = problem_open n
-rejected_open (Some (Reject id (problems.ReturnResult n))) = refl
-rejected_open (Some (Reject id (problems.ReturnError n))) = refl
+rejected_open c = refl
 
 to_open : (how : How) (c : Option Component) (kind : Kind) → list_any is_of_mark (shows_to how c kind) ≡ false
 to_open how c kinds.AnswersNothing = answered_open c
@@ -76,7 +55,6 @@ to_open how c kind = refl
 
 alone_open : (kind : Kind) → list_any is_of_mark (shows_alone kind) ≡ false
 alone_open kinds.ReusedId = refl
-alone_open kinds.InvokeIdBusy = refl
 alone_open kind = refl
 
 pub never_open : (to : Option (List ℕ)) (how : How) (c : Option Component) (kind : Kind)

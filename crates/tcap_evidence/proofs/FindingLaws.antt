@@ -1,34 +1,17 @@
 -- The evidence that is found for an entry is the evidence that is defined.
-use Rattle.std.proofs.Common.{◌≡◌, ℕ, ℤ, List, [], ◌∷◌, map, take, Bool, Option, Some, None, Ok, Err, refl, sym, ap, ◌∙◌}
+use Rattle.tcap_evidence.proofs.Common.{◌≡◌, ℕ, List, [], ◌∷◌, map, take, Bool, Option, Some, None, Ok, Err, refl, sym, ap, ◌∙◌, slice_get, Component, Message, components_in, dtid_in, Body, Good, Bad, Quiet, Side, Entry, other, Table, Reason, item_by, item_of, Item, Sent, Kind, Refutation, since_quiet, items_among, Stretch, invocations_of, component_at, grounds_in, invoke_id_in, mark_scene, scene_of, shows, IsScene, numbered_of, sent_before}
+use Rattle.std.proofs.Common.{ℤ, subst}
 use Rattle.std.proofs.lemmas.Option.{slice_get-map}
-use Rattle.std.specs.Prelude.{slice_get}
-use Rattle.tcap_parts.specs.declared.component.Component.{Component}
-use Rattle.tcap_msg.specs.declared.message.Message.{Message}
-use Rattle.tcap_msg.specs.Parts.{components_in, dtid_in}
-use Rattle.tcap_record.specs.declared.entry.Body.{Body}
-use Rattle.tcap_record.specs.declared.entry.Body.TheVariants.{Good, Bad, Quiet}
-use Rattle.tcap_record.specs.declared.entry.End.{End as Side}
-use Rattle.tcap_record.specs.declared.entry.Entry.{Entry}
-use Rattle.tcap_record.specs.Ends.{other}
-use Rattle.tcap_end.specs.Table.{Table}
-use Rattle.tcap_model.specs.declared.reason.Reason.{Reason}
 use Rattle.tcap_model.specs.declared.reason.Reason.TheVariants.{BadMessage, NoItem}
-use Rattle.tcap_model.specs.Entries.{item_by, item_of}
-use Rattle.tcap_model.specs.World.{Item, Sent}
-use Rattle.tcap_refute.specs.declared.kind.Kind.{Kind}
-use Rattle.tcap_refute.specs.declared.kind.Refutation.{Refutation}
-use Rattle.tcap_refute.specs.EarlierMessages.{since_quiet}
 use Rattle.tcap_faults.specs.declared.verdict.fault_subject.Subject.{Subject}
-use Rattle.tcap_faults.specs.FaultSubject.{items_among, subject_by, subject_of}
+use Rattle.tcap_faults.specs.FaultSubject.{subject_by, subject_of}
 use Rattle.tcap_evidence.specs.declared.scene.Scene.{Scene as SceneKept}
-use Rattle.tcap_evidence.specs.declared.sent.Stretch.{Stretch}
 use Rattle.tcap_evidence.specs.declared.shown_things.What.{What}
 use Rattle.tcap_evidence.specs.declared.shown_things.What.TheVariants as whats
 use Rattle.tcap_evidence.specs.declared.operations.Invocation.{Invocation}
-use Rattle.tcap_evidence.specs.Operations.{invocations_at, invocations_of}
-use Rattle.tcap_evidence.specs.Evidence.{component_at, components_before, grounds_in, grounds_of, invoke_id_at, invoke_id_in, mark_scene, scene_of, shows}
-use Rattle.tcap_evidence.specs.StoredScene.{IsScene, scene_by}
-use Rattle.tcap_evidence.specs.NumberedMessages.{numbered_of, sent_before}
+use Rattle.tcap_evidence.specs.Operations.{invocations_at}
+use Rattle.tcap_evidence.specs.Evidence.{components_before, grounds_of, invoke_id_at}
+use Rattle.tcap_evidence.specs.StoredScene.{scene_by}
 
 -- The stored scene is the message's scene, if the messages before it, the components before the one at fault and the
 -- invoke ID are stored correctly.
@@ -63,75 +46,53 @@ odd_mark (Bad fault) n = (BadMessage fault, refl)
 odd_mark Quiet n = absurd (n refl)
 
 module _ (of_one : Bool) (table : Table) (side : Side) (entries : List Entry) (r : Refutation) where
-  -- the things that show the kind of a message, with their entries
-  abbrev pub good_grounds_by : Message → Subject → List (What × List ℕ)
-  good_grounds_by m about =
+  -- the evidence for a message, by the subject of its fault
+  abbrev grounds_by : Message → Subject → List (What × List ℕ)
+  grounds_by m about =
       grounds_in (scene_of table side entries r.entry m r.kind about)
       (shows (dtid_in m) about.how (component_at about.component (components_in m)) r.kind)
 
-  good_item : (e : Entry) (sender : Side) (m : Message) → slice_get entries r.entry ≡ Some e → e.side ≡ Some sender
-      → e.body ≡ Good m → slice_get (map item_of entries) r.entry ≡ Some (Ok (Sent sender m))
-  good_item e sender m is s b = item_at entries r.entry e is ∙ ap (λ i. Some i) (rw (s, b) refl)
-
-  subject_at : (sender : Side) (m : Message) → slice_get (map item_of entries) r.entry ≡ Some (Ok (Sent sender m))
-      → subject_of of_one table side entries r
-      ≡ subject_by of_one table side (since_quiet (items_among (map item_of (take r.entry entries)))) (Some (Ok (Sent sender m))) r.kind
-  subject_at sender m is =
-      ap (λ x. subject_by of_one table side (since_quiet (items_among (map item_of (take r.entry entries)))) x r.kind) is
-
-  good_grounds_of : (sender : Side) (m : Message) → slice_get (map item_of entries) r.entry ≡ Some (Ok (Sent sender m))
-      → grounds_of of_one table side entries r ≡ good_grounds_by m (subject_of of_one table side entries r)
-  good_grounds_of sender m is = rw is (ap (good_grounds_by m) (subject_at sender m is))
-
-  pub good_grounds : (e : Entry) (sender : Side) (m : Message) (about : Subject) → about ≡ subject_of of_one table side entries r
-      → slice_get entries r.entry ≡ Some e → e.side ≡ Some sender → e.body ≡ Good m
-      → good_grounds_by m about ≡ grounds_of of_one table side entries r
-  good_grounds e sender m about a is s b =
-      ap (good_grounds_by m) a ∙ sym (good_grounds_of sender m (good_item e sender m is s b))
-
-  good_id_of : (sender : Side) (m : Message) → slice_get (map item_of entries) r.entry ≡ Some (Ok (Sent sender m))
-      → invoke_id_at of_one table side entries r
-      ≡ invoke_id_in r.kind (component_at (subject_of of_one table side entries r).component (components_in m))
-  good_id_of sender m is =
-      rw is (ap (λ x. invoke_id_in r.kind (component_at x.component (components_in m))) (subject_at sender m is))
-
-  pub good_id : (e : Entry) (sender : Side) (m : Message) (about : Subject) → about ≡ subject_of of_one table side entries r
-      → slice_get entries r.entry ≡ Some e → e.side ≡ Some sender → e.body ≡ Good m
-      → invoke_id_in r.kind (component_at about.component (components_in m)) ≡ invoke_id_at of_one table side entries r
-  good_id e sender m about a is s b =
-      ap (λ x. invoke_id_in r.kind (component_at x.component (components_in m))) a
-      ∙ sym (good_id_of sender m (good_item e sender m is s b))
-
-  abbrev pub good_invocations_by : Message → Subject → List Invocation
-  good_invocations_by m about =
+  abbrev invocations_by : Message → Subject → List Invocation
+  invocations_by m about =
       invocations_of (scene_of table side entries r.entry m r.kind about) r.kind (component_at about.component (components_in m))
 
-  good_invocations_of : (sender : Side) (m : Message) → slice_get (map item_of entries) r.entry ≡ Some (Ok (Sent sender m))
-      → invocations_at of_one table side entries r ≡ good_invocations_by m (subject_of of_one table side entries r)
-  good_invocations_of sender m is = rw is (ap (good_invocations_by m) (subject_at sender m is))
+  abbrev id_by : Message → Subject → Option ℤ
+  id_by m about = invoke_id_in r.kind (component_at about.component (components_in m))
 
-  pub good_invocations : (e : Entry) (sender : Side) (m : Message) (about : Subject) → about ≡ subject_of of_one table side entries r
-      → slice_get entries r.entry ≡ Some e → e.side ≡ Some sender → e.body ≡ Good m
-      → good_invocations_by m about ≡ invocations_at of_one table side entries r
-  good_invocations e sender m about a is s b =
-      ap (good_invocations_by m) a ∙ sym (good_invocations_of sender m (good_item e sender m is s b))
+  abbrev pub IsOf : Message → Subject → Type 0
+  IsOf m about = (grounds_by m about ≡ grounds_of of_one table side entries r)
+      × (invocations_by m about ≡ invocations_at of_one table side entries r)
+      × (id_by m about ≡ invoke_id_at of_one table side entries r)
 
-  -- the item of a quiet mark
-  mark_item : (e : Entry) → slice_get entries r.entry ≡ Some e → e.side ≡ None → e.body ≡ Quiet
-      → slice_get (map item_of entries) r.entry ≡ Some (Ok Item.Quiet)
-  mark_item e is s b = item_at entries r.entry e is ∙ ap (λ i. Some i) (rw (s, b) refl)
+  good_of : (sender : Side) (m : Message) → slice_get (map item_of entries) r.entry ≡ Some (Ok (Sent sender m))
+      → IsOf m (subject_of of_one table side entries r)
+  good_of sender m is = (sym grounds, sym invocations, sym id)
+    where
+      about : subject_of of_one table side entries r
+          ≡ subject_by of_one table side (since_quiet (items_among (map item_of (take r.entry entries)))) (Some (Ok (Sent sender m))) r.kind
+      about = ap (λ x. subject_by of_one table side (since_quiet (items_among (map item_of (take r.entry entries)))) x r.kind) is
 
-  pub mark_grounds : (e : Entry) → slice_get entries r.entry ≡ Some e → e.side ≡ None → e.body ≡ Quiet
-      → grounds_in (mark_scene table side entries r.entry) (whats.Open ∷ []) ≡ grounds_of of_one table side entries r
-  mark_grounds e is s b = rw (mark_item e is s b) refl
+      grounds : grounds_of of_one table side entries r ≡ grounds_by m (subject_of of_one table side entries r)
+      grounds = rw is (ap (grounds_by m) about)
 
-  pub mark_id : (e : Entry) → slice_get entries r.entry ≡ Some e → e.side ≡ None → e.body ≡ Quiet
-      → None ≡ invoke_id_at of_one table side entries r
-  mark_id e is s b = rw (mark_item e is s b) refl
+      invocations : invocations_at of_one table side entries r ≡ invocations_by m (subject_of of_one table side entries r)
+      invocations = rw is (ap (invocations_by m) about)
 
-  pub mark_invocations : (e : Entry) → slice_get entries r.entry ≡ Some e → e.side ≡ None → e.body ≡ Quiet
-      → [] ≡ invocations_at of_one table side entries r
-  mark_invocations e is s b = rw (mark_item e is s b) refl
+      id : invoke_id_at of_one table side entries r ≡ id_by m (subject_of of_one table side entries r)
+      id = rw is (ap (id_by m) about)
+
+  pub good : (e : Entry) (sender : Side) (m : Message) (about : Subject) → about ≡ subject_of of_one table side entries r
+      → slice_get entries r.entry ≡ Some e → e.side ≡ Some sender → e.body ≡ Good m → IsOf m about
+  good e sender m about about_is is s b =
+      subst (IsOf m) (sym about_is) (good_of sender m (item_at entries r.entry e is ∙ ap (λ i. Some i) (rw (s, b) refl)))
+
+  -- the evidence for a quiet mark
+  pub mark : (e : Entry) → slice_get entries r.entry ≡ Some e → e.side ≡ None → e.body ≡ Quiet
+      → (grounds_in (mark_scene table side entries r.entry) (whats.Open ∷ []) ≡ grounds_of of_one table side entries r)
+      × ([] ≡ invocations_at of_one table side entries r) × (None ≡ invoke_id_at of_one table side entries r)
+  mark e is s b =
+      let item : slice_get (map item_of entries) r.entry ≡ Some (Ok Item.Quiet) =
+      item_at entries r.entry e is ∙ ap (λ i. Some i) (rw (s, b) refl) in (rw item refl, rw item refl, rw item refl)
 
   -- no evidence, for an entry that is not an item or does not exist
   abbrev pub NoneOf : Type 0
@@ -141,11 +102,10 @@ module _ (of_one : Bool) (table : Table) (side : Side) (entries : List Entry) (r
   bad_none : (reason : Reason) → slice_get (map item_of entries) r.entry ≡ Some (Err reason) → NoneOf
   bad_none reason is = (rw is refl, rw is refl, rw is refl)
 
-  none_at : slice_get (map item_of entries) r.entry ≡ None → NoneOf
-  none_at is = (rw is refl, rw is refl, rw is refl)
-
   pub not_there : slice_get entries r.entry ≡ None → NoneOf
-  not_there is = none_at (rw (slice_get-map item_of entries r.entry, is) refl)
+  not_there is =
+      let none : slice_get (map item_of entries) r.entry ≡ None = rw (slice_get-map item_of entries r.entry, is) refl in
+      (rw none refl, rw none refl, rw none refl)
 
   pub not_good : (e : Entry) (sender : Side) → slice_get entries r.entry ≡ Some e → e.side ≡ Some sender
       → ((m : Message) → e.body ≡ Good m → ⊥) → NoneOf

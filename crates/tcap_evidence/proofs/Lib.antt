@@ -1,3 +1,4 @@
+pub mod Common
 pub mod StretchLaws
 pub mod PairingLaws
 pub mod ListingLaws

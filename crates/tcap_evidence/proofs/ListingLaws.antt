@@ -1,15 +1,7 @@
 -- Loops that build a list from another, item by item.
-use Rattle.std.proofs.Common.{◌≡◌, ℕ, ◌+◌, ◌<◌, ◌≤◌, Bool, true, false, cond, List, [], ◌∷◌, ◌++◌, append_assoc, drop, filter, flat_map, get_or, length, map, refl, sym, ap, ◌∙◌}
-use Rattle.std.proofs.lemmas.List.{append-nil, at_drop_all, at_drop_more}
-use Rattle.tcap_parts.specs.declared.component.Component.{Component}
+use Rattle.tcap_evidence.proofs.Common.{◌≡◌, ℕ, ◌+◌, ◌<◌, ◌≤◌, Bool, true, false, cond, List, [], ◌∷◌, ◌++◌, append_assoc, drop, filter, flat_map, get_or, length, map, refl, sym, ap, ◌∙◌, append-nil, Component, component_of, Message, dialogue_in, is_response, SentEntry, Numbered, entries_where, inserted, numbered_of, since_first}
+use Rattle.std.proofs.lemmas.List.{at_drop_all, at_drop_more}
 use Rattle.tcap_parts.specs.declared.component.ComponentView.{ComponentView}
-use Rattle.tcap_parts.specs.Meaning.{component_of}
-use Rattle.tcap_msg.specs.declared.message.Message.{Message}
-use Rattle.tcap_msg.specs.Parts.{dialogue_in}
-use Rattle.tcap_end.specs.Dialogue.{is_response}
-use Rattle.tcap_evidence.specs.declared.sent.Sent.{Sent as SentEntry}
-use Rattle.tcap_evidence.specs.NumberedMessages.{Numbered, entries_where, inserted, numbered_of}
-use Rattle.tcap_evidence.specs.Scene.{since_first}
 
 -- what is made of the remaining items
 pub left_is : {A Y : Type 0} (make : List A → Y) (xs : List A) (i : ℕ) (x : A) → i < length xs → x ≡ get_or xs i x

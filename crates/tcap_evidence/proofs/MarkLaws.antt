@@ -1,30 +1,19 @@
 -- The halves that are open at a quiet mark, from the stored facts on both ends.
-use Rattle.std.proofs.Common.{◌≡◌, ℕ, ◌+◌, ◌<◌, Bool, true, false, cond, not, ◌&&◌, ◌||◌, List, [], ◌∷◌, Option, Some, None, bytes_eq, drop, get_or, is_some, length, map, refl, sym, ap, ap₂, ◌∙◌}
-use Rattle.std.specs.BTreeMap.{is_at}
+use Rattle.tcap_evidence.proofs.Common.{◌≡◌, ℕ, ◌+◌, ◌<◌, Bool, true, false, cond, not, ◌&&◌, ◌||◌, List, [], ◌∷◌, Option, Some, None, drop, get_or, length, map, refl, sym, ap, ap₂, ◌∙◌, is_at, find, list_any, lookup, Message, dtid_in, otid_in, other, is_id, octets_cmp, is_a, sent_by, or_else, SentEntry, ended_to, first_to, messages_of, Numbered, entries_where, numbered_of, Scene, is_open_continue}
+use Rattle.std.proofs.Common.{bytes_eq, is_some}
 use Rattle.std.specs.BTreeSet as set
-use Rattle.std.specs.List.{find, list_any}
-use Rattle.std.specs.Map.{lookup}
 use Rattle.std.proofs.lemmas.Map.Lookups.{exact_bytes}
 use Rattle.std.proofs.lemmas.Map.Views.{tells_apart}
 use Rattle.tcap_msg.specs.declared.kind.Kind.TheVariants as forms
-use Rattle.tcap_msg.specs.declared.message.Message.{Message}
-use Rattle.tcap_msg.specs.declared.message.Message.TheVariants.{Unidirectional, Begin, Continue, End as EndMessage, Abort}
-use Rattle.tcap_msg.specs.Parts.{dtid_in, otid_in}
-use Rattle.tcap_record.specs.Ends.{other}
-use Rattle.tcap_end.specs.End.{is_id}
-use Rattle.tcap_end.specs.Table.{octets_cmp}
+use Rattle.tcap_msg.specs.declared.message.Message.TheVariants.{Continue, Abort}
 use Rattle.tcap_model.specs.Run.{then_so, where_so}
-use Rattle.tcap_refute.specs.EarlierMessages.{ends_to, is_a, sent_by}
-use Rattle.tcap_refute.specs.Kind.{or_else}
+use Rattle.tcap_refute.specs.EarlierMessages.{ends_to}
 use Rattle.tcap_faults.specs.ClosedHalves.{is_surely_open}
 use Rattle.tcap_faults.proofs.transaction_laws.KeyLaws.{at_other}
 use Rattle.tcap_faults.proofs.transaction_laws.IdMapLaws.{Puts}
 use Rattle.tcap_faults.proofs.list_laws.TwoTests.{any_agree}
 use Rattle.tcap_evidence.specs.declared.mark.Halves.{Halves}
-use Rattle.tcap_evidence.specs.declared.sent.Sent.{Sent as SentEntry}
-use Rattle.tcap_evidence.specs.OpenAtMark.{AreHalves, ended_to, first_to, messages_of}
-use Rattle.tcap_evidence.specs.NumberedMessages.{Numbered, entries_where, numbered_of}
-use Rattle.tcap_evidence.specs.Scene.{Scene, is_open_continue}
+use Rattle.tcap_evidence.specs.OpenAtMark.{AreHalves}
 use Rattle.tcap_evidence.proofs.ListingLaws.{left_is}
 
 -- ---- the stored messages
@@ -45,8 +34,6 @@ all_sent sent its ms are sent_is = sym (messages_are sent) ∙ ap (map (λ n. n.
 first_goes : (id : List ℕ) (ms : List Message)
     → first_to id ms ≡ then_so (find (λ m. is_a forms.Continue m && is_id id (otid_in m)) ms) dtid_in
 first_goes id [] = refl
-first_goes id (Unidirectional dialogue components ∷ ms) = first_goes id ms
-first_goes id (Begin otid dialogue components ∷ ms) = first_goes id ms
 first_goes id (Continue otid dtid dialogue components ∷ ms) = by (bytes_eq id otid) (first_goes id ms)
   where
     by : (b : Bool)
@@ -55,8 +42,7 @@ first_goes id (Continue otid dtid dialogue components ∷ ms) = by (bytes_eq id 
         ≡ then_so (cond b (Some (Continue otid dtid dialogue components)) (find (λ m. is_a forms.Continue m && is_id id (otid_in m)) ms)) dtid_in
     by true rest = refl
     by false rest = rest
-first_goes id (EndMessage dtid dialogue components ∷ ms) = first_goes id ms
-first_goes id (Abort dtid reason ∷ ms) = first_goes id ms
+first_goes id (m ∷ ms) = first_goes id ms
 
 or_else_none : {A : Type 0} (o : Option A) → o ≡ or_else o None
 or_else_none None = refl
@@ -108,11 +94,8 @@ module _ (by_provider : Bool) (sent : List SentEntry) (i : ℕ) (x : SentEntry) 
 
 -- an End or an Abort to an ID
 ends_is : (id : List ℕ) (m : Message) → is_id id (ended_to true m) ≡ ends_to id m
-ends_is id (Unidirectional dialogue components) = refl
-ends_is id (Begin otid dialogue components) = refl
-ends_is id (Continue otid dtid dialogue components) = refl
-ends_is id (EndMessage dtid dialogue components) = refl
 ends_is id (Abort dtid reason) = refl
+ends_is id m = refl
 
 -- ---- a half that is certainly open
 
@@ -138,11 +121,8 @@ module _ (s : Scene) (kept : Halves) (are : AreHalves s kept) (unarranged : s.ta
 
 -- If the table allows prearranged ends, no half is certainly open.
 not_open : (s : Scene) → s.table.prearranged ≡ true → (m : Message) → is_open_continue s m ≡ false
-not_open s arranged (Unidirectional dialogue components) = refl
-not_open s arranged (Begin otid dialogue components) = refl
 not_open s arranged (Continue otid dtid dialogue components) = rw arranged refl
-not_open s arranged (EndMessage dtid dialogue components) = refl
-not_open s arranged (Abort dtid reason) = refl
+not_open s arranged m = refl
 
 pub none_open : (s : Scene) → s.table.prearranged ≡ true → (sent : List Numbered)
     → [] ≡ entries_where (is_open_continue s) sent

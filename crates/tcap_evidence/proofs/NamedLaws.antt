@@ -1,17 +1,7 @@
 -- An entry that is blamed on an end is that end's or a quiet mark.
-use Rattle.std.proofs.Common.{◌≡◌, inl, inr, ℕ, zero, suc, true, ◌||◌, List, [], ◌∷◌, ◌++◌, length, map, Option, Some, None, Result, Ok, refl, ap}
-use Rattle.std.specs.Prelude.{slice_get}
-use Rattle.tcap_msg.specs.declared.message.Message.{Message}
-use Rattle.tcap_record.specs.declared.entry.Body.{Body}
-use Rattle.tcap_record.specs.declared.entry.Body.TheVariants.{Good, Bad, Quiet}
-use Rattle.tcap_record.specs.declared.entry.End.{End as Side}
-use Rattle.tcap_record.specs.declared.entry.Entry.{Entry}
-use Rattle.tcap_end.specs.Table.{Table}
-use Rattle.tcap_model.specs.declared.reason.Reason.{Reason}
-use Rattle.tcap_model.specs.World.{Item, Sent}
-use Rattle.tcap_model.specs.Entries.{item_by, item_of}
+use Rattle.tcap_evidence.proofs.Common.{◌≡◌, ℕ, true, ◌||◌, List, [], ◌∷◌, ◌++◌, length, map, Option, Some, None, Result, Ok, refl, ap, slice_get, Message, Body, Good, Bad, Quiet, Side, Entry, Table, Reason, Item, Sent, item_by, item_of, Refutation}
+use Rattle.std.proofs.Common.{inl, inr, zero, suc}
 use Rattle.tcap_model.proofs.WorldLaws.{itself}
-use Rattle.tcap_refute.specs.declared.kind.Refutation.{Refutation}
 use Rattle.tcap_faults.specs.BlameMeaning.{IsAtFaultOf}
 use Rattle.tcap_faults.specs.Fault.{blamed}
 use Rattle.tcap_faults.proofs.kind_laws.BlamedLaws.{blamed_at_fault}

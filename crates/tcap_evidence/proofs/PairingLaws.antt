@@ -1,8 +1,5 @@
 -- The loop over the entries for the partners of a transaction ID.
-use Rattle.std.proofs.Common.{◌≡◌, ◌⊎◌, ℕ, ◌+◌, ◌<◌, ◌≤◌, List, map, take, drop, ◌∙◌}
-use Rattle.tcap_record.specs.declared.entry.End.{End as Side}
-use Rattle.tcap_record.specs.declared.entry.Entry.{Entry}
-use Rattle.tcap_model.specs.Entries.{item_of}
+use Rattle.tcap_evidence.proofs.Common.{◌≡◌, ◌⊎◌, ℕ, ◌+◌, ◌<◌, ◌≤◌, List, map, take, drop, ◌∙◌, Side, Entry, item_of}
 use Rattle.tcap_evidence.specs.Partners.{Pairing, with_pairs}
 
 module _ (of : Side) (id : List ℕ) (entries : List Entry) (number : ℕ) where

@@ -1,12 +1,8 @@
 -- The parts of a scene, from the stored scene.
-use Rattle.std.proofs.Common.{◌≡◌, ℕ, Bool, true, false, ◌&&◌, List, [], ◌∷◌, Option, Some, None, filter, refl, ap}
+use Rattle.tcap_evidence.proofs.Common.{◌≡◌, ℕ, Bool, true, false, ◌&&◌, List, [], ◌∷◌, Option, Some, None, filter, refl, ap, Message, dtid_in, is_a, Numbered, entries_where, Scene, is_that}
 use Rattle.tcap_msg.specs.declared.kind.Kind.TheVariants as forms
-use Rattle.tcap_msg.specs.declared.message.Message.{Message}
-use Rattle.tcap_msg.specs.Parts.{dtid_in}
-use Rattle.tcap_refute.specs.EarlierMessages.{is_a}
 use Rattle.tcap_refute.proofs.TestLaws.{and_false}
-use Rattle.tcap_evidence.specs.NumberedMessages.{Numbered, entries_where}
-use Rattle.tcap_evidence.specs.Scene.{Scene, is_that, there, to_half, went_elsewhere}
+use Rattle.tcap_evidence.specs.Scene.{there, to_half, went_elsewhere}
 
 -- ---- filters
 

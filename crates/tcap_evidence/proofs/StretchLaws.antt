@@ -1,20 +1,9 @@
 -- The loop over the entries for the messages of each end, which are those since the last quiet mark.
-use Rattle.std.proofs.Common.{◌≡◌, ◌⊎◌, ℕ, ◌+◌, ◌<◌, ◌≤◌, arith, Bool, true, false, cond, List, [], ◌∷◌, ◌++◌, Result, Ok, Err, append_assoc, map, take, drop, get_or, length, length-take, refl, sym, ap, ◌∙◌}
-use Rattle.std.proofs.lemmas.List.{append-nil, drop_more, get_or-take, map-append}
-use Rattle.tcap_msg.specs.declared.message.Message.{Message}
-use Rattle.tcap_record.specs.declared.entry.End.{End as Side}
-use Rattle.tcap_record.specs.declared.entry.Entry.{Entry}
-use Rattle.tcap_record.specs.Ends.{other}
-use Rattle.tcap_end.specs.Table.{Table}
-use Rattle.tcap_model.specs.declared.reason.Reason.{Reason}
-use Rattle.tcap_model.specs.World.{Item, Sent, has_quiet, is_side}
-use Rattle.tcap_model.specs.Entries.{item_of}
-use Rattle.tcap_refute.specs.EarlierMessages.{sent_by, since_quiet}
-use Rattle.tcap_faults.specs.FaultSubject.{items_among}
-use Rattle.tcap_evidence.specs.declared.sent.Stretch.{Stretch}
-use Rattle.tcap_evidence.specs.Evidence.{mark_scene}
-use Rattle.tcap_evidence.specs.StoredScene.{IsStretch}
-use Rattle.tcap_evidence.specs.NumberedMessages.{Numbered, numbered_of, sent_before, with_entries, with_entry}
+use Rattle.tcap_evidence.proofs.Common.{◌≡◌, ◌⊎◌, ℕ, ◌+◌, ◌<◌, ◌≤◌, arith, Bool, true, false, cond, List, [], ◌∷◌, ◌++◌, Result, Ok, Err, append_assoc, map, take, drop, get_or, length, refl, sym, ap, ◌∙◌, append-nil, Message, Side, Entry, other, Table, Reason, Item, Sent, item_of, sent_by, since_quiet, items_among, Stretch, mark_scene, IsStretch, Numbered, numbered_of, sent_before}
+use Rattle.std.proofs.Common.{length-take}
+use Rattle.std.proofs.lemmas.List.{drop_more, get_or-take, map-append}
+use Rattle.tcap_model.specs.World.{has_quiet, is_side}
+use Rattle.tcap_evidence.specs.NumberedMessages.{with_entries, with_entry}
 
 -- ---- entry by entry
 

@@ -1,7 +1,6 @@
 -- Texts that are appended one after another.
-use Rattle.std.proofs.Common.{◌≡◌, ℕ, ◌+◌, ◌<◌, ◌≤◌, List, ◌++◌, Ok, Err, append_assoc, drop, flat_map, get_or, length, refl, ap, ◌∙◌}
-use Rattle.std.specs.Prelude.{Result, OnOk, if◌then◌else◌}
-use Rattle.std.specs.Result.{is_ok}
+use Rattle.tcap_evidence.proofs.Common.{◌≡◌, ℕ, ◌+◌, ◌<◌, ◌≤◌, List, ◌++◌, Ok, Err, append_assoc, drop, flat_map, get_or, length, refl, ap, ◌∙◌, Result, if◌then◌else◌, is_ok}
+use Rattle.std.specs.Prelude.{OnOk}
 use Rattle.tcap_evidence.proofs.ListingLaws.{all_made, made_more}
 
 -- two appended texts

@@ -17,26 +17,20 @@ fn answered_by(component: Option<ComponentView>) -> &'static [What]
     ensures { result.now ≡ answered_by (option_map component_of component.entry) }
 {
     match component {
+        Some(ComponentView::ReturnResult { .. } | ComponentView::ReturnError { .. }) => {
+            &[What::There(Sort::Invokes(Class::Any))]
+        }
         Some(
             ComponentView::Reject {
                 id: Some(_),
-                problem: ProblemView::ReturnResult(_),
+                problem,
             },
-        ) => &[What::There(Sort::Results)],
-        Some(
-            ComponentView::Reject {
-                id: Some(_),
-                problem: ProblemView::ReturnError(_),
-            },
-        ) => &[What::There(Sort::Errors)],
-        Some(
-            ComponentView::ReturnResult { .. }
-            | ComponentView::ReturnError { .. }
-            | ComponentView::Reject {
-                id: Some(_),
-                problem: ProblemView::Invoke(_),
-            },
-        ) => &[What::There(Sort::Invokes(Class::Any))],
+        ) => match problem {
+            ProblemView::General(_) => &[],
+            ProblemView::Invoke(_) => &[What::There(Sort::Invokes(Class::Any))],
+            ProblemView::ReturnResult(_) => &[What::There(Sort::Results)],
+            ProblemView::ReturnError(_) => &[What::There(Sort::Errors)],
+        },
         _ => &[],
     }
 }
@@ -85,13 +79,13 @@ fn problem_of_invoke(number: u8) -> &'static [What]
 fn rejected_by(component: Option<ComponentView>) -> &'static [What]
     ensures { result.now ≡ rejected_by (option_map component_of component.entry) }
 {
-    match component {
-        Some(
-            ComponentView::Reject {
-                problem: ProblemView::ReturnResult(_),
-                ..
-            },
-        ) => &[
+    let Some(ComponentView::Reject { problem, .. }) = component else {
+        return &[];
+    };
+    match problem {
+        ProblemView::General(_) => &[],
+        ProblemView::Invoke(problem) => problem_of_invoke(problem.number),
+        ProblemView::ReturnResult(_) => &[
             What::Heard(Sort::Results),
             What::Heard(Sort::Errors),
             What::Before(Sort::ResultRejects),
@@ -100,12 +94,7 @@ fn rejected_by(component: Option<ComponentView>) -> &'static [What]
             What::Invoked(Sort::Invokes(Class::Two)),
             What::Invoked(Sort::Invokes(Class::Three)),
         ],
-        Some(
-            ComponentView::Reject {
-                problem: ProblemView::ReturnError(_),
-                ..
-            },
-        ) => &[
+        ProblemView::ReturnError(_) => &[
             What::Heard(Sort::Errors),
             What::Heard(Sort::Results),
             What::Before(Sort::ErrorRejects),
@@ -114,13 +103,6 @@ fn rejected_by(component: Option<ComponentView>) -> &'static [What]
             What::Invoked(Sort::Invokes(Class::Two)),
             What::Invoked(Sort::Invokes(Class::Three)),
         ],
-        Some(
-            ComponentView::Reject {
-                problem: ProblemView::Invoke(problem),
-                ..
-            },
-        ) => problem_of_invoke(problem.number),
-        _ => &[],
     }
 }
 

@@ -1,8 +1,5 @@
 -- The texts are appended one after another.
-use Rattle.std.proofs.Common.{◌++◌, map, ap, ◌∙◌}
-use Rattle.std.proofs.lemmas.Result.{on_ok_weaker}
-use Rattle.std.specs.Prelude.{slice_get}
-use Rattle.std.specs.String.{string_bytes}
+use Rattle.tcap_evidence.proofs.Common.{◌++◌, map, ap, ◌∙◌, on_ok_weaker, slice_get, string_bytes}
 use Rattle.tcap_evidence.specs.EvidenceWords.{fault_text, invocation_lines}
 use Rattle.tcap_evidence.proofs.TextLaws.{also}
 use Rattle.tcap_evidence.proofs.evidence_lines.push_evidence.Goals as goal

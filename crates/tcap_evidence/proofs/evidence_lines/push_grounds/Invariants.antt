@@ -1,7 +1,5 @@
 -- The line of each thing so far is appended.
-use Rattle.std.proofs.Common.{◌≡◌, ◌++◌, map, take, flat_map}
-use Rattle.std.specs.String.{string_bytes}
-use Rattle.tcap_evidence.specs.EvidenceWords.{ground_line}
+use Rattle.tcap_evidence.proofs.Common.{◌≡◌, ◌++◌, map, take, flat_map, string_bytes, ground_line}
 use Rattle.tcap_evidence.proofs.evidence_lines.push_grounds.Given as goal
 
 abbrev pub invariant-loop-ground : goal.invariant-loop-ground

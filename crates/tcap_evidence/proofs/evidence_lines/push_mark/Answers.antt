@@ -1,9 +1,5 @@
 -- The texts are appended one after another.
-use Rattle.std.proofs.Common.{◌++◌}
-use Rattle.std.specs.Fmt.{decimal}
-use Rattle.std.specs.Prelude.{codes}
-use Rattle.std.specs.String.{string_bytes}
-use Rattle.tcap_record.specs.Lines.{line_end}
+use Rattle.tcap_evidence.proofs.Common.{◌++◌, decimal, codes, string_bytes, line_end}
 use Rattle.tcap_evidence.specs.EvidenceWords.{open_words}
 use Rattle.tcap_evidence.proofs.TextLaws.{also, at_last}
 use Rattle.tcap_evidence.proofs.evidence_lines.push_mark.Goals as goal

@@ -1,6 +1,5 @@
 -- Each number so far is appended.
-use Rattle.std.proofs.Common.{◌≡◌, ◌++◌, take, flat_map}
-use Rattle.std.specs.String.{string_bytes}
+use Rattle.tcap_evidence.proofs.Common.{◌≡◌, ◌++◌, take, flat_map, string_bytes}
 use Rattle.tcap_evidence.specs.EvidenceWords.{number_behind}
 use Rattle.tcap_evidence.proofs.evidence_lines.push_numbers.Given as goal
 

@@ -1,13 +1,7 @@
 -- The texts are appended one after another.
-use Rattle.std.proofs.Common.{◌++◌, map, ap, ◌∙◌}
-use Rattle.std.proofs.lemmas.Result.{on_ok_weaker}
-use Rattle.std.specs.List.{flat_map}
-use Rattle.std.specs.Prelude.{codes}
-use Rattle.std.specs.String.{string_bytes}
-use Rattle.tcap_msg.specs.Parts.{components_in, dtid_in}
-use Rattle.tcap_record.specs.Lines.{head_text, line_end}
-use Rattle.tcap_evidence.specs.Evidence.{component_at}
-use Rattle.tcap_evidence.specs.EvidenceWords.{component_shown, doubt_lines, entry_line, ground_line, half_line, message_lines}
+use Rattle.tcap_evidence.proofs.Common.{◌++◌, map, ap, ◌∙◌, on_ok_weaker, flat_map, codes, string_bytes, components_in, dtid_in, line_end, component_at, ground_line}
+use Rattle.tcap_record.specs.Lines.{head_text}
+use Rattle.tcap_evidence.specs.EvidenceWords.{component_shown, doubt_lines, entry_line, half_line, message_lines}
 use Rattle.tcap_evidence.proofs.TextLaws.{also}
 use Rattle.tcap_evidence.proofs.evidence_lines.push_of_message.Goals as goal
 

@@ -1,9 +1,6 @@
 -- The item of the iterator with this number.
-use Rattle.std.proofs.Common.{sym, ap, ◌∙◌}
-use Rattle.std.proofs.lemmas.Iterator.Consumers.{nth_from_yields_List, YieldsList-from_first}
-use Rattle.tcap_parts.specs.Meaning.{component_of, components_left}
-use Rattle.tcap_msg.specs.Parts.{components_in}
-use Rattle.tcap_evidence.specs.Evidence.{component_at}
+use Rattle.tcap_evidence.proofs.Common.{sym, ap, ◌∙◌, YieldsList-from_first, component_of, components_left, components_in, component_at}
+use Rattle.std.proofs.lemmas.Iterator.Consumers.{nth_from_yields_List}
 use Rattle.tcap_evidence.proofs.finding.component_at.Goals as goal
 
 pub returns : goal.returns

@@ -1,9 +1,7 @@
 -- The items of the iterator before this number.
-use Rattle.std.proofs.Common.{ap, ◌∙◌}
+use Rattle.tcap_evidence.proofs.Common.{ap, ◌∙◌, YieldsList-from_first, component_of, components_left, components_in}
 use Rattle.std.proofs.lemmas.Iterator.{YieldsList-from_take}
-use Rattle.std.proofs.lemmas.Iterator.Consumers.{YieldsList-from_first, map_from_collect}
-use Rattle.tcap_parts.specs.Meaning.{component_of, components_left}
-use Rattle.tcap_msg.specs.Parts.{components_in}
+use Rattle.std.proofs.lemmas.Iterator.Consumers.{map_from_collect}
 use Rattle.tcap_evidence.proofs.finding.components_before.Goals as goal
 
 pub returns-in-Some : goal.returns-in-Some

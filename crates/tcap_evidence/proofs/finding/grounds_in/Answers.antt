@@ -1,7 +1,6 @@
 -- The next thing is not for quiet marks only.
-use Rattle.std.proofs.Common.{arith}
+use Rattle.tcap_evidence.proofs.Common.{arith, is_of_mark}
 use Rattle.std.proofs.lemmas.Grind.{common_steps}
-use Rattle.tcap_evidence.specs.OpenAtMark.{is_of_mark}
 use Rattle.tcap_evidence.specs.declared.shown_things.What.TheVariants as whats
 use Rattle.tcap_evidence.proofs.AskedLaws.{fails_at}
 use Rattle.tcap_evidence.proofs.finding.grounds_in.Goals as goal

@@ -1,6 +1,5 @@
 -- From the messages of each end before the mark.
-use Rattle.std.proofs.Common.{refl}
-use Rattle.tcap_evidence.specs.Evidence.{mark_scene}
+use Rattle.tcap_evidence.proofs.Common.{refl, mark_scene}
 use Rattle.tcap_evidence.proofs.StretchLaws.{stretch_at_mark}
 use Rattle.tcap_evidence.proofs.finding.of_mark.Goals as goal
 

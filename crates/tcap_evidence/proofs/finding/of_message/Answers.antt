@@ -1,8 +1,5 @@
 -- From the message's scene.
-use Rattle.std.proofs.Common.{ap, ◌∙◌}
-use Rattle.tcap_msg.specs.Parts.{components_in, dtid_in}
-use Rattle.tcap_evidence.specs.Evidence.{component_at, grounds_in, scene_of, shows}
-use Rattle.tcap_evidence.specs.Operations.{invocations_of}
+use Rattle.tcap_evidence.proofs.Common.{ap, ◌∙◌, components_in, dtid_in, component_at, grounds_in, scene_of, shows, invocations_of}
 use Rattle.tcap_evidence.proofs.AskedLaws.{never_open}
 use Rattle.tcap_evidence.proofs.finding.of_message.Goals as goal
 

@@ -1,11 +1,5 @@
 -- The stored scene is the message's scene.
-use Rattle.std.proofs.Common.{map, take, ap, ◌∙◌}
-use Rattle.std.proofs.lemmas.Result.{IfOk-weaker}
-use Rattle.tcap_parts.specs.Meaning.{component_of}
-use Rattle.tcap_model.specs.Entries.{item_of}
-use Rattle.tcap_refute.specs.EarlierMessages.{since_quiet}
-use Rattle.tcap_faults.specs.FaultSubject.{items_among}
-use Rattle.tcap_evidence.specs.Evidence.{invoke_id_in}
+use Rattle.tcap_evidence.proofs.Common.{map, take, ap, ◌∙◌, IfOk-weaker, component_of, item_of, since_quiet, items_among, invoke_id_in}
 use Rattle.tcap_evidence.proofs.FindingLaws.{scene_is}
 use Rattle.tcap_evidence.proofs.finding.scene_for.Goals as goal
 

@@ -1,7 +1,5 @@
 -- The entries so far and those of the remaining messages are all.
-use Rattle.std.proofs.Common.{◌≡◌, ◌++◌, drop}
-use Rattle.tcap_evidence.specs.PassingEntries.{passes}
-use Rattle.tcap_evidence.specs.NumberedMessages.{entries_where, numbered_of}
+use Rattle.tcap_evidence.proofs.Common.{◌≡◌, ◌++◌, drop, passes, entries_where, numbered_of}
 use Rattle.tcap_evidence.proofs.listing.entries_where.Given as goal
 
 abbrev pub invariant-loop-one : goal.invariant-loop-one

@@ -1,7 +1,6 @@
 -- The entries so far and those of the remaining messages are all.
-use Rattle.std.proofs.Common.{◌≡◌, ◌++◌, drop}
-use Rattle.tcap_faults.specs.InvokeCounts.{is_sort}
-use Rattle.tcap_evidence.specs.NumberedMessages.{entries_with, numbered_of}
+use Rattle.tcap_evidence.proofs.Common.{◌≡◌, ◌++◌, drop, is_sort, numbered_of}
+use Rattle.tcap_evidence.specs.NumberedMessages.{entries_with}
 use Rattle.tcap_evidence.proofs.listing.entries_with.Given as goal
 
 abbrev pub invariant-loop-one : goal.invariant-loop-one

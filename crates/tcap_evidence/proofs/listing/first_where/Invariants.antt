@@ -1,8 +1,5 @@
 -- The result is the first among the remaining messages.
-use Rattle.std.proofs.Common.{◌≡◌, drop}
-use Rattle.std.specs.List.{find}
-use Rattle.tcap_evidence.specs.PassingEntries.{passes}
-use Rattle.tcap_evidence.specs.NumberedMessages.{numbered_of}
+use Rattle.tcap_evidence.proofs.Common.{◌≡◌, drop, find, passes, numbered_of}
 use Rattle.tcap_evidence.proofs.listing.first_where.Given as goal
 
 abbrev pub invariant-loop-one : goal.invariant-loop-one

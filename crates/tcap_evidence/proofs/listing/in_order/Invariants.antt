@@ -1,6 +1,5 @@
 -- The messages so far and the remaining ones, with the first in its place, are all.
-use Rattle.std.proofs.Common.{◌≡◌, ◌++◌, drop}
-use Rattle.tcap_evidence.specs.NumberedMessages.{inserted, numbered_of}
+use Rattle.tcap_evidence.proofs.Common.{◌≡◌, ◌++◌, drop, inserted, numbered_of}
 use Rattle.tcap_evidence.proofs.ListingLaws.{placed}
 use Rattle.tcap_evidence.proofs.listing.in_order.Given as goal
 

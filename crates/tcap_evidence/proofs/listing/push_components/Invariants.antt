@@ -1,8 +1,5 @@
 -- The entries so far and those of the remaining components are all.
-use Rattle.std.proofs.Common.{◌≡◌, ◌++◌, filter, map}
-use Rattle.tcap_parts.specs.Meaning.{components_left}
-use Rattle.tcap_msg.specs.Parts.{components_in}
-use Rattle.tcap_faults.specs.InvokeCounts.{is_sort}
+use Rattle.tcap_evidence.proofs.Common.{◌≡◌, ◌++◌, filter, map, components_left, components_in, is_sort}
 use Rattle.tcap_evidence.proofs.listing.push_components.Given as goal
 
 abbrev pub invariant-loop-component : goal.invariant-loop-component

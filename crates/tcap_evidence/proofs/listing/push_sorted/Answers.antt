@@ -1,4 +1,4 @@
-use Rattle.std.proofs.Common.{sym, ◌∙◌, to_z-of_z}
+use Rattle.tcap_evidence.proofs.Common.{sym, ◌∙◌, to_z-of_z}
 use Rattle.tcap_evidence.proofs.ListingLaws.{sorted_all, sorted_more, sorted_same}
 use Rattle.tcap_evidence.proofs.listing.push_sorted.Goals.{then-is_sort+in_ok-push, else-is_sort}
 use Rattle.tcap_evidence.proofs.listing.push_sorted.Goals as goal

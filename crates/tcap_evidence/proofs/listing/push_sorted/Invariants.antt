@@ -1,7 +1,5 @@
 -- The entries so far and those of the remaining components are all.
-use Rattle.std.proofs.Common.{◌≡◌, ◌++◌, drop, filter, map}
-use Rattle.tcap_parts.specs.Meaning.{component_of}
-use Rattle.tcap_faults.specs.InvokeCounts.{is_sort}
+use Rattle.tcap_evidence.proofs.Common.{◌≡◌, ◌++◌, drop, filter, map, component_of, is_sort}
 use Rattle.tcap_evidence.proofs.listing.push_sorted.Given as goal
 
 abbrev pub invariant-loop-component : goal.invariant-loop-component

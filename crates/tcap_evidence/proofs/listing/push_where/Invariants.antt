@@ -1,7 +1,5 @@
 -- The messages so far and those among the remaining ones are all.
-use Rattle.std.proofs.Common.{◌≡◌, ◌++◌, drop, filter}
-use Rattle.tcap_evidence.specs.PassingEntries.{passes}
-use Rattle.tcap_evidence.specs.NumberedMessages.{numbered_of}
+use Rattle.tcap_evidence.proofs.Common.{◌≡◌, ◌++◌, drop, filter, passes, numbered_of}
 use Rattle.tcap_evidence.proofs.listing.push_where.Given as goal
 
 abbrev pub invariant-loop-one : goal.invariant-loop-one

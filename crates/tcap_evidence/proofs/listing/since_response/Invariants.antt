@@ -1,9 +1,5 @@
 -- The messages so far and those among the remaining ones are all.
-use Rattle.std.proofs.Common.{◌≡◌, ◌++◌, drop}
-use Rattle.tcap_msg.specs.Parts.{dialogue_in}
-use Rattle.tcap_end.specs.Dialogue.{is_response}
-use Rattle.tcap_evidence.specs.NumberedMessages.{numbered_of}
-use Rattle.tcap_evidence.specs.Scene.{since_first}
+use Rattle.tcap_evidence.proofs.Common.{◌≡◌, ◌++◌, drop, dialogue_in, is_response, numbered_of, since_first}
 use Rattle.tcap_evidence.proofs.ListingLaws.{come_of}
 use Rattle.tcap_evidence.proofs.listing.since_response.Given as goal
 

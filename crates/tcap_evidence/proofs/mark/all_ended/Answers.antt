@@ -1,7 +1,5 @@
-use Rattle.std.proofs.Common.{◌||◌, ap, ◌∙◌}
+use Rattle.tcap_evidence.proofs.Common.{◌||◌, ap, ◌∙◌, is_id, octets_cmp}
 use Rattle.std.specs.BTreeSet as set
-use Rattle.tcap_end.specs.End.{is_id}
-use Rattle.tcap_end.specs.Table.{octets_cmp}
 use Rattle.tcap_refute.proofs.TestLaws.{or_none}
 use Rattle.tcap_faults.proofs.transaction_laws.KeyLaws.{set_more}
 use Rattle.tcap_evidence.proofs.MarkLaws.{ended_more}

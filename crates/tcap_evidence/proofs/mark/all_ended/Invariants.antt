@@ -1,10 +1,6 @@
 -- The IDs so far and those of the remaining messages are all.
-use Rattle.std.proofs.Common.{◌≡◌, ◌||◌, ℕ, List, drop}
+use Rattle.tcap_evidence.proofs.Common.{◌≡◌, ◌||◌, ℕ, List, drop, list_any, is_id, octets_cmp, ended_to, messages_of}
 use Rattle.std.specs.BTreeSet as set
-use Rattle.std.specs.List.{list_any}
-use Rattle.tcap_end.specs.End.{is_id}
-use Rattle.tcap_end.specs.Table.{octets_cmp}
-use Rattle.tcap_evidence.specs.OpenAtMark.{ended_to, messages_of}
 use Rattle.tcap_evidence.proofs.mark.all_ended.Given as goal
 
 abbrev pub invariant-loop-one : goal.invariant-loop-one

@@ -1,10 +1,5 @@
 -- The destinations so far and those of the remaining messages are all.
-use Rattle.std.proofs.Common.{◌≡◌, ℕ, List, drop}
-use Rattle.std.specs.BTreeMap.{is_at}
-use Rattle.std.specs.Map.{lookup}
-use Rattle.tcap_end.specs.Table.{octets_cmp}
-use Rattle.tcap_refute.specs.Kind.{or_else}
-use Rattle.tcap_evidence.specs.OpenAtMark.{first_to, messages_of}
+use Rattle.tcap_evidence.proofs.Common.{◌≡◌, ℕ, List, drop, is_at, lookup, octets_cmp, or_else, first_to, messages_of}
 use Rattle.tcap_evidence.proofs.mark.all_first.Given as goal
 
 abbrev pub invariant-loop-one : goal.invariant-loop-one

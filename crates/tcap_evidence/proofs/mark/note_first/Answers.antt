@@ -1,4 +1,4 @@
-use Rattle.std.proofs.Common.{sym, ◌∙◌}
+use Rattle.tcap_evidence.proofs.Common.{sym, ◌∙◌}
 use Rattle.tcap_evidence.proofs.MarkLaws.{first_noted}
 use Rattle.tcap_evidence.proofs.mark.note_first.Goals as goal
 

@@ -1,6 +1,4 @@
-use Rattle.std.proofs.Common.{◌≡◌, false, sym, ap, ◌∙◌}
-use Rattle.tcap_evidence.specs.NumberedMessages.{entries_where, numbered_of}
-use Rattle.tcap_evidence.specs.Scene.{is_open_continue}
+use Rattle.tcap_evidence.proofs.Common.{◌≡◌, false, sym, ap, ◌∙◌, entries_where, numbered_of, is_open_continue}
 use Rattle.tcap_evidence.proofs.ListingLaws.{where_all, where_more, where_same}
 use Rattle.tcap_evidence.proofs.MarkLaws.{none_open}
 use Rattle.tcap_evidence.proofs.mark.open_continues.Goals.{then-has+in_ok-push, else-has}

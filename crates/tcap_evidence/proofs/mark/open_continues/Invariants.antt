@@ -1,8 +1,5 @@
 -- The entries so far and those of the remaining messages are all.
-use Rattle.std.proofs.Common.{◌≡◌, ◌++◌, drop}
-use Rattle.tcap_evidence.specs.StoredScene.{IsStretch}
-use Rattle.tcap_evidence.specs.NumberedMessages.{entries_where, numbered_of}
-use Rattle.tcap_evidence.specs.Scene.{Scene, is_open_continue}
+use Rattle.tcap_evidence.proofs.Common.{◌≡◌, ◌++◌, drop, IsStretch, entries_where, numbered_of, Scene, is_open_continue}
 use Rattle.tcap_evidence.proofs.mark.open_continues.Given as goal
 
 abbrev pub invariant-loop-one : goal.invariant-loop-one

@@ -1,6 +1,5 @@
-use Rattle.std.proofs.Common.{of_z, to_z, to_z-of_z, w8}
-use Rattle.std.specs.String.{string_bytes}
-use Rattle.tcap_evidence.specs.EvidenceWords.{invocation_line}
+use Rattle.tcap_evidence.proofs.Common.{to_z-of_z, string_bytes, invocation_line}
+use Rattle.std.proofs.Common.{of_z, to_z, w8}
 use Rattle.tcap_evidence.proofs.TextLaws.{lines_all, lines_more}
 use Rattle.tcap_evidence.proofs.operation_lines.push_first.Goals as goal
 

@@ -1,7 +1,5 @@
 -- The lines so far and those of the remaining invocations are all.
-use Rattle.std.proofs.Common.{◌≡◌, ◌++◌, drop, flat_map}
-use Rattle.std.specs.String.{string_bytes}
-use Rattle.tcap_evidence.specs.EvidenceWords.{invocation_line}
+use Rattle.tcap_evidence.proofs.Common.{◌≡◌, ◌++◌, drop, flat_map, string_bytes, invocation_line}
 use Rattle.tcap_evidence.proofs.operation_lines.push_first.Given as goal
 
 abbrev pub invariant-loop-invocation : goal.invariant-loop-invocation

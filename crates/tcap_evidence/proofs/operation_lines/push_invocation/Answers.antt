@@ -1,9 +1,6 @@
 -- The texts are appended one after another.
-use Rattle.std.proofs.Common.{◌++◌, append_assoc, sym, ap, ◌∙◌, to_z-of_z}
-use Rattle.std.specs.Fmt.{decimal, signed_decimal}
-use Rattle.std.specs.Prelude.{codes}
-use Rattle.std.specs.String.{string_bytes}
-use Rattle.tcap_record.specs.Lines.{code_text, line_end}
+use Rattle.tcap_evidence.proofs.Common.{◌++◌, append_assoc, sym, ap, ◌∙◌, to_z-of_z, decimal, signed_decimal, codes, string_bytes, line_end}
+use Rattle.tcap_record.specs.Lines.{code_text}
 use Rattle.tcap_end.specs.Table.{class_of}
 use Rattle.tcap_evidence.specs.EvidenceWords.{class_text, link_text}
 use Rattle.tcap_evidence.proofs.TextLaws.{also, at_last}

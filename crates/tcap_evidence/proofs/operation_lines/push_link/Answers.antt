@@ -1,9 +1,5 @@
 -- The texts are appended one after another.
-use Rattle.std.proofs.Common.{◌++◌, ap, ◌∙◌, to_z-of_z}
-use Rattle.std.proofs.lemmas.Result.{on_ok_weaker}
-use Rattle.std.specs.Fmt.{signed_decimal}
-use Rattle.std.specs.Prelude.{codes}
-use Rattle.std.specs.String.{string_bytes}
+use Rattle.tcap_evidence.proofs.Common.{◌++◌, ap, ◌∙◌, to_z-of_z, on_ok_weaker, signed_decimal, codes, string_bytes}
 use Rattle.tcap_evidence.proofs.TextLaws.{also}
 use Rattle.tcap_evidence.proofs.operation_lines.push_link.Goals as goal
 

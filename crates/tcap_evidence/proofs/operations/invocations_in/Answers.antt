@@ -1,4 +1,4 @@
-use Rattle.std.proofs.Common.{to_z-of_z}
+use Rattle.tcap_evidence.proofs.Common.{to_z-of_z}
 use Rattle.tcap_evidence.proofs.ListingLaws.{with_all, with_more}
 use Rattle.tcap_evidence.proofs.operations.invocations_in.Goals as goal
 

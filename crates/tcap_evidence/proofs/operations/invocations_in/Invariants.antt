@@ -1,6 +1,5 @@
 -- The invocations so far and those of the remaining messages are all.
-use Rattle.std.proofs.Common.{◌≡◌, ◌++◌, Some, drop}
-use Rattle.tcap_evidence.specs.NumberedMessages.{numbered_of}
+use Rattle.tcap_evidence.proofs.Common.{◌≡◌, ◌++◌, Some, drop, numbered_of}
 use Rattle.tcap_evidence.specs.Operations.{invocations_in}
 use Rattle.tcap_evidence.proofs.operations.invocations_in.Given as goal
 

@@ -1,7 +1,5 @@
 -- The invocations so far and those of the remaining components are all.
-use Rattle.std.proofs.Common.{◌≡◌, ◌++◌, flat_map}
-use Rattle.tcap_parts.specs.Meaning.{components_left}
-use Rattle.tcap_msg.specs.Parts.{components_in}
+use Rattle.tcap_evidence.proofs.Common.{◌≡◌, ◌++◌, flat_map, components_left, components_in}
 use Rattle.tcap_evidence.specs.Operations.{invocation_in}
 use Rattle.tcap_evidence.proofs.operations.push_invokes.Given as goal
 

@@ -1,6 +1,5 @@
 -- The entries so far and those found in the remaining ones are all.
-use Rattle.std.proofs.Common.{◌≡◌}
-use Rattle.tcap_evidence.specs.Partners.{paired_before}
+use Rattle.tcap_evidence.proofs.Common.{◌≡◌, paired_before}
 use Rattle.tcap_evidence.proofs.PairingLaws.{pairs_from}
 use Rattle.tcap_evidence.proofs.pairing.paired_before.Given as goal
 

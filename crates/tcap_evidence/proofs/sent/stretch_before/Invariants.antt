@@ -1,7 +1,5 @@
 -- The messages so far and those of the remaining entries are all.
-use Rattle.std.proofs.Common.{◌≡◌}
-use Rattle.tcap_record.specs.Ends.{other}
-use Rattle.tcap_evidence.specs.NumberedMessages.{numbered_of, sent_before}
+use Rattle.tcap_evidence.proofs.Common.{◌≡◌, other, numbered_of, sent_before}
 use Rattle.tcap_evidence.proofs.StretchLaws.{sent_from}
 use Rattle.tcap_evidence.proofs.sent.stretch_before.Given as goal
 

@@ -1,10 +1,5 @@
 -- The texts are appended one after another.
-use Rattle.std.proofs.Common.{◌++◌, ap, ◌∙◌}
-use Rattle.std.specs.Fmt.{decimal}
-use Rattle.std.specs.Prelude.{codes}
-use Rattle.std.specs.String.{string_bytes}
-use Rattle.tcap_record.specs.Ends.{letter}
-use Rattle.tcap_record.specs.Lines.{line_end}
+use Rattle.tcap_evidence.proofs.Common.{◌++◌, ap, ◌∙◌, decimal, codes, string_bytes, letter, line_end}
 use Rattle.tcap_evidence.proofs.TextLaws.{also, at_last}
 use Rattle.tcap_evidence.proofs.unblamed.push_again.Goals as goal
 

@@ -1,9 +1,5 @@
 -- The texts are appended one after another.
-use Rattle.std.proofs.Common.{◌++◌, ap, ◌∙◌}
-use Rattle.std.proofs.lemmas.Result.{on_ok_weaker}
-use Rattle.std.specs.String.{string_bytes}
-use Rattle.tcap_record.specs.Lines.{line_end}
-use Rattle.tcap_evidence.specs.Partners.{paired_before}
+use Rattle.tcap_evidence.proofs.Common.{◌++◌, ap, ◌∙◌, on_ok_weaker, string_bytes, line_end, paired_before}
 use Rattle.tcap_evidence.specs.Unblamed.{id_lines, tangled_text}
 use Rattle.tcap_evidence.specs.EvidenceWords.{entries_words}
 use Rattle.tcap_evidence.proofs.TextLaws.{also}

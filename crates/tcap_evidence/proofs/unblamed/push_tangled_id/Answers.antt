@@ -1,10 +1,6 @@
 -- The texts are appended one after another.
-use Rattle.std.proofs.Common.{◌++◌, ap, ◌∙◌}
-use Rattle.std.specs.Prelude.{codes, if◌then◌else◌}
-use Rattle.std.specs.Result.{is_ok}
-use Rattle.std.specs.String.{string_bytes}
+use Rattle.tcap_evidence.proofs.Common.{◌++◌, ap, ◌∙◌, codes, if◌then◌else◌, is_ok, string_bytes, letter}
 use Rattle.hex.specs.Hex.{encode_lower}
-use Rattle.tcap_record.specs.Ends.{letter}
 use Rattle.tcap_evidence.specs.Unblamed.{tangle_words}
 use Rattle.tcap_evidence.proofs.TextLaws.{also, at_last}
 use Rattle.tcap_evidence.proofs.unblamed.push_tangled_id.Goals as goal

@@ -1,4 +1,4 @@
-use Rattle.std.proofs.Common.{◌&&◌, not, sym, ap₂, ◌∙◌}
+use Rattle.tcap_evidence.proofs.Common.{◌&&◌, not, sym, ap₂, ◌∙◌}
 use Rattle.tcap_evidence.proofs.MarkLaws.{open_nowhere, open_there}
 use Rattle.tcap_evidence.proofs.mark.Halves.has.Goals as goal
 

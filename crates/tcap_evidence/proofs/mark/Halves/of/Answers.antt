@@ -1,7 +1,4 @@
-use Rattle.std.proofs.Common.{true, false, ap, ◌∙◌}
-use Rattle.std.specs.List.{list_any}
-use Rattle.tcap_end.specs.End.{is_id}
-use Rattle.tcap_evidence.specs.OpenAtMark.{ended_to, first_to}
+use Rattle.tcap_evidence.proofs.Common.{true, false, ap, ◌∙◌, list_any, is_id, ended_to, first_to}
 use Rattle.tcap_evidence.proofs.MarkLaws.{all_sent}
 use Rattle.tcap_evidence.proofs.mark.Halves.of.Goals as goal
 

@@ -1,4 +1,4 @@
-use Rattle.std.proofs.Common.{sym, ◌∙◌}
+use Rattle.tcap_evidence.proofs.Common.{sym, ◌∙◌}
 use Rattle.tcap_evidence.proofs.SceneLaws.{went_nowhere}
 use Rattle.tcap_evidence.proofs.scene.Scene.elsewhere.Goals as goal
 

@@ -1,6 +1,4 @@
-use Rattle.std.proofs.Common.{ap, ◌∙◌}
-use Rattle.std.proofs.lemmas.Result.{IfOk-weaker}
-use Rattle.tcap_evidence.specs.NumberedMessages.{in_order, numbered_of}
+use Rattle.tcap_evidence.proofs.Common.{ap, ◌∙◌, IfOk-weaker, in_order, numbered_of}
 use Rattle.tcap_evidence.proofs.scene.Scene.heard.Goals as goal
 
 pub returns : goal.returns

@@ -1,9 +1,6 @@
-use Rattle.std.proofs.Common.{◌++◌, ap, ap₂, ◌∙◌}
+use Rattle.tcap_evidence.proofs.Common.{◌++◌, ap, ap₂, ◌∙◌, find, is_a, numbered_of}
 use Rattle.std.specs.Prelude.{option_to_list}
-use Rattle.std.specs.List.{find}
 use Rattle.tcap_msg.specs.declared.kind.Kind.TheVariants as forms
-use Rattle.tcap_refute.specs.EarlierMessages.{is_a}
-use Rattle.tcap_evidence.specs.NumberedMessages.{numbered_of}
 use Rattle.tcap_evidence.proofs.SceneLaws.{to_half_is}
 use Rattle.tcap_evidence.proofs.scene.Scene.heard_accepted.Goals as goal
 

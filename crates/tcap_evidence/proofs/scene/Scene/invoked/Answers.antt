@@ -1,6 +1,4 @@
-use Rattle.std.proofs.Common.{◌++◌, ap, ap₂, ◌∙◌}
-use Rattle.std.proofs.lemmas.Result.{IfOk-weaker}
-use Rattle.tcap_evidence.specs.NumberedMessages.{in_order, numbered_of}
+use Rattle.tcap_evidence.proofs.Common.{◌++◌, ap, ap₂, ◌∙◌, IfOk-weaker, in_order, numbered_of}
 use Rattle.tcap_evidence.proofs.SceneLaws.{filter_all}
 use Rattle.tcap_evidence.proofs.scene.Scene.invoked.Goals as goal
 

@@ -1,11 +1,6 @@
-use Rattle.std.proofs.Common.{◌&&◌, ap, ap₂, ◌∙◌}
-use Rattle.std.proofs.lemmas.Result.{IfOk-weaker}
+use Rattle.tcap_evidence.proofs.Common.{◌&&◌, ap, ap₂, ◌∙◌, IfOk-weaker, otid_in, is_a, entries_where, numbered_of, is_that}
 use Rattle.tcap_msg.specs.declared.kind.Kind.TheVariants as forms
-use Rattle.tcap_msg.specs.Parts.{otid_in}
-use Rattle.tcap_refute.specs.EarlierMessages.{is_a}
 use Rattle.tcap_refute.specs.Kind.{is_begin_with_request}
-use Rattle.tcap_evidence.specs.NumberedMessages.{entries_where, numbered_of}
-use Rattle.tcap_evidence.specs.Scene.{is_that}
 use Rattle.tcap_evidence.proofs.scene.Scene.shown.Goals as goal
 
 pub returns-in-Begun : goal.returns-in-Begun

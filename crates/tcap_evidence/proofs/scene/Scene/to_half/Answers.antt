@@ -1,6 +1,4 @@
-use Rattle.std.proofs.Common.{ap, ◌∙◌}
-use Rattle.std.proofs.lemmas.Result.{IfOk-weaker}
-use Rattle.tcap_evidence.specs.NumberedMessages.{numbered_of}
+use Rattle.tcap_evidence.proofs.Common.{ap, ◌∙◌, IfOk-weaker, numbered_of}
 use Rattle.tcap_evidence.proofs.SceneLaws.{to_half_is}
 use Rattle.tcap_evidence.proofs.scene.Scene.to_half.Goals as goal
 
